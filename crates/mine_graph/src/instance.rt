@@ -1,0 +1,52 @@
+//! A graph with a value for each block.
+ghost use Rattle.std.specs.Prelude.{◌≡◌, ◌<◌, ◌≤◌, ℕ, ℤ, pos, neg_ℤ, ◌≤ℤ◌, ◌^◌, length, get_or};
+ghost use Rattle.pit_model.specs.Mine.{value};
+ghost use Rattle.pit_model.specs.Limits.{IsInstance};
+
+use crate::graph::Graph;
+use std::marker::Model;
+use std::sync::Arc;
+
+/// An instance of the ultimate pit problem. Values are whole numbers within 10^23 of 0.
+#[derive(Drop)]
+pub struct Instance {
+    graph: Arc<Graph>,
+    values: Vec<i128>,
+}
+
+impl Model for Instance {
+    ghost use Rattle.pit_model.specs.Mine.{Instance};
+    ghost use Rattle.mine_graph.specs.Kept.{AreWithinLimits};
+
+    ghost Value = { Instance };
+
+    ghost view = { λ i. record { blocks = i.graph.value.blocks; values = i.values.items; pairs = i.graph.value.pairs } };
+
+    ghost invariant = { λ i. AreWithinLimits i.graph.value.blocks i.values.items };
+}
+
+impl Instance {
+    /// What is true of each instance.
+    pub fn law(&self)
+        ensures { IsInstance self.now }
+    {
+        self.graph.law();
+        let _ = &self.values;
+    }
+
+    /// The blocks and their pairs.
+    pub fn graph(&self) -> &Arc<Graph>
+        ensures blocks { result.now.value.blocks ≡ self.now.blocks }
+        ensures pairs { result.now.value.pairs ≡ self.now.pairs }
+    {
+        &self.graph
+    }
+
+    /// The value of a block.
+    pub fn value(&self, u: u32) -> i128
+        requires { u < self.now.blocks }
+        ensures { result ≡ value self.now u }
+    {
+        self.values[u as usize]
+    }
+}

@@ -1,0 +1,10 @@
+pub mod Sums
+pub mod Duality
+pub mod Strong
+pub mod Moves
+pub mod Reach
+pub mod Residual
+pub mod Merged
+pub mod Gathered
+pub mod Bound
+pub mod Rank

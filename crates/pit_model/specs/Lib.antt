@@ -1,0 +1,12 @@
+pub mod Sum
+pub mod Graph
+pub mod Cycle
+pub mod Mine
+pub mod Flow
+pub mod Certificate
+pub mod Tree
+pub mod Merger
+pub mod Path
+pub mod Rank
+pub mod Limits
+pub mod PitText
