@@ -1,5 +1,5 @@
 -- The limits of an instance, under which no sum leaves a signed number of 128 bits.
-use Rattle.std.specs.Prelude.{◌≡◌, ℕ, ◌^◌, ◌<◌, ◌≤◌, ℤ, pos, neg_ℤ, ◌≤ℤ◌, List, length, get_or}
+use Rattle.std.specs.Prelude.{◌≡◌, ℕ, ◌*◌, ◌^◌, ◌<◌, ◌≤◌, ℤ, pos, neg_ℤ, ◌≤ℤ◌, List, length, get_or}
 use Rattle.pit_model.specs.Graph.{IsGraph}
 use Rattle.pit_model.specs.Mine.{Instance, value, arcs}
 
@@ -21,3 +21,7 @@ Between low x high = (low ≤ℤ x) × (x ≤ℤ high)
 -- the first `count` numbers are from 0 to 2^120
 abbrev pub AllSmall : List ℤ → ℕ → Type 0
 AllSmall xs count = (i : ℕ) → i < count → Between (pos 0) (get_or xs i (pos 0)) (pos (2 ^ 120))
+
+-- the most that flows or remains anywhere: the sum of the values' limits
+abbrev pub most_worth : ℕ
+most_worth = 2 ^ 22 * 10 ^ 23
