@@ -9,7 +9,8 @@ use Rattle.pit_model.specs.Sum.{total, when}
 use Rattle.pit_model.specs.Mine.{Instance, value, arcs, source, target, IsSimple}
 use Rattle.pit_model.specs.Flow.{excess}
 use Rattle.pit_model.specs.Tree.{Tree, parent, flow, up, climb, root, IsNormalised}
-use Rattle.pit_model.specs.Limits.{IsWithinLimits, AllSmall, Between, most_worth}
+use Rattle.pit_model.specs.Limits.{IsWithinLimits, AllSmall, Between, most_worth, FlowsStayWithinLimits}
+use Rattle.pit_model.proofs.Simple.{instance_is_simple}
 use Rattle.pit_model.proofs.Sums.{total-same, total-zero}
 use Rattle.pit_model.proofs.Moves.{total-single}
 use Rattle.pit_model.proofs.Duality.{e, enters, total_excess}
@@ -262,29 +263,48 @@ module _ (mine : Instance) (tree : Tree) (graph : IsSimple mine) (limits : IsWit
       let w1 = w.1 in
       ⊎_elim (λ t. omega (arith, ints, t)) (λ t. omega (arith, ints, t)) through
 
+-- the bounds of flow and excess by the sum of the values' limits
+module _ (mine : Instance) (tree : Tree) (graph : IsSimple mine) (limits : IsWithinLimits mine) (good : IsNormalised mine tree) where
+  pub flow_within : (k : ℕ) → k < arcs mine → Between (pos 0) (flow tree k) (pos most_worth)
+  flow_within k below =
+      let range = graph.in_range k below in (
+        good.not_negative k below,
+        ⊎_elim
+            (λ z. omega (arith, ints, z))
+            (λ o. ⊎_elim
+            (λ h. flow_small mine tree graph limits good (source mine k) (target mine k) k below range.0 h (inl (refl, refl)))
+            (λ h. flow_small mine tree graph limits good (target mine k) (source mine k) k below range.1 h (inr (refl, refl)))
+            o)
+            (good.on_links k below),
+      )
+
+  pub excess_within : (u : ℕ) → u < mine.blocks → Between (neg_ℤ (pos most_worth)) (excess mine (flow tree) u) (pos most_worth)
+  excess_within u l =
+      elim_option (parent tree.parents u) (Between (neg_ℤ (pos most_worth)) (excess mine (flow tree) u) (pos most_worth))
+      (λ h.
+      let r = root_excess mine tree graph good u l h in
+      let s = worth_small mine limits (λ x. eqb (root mine tree x) u) in
+      let s0 = s.0 in
+      let s1 = s.1 in
+      (omega (arith, ints), omega (arith, ints)))
+      (λ p h. let z = good.settled u p l h in (omega (arith, ints), omega (arith, ints)))
+
 pub flows_small : (mine : Instance) (tree : Tree) → IsSimple mine → IsWithinLimits mine → IsNormalised mine tree → AllSmall tree.flows (length tree.flows)
 flows_small mine tree graph limits good k l =
     let count = good.flow_count in
     let below : k < arcs mine = omega arith in
-    let least = good.not_negative k below in
-    let range = graph.in_range k below in
-    let f : flow tree k ≤ℤ pos most_worth =
-    ⊎_elim
-    (λ z. omega (arith, ints, z))
-    (λ o. ⊎_elim
-    (λ h. flow_small mine tree graph limits good (source mine k) (target mine k) k below range.0 h (inl (refl, refl)))
-    (λ h. flow_small mine tree graph limits good (target mine k) (source mine k) k below range.1 h (inr (refl, refl)))
-    o)
-    (good.on_links k below) in
+    let f = flow_within mine tree graph limits good k below in
+    let f0 = f.0 in
+    let f1 = f.1 in
     (omega (arith, ints), omega (arith, ints))
 
 pub excess_small : (mine : Instance) (tree : Tree) → IsSimple mine → IsWithinLimits mine → IsNormalised mine tree → (u : ℕ) → u < mine.blocks → Between (neg_ℤ (pos (2 ^ 120))) (excess mine (flow tree) u) (pos (2 ^ 120))
 excess_small mine tree graph limits good u l =
-    elim_option (parent tree.parents u) (Between (neg_ℤ (pos (2 ^ 120))) (excess mine (flow tree) u) (pos (2 ^ 120)))
-    (λ h.
-    let r = root_excess mine tree graph good u l h in
-    let s = worth_small mine limits (λ x. eqb (root mine tree x) u) in
-    let s0 = s.0 in
-    let s1 = s.1 in
-    (omega (arith, ints), omega (arith, ints)))
-    (λ p h. let z = good.settled u p l h in (omega (arith, ints), omega (arith, ints)))
+    let f = excess_within mine tree graph limits good u l in
+    let f0 = f.0 in
+    let f1 = f.1 in
+    (omega (arith, ints), omega (arith, ints))
+
+pub flows_stay_within_limits : FlowsStayWithinLimits
+flows_stay_within_limits mine tree is good =
+    (flow_within mine tree (instance_is_simple mine is) is.limits good, excess_within mine tree (instance_is_simple mine is) is.limits good)

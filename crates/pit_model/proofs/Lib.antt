@@ -12,3 +12,4 @@ pub mod RankFalls
 pub mod Simple
 pub mod Opening
 pub mod RankBound
+pub mod Readings

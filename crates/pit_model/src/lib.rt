@@ -4,7 +4,8 @@
 
 ghost use Rattle.pit_model.specs.Certificate.{CertificateGivesPit};
 ghost use Rattle.pit_model.specs.Tree.{NoMergerGivesCertificate, OpeningIsNormalised};
-ghost use Rattle.pit_model.specs.Merger.{MergerKeepsNormalised};
+ghost use Rattle.pit_model.specs.Merger.{MergerKeepsNormalised, ResidualReadingsAgree};
+ghost use Rattle.pit_model.specs.Limits.{FlowsStayWithinLimits};
 ghost use Rattle.pit_model.specs.Rank.{MergerLowersRank, RankIsBounded};
 
 /// What meets the conditions of a certificate is the pit (Picard 1976).
@@ -35,4 +36,14 @@ pub fn opening_is_normalised()
 /// The rank is at most P * (n + 1) + n, P the sum of the positive values: so no more mergers are made.
 pub fn rank_is_bounded()
     ensures { RankIsBounded }
+{}
+
+/// No flow and no excess of a normalised tree leaves the sum of the values' limits, so no sum leaves an i128.
+pub fn flows_stay_within_limits()
+    ensures { FlowsStayWithinLimits }
+{}
+
+/// The amount of a residual agrees with whether something can be sent.
+pub fn residual_readings_agree()
+    ensures { ResidualReadingsAgree }
 {}
