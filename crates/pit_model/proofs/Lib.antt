@@ -13,3 +13,4 @@ pub mod Simple
 pub mod Opening
 pub mod RankBound
 pub mod Readings
+pub mod SamePairs

@@ -3,6 +3,7 @@
 #![tactic(auto)]
 
 ghost use Rattle.pit_model.specs.Certificate.{CertificateGivesPit};
+ghost use Rattle.pit_model.specs.Mine.{PitKnowsNoOrder};
 ghost use Rattle.pit_model.specs.Tree.{NoMergerGivesCertificate, OpeningIsNormalised};
 ghost use Rattle.pit_model.specs.Merger.{MergerKeepsNormalised, ResidualReadingsAgree};
 ghost use Rattle.pit_model.specs.Limits.{FlowsStayWithinLimits};
@@ -46,4 +47,9 @@ pub fn flows_stay_within_limits()
 /// The amount of a residual agrees with whether something can be sent.
 pub fn residual_readings_agree()
     ensures { ResidualReadingsAgree }
+{}
+
+/// A pit does not depend on the order in which the pairs stand.
+pub fn pit_knows_no_order()
+    ensures { PitKnowsNoOrder }
 {}
