@@ -10,4 +10,4 @@ mod output;
 pub use device::{DeviceFailed, InBytes, OutBytes};
 pub use fault::{Fault, Refusal, Source};
 pub use input::{FileReader, MemoryReader, read_all};
-pub use output::{FileWriter, MemoryWriter, write_all};
+pub use output::{StreamWriter, MemoryWriter, write_all};
