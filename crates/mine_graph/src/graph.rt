@@ -1,13 +1,22 @@
-//! The graph of the pairs "u needs p".
-ghost use Rattle.std.specs.Prelude.{◌≡◌, ◌<◌, ◌≤◌, ◌^◌, length, get_or};
-ghost use Rattle.pit_model.specs.Graph.{IsGraph};
+//! The graph of the pairs "u needs p". Making one sorts the pairs (sort.rt), counts needs down (count_down.rt), and
+//! refuses by the cycle that is left over (cycle.rt); so its type carries that it has none.
+ghost use Rattle.std.specs.Prelude.{◌≡◌, ◌-◌, ◌<◌, ◌≤◌, ◌^◌, ℕ, length, get_or, IfOk, IfErr, IfSome, IfNone};
+ghost use Rattle.pit_model.specs.Graph.{first_of, second_of, AreApart, AreInRange, AreSamePairs, IsGraph};
+ghost use Rattle.mine_graph.specs.Rows.{AreStarts};
+ghost use Rattle.mine_graph.specs.Faults.{IsGraphFault};
 
+use crate::count_down::{first_left, needs_left};
+use crate::cycle::cycle_of;
+use crate::sort::sort_by_second;
+use minelib_reader::{Fault, Refusal, Source};
+use std::alloc::Global;
 use std::marker::Model;
 
 /// Blocks 0 to n - 1, and the pairs (u, p) of "u needs p" in the order of (u, p), without a cycle.
 #[derive(Drop)]
 pub struct Graph {
     blocks: u32,
+    starts: Vec<u32>,
     pairs: Vec<(u32, u32)>,
 }
 
@@ -19,10 +28,40 @@ impl Model for Graph {
 
     ghost view = { λ g. record { blocks = g.blocks; pairs = g.pairs.items } };
 
-    ghost invariant = { λ g. IsKept g.blocks g.pairs.items };
+    ghost invariant = { λ g. IsKept g.blocks g.starts.items g.pairs.items };
 }
 
 impl Graph {
+    /// The graph of exactly these pairs, in the order of (u, p). Refused for want of memory, and by the cycle of the
+    /// pairs where they have one. Time is linear in blocks and pairs.
+    pub fn new(alloc: Global, n: u32, pairs: Vec<(u32, u32)>) -> Result<Graph, Fault>
+        requires few_blocks { n ≤ 2 ^ 22 }
+        requires few_pairs { length pairs.items ≤ 2 ^ 26 }
+        requires in_range { AreInRange pairs.items n }
+        requires apart { AreApart pairs.items }
+        ensures blocks { IfOk result (λ g. g.blocks ≡ n) }
+        ensures same { IfOk result (λ g. AreSamePairs pairs.items g.pairs) }
+        ensures refused { IfErr result (IsGraphFault pairs.items n) }
+    {
+        let (user_starts, users) = sort_by_second(alloc, n, &pairs)?;
+        drop(pairs);
+        let left = needs_left(alloc, n, &users, &user_starts)?;
+        let (starts, sorted) = sort_by_second(alloc, n, &users)?;
+        drop(users);
+        match first_left(&left) {
+            Some(first) => Err(Fault {
+                refusal: Refusal::Cycle(cycle_of(alloc, &sorted, &starts, &left, first)?),
+                source: Source::Precedence,
+                line: 0,
+            }),
+            None => Ok(Graph {
+                blocks: n,
+                starts,
+                pairs: sorted,
+            }),
+        }
+    }
+
     /// What is true of each graph.
     pub fn law(&self)
         ensures graph { IsGraph self.now.blocks self.now.pairs }
@@ -53,4 +92,30 @@ impl Graph {
     {
         self.pairs[k as usize]
     }
+
+    /// The number of a pair.
+    pub fn arc_of(&self, u: u32, p: u32) -> Option<u32>
+        requires { u < self.now.blocks }
+        ensures some { IfSome result (λ k. (k < length self.now.pairs) × (first_of self.now.pairs k ≡ u) × (second_of self.now.pairs k ≡ p)) }
+        ensures none { IfNone result ((k : ℕ) → k < length self.now.pairs → first_of self.now.pairs k ≡ u → second_of self.now.pairs k ≡ p → ⊥) }
+    {
+        find_in_row(&self.pairs, &self.starts, u, p)
+    }
+}
+
+/// The number of a pair, looked for among those of its block.
+fn find_in_row(pairs: &[(u32, u32)], starts: &[u32], u: u32, p: u32) -> Option<u32>
+    requires few { length pairs.now < 2 ^ 32 }
+    requires starts { AreStarts pairs.now starts.now (length starts.now - 1) }
+    requires below { u < length starts.now - 1 }
+    ensures some { IfSome result (λ k. (k < length pairs.now) × (first_of pairs.now k ≡ u) × (second_of pairs.now k ≡ p)) }
+    ensures none { IfNone result ((k : ℕ) → k < length pairs.now → first_of pairs.now k ≡ u → second_of pairs.now k ≡ p → ⊥) }
+{
+    let at = u as usize;
+    for k in starts[at] as usize..starts[at + 1] as usize {
+        if pairs[k].1 == p {
+            return Some(k as u32);
+        }
+    }
+    None
 }

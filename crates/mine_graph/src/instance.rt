@@ -26,6 +26,18 @@ impl Model for Instance {
 }
 
 impl Instance {
+    /// The instance of these blocks and pairs with these values. It takes no memory.
+    pub fn new(graph: Arc<Graph>, values: Vec<i128>) -> Instance
+        requires count { length values.items ≡ graph.value.blocks }
+        requires low { (u : ℕ) → u < graph.value.blocks → neg_ℤ (pos (10 ^ 23)) ≤ℤ get_or values.items u (pos 0) }
+        requires high { (u : ℕ) → u < graph.value.blocks → get_or values.items u (pos 0) ≤ℤ pos (10 ^ 23) }
+        ensures blocks { result.blocks ≡ graph.value.blocks }
+        ensures pairs { result.pairs ≡ graph.value.pairs }
+        ensures values { result.values ≡ values.items }
+    {
+        Instance { graph, values }
+    }
+
     /// What is true of each instance.
     pub fn law(&self)
         ensures { IsInstance self.now }
