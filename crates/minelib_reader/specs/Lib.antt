@@ -1,2 +1,3 @@
 pub mod Device
 pub mod Answer
+pub mod Refused
