@@ -1,4 +1,5 @@
 mod Simple
+mod Starting
 mod Climbing
 mod Carrying
 mod Assembled
