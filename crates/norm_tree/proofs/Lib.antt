@@ -1,4 +1,3 @@
-mod Simple
 mod Starting
 mod Climbing
 mod Carrying
