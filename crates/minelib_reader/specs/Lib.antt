@@ -1,2 +1,9 @@
 pub mod Device
 pub mod Answer
+pub mod Steps
+pub mod Number
+pub mod Text
+pub mod Upit
+pub mod UpitGrammar
+pub mod UpitFault
+pub mod UpitLimits
