@@ -4,6 +4,10 @@ use Rattle.std.proofs.lemmas.Bool.{cases_lt}
 use Rattle.std.proofs.lemmas.Slice.Eq.{bytes_eq-Decides}
 use Rattle.std.specs.Str.{bytes_eq}
 use Rattle.minelib_reader.specs.declared.fault.Fault.{Fault}
+use Rattle.std.specs.Prelude.{IfOk, IfErr}
+use Rattle.minelib_reader.specs.declared.fault.Refusal.{Refusal}
+use Rattle.minelib_reader.specs.declared.fault.Refusal.TheVariants.{NoMemory, ReadFailed}
+use Rattle.minelib_reader.specs.Answer.{Gives, FailsBy, FailsAt}
 use Rattle.minelib_reader.specs.Text.{two_of}
 use Rattle.minelib_reader.specs.Steps.{◌>>=◌, or_fault, check, fault_of, IsFirstFault}
 
@@ -88,3 +92,24 @@ pub fails_by_first : {A : Type 0} (reading r : Result A Fault) (f : ℕ → Opti
     → ((d : Fault) → reading ≡ Err d → IsFirstFault f d) → IsFirstFault f e → reading ≡ Err e
 fails_by_first reading (Ok x) f e is clear first p = absurd (some_or_none (f p.place) e (clear x is p.place) p.here)
 fails_by_first reading (Err d) f e is clear first p = is ∙ ap (λ (x : Fault). Err x) (one_first f d e (first d is) p)
+
+-- ---- what an answer that gives a reading tells of it
+
+pub value_told : {X Y : Type 0} (view : X → Y) (r : Result X Fault) (reading : Result Y Fault) (P : Y → Type 0) → ((y : Y) → reading ≡ Ok y → P y) → Gives view r reading → IfOk r (λ x. P (view x))
+value_told view (Ok x) reading P holds h = holds (view x) h
+value_told view (Err e) reading P holds h = tt
+
+refusal_told : {Y : Type 0} (r : Refusal) (e : Fault) (reading : Result Y Fault) (P : Fault → Type 0) → (reading ≡ Err e → P e) → FailsBy r e reading → FailsAt r e P
+refusal_told NoMemory e reading P holds h = h
+refusal_told ReadFailed e reading P holds h = h
+refusal_told _ e reading P holds h = holds h
+
+pub fault_told : {X Y : Type 0} (view : X → Y) (r : Result X Fault) (reading : Result Y Fault) (P : Fault → Type 0) → ((e : Fault) → reading ≡ Err e → P e) → Gives view r reading → IfErr r (λ e. FailsAt e.refusal e P)
+fault_told view (Ok x) reading P holds h = tt
+fault_told view (Err e) reading P holds h = refusal_told e.refusal e reading P (holds e) h
+
+-- a fault of a part is one of the whole
+pub fails_map : {X Y : Type 0} (r : Refusal) (e : Fault) (part : Result X Fault) (whole : Result Y Fault) → (part ≡ Err e → whole ≡ Err e) → FailsBy r e part → FailsBy r e whole
+fails_map NoMemory e part whole f h = h
+fails_map ReadFailed e part whole f h = h
+fails_map _ e part whole f h = f h

@@ -9,12 +9,6 @@ use Rattle.minelib_reader.specs.Steps.{◌>>=◌}
 use Rattle.minelib_reader.specs.Text.{Row}
 use Rattle.minelib_reader.specs.Upit.{due, value_line, values_from}
 
--- a fault of a part is one of the whole
-pub fails_map : {X Y : Type 0} (r : Refusal) (e : Fault) (part : Result X Fault) (whole : Result Y Fault) → (part ≡ Err e → whole ≡ Err e) → FailsBy r e part → FailsBy r e whole
-fails_map NoMemory e part whole f h = h
-fails_map ReadFailed e part whole f h = h
-fails_map _ e part whole f h = f h
-
 abbrev Values : Type 0
 Values = Result (List ℤ × List Row) Fault
 

@@ -18,4 +18,4 @@ pub use lines::{next_field, two_fields};
 pub use number::{decimal, digits};
 pub use output::{FileWriter, MemoryWriter, write_all};
 pub use rows::{Row, Rows};
-pub use upit::{Model};
+pub use upit::{Model, parse_upit, read_upit, upit_law};

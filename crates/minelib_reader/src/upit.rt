@@ -1,6 +1,6 @@
 //! The text of an optimisation model (`.upit`): a header of four lines, then a value for each block.
 //! Each line is checked by a function of its own, in the order of `specs/Upit.antt`; the first fault ends the reading.
-ghost use Rattle.std.specs.Prelude.{◌≡◌, ◌↔◌, ℕ, List, Ok, Err, ◌≤◌, ◌+◌, ◌<◌, ◌^◌, length, IfOk, MatchResult, ⊤};
+ghost use Rattle.std.specs.Prelude.{◌≡◌, ◌↔◌, ℕ, List, Ok, Err, ◌≤◌, ◌+◌, ◌<◌, ◌^◌, length, IfOk, IfErr};
 ghost use Rattle.minelib_reader.specs.declared.fault.Fault.{Fault as AnyFault};
 ghost use Rattle.minelib_reader.specs.declared.fault.Source.TheVariants as sources;
 ghost use Rattle.minelib_reader.specs.Answer.{Gives, Answers, FailsAt};
@@ -176,4 +176,37 @@ fn parse_lines(alloc: Global, text: &[u8]) -> Result<Model, Fault>
     let values = read_values(alloc, n, &mut rows)?;
     check_ended(&mut rows)?;
     Ok(Model { n, values })
+}
+
+/// The model that a text spells, else the first fault of the text, or `NoMemory`.
+pub fn parse_upit(alloc: Global, text: &[u8]) -> Result<Model, Fault>
+    requires { length text.now ≤ 2 ^ 40 }
+    // Which model or which fault it is.
+    ensures exact { Gives (λ m. upit m.n m.values.items) result (upit_of text.now) }
+    // What is read is spelled so, and what is spelled so is read, unless memory runs out.
+    ensures spelled { IfOk result (λ m. SpellsUpit text.now (upit m.n m.values.items)) }
+    ensures read { (m : Upit) → SpellsUpit text.now m → Gives (λ m. upit m.n m.values.items) result (Ok m) }
+    ensures first_fault { IfErr result (λ e. FailsAt e.refusal e (IsFirstUpitFault text.now)) }
+    ensures small { IfOk result (λ m. IsSmallModel m.n m.values.items) }
+{
+    parse_lines(alloc, text)
+}
+
+/// Each text spells one model or has one first fault, and not both: what is read of it says which.
+pub fn upit_law()
+    ensures spelled { (text : List ℕ) (m : Upit) → (upit_of text ≡ Ok m) ↔ SpellsUpit text m }
+    ensures faulty { (text : List ℕ) (fault : AnyFault) → (upit_of text ≡ Err fault) ↔ IsFirstUpitFault text fault }
+{
+}
+
+/// Reads a model, all that the reader has left. `Answers` says that the text that was read spells the model, or which
+/// fault it is; refused by `ReadFailed` exactly where the reader counted a failure in this call.
+pub fn read_upit<R: InBytes>(alloc: Global, reader: &mut R) -> Result<Model, Fault>
+    requires countable { (R.progress reader.old).failures < 2 ^ 63 }
+    requires bounded { (R.progress reader.old).allowance ≤ 2 ^ 40 }
+    ensures exact { Answers (λ m. upit m.n m.values.items) upit_of sources.Model (R.progress reader.old) (R.progress reader.new) (R.IsAtEnd reader.new) result }
+    ensures small { IfOk result (λ m. IsSmallModel m.n m.values.items) }
+{
+    let text = read_all(alloc, reader, Source::Model)?;
+    parse_upit(alloc, &text)
 }

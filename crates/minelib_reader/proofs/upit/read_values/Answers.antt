@@ -1,7 +1,7 @@
 -- Each way through the loop is one step of `values_from`.
 use Rattle.std.proofs.Common.{◌≡◌, ℕ, ℤ, List, ◌∷◌, [], ◌++◌, ◌-◌, ◌+◌, Result, Ok, ap, subst, sym, ◌∙◌}
 use Rattle.std.proofs.Common.{to_z, of_z, rules, arith, length, length-append, ◌^◌}
-use Rattle.std.proofs.lemmas.List.Elements.{All-append, All-from_recursion}
+use Rattle.std.proofs.lemmas.List.Elements.{All-append, All-cons, All-nil}
 use Rattle.minelib_reader.specs.Number.{IsWithin}
 use Rattle.minelib_reader.specs.UpitLimits.{AreSmall}
 use mir.Val.{SFits}
@@ -10,7 +10,8 @@ use Rattle.std.proofs.lemmas.Int.{to_z-of_z}
 use Rattle.std.proofs.lemmas.Result.{err_from_is_err_and}
 use Rattle.minelib_reader.specs.Text.{row, rows_at, lines_at, fields_of}
 use Rattle.minelib_reader.specs.Upit.{values_from}
-use Rattle.minelib_reader.proofs.UpitLemmas.{with_front, fails_map, goes_on, ends_at_due, ends_at_value, is_done}
+use Rattle.minelib_reader.proofs.StepLemmas.{fails_map}
+use Rattle.minelib_reader.proofs.UpitLemmas.{with_front, goes_on, ends_at_due, ends_at_value, is_done}
 use Rattle.minelib_reader.proofs.upit.read_values.Goals as goal
 
 pub returns-in_err-row-clause-gives : goal.returns-in_err-row-clause-gives
@@ -49,7 +50,7 @@ loop-id-preserved c =
           ∙ ap (λ (k : ℕ). with_front (front ++ c.in_ok-value.value ∷ []) (values_from k (c.loop-id.id + 1) (c.args.n - (c.loop-id.id + 1)) (rows_at t.number t.rest.now))) same ∙ one;
       count = same ∙ c.loop-id.invariant.count;
       length = omega (arith, ap length items, length-append front (c.in_ok-value.value ∷ []), c.loop-id.invariant.length);
-      small = subst AreSmall (sym items) (All-append (IsWithin (10 ^ 18)) front (c.in_ok-value.value ∷ []) c.loop-id.invariant.small (All-from_recursion (IsWithin (10 ^ 18)) (c.in_ok-value.value ∷ []) (c.in_ok-value.ensures.small, tt)));
+      small = subst AreSmall (sym items) (All-append (IsWithin (10 ^ 18)) front (c.in_ok-value.value ∷ []) c.loop-id.invariant.small (All-cons (IsWithin (10 ^ 18)) c.in_ok-value.value [] c.in_ok-value.ensures.small (All-nil (IsWithin (10 ^ 18)))));
     }
 
 pub returns-clause-gives : goal.returns-clause-gives
