@@ -1,7 +1,8 @@
 //! Why a text or a run was refused: one type for all crates.
 //! The printed texts are those of `report::write_fault`; the derive only makes these error types.
 ghost use Rattle.std.specs.Prelude.{◌≡◌};
-ghost use Rattle.minelib_reader.specs.declared.fault.Refusal.TheVariants.{NoMemory};
+ghost use Rattle.minelib_reader.specs.declared.fault.Refusal.TheVariants.{NoMemory, WriteFailed};
+ghost use Rattle.minelib_reader.specs.declared.fault.Source.TheVariants as sources;
 
 use std::alloc::{AllocError, AllocFailed};
 use thiserror::Error;
@@ -84,8 +85,21 @@ pub struct Fault {
     pub line: u64,
 }
 
+impl Fault {
+    /// What a caller of a writer answers where a write failed.
+    pub fn write_failed() -> Fault
+        ensures { result ≡ record { refusal = WriteFailed; source = sources.None; line = 0 } }
+    {
+        Fault {
+            refusal: Refusal::WriteFailed,
+            source: Source::None,
+            line: 0,
+        }
+    }
+}
+
 impl From<AllocError> for Fault {
-    ghost from_gives = { λ _ f. f.refusal ≡ NoMemory };
+    ghost from_gives = { λ _ f. f ≡ record { refusal = NoMemory; source = sources.None; line = 0 } };
 
     fn from(_e: AllocError) -> Fault {
         Fault {
@@ -97,7 +111,7 @@ impl From<AllocError> for Fault {
 }
 
 impl<T: Drop> From<AllocFailed<T>> for Fault {
-    ghost from_gives = { λ _ f. f.refusal ≡ NoMemory };
+    ghost from_gives = { λ _ f. f ≡ record { refusal = NoMemory; source = sources.None; line = 0 } };
 
     fn from(_e: AllocFailed<T>) -> Fault {
         Fault {

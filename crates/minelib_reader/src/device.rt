@@ -1,0 +1,35 @@
+//! What the readers of this crate read from, and what the writers of the program write to.
+//! `input` and `output` have an implementation over memory and one over a file each.
+ghost use Rattle.std.specs.Prelude.{◌≡◌, ◌<◌, ◌^◌, length, Ok};
+ghost use Rattle.minelib_reader.specs.Device.{Progress, ReadGives, WriteTakes};
+
+/// A call of the device failed, and was counted.
+#[derive(Clone, Copy, Debug, PartialEq, Eq)]
+pub struct DeviceFailed;
+
+/// A source of bytes. It gives at most its allowance, so reading ends.
+pub trait InBytes {
+    /// The bytes read so far, the failures so far, and how many bytes may still be read.
+    ghost progress: { Self → Progress };
+
+    /// No byte is left to be read.
+    ghost IsAtEnd: { Self → Type 0 };
+
+    /// Reads the next bytes into the front of the buffer, and answers how many. None come only at the end.
+    fn read(&mut self, buf: &mut [u8]) -> Result<usize, DeviceFailed>
+        requires countable { (progress self.old).failures < 2 ^ 63 }
+        requires room { 0 < length buf.old }
+        ensures gives { ReadGives (progress self.old) (progress self.new) result buf.new }
+        ensures end { result ≡ Ok 0 → IsAtEnd self.new };
+}
+
+/// A taker of bytes.
+pub trait OutBytes {
+    /// The bytes written so far and the failures so far. The allowance says nothing here.
+    ghost progress: { Self → Progress };
+
+    /// Writes bytes from the front of the text, and answers how many: at least one of a text that isn't empty.
+    fn write(&mut self, text: &[u8]) -> Result<usize, DeviceFailed>
+        requires countable { (progress self.old).failures < 2 ^ 63 }
+        ensures takes { WriteTakes (progress self.old) (progress self.new) result text.now };
+}

@@ -1,0 +1,6 @@
+mod Starting
+mod Climbing
+mod Carrying
+mod Assembled
+mod Sending
+mod Keeping

@@ -1,0 +1,12 @@
+//! The normalised tree of the pseudoflow method (Hochbaum 2008), changed by mergers alone.
+#![tactic(auto)]
+
+mod climb;
+mod find;
+mod path;
+mod pit;
+mod send;
+mod start;
+mod tree;
+
+pub use tree::NormTree;
