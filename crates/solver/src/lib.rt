@@ -1,0 +1,5 @@
+//! Solves an instance: merges until no merger arc is left, and gives the certificate of the tree.
+#![tactic(auto)]
+
+mod sweep;
+pub use sweep::sweep_once;
