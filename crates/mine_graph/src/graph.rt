@@ -1,8 +1,7 @@
 //! The graph of the pairs "u needs p". Making one sorts the pairs (sort.rt), counts needs down (count_down.rt), and
 //! refuses by the cycle that is left over (cycle.rt); so its type carries that it has none.
-ghost use Rattle.std.specs.Prelude.{◌≡◌, ◌-◌, ◌<◌, ◌≤◌, ◌^◌, ℕ, length, get_or, IfOk, IfErr, IfSome, IfNone};
+ghost use Rattle.std.specs.Prelude.{◌≡◌, ◌<◌, ◌≤◌, ◌^◌, ◌↔◌, ℕ, length, get_or, IfOk, IfErr, IfSome, IfNone};
 ghost use Rattle.pit_model.specs.Graph.{first_of, second_of, AreApart, AreInRange, AreSamePairs, IsGraph};
-ghost use Rattle.mine_graph.specs.Rows.{AreStarts};
 ghost use Rattle.mine_graph.specs.Faults.{IsGraphFault};
 
 use crate::count_down::{first_left, needs_left};
@@ -11,6 +10,7 @@ use crate::sort::sort_by_second;
 use minelib_reader::{Fault, Refusal, Source};
 use std::alloc::Global;
 use std::marker::Model;
+use std::ops::Range;
 
 /// Blocks 0 to n - 1, and the pairs (u, p) of "u needs p" in the order of (u, p), without a cycle.
 #[derive(Drop)]
@@ -93,29 +93,40 @@ impl Graph {
         self.pairs[k as usize]
     }
 
-    /// The number of a pair.
+    /// The numbers of the pairs of a block, which follow one another.
+    pub fn arcs_of(&self, u: u32) -> Range<u32>
+        requires { u < self.now.blocks }
+        ensures order { result.start ≤ result.end }
+        ensures inside { result.end ≤ length self.now.pairs }
+        ensures own { (k : ℕ) → k < length self.now.pairs → (first_of self.now.pairs k ≡ u) ↔ ((result.start ≤ k) × (k < result.end)) }
+    {
+        self.starts[u as usize]..self.starts[u as usize + 1]
+    }
+
+    /// The number of a pair, by halving the row of its block.
     pub fn arc_of(&self, u: u32, p: u32) -> Option<u32>
         requires { u < self.now.blocks }
         ensures some { IfSome result (λ k. (k < length self.now.pairs) × (first_of self.now.pairs k ≡ u) × (second_of self.now.pairs k ≡ p)) }
         ensures none { IfNone result ((k : ℕ) → k < length self.now.pairs → first_of self.now.pairs k ≡ u → second_of self.now.pairs k ≡ p → ⊥) }
     {
-        find_in_row(&self.pairs, &self.starts, u, p)
+        let row = self.arcs_of(u);
+        let begin = row.start as usize;
+        let end = row.end as usize;
+        let place = begin + first_at_least(&self.pairs[begin..end], p);
+        if place < end && self.pairs[place].1 == p {
+            Some(place as u32)
+        } else {
+            None
+        }
     }
 }
 
-/// The number of a pair, looked for among those of its block.
-fn find_in_row(pairs: &[(u32, u32)], starts: &[u32], u: u32, p: u32) -> Option<u32>
-    requires few { length pairs.now < 2 ^ 32 }
-    requires starts { AreStarts pairs.now starts.now (length starts.now - 1) }
-    requires below { u < length starts.now - 1 }
-    ensures some { IfSome result (λ k. (k < length pairs.now) × (first_of pairs.now k ≡ u) × (second_of pairs.now k ≡ p)) }
-    ensures none { IfNone result ((k : ℕ) → k < length pairs.now → first_of pairs.now k ≡ u → second_of pairs.now k ≡ p → ⊥) }
+/// The place of the first pair whose second is `p` or more, in pairs that rise by their second.
+fn first_at_least(pairs: &[(u32, u32)], p: u32) -> usize
+    requires { (i j : ℕ) → i ≤ j → j < length pairs.now → second_of pairs.now i ≤ second_of pairs.now j }
+    ensures within { result ≤ length pairs.now }
+    ensures before { (i : ℕ) → i < result → second_of pairs.now i < p }
+    ensures after { (i : ℕ) → result ≤ i → i < length pairs.now → p ≤ second_of pairs.now i }
 {
-    let at = u as usize;
-    for k in starts[at] as usize..starts[at + 1] as usize {
-        if pairs[k].1 == p {
-            return Some(k as u32);
-        }
-    }
-    None
+    pairs.partition_point(|pair| pair.1 < p)
 }
