@@ -1,6 +1,6 @@
 //! The certificate of a tree. This file alone of the crate knows the tree: what checks a certificate knows the graph alone.
 ghost use Rattle.std.specs.Prelude.{◌≡◌, IfOk, IfErr};
-ghost use Rattle.minelib_reader.specs.Answer.{no_memory};
+ghost use Rattle.minelib_reader.specs.Refused.{no_memory};
 ghost use Rattle.certificate.specs.Certificate.{AnswersTree};
 
 use minelib_reader::Fault;

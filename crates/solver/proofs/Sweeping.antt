@@ -1,11 +1,14 @@
 -- What a sweep has done by the time that it comes to an arc.
 use Rattle.std.proofs.Common.{◌≡◌, ℕ, ◌+◌, ◌<◌, ◌≤◌, Bool, true, false, refl, sym, ap, ◌∙◌, arith, subst, ⊎_elim}
-use Rattle.std.specs.Prelude.{◌⊎◌, ◌<ℤ◌, IsTrue}
+use Rattle.std.specs.Prelude.{◌⊎◌, ℤ, pos, negsuc, ◌≤ℤ◌, ◌<ℤ◌, unsigned_abs, IsTrue}
 use Rattle.std.proofs.lemmas.Int.{ints}
 use Rattle.std.proofs.lemmas.Bool.{cases_eq, false≢true}
 use Rattle.pit_model.specs.Mine.{arcs}
-use Rattle.pit_model.specs.Tree.{MineTree, is_merger}
+use Rattle.pit_model.specs.Limits.{IsInstance}
+use Rattle.pit_model.specs.Tree.{MineTree, is_merger, IsNormalised}
 use Rattle.pit_model.specs.Rank.{rank}
+use Rattle.pit_model.proofs.Simple.{instance_is_simple}
+use Rattle.pit_model.proofs.RankBound.{rank_is_bounded}
 use Rattle.solver.specs.Solved.{IsLower}
 
 -- before the sweep looks at `arc`: it has merged and the rank is lower; or nothing changed, and no lesser arc is a merger arc
@@ -44,3 +47,13 @@ swept_passed before now next merged arc s same here =
       same = s.same;
       none = λ h k l. ⊎_elim (λ (e : k ≡ arc). ap (is_merger now.mine now.tree) e ∙ here) (λ ne. s.none h k (omega arith)) (cases_eq k arc);
     })
+
+-- the rank of a normalised tree is not negative, so where it falls its size falls
+abs_falls : (x y : ℤ) → pos 0 ≤ℤ x → x <ℤ y → unsigned_abs x < unsigned_abs y
+abs_falls (pos a) (pos b) least less = omega (arith, ints)
+abs_falls (pos a) (negsuc b) least less = absurd (omega (arith, ints))
+abs_falls (negsuc a) y least less = absurd (omega (arith, ints))
+
+pub rank_falls : (new old : MineTree) → IsInstance new.mine → IsNormalised new.mine new.tree → IsLower new old → unsigned_abs (rank new.mine new.tree) < unsigned_abs (rank old.mine old.tree)
+rank_falls new old is good lower =
+    abs_falls (rank new.mine new.tree) (rank old.mine old.tree) (rank_is_bounded new.mine new.tree (instance_is_simple new.mine is) good).0 lower

@@ -2,4 +2,4 @@
 #![tactic(auto)]
 
 mod sweep;
-pub use sweep::sweep_once;
+pub use sweep::merge_all;
