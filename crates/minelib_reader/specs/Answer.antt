@@ -1,4 +1,4 @@
--- Steps that may meet a fault, and what a function that takes them answers.
+-- What a function answers that reads a text, or takes the reading of one from a device.
 use Rattle.std.specs.Prelude.{◌≡◌, ℕ, ◌+◌, ◌++◌, List, Result, Ok, Err}
 use Rattle.minelib_reader.specs.declared.fault.Fault.{Fault}
 use Rattle.minelib_reader.specs.declared.fault.Refusal.{Refusal}
@@ -6,11 +6,6 @@ use Rattle.minelib_reader.specs.declared.fault.Refusal.TheVariants.{NoMemory, Re
 use Rattle.minelib_reader.specs.declared.fault.Source.{Source}
 use Rattle.minelib_reader.specs.declared.fault.Source.TheVariants as sources
 use Rattle.minelib_reader.specs.Device.{Progress}
-
-infixl 10 ◌>>=◌
-abbrev pub ◌>>=◌ : {A B : Type 0} → Result A Fault → (A → Result B Fault) → Result B Fault
-(Ok x) >>= f = f x
-(Err e) >>= f = Err e
 
 -- the fault names no place
 abbrev pub IsNowhere : Fault → Type 0
@@ -32,6 +27,12 @@ pub record IsRead (old new : Progress) (AtEnd : Type 0) (text : List ℕ) : Type
   pub bytes : new.bytes ≡ old.bytes ++ text
   pub failures : new.failures ≡ old.failures
   pub ended : AtEnd
+
+-- the fault is one of the text, of which this is said, unless memory was refused; a text doesn't fail to be read
+abbrev pub FailsAt : Refusal → Fault → (Fault → Type 0) → Type 0
+FailsAt NoMemory fault IsFault = IsNowhere fault
+FailsAt ReadFailed fault IsFault = ⊥
+FailsAt _ fault IsFault = IsFault fault
 
 -- memory was refused, and no read failed; or one read failed, and the fault names the source; or as said of the other refusals
 abbrev pub Refuses : Refusal → Source → Fault → Progress → Progress → Type 0 → Type 0

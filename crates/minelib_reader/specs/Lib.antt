@@ -1,3 +1,10 @@
 pub mod Device
 pub mod Answer
 pub mod Refused
+pub mod Steps
+pub mod Number
+pub mod Text
+pub mod Upit
+pub mod UpitGrammar
+pub mod UpitFault
+pub mod UpitLimits

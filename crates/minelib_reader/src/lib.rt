@@ -5,9 +5,17 @@ mod device;
 mod fault;
 mod history;
 mod input;
+mod lines;
+mod number;
 mod output;
+mod rows;
+mod upit;
 
 pub use device::{DeviceFailed, InBytes, OutBytes};
 pub use fault::{Fault, Refusal, Source};
 pub use input::{FileReader, MemoryReader, read_all};
+pub use lines::{next_field, two_fields};
+pub use number::{decimal, digits};
 pub use output::{StreamWriter, MemoryWriter, write_all};
+pub use rows::{Row, Rows};
+pub use upit::{Model, parse_upit, read_upit, upit_law};

@@ -1,4 +1,4 @@
-mod Simple
+mod Starting
 mod Climbing
 mod Carrying
 mod Assembled

@@ -2,8 +2,11 @@
 #![tactic(auto)]
 
 mod climb;
+mod find;
 mod path;
+mod pit;
 mod send;
+mod start;
 mod tree;
 
 pub use tree::NormTree;

@@ -1,0 +1,14 @@
+-- The limits that a model keeps which was read.
+use Rattle.std.specs.Prelude.{◌≡◌, ℕ, ℤ, ◌^◌, ◌≤◌, List, length}
+use Rattle.std.specs.List.{All}
+use Rattle.minelib_reader.specs.Number.{IsWithin}
+
+-- each value, in millionths, is within 10^18 of 0
+abbrev pub AreSmall : List ℤ → Type 0
+AreSmall values = All (IsWithin (10 ^ 18)) values
+
+-- at most 2^22 blocks, and a small value for each
+pub record IsSmallModel (n : ℕ) (values : List ℤ) : Type 0 where
+  pub few : n ≤ 2 ^ 22
+  pub count : length values ≡ n
+  pub small : AreSmall values

@@ -1,0 +1,86 @@
+//! The numbers that a field writes: whole numbers, and decimals as millionths.
+//! The lines of a file are read by them; the limits of each number are the caller's.
+ghost use Rattle.std.specs.Prelude.{◌≡◌, ◌≤◌, ◌<◌, ◌^◌, ◌*◌, ◌-◌, ◌+◌, ◌==◌, length, IfSome, position};
+ghost use Rattle.std.specs.Option.{option_map};
+ghost use Rattle.minelib_reader.specs.Number.{digits_of, cut_at, millionths_of, decimal_of, IsWithin};
+
+/// The number that 1 to `most` digits write.
+#[tactic(auto, unfolding(crate::specs::Number::digits_of))]
+pub fn digits(text: &[u8], most: usize) -> Option<u64>
+    requires { most ≤ 19 }
+    ensures value { result ≡ digits_of most text.now }
+    ensures small { IfSome result (λ n. n < 10 ^ length text.now) }
+    ensures short { IfSome result (λ _. length text.now ≤ most) }
+    ensures bounded { IfSome result (λ n. n < 10 ^ most) }
+{
+    if text.is_empty() || text.len() > most {
+        return None;
+    }
+    let mut value = 0u64;
+    for byte in text {
+        if !byte.is_ascii_digit() {
+            return None;
+        }
+        value = value * 10 + u64::from(*byte - b'0');
+    }
+    Some(value)
+}
+
+/// The place of the first such byte.
+fn place_of(text: &[u8], byte: u8) -> Option<usize>
+    ensures value { result ≡ position (λ x. x == byte) text.now }
+    ensures inside { IfSome result (λ at. at < length text.now) }
+{
+    text.iter().position(|b| *b == byte)
+}
+
+/// What stands before and after the first such byte.
+#[tactic(auto, unfolding(crate::specs::Number::cut_at))]
+pub(crate) fn cut(text: &[u8], byte: u8) -> Option<(&[u8], &[u8])>
+    ensures parts { option_map (λ p. (p.0.now, p.1.now)) result ≡ cut_at byte text.now }
+    ensures shorter { IfSome result (λ p. length p.1.now < length text.now) }
+{
+    match place_of(text, byte) {
+        None => None,
+        Some(at) => Some((&text[..at], &text[at + 1..])),
+    }
+}
+
+/// So many digits behind the point, in millionths.
+fn scaled(part: u64, len: usize) -> u64
+    requires short { len ≤ 6 }
+    requires small { part < 10 ^ len }
+    ensures value { result ≡ part * 10 ^ (6 - len) }
+    ensures small { result < 1000000 }
+{
+    part * 10u64.pow(6 - len as u32)
+}
+
+/// 1 to 12 digits, and behind a point 1 to 6 more, as millionths.
+#[tactic(auto, unfolding(crate::specs::Number::millionths_of))]
+fn millionths(text: &[u8]) -> Option<u64>
+    ensures value { result ≡ millionths_of text.now }
+    ensures bounded { IfSome result (λ m. m < 10 ^ 18) }
+{
+    match cut(text, b'.') {
+        None => Some(digits(text, 12)? * 1_000_000),
+        Some((whole, part)) => {
+            let units = digits(whole, 12)?;
+            let rest = digits(part, 6)?;
+            Some(units * 1_000_000 + scaled(rest, part.len()))
+        }
+    }
+}
+
+/// A sign or none, and 1 to 12 digits with up to 6 more behind a point, in millionths.
+#[tactic(auto, unfolding(crate::specs::Number::decimal_of))]
+pub fn decimal(field: &[u8]) -> Option<i128>
+    ensures value { result ≡ decimal_of field.now }
+    ensures bounded { IfSome result (IsWithin (10 ^ 18)) }
+{
+    match field {
+        [b'-', rest @ ..] => Some(-i128::from(millionths(rest)?)),
+        [b'+', rest @ ..] => Some(i128::from(millionths(rest)?)),
+        _ => Some(i128::from(millionths(field)?)),
+    }
+}
