@@ -5,5 +5,3 @@ mod make;
 
 pub use make::{Certificate, of_tree};
 
-#[cfg(test)]
-mod tests;
