@@ -1,5 +1,10 @@
 //! Solves an instance: merges until no merger arc is left, and gives the certificate of the tree.
 #![tactic(auto)]
 
+mod outcome;
+mod single;
 mod sweep;
-pub use sweep::merge_all;
+
+pub use outcome::Outcome;
+pub use single::solve_single;
+
