@@ -18,5 +18,5 @@ is_certificate t pit flow is good none strong same = record {
   listed = strong;
   counted = ap length same ∙ good.flow_count;
   certifies = subst (λ f. Certifies t.mine (is_strong t.mine t.tree) (λ k. get_or f k (pos 0))) (sym same)
-    (no_merger_gives_certificate t.mine t.tree (instance_is_simple t.mine is).in_range good (λ k below. none k));
+      (no_merger_gives_certificate t.mine t.tree (instance_is_simple t.mine is).in_range good (λ k below. none k));
 }

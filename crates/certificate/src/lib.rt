@@ -5,3 +5,5 @@ mod make;
 
 pub use make::{Certificate, of_tree};
 
+#[cfg(test)]
+mod tests;

@@ -8,3 +8,5 @@ mod sweep;
 pub use outcome::Outcome;
 pub use single::solve_single;
 
+#[cfg(test)]
+mod tests;
