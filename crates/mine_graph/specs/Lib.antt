@@ -1,1 +1,5 @@
+pub mod Rows
+pub mod Queue
+pub mod Left
 pub mod Kept
+pub mod Faults

@@ -1,13 +1,22 @@
-//! The graph of the pairs "u needs p".
-ghost use Rattle.std.specs.Prelude.{◌≡◌, ◌<◌, ◌≤◌, ◌^◌, length, get_or};
-ghost use Rattle.pit_model.specs.Graph.{IsGraph};
+//! The graph of the pairs "u needs p". Making one sorts the pairs (sort.rt), counts needs down (count_down.rt), and
+//! refuses by the cycle that is left over (cycle.rt); so its type carries that it has none.
+ghost use Rattle.std.specs.Prelude.{◌≡◌, ◌<◌, ◌≤◌, ◌^◌, ◌↔◌, ℕ, length, get_or, IfOk, IfErr, IfSome, IfNone};
+ghost use Rattle.pit_model.specs.Graph.{first_of, second_of, AreApart, AreInRange, AreSamePairs, IsGraph};
+ghost use Rattle.mine_graph.specs.Faults.{IsGraphFault};
 
+use crate::count_down::{first_left, needs_left};
+use crate::cycle::cycle_of;
+use crate::sort::sort_by_second;
+use minelib_reader::{Fault, Refusal, Source};
+use std::alloc::Global;
 use std::marker::Model;
+use std::ops::Range;
 
 /// Blocks 0 to n - 1, and the pairs (u, p) of "u needs p" in the order of (u, p), without a cycle.
 #[derive(Drop)]
 pub struct Graph {
     blocks: u32,
+    starts: Vec<u32>,
     pairs: Vec<(u32, u32)>,
 }
 
@@ -19,10 +28,40 @@ impl Model for Graph {
 
     ghost view = { λ g. record { blocks = g.blocks; pairs = g.pairs.items } };
 
-    ghost invariant = { λ g. IsKept g.blocks g.pairs.items };
+    ghost invariant = { λ g. IsKept g.blocks g.starts.items g.pairs.items };
 }
 
 impl Graph {
+    /// The graph of exactly these pairs, in the order of (u, p). Refused for want of memory, and by the cycle of the
+    /// pairs where they have one. Time is linear in blocks and pairs.
+    pub fn new(alloc: Global, n: u32, pairs: Vec<(u32, u32)>) -> Result<Graph, Fault>
+        requires few_blocks { n ≤ 2 ^ 22 }
+        requires few_pairs { length pairs.items ≤ 2 ^ 26 }
+        requires in_range { AreInRange pairs.items n }
+        requires apart { AreApart pairs.items }
+        ensures blocks { IfOk result (λ g. g.blocks ≡ n) }
+        ensures same { IfOk result (λ g. AreSamePairs pairs.items g.pairs) }
+        ensures refused { IfErr result (IsGraphFault pairs.items n) }
+    {
+        let (user_starts, users) = sort_by_second(alloc, n, &pairs)?;
+        drop(pairs);
+        let left = needs_left(alloc, n, &users, &user_starts)?;
+        let (starts, sorted) = sort_by_second(alloc, n, &users)?;
+        drop(users);
+        match first_left(&left) {
+            Some(first) => Err(Fault {
+                refusal: Refusal::Cycle(cycle_of(alloc, &sorted, &starts, &left, first)?),
+                source: Source::Precedence,
+                line: 0,
+            }),
+            None => Ok(Graph {
+                blocks: n,
+                starts,
+                pairs: sorted,
+            }),
+        }
+    }
+
     /// What is true of each graph.
     pub fn law(&self)
         ensures graph { IsGraph self.now.blocks self.now.pairs }
@@ -53,4 +92,41 @@ impl Graph {
     {
         self.pairs[k as usize]
     }
+
+    /// The numbers of the pairs of a block, which follow one another.
+    pub fn arcs_of(&self, u: u32) -> Range<u32>
+        requires { u < self.now.blocks }
+        ensures order { result.start ≤ result.end }
+        ensures inside { result.end ≤ length self.now.pairs }
+        ensures own { (k : ℕ) → k < length self.now.pairs → (first_of self.now.pairs k ≡ u) ↔ ((result.start ≤ k) × (k < result.end)) }
+    {
+        self.starts[u as usize]..self.starts[u as usize + 1]
+    }
+
+    /// The number of a pair, by halving the row of its block.
+    pub fn arc_of(&self, u: u32, p: u32) -> Option<u32>
+        requires { u < self.now.blocks }
+        ensures some { IfSome result (λ k. (k < length self.now.pairs) × (first_of self.now.pairs k ≡ u) × (second_of self.now.pairs k ≡ p)) }
+        ensures none { IfNone result ((k : ℕ) → k < length self.now.pairs → first_of self.now.pairs k ≡ u → second_of self.now.pairs k ≡ p → ⊥) }
+    {
+        let row = self.arcs_of(u);
+        let begin = row.start as usize;
+        let end = row.end as usize;
+        let place = begin + first_at_least(&self.pairs[begin..end], p);
+        if place < end && self.pairs[place].1 == p {
+            Some(place as u32)
+        } else {
+            None
+        }
+    }
+}
+
+/// The place of the first pair whose second is `p` or more, in pairs that rise by their second.
+fn first_at_least(pairs: &[(u32, u32)], p: u32) -> usize
+    requires { (i j : ℕ) → i ≤ j → j < length pairs.now → second_of pairs.now i ≤ second_of pairs.now j }
+    ensures within { result ≤ length pairs.now }
+    ensures before { (i : ℕ) → i < result → second_of pairs.now i < p }
+    ensures after { (i : ℕ) → result ≤ i → i < length pairs.now → p ≤ second_of pairs.now i }
+{
+    pairs.partition_point(|pair| pair.1 < p)
 }

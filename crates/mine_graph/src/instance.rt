@@ -1,6 +1,8 @@
 //! A graph with a value for each block.
-ghost use Rattle.std.specs.Prelude.{◌≡◌, ◌<◌, ◌≤◌, ℕ, ℤ, pos, neg_ℤ, ◌≤ℤ◌, ◌^◌, length, get_or};
-ghost use Rattle.pit_model.specs.Mine.{value};
+ghost use Rattle.std.specs.Prelude.{◌≡◌, ◌<◌, ◌≤◌, ℕ, pos, neg_ℤ, ◌≤ℤ◌, ◌^◌, Bool, length, get_or};
+ghost use Rattle.std.specs.List.{All};
+ghost use Rattle.pit_model.specs.Sum.{total};
+ghost use Rattle.pit_model.specs.Mine.{members, value, worth};
 ghost use Rattle.pit_model.specs.Limits.{IsInstance};
 
 use crate::graph::Graph;
@@ -26,6 +28,18 @@ impl Model for Instance {
 }
 
 impl Instance {
+    /// The instance of these blocks and pairs with these values. It takes no memory.
+    pub fn new(graph: Arc<Graph>, values: Vec<i128>) -> Instance
+        requires count { length values.items ≡ graph.value.blocks }
+        requires low { (u : ℕ) → u < graph.value.blocks → neg_ℤ (pos (10 ^ 23)) ≤ℤ get_or values.items u (pos 0) }
+        requires high { (u : ℕ) → u < graph.value.blocks → get_or values.items u (pos 0) ≤ℤ pos (10 ^ 23) }
+        ensures blocks { result.blocks ≡ graph.value.blocks }
+        ensures pairs { result.pairs ≡ graph.value.pairs }
+        ensures values { result.values ≡ values.items }
+    {
+        Instance { graph, values }
+    }
+
     /// What is true of each instance.
     pub fn law(&self)
         ensures { IsInstance self.now }
@@ -48,5 +62,20 @@ impl Instance {
         ensures { result ≡ value self.now u }
     {
         self.values[u as usize]
+    }
+
+    /// The summed value of a list of blocks, in millionths where the values are: for the members of a set, its worth.
+    pub fn worth(&self, blocks: &[u32]) -> i128
+        requires few { length blocks.now ≤ self.now.blocks }
+        requires below { All (λ u. u < self.now.blocks) blocks.now }
+        ensures sum { result ≡ total (length blocks.now) (λ i. value self.now (get_or blocks.now i 0)) }
+        ensures set { (set : ℕ → Bool) → blocks.now ≡ members self.now.blocks set → result ≡ worth self.now set }
+    {
+        self.law();
+        let mut sum = 0;
+        for &u in blocks {
+            sum += self.value(u);
+        }
+        sum
     }
 }

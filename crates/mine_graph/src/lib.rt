@@ -1,8 +1,12 @@
 //! Blocks, the pairs of a block with a block that it needs, and their values.
 #![tactic(auto)]
 
+mod count_down;
+mod cycle;
 mod graph;
 mod instance;
+mod sort;
 
+pub use cycle::acyclic_has_no_needy;
 pub use graph::Graph;
 pub use instance::Instance;

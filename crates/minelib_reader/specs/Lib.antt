@@ -7,3 +7,4 @@ pub mod Upit
 pub mod UpitGrammar
 pub mod UpitFault
 pub mod UpitLimits
+pub mod Refused

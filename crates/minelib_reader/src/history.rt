@@ -1,5 +1,5 @@
 //! The bytes that went through a file, which clauses read and no memory holds.
-//! `FileReader` and `FileWriter` keep one each, and note in it what a call of the file gave or took.
+//! `FileReader` and `StreamWriter` keep one each, and note in it what a call of the file gave or took.
 //! Nothing but those two calls of `note` ties it to the system's calls: no other proof by hand may be about it.
 ghost use Rattle.std.specs.Prelude.{◌≡◌, ℕ, List, [], ◌++◌};
 ghost use Rattle.std.specs.Borrow.{ftrue};

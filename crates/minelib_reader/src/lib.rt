@@ -16,6 +16,6 @@ pub use fault::{Fault, Refusal, Source};
 pub use input::{FileReader, MemoryReader, read_all};
 pub use lines::{next_field, two_fields};
 pub use number::{decimal, digits};
-pub use output::{FileWriter, MemoryWriter, write_all};
+pub use output::{MemoryWriter, StreamWriter, write_all};
 pub use rows::{Row, Rows};
 pub use upit::{Model, parse_upit, read_upit, upit_law};

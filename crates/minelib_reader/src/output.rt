@@ -1,11 +1,10 @@
-//! A writer into memory, one into a file, and `write_all`, by which the program writes its texts.
+//! A writer into memory, one into a stream, and `write_all`, by which the program writes its texts.
 ghost use Rattle.std.specs.Prelude.{◌≡◌, ◌<◌, ◌^◌, []};
 ghost use Rattle.minelib_reader.specs.Device.{Progress, unread, Writes};
 
 use crate::device::{DeviceFailed, OutBytes};
 use crate::history::History;
 use std::alloc::Global;
-use std::fs::File;
 use std::io::Write;
 
 /// Keeps what is written, up to so many bytes in all. A write past that, and one for which no memory is left,
@@ -45,32 +44,33 @@ impl OutBytes for MemoryWriter {
     }
 }
 
-/// Writes a file. A file that takes no byte counts as failed, and so does a call that a signal interrupts.
+/// Writes a file or another stream of the system, such as standard output. A stream that takes no byte counts as failed,
+/// and so does a call that a signal interrupts.
 #[derive(Drop)]
-pub struct FileWriter {
-    file: File,
+pub struct StreamWriter<S> {
+    stream: S,
     failures: u64,
     written: History,
 }
 
-impl FileWriter {
-    /// Begins where the file stands.
-    pub fn new(file: File) -> FileWriter
-        ensures { ⟦<FileWriter as OutBytes>⟧.progress result ≡ unread 0 }
+impl<S: Write + Drop> StreamWriter<S> {
+    /// Begins where the stream stands.
+    pub fn new(stream: S) -> StreamWriter<S>
+        ensures { ⟦<StreamWriter<S> as OutBytes>⟧.progress result ≡ unread 0 }
     {
-        FileWriter {
-            file,
+        StreamWriter {
+            stream,
             failures: 0,
             written: History::new(),
         }
     }
 }
 
-impl OutBytes for FileWriter {
+impl<S: Write + Drop> OutBytes for StreamWriter<S> {
     ghost progress = { λ w. record { bytes = w.written.bytes; failures = w.failures; allowance = 0 } };
 
     fn write(&mut self, text: &[u8]) -> Result<usize, DeviceFailed> {
-        match self.file.write(text) {
+        match self.stream.write(text) {
             Ok(n) if n > 0 || text.is_empty() => {
                 self.written.note(&text[..n]);
                 Ok(n)

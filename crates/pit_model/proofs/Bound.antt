@@ -9,7 +9,8 @@ use Rattle.pit_model.specs.Sum.{total, when}
 use Rattle.pit_model.specs.Mine.{Instance, value, arcs, source, target, IsSimple}
 use Rattle.pit_model.specs.Flow.{excess}
 use Rattle.pit_model.specs.Tree.{Tree, parent, flow, up, climb, root, IsNormalised}
-use Rattle.pit_model.specs.Limits.{IsWithinLimits, AllSmall, Between}
+use Rattle.pit_model.specs.Limits.{IsWithinLimits, AllSmall, Between, most_worth, FlowsStayWithinLimits}
+use Rattle.pit_model.proofs.Simple.{instance_is_simple}
 use Rattle.pit_model.proofs.Sums.{total-same, total-zero}
 use Rattle.pit_model.proofs.Moves.{total-single}
 use Rattle.pit_model.proofs.Duality.{e, enters, total_excess}
@@ -33,19 +34,19 @@ when-small : (b : Bool) (x : ℤ) → Between (neg_ℤ (pos (10 ^ 23))) x (pos (
 when-small true x h = h
 when-small false x h = (omega (arith, ints), omega (arith, ints))
 
-module _ (mine : Instance) (tree : Tree) (graph : IsSimple mine) (limits : IsWithinLimits mine) (good : IsNormalised mine tree) where
-  ex : ℕ → ℤ
+worth_small : (mine : Instance) → IsWithinLimits mine → (set : ℕ → Bool) → Between (neg_ℤ (pos most_worth)) (total mine.blocks (λ x. when (set x) (value mine x))) (pos most_worth)
+worth_small mine limits set =
+    let s = total-small mine.blocks (λ x. when (set x) (value mine x)) (λ u l. when-small (set u) (value mine u) (limits.low u l, limits.high u l)) in
+    let s0 = s.0 in
+    let s1 = s.1 in
+    let few = limits.few_blocks in
+    (omega (arith, ints), omega (arith, ints))
+
+module _ (mine : Instance) (tree : Tree) (graph : IsSimple mine) (good : IsNormalised mine tree) where
+  abbrev pub ex : ℕ → ℤ
   ex u = excess mine (flow tree) u
 
-  worth_small : (set : ℕ → Bool) → Between (neg_ℤ (pos (2 ^ 119))) (total mine.blocks (λ x. when (set x) (value mine x))) (pos (2 ^ 119))
-  worth_small set =
-      let s = total-small mine.blocks (λ x. when (set x) (value mine x)) (λ u l. when-small (set u) (value mine u) (limits.low u l, limits.high u l)) in
-      let s0 = s.0 in
-      let s1 = s.1 in
-      let few = limits.few_blocks in
-      (omega (arith, ints), omega (arith, ints))
-
-  branch : ℕ → ℕ → Bool
+  abbrev pub branch : ℕ → ℕ → Bool
   branch r x = eqb (root mine tree x) r
 
   -- both ends of a pair with flow are in a branch, or neither
@@ -59,7 +60,7 @@ module _ (mine : Instance) (tree : Tree) (graph : IsSimple mine) (limits : IsWit
   no_flow false false x h = refl
 
   none_enter : (r k : ℕ) → k < arcs mine → enters mine.blocks (arcs mine) (value mine) (source mine) (target mine) (flow tree) (λ j l. (graph.in_range j l).0) (λ j l. (graph.in_range j l).1) (branch r) k ≡ pos 0
-  unfolding enters branch
+  unfolding enters
   none_enter r k l =
       let range = graph.in_range k l in
       ⊎_elim
@@ -76,24 +77,21 @@ module _ (mine : Instance) (tree : Tree) (graph : IsSimple mine) (limits : IsWit
   when-none false = refl
 
   others : (r x : ℕ) → x < mine.blocks → (x ≡ r → ⊥) → when (branch r x) (ex x) ≡ pos 0
-  unfolding branch ex
   others r x m ne =
       elim_option (parent tree.parents x) (when (branch r x) (ex x) ≡ pos 0)
       (λ h. ap (λ b. when b (ex x)) (⊎_elim (λ s. absurd (ne (sym (climb-root tree.parents mine.blocks x h) ∙ s.1))) (λ s. s.0) (eqb_tells (root mine tree x) r)))
       (λ p h. ap (when (branch r x)) (good.settled x p m h) ∙ when-none (branch r x))
 
-  root_excess_small : (r : ℕ) → r < mine.blocks → parent tree.parents r ≡ None → Between (neg_ℤ (pos (2 ^ 119))) (ex r) (pos (2 ^ 119))
-  unfolding e ex branch
-  root_excess_small r l h =
+  -- the excess of a root is the worth of its branch
+  pub root_excess : (r : ℕ) → r < mine.blocks → parent tree.parents r ≡ None → ex r ≡ total mine.blocks (λ x. when (branch r x) (value mine x))
+  unfolding e
+  root_excess r l h =
       let sum = total_excess mine.blocks (arcs mine) (value mine) (source mine) (target mine) (flow tree) (λ j l. (graph.in_range j l).0) (λ j l. (graph.in_range j l).1) (branch r) in
       let none = total-zero (arcs mine) (enters mine.blocks (arcs mine) (value mine) (source mine) (target mine) (flow tree) (λ j l. (graph.in_range j l).0) (λ j l. (graph.in_range j l).1) (branch r)) (none_enter r) in
       let here : eqb (root mine tree r) r ≡ true = eq-eqb (root mine tree r) r (climb-root tree.parents mine.blocks r h) in
       let one : total mine.blocks (λ x. when (branch r x) (ex x)) ≡ ex r =
       total-single mine.blocks (λ x. when (branch r x) (ex x)) r l (λ x m ne. others r x m ne) ∙ ap (λ b. when b (ex r)) here in
-      let w = worth_small (branch r) in
-      let w0 = w.0 in
-      let w1 = w.1 in
-      (omega (arith, ints), omega (arith, ints))
+      omega (arith, ints)
 
 none_some : {P : Type 0} {x : ℕ} → None ≡ Some x → P
 none_some h = cc
@@ -223,8 +221,8 @@ module _ (mine : Instance) (tree : Tree) (graph : IsSimple mine) (limits : IsWit
   nothing_else j l ne =
       let range = graph.in_range j l in
       ⊎_elim
-      (λ z. no_flow mine tree graph limits good (set_of (target mine j)) (set_of (source mine j)) (flow tree j) z)
-      (λ o. same-end mine tree graph limits good (set_of (target mine j)) (set_of (source mine j)) (flow tree j)
+      (λ z. no_flow mine tree graph good (set_of (target mine j)) (set_of (source mine j)) (flow tree j) z)
+      (λ o. same-end mine tree graph good (set_of (target mine j)) (set_of (source mine j)) (flow tree j)
       (⊎_elim
       (λ h. same_below (source mine j) (target mine j) range.0 (apart j (source mine j) (target mine j) l ne h (inl (refl, refl))) h)
       (λ h. sym (same_below (target mine j) (source mine j) range.1 (apart j (target mine j) (source mine j) l ne h (inr (refl, refl))) h))
@@ -252,42 +250,61 @@ module _ (mine : Instance) (tree : Tree) (graph : IsSimple mine) (limits : IsWit
   settled_below y l =
       elim_option (parent tree.parents y) (when (set_of y) (excess mine (flow tree) y) ≡ pos 0)
       (λ h. ap (λ b. when b (excess mine (flow tree) y)) (below_root mine.blocks tree.parents good.parent_count (parent_below mine tree graph.in_range good) good.rooted x p x_below link y (λ e. none_some (sym h ∙ ap (parent tree.parents) e ∙ link)) h))
-      (λ q h. ap (when (set_of y)) (good.settled y q l h) ∙ when-none mine tree graph limits good (set_of y))
+      (λ q h. ap (when (set_of y)) (good.settled y q l h) ∙ when-none mine tree graph good (set_of y))
 
-  flow_small : flow tree k ≤ℤ pos (2 ^ 119)
+  flow_small : flow tree k ≤ℤ pos most_worth
   unfolding into e
   flow_small =
       let sum = total_excess mine.blocks (arcs mine) (value mine) (source mine) (target mine) (flow tree) (λ j l. (graph.in_range j l).0) (λ j l. (graph.in_range j l).1) set_of in
       let zero_sum = total-zero mine.blocks (λ y. when (set_of y) (excess mine (flow tree) y)) settled_below in
       let one = total-single (arcs mine) into k k_below nothing_else in
-      let w = worth_small mine tree graph limits good set_of in
+      let w = worth_small mine limits set_of in
       let w0 = w.0 in
       let w1 = w.1 in
       ⊎_elim (λ t. omega (arith, ints, t)) (λ t. omega (arith, ints, t)) through
+
+-- the bounds of flow and excess by the sum of the values' limits
+module _ (mine : Instance) (tree : Tree) (graph : IsSimple mine) (limits : IsWithinLimits mine) (good : IsNormalised mine tree) where
+  pub flow_within : (k : ℕ) → k < arcs mine → Between (pos 0) (flow tree k) (pos most_worth)
+  flow_within k below =
+      let range = graph.in_range k below in (
+        good.not_negative k below,
+        ⊎_elim
+            (λ z. omega (arith, ints, z))
+            (λ o. ⊎_elim
+            (λ h. flow_small mine tree graph limits good (source mine k) (target mine k) k below range.0 h (inl (refl, refl)))
+            (λ h. flow_small mine tree graph limits good (target mine k) (source mine k) k below range.1 h (inr (refl, refl)))
+            o)
+            (good.on_links k below),
+      )
+
+  pub excess_within : (u : ℕ) → u < mine.blocks → Between (neg_ℤ (pos most_worth)) (excess mine (flow tree) u) (pos most_worth)
+  excess_within u l =
+      elim_option (parent tree.parents u) (Between (neg_ℤ (pos most_worth)) (excess mine (flow tree) u) (pos most_worth))
+      (λ h.
+      let r = root_excess mine tree graph good u l h in
+      let s = worth_small mine limits (λ x. eqb (root mine tree x) u) in
+      let s0 = s.0 in
+      let s1 = s.1 in
+      (omega (arith, ints), omega (arith, ints)))
+      (λ p h. let z = good.settled u p l h in (omega (arith, ints), omega (arith, ints)))
 
 pub flows_small : (mine : Instance) (tree : Tree) → IsSimple mine → IsWithinLimits mine → IsNormalised mine tree → AllSmall tree.flows (length tree.flows)
 flows_small mine tree graph limits good k l =
     let count = good.flow_count in
     let below : k < arcs mine = omega arith in
-    let least = good.not_negative k below in
-    let range = graph.in_range k below in
-    let f : flow tree k ≤ℤ pos (2 ^ 119) =
-    ⊎_elim
-    (λ z. omega (arith, ints, z))
-    (λ o. ⊎_elim
-    (λ h. flow_small mine tree graph limits good (source mine k) (target mine k) k below range.0 h (inl (refl, refl)))
-    (λ h. flow_small mine tree graph limits good (target mine k) (source mine k) k below range.1 h (inr (refl, refl)))
-    o)
-    (good.on_links k below) in
+    let f = flow_within mine tree graph limits good k below in
+    let f0 = f.0 in
+    let f1 = f.1 in
     (omega (arith, ints), omega (arith, ints))
 
 pub excess_small : (mine : Instance) (tree : Tree) → IsSimple mine → IsWithinLimits mine → IsNormalised mine tree → (u : ℕ) → u < mine.blocks → Between (neg_ℤ (pos (2 ^ 120))) (excess mine (flow tree) u) (pos (2 ^ 120))
-unfolding ex
 excess_small mine tree graph limits good u l =
-    elim_option (parent tree.parents u) (Between (neg_ℤ (pos (2 ^ 120))) (excess mine (flow tree) u) (pos (2 ^ 120)))
-    (λ h.
-    let s = root_excess_small mine tree graph limits good u l h in
-    let s0 = s.0 in
-    let s1 = s.1 in
-    (omega (arith, ints), omega (arith, ints)))
-    (λ p h. let z = good.settled u p l h in (omega (arith, ints), omega (arith, ints)))
+    let f = excess_within mine tree graph limits good u l in
+    let f0 = f.0 in
+    let f1 = f.1 in
+    (omega (arith, ints), omega (arith, ints))
+
+pub flows_stay_within_limits : FlowsStayWithinLimits
+flows_stay_within_limits mine tree is good =
+    (flow_within mine tree (instance_is_simple mine is) is.limits good, excess_within mine tree (instance_is_simple mine is) is.limits good)

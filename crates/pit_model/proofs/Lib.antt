@@ -8,3 +8,9 @@ pub mod Merged
 pub mod Gathered
 pub mod Bound
 pub mod Rank
+pub mod RankFalls
+pub mod Simple
+pub mod Opening
+pub mod RankBound
+pub mod Readings
+pub mod SamePairs

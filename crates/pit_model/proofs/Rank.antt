@@ -9,6 +9,7 @@ use Rattle.pit_model.specs.Flow.{excess}
 use Rattle.pit_model.specs.Tree.{Tree, parent, flow, climb, root, is_strong, IsNormalised}
 use Rattle.pit_model.specs.Merger.{merged_over, carried}
 use Rattle.pit_model.specs.Path.{at, IsMergePath}
+use Rattle.pit_model.specs.Rank.{positive_part, positive_excess, weak_count}
 use Rattle.pit_model.proofs.Duality.{e, enters, total_excess}
 use Rattle.pit_model.proofs.Sums.{total-add, total-pick, total-same, total-zero, total-not_negative, total-none, total-sub, when-here, when-other}
 use Rattle.pit_model.proofs.Strong.{same_strength, climb-root, strong_at, elim_option, parent_below, up-child}
@@ -18,15 +19,10 @@ use Rattle.pit_model.proofs.Residual.{le, lt}
 above : (x : ℤ) → pos 0 <ℤ x → int_lt (pos 0) x ≡ true
 above x h = grind (arith, ints)
 
-part : ℤ → ℤ
-part x = when (int_lt (pos 0) x) x
-
-part-above : (x : ℤ) → pos 0 ≤ℤ x → part x ≡ x
-unfolding part
+part-above : (x : ℤ) → pos 0 ≤ℤ x → positive_part x ≡ x
 part-above x h = ⊎_elim (λ (t : int_lt (pos 0) x ≡ true). rw t refl) (λ (t : int_lt (pos 0) x ≡ false). let l = le (pos 0) x t in rw t (omega (arith, ints))) (cases_Bool (int_lt (pos 0) x))
 
-part-below : (x : ℤ) → x ≤ℤ pos 0 → part x ≡ pos 0
-unfolding part
+part-below : (x : ℤ) → x ≤ℤ pos 0 → positive_part x ≡ pos 0
 part-below x h = ⊎_elim (λ (t : int_lt (pos 0) x ≡ true). let l = lt (pos 0) x t in absurd (omega (arith, ints))) (λ (t : int_lt (pos 0) x ≡ false). rw t refl) (cases_Bool (int_lt (pos 0) x))
 
 one_less : (s t : Bool) → (s ≡ true → t ≡ true) → pos 0 ≤ℤ (when (not s) (pos 1) -ℤ when (not t) (pos 1))
@@ -139,12 +135,8 @@ module _ (mine : Instance) (tree : Tree) (path : List ℕ) (last mid : ℕ) (gra
         (same_strength mine tree graph.in_range good u p l h ∙ s))))
         (on_path mine tree path last mid graph good way u)
 
-  -- the sum of the positive excesses, before and after
-  pub positives : Tree → ℤ
-  positives t = total mine.blocks (λ u. part (excess mine (flow t) u))
-
   pub slack : ℤ
-  slack = carried mine tree path last -ℤ part (excess mine (flow new) (at path last))
+  slack = carried mine tree path last -ℤ positive_part (excess mine (flow new) (at path last))
 
   before_last : (j : ℕ) → j < last → pos 0 ≤ℤ excess mine (flow tree) (at path j)
   before_last zero l = let s = way.start in omega (arith, ints)
@@ -158,7 +150,7 @@ module _ (mine : Instance) (tree : Tree) (path : List ℕ) (last mid : ℕ) (gra
       omega (arith, ints)
 
   Fits : ℕ → Type 0
-  Fits u = part (excess mine (flow new) u) +ℤ when (eqb (at path last) u) slack ≡ part (excess mine (flow tree) u) +ℤ (excess mine (flow new) u -ℤ excess mine (flow tree) u)
+  Fits u = positive_part (excess mine (flow new) u) +ℤ when (eqb (at path last) u) slack ≡ positive_part (excess mine (flow tree) u) +ℤ (excess mine (flow new) u -ℤ excess mine (flow tree) u)
 
   fits_inner : (j : ℕ) → j < last → Fits (at path j)
   unfolding Fits new
@@ -176,14 +168,14 @@ module _ (mine : Instance) (tree : Tree) (path : List ℕ) (last mid : ℕ) (gra
   fits_last =
       let a = excess_last mine tree path last mid graph good way in
       let y = part-below (excess mine (flow tree) (at path last)) way.finish in
-      let w = when-here (at path last) (at path last) (carried mine tree path last -ℤ part (excess mine (flow (merged_over mine tree path)) (at path last))) refl in
+      let w = when-here (at path last) (at path last) (carried mine tree path last -ℤ positive_part (excess mine (flow (merged_over mine tree path)) (at path last))) refl in
       omega (arith, ints)
 
   fits_off : (u : ℕ) → ((i : ℕ) → i ≤ last → at path i ≡ u → ⊥) → Fits u
   unfolding Fits new
   fits_off u off =
       let e = excess_off mine tree path last mid graph good way u off in
-      let p = ap part e in
+      let p = ap positive_part e in
       let w = when-other (at path last) u slack (off last (omega arith)) in
       omega (arith, ints)
 
@@ -198,16 +190,16 @@ module _ (mine : Instance) (tree : Tree) (path : List ℕ) (last mid : ℕ) (gra
       (on_path mine tree path last mid graph good way u)
 
   -- the sum falls by the slack
-  pub sum_falls : positives new +ℤ slack ≡ positives tree
-  unfolding positives Fits
+  pub sum_falls : positive_excess mine new +ℤ slack ≡ positive_excess mine tree
+  unfolding Fits
   sum_falls =
       let in_path = way.middle in
-      let pa = λ (u : ℕ). part (excess mine (flow new) u) in
+      let pa = λ (u : ℕ). positive_part (excess mine (flow new) u) in
       let one = total-pick mine.blocks (at path last) (λ u. slack) (way.below last (omega arith)) in
-      let a = total-add mine.blocks (λ u. part (excess mine (flow new) u)) (λ u. when (eqb (at path last) u) slack) in
-      let b = total-add mine.blocks (λ u. part (excess mine (flow tree) u)) (λ u. excess mine (flow new) u -ℤ excess mine (flow tree) u) in
+      let a = total-add mine.blocks (λ u. positive_part (excess mine (flow new) u)) (λ u. when (eqb (at path last) u) slack) in
+      let b = total-add mine.blocks (λ u. positive_part (excess mine (flow tree) u)) (λ u. excess mine (flow new) u -ℤ excess mine (flow tree) u) in
       let d = total-sub mine.blocks (excess mine (flow new)) (excess mine (flow tree)) in
-      let s = total-same mine.blocks (λ u. part (excess mine (flow new) u) +ℤ when (eqb (at path last) u) slack) (λ u. part (excess mine (flow tree) u) +ℤ (excess mine (flow new) u -ℤ excess mine (flow tree) u)) (λ u l. fits u) in
+      let s = total-same mine.blocks (λ u. positive_part (excess mine (flow new) u) +ℤ when (eqb (at path last) u) slack) (λ u. positive_part (excess mine (flow tree) u) +ℤ (excess mine (flow new) u -ℤ excess mine (flow tree) u)) (λ u l. fits u) in
       let x = sum_of_excess mine graph (flow new) in
       let y = sum_of_excess mine graph (flow tree) in
       omega (arith, ints)
@@ -232,14 +224,11 @@ module _ (mine : Instance) (tree : Tree) (path : List ℕ) (last mid : ℕ) (gra
       (λ (t : int_lt (pos 0) (excess mine (flow new) (at path last)) ≡ false). let l = le (pos 0) (excess mine (flow new) (at path last)) t in let q = part-below (excess mine (flow new) (at path last)) l in absurd (omega (arith, ints)))
       (cases_Bool (int_lt (pos 0) (excess mine (flow new) (at path last))))
 
-  pub weak_count : Tree → ℤ
-  weak_count t = total mine.blocks (λ u. when (not (is_strong mine t u)) (pos 1))
-
   gone : ℕ → ℤ
   gone u = when (not (is_strong mine tree u)) (pos 1) -ℤ when (not (is_strong mine new u)) (pos 1)
 
-  fewer_weak : slack ≡ pos 0 → weak_count new <ℤ weak_count tree
-  unfolding weak_count gone
+  fewer_weak : slack ≡ pos 0 → weak_count mine new <ℤ weak_count mine tree
+  unfolding gone
   fewer_weak z =
       let m = way.middle in
       let counts = counts_at z in
@@ -247,11 +236,11 @@ module _ (mine : Instance) (tree : Tree) (path : List ℕ) (last mid : ℕ) (gra
       let w = at path (suc mid) in
       let w_gone : gone (at path (suc mid)) ≡ pos 1 = one_gone (is_strong mine tree (at path (suc mid))) (is_strong mine new (at path (suc mid))) (weak_place (last - suc mid) (suc mid) (omega arith) (omega arith)) (becomes_strong counts) in
       let d = total-sub mine.blocks (λ u. when (not (is_strong mine tree u)) (pos 1)) (λ u. when (not (is_strong mine new u)) (pos 1)) in
-      not_le (total mine.blocks gone) (weak_count new) (weak_count tree) d
+      not_le (total mine.blocks gone) (weak_count mine new) (weak_count mine tree) d
       (λ h. let none = total-none mine.blocks gone least h w (way.below (suc mid) (omega arith)) in omega (arith, ints))
 
   -- the sum of the positive excesses falls, or it stays and fewer blocks are weak
-  pub lowers : (positives new <ℤ positives tree) ⊎ ((positives new ≡ positives tree) × (weak_count new <ℤ weak_count tree))
+  pub lowers : (positive_excess mine new <ℤ positive_excess mine tree) ⊎ ((positive_excess mine new ≡ positive_excess mine tree) × (weak_count mine new <ℤ weak_count mine tree))
   lowers =
       let f = sum_falls in
       let l = slack_least in

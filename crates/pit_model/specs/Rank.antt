@@ -1,7 +1,7 @@
 -- The rank of a tree, which each merger lowers: so there are at most P * (n + 1) + n of them.
-use Rattle.std.specs.Prelude.{◌≡◌, ℕ, suc, ◌<◌, ℤ, pos, ◌+ℤ◌, ◌*ℤ◌, ◌<ℤ◌, int_lt, not, IsTrue}
+use Rattle.std.specs.Prelude.{◌≡◌, ℕ, suc, ◌<◌, ℤ, pos, ◌+ℤ◌, ◌*ℤ◌, ◌≤ℤ◌, ◌<ℤ◌, int_lt, not, IsTrue}
 use Rattle.pit_model.specs.Sum.{total, when}
-use Rattle.pit_model.specs.Mine.{Instance, IsSimple}
+use Rattle.pit_model.specs.Mine.{Instance, value, IsSimple}
 use Rattle.pit_model.specs.Flow.{excess}
 use Rattle.pit_model.specs.Tree.{Tree, flow, is_strong, is_merger, IsNormalised}
 use Rattle.pit_model.specs.Merger.{merged}
@@ -26,3 +26,13 @@ abbrev pub MergerLowersRank : Type 0
 MergerLowersRank =
     (mine : Instance) (tree : Tree) (k : ℕ) → IsSimple mine → IsNormalised mine tree → IsTrue (is_merger mine tree k)
     → rank mine (merged mine tree k) <ℤ rank mine tree
+
+-- the sum of the positive values
+abbrev pub positive_worth : Instance → ℤ
+positive_worth mine = total mine.blocks (λ u. positive_part (value mine u))
+
+-- the law: the rank is from 0 to P * (n + 1) + n, P the sum of the positive values
+abbrev pub RankIsBounded : Type 0
+RankIsBounded =
+    (mine : Instance) (tree : Tree) → IsSimple mine → IsNormalised mine tree
+    → (pos 0 ≤ℤ rank mine tree) × (rank mine tree ≤ℤ (positive_worth mine *ℤ pos (suc mine.blocks) +ℤ pos mine.blocks))

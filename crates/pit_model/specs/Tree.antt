@@ -68,3 +68,7 @@ NoMergerGivesCertificate =
     (mine : Instance) (tree : Tree) → PairsInRange mine → IsNormalised mine tree
     → ((k : ℕ) → k < arcs mine → is_merger mine tree k ≡ false)
     → Certifies mine (is_strong mine tree) (flow tree)
+
+-- the law: the opening tree is normalised
+abbrev pub OpeningIsNormalised : Type 0
+OpeningIsNormalised = (mine : Instance) → IsNormalised mine (opening mine)

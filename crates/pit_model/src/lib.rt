@@ -3,8 +3,11 @@
 #![tactic(auto)]
 
 ghost use Rattle.pit_model.specs.Certificate.{CertificateGivesPit};
-ghost use Rattle.pit_model.specs.Tree.{NoMergerGivesCertificate};
-ghost use Rattle.pit_model.specs.Merger.{MergerKeepsNormalised};
+ghost use Rattle.pit_model.specs.Mine.{PitKnowsNoOrder};
+ghost use Rattle.pit_model.specs.Tree.{NoMergerGivesCertificate, OpeningIsNormalised};
+ghost use Rattle.pit_model.specs.Merger.{MergerKeepsNormalised, ResidualReadingsAgree};
+ghost use Rattle.pit_model.specs.Limits.{FlowsStayWithinLimits};
+ghost use Rattle.pit_model.specs.Rank.{MergerLowersRank, RankIsBounded};
 
 /// What meets the conditions of a certificate is the pit (Picard 1976).
 pub fn certificate_gives_pit()
@@ -19,4 +22,34 @@ pub fn no_merger_gives_certificate()
 /// A merger keeps the tree normalised (Hochbaum 2008).
 pub fn merger_keeps_normalised()
     ensures { MergerKeepsNormalised }
+{}
+
+/// A merger strictly lowers the rank (Hochbaum 2008).
+pub fn merger_lowers_rank()
+    ensures { MergerLowersRank }
+{}
+
+/// The opening tree is normalised.
+pub fn opening_is_normalised()
+    ensures { OpeningIsNormalised }
+{}
+
+/// The rank is at most P * (n + 1) + n, P the sum of the positive values: so no more mergers are made.
+pub fn rank_is_bounded()
+    ensures { RankIsBounded }
+{}
+
+/// No flow and no excess of a normalised tree leaves the sum of the values' limits, so no sum leaves an i128.
+pub fn flows_stay_within_limits()
+    ensures { FlowsStayWithinLimits }
+{}
+
+/// The amount of a residual agrees with whether something can be sent.
+pub fn residual_readings_agree()
+    ensures { ResidualReadingsAgree }
+{}
+
+/// A pit does not depend on the order in which the pairs stand.
+pub fn pit_knows_no_order()
+    ensures { PitKnowsNoOrder }
 {}

@@ -1,0 +1,91 @@
+-- The lists of a new graph.
+use Rattle.std.proofs.Common.{◌≡◌, ℕ, ◌+◌, ◌-◌, ◌<◌, ◌≤◌, Bool, sym, ap, ◌∙◌, subst, List, get_or, length}
+use Rattle.std.specs.Prelude.{IsTrue}
+use Rattle.pit_model.specs.Graph.{first_of, second_of, AreInRange, AreSamePairs, AreApart, AreRising, IsAcyclic}
+use Rattle.pit_model.specs.Cycle.{IsNeedy, IsLargestNeedy, IsLeast, IsLeastNeeded, IsWalk, IsCycleList}
+use Rattle.mine_graph.specs.Rows.{by_second}
+use Rattle.mine_graph.specs.Queue.{IsCountedDown}
+use Rattle.mine_graph.specs.Left.{left_over}
+use Rattle.mine_graph.proofs.Order.{by_second-from, by_second-to, twice, twice-same}
+use Rattle.mine_graph.proofs.Acyclic.{AreTurned, acyclic, over-largest}
+
+pub turned_pairs : (qs : List (ℕ × ℕ)) (n : ℕ) → AreInRange qs n → AreTurned qs (by_second qs n)
+turned_pairs qs n range = record {
+  forth = λ k h. let a = by_second-to qs n k h (range k h).1 in (a.0, a.1, ap (λ (x : ℕ × ℕ). x.0) a.2, ap (λ (x : ℕ × ℕ). x.1) a.2);
+  back = λ l h. let b = by_second-from qs n l h in (b.0, b.1, sym (ap (λ (x : ℕ × ℕ). x.0) b.2), sym (ap (λ (x : ℕ × ℕ). x.1) b.2));
+}
+
+turned_back : (ps qs : List (ℕ × ℕ)) → AreTurned ps qs → AreTurned qs ps
+turned_back ps qs t = record {
+  forth = λ k h. let r = t.back k h in (r.0, r.1, r.3, r.2);
+  back = λ l h. let r = t.forth l h in (r.0, r.1, r.3, r.2);
+}
+
+needy-back : (ps qs : List (ℕ × ℕ)) (n : ℕ) (set : ℕ → Bool) → AreSamePairs ps qs → IsNeedy qs n set → IsNeedy ps n set
+needy-back ps qs n set same needy u h =
+    let r = needy u h in
+    let b = same.back r.1.0 r.1.1 in
+    (r.0, (b.0, b.1, ap (λ (x : ℕ × ℕ). x.0) b.2 ∙ r.1.2, ap (λ (x : ℕ × ℕ). set x.1) b.2 ∙ r.1.3))
+
+needy-forth : (ps qs : List (ℕ × ℕ)) (n : ℕ) (set : ℕ → Bool) → AreSamePairs ps qs → IsNeedy ps n set → IsNeedy qs n set
+needy-forth ps qs n set same needy u h =
+    let r = needy u h in
+    let b = same.forth r.1.0 r.1.1 in
+    (r.0, (b.0, b.1, ap (λ (x : ℕ × ℕ). x.0) b.2 ∙ r.1.2, ap (λ (x : ℕ × ℕ). set x.1) b.2 ∙ r.1.3))
+
+pub largest-back : (ps qs : List (ℕ × ℕ)) (n : ℕ) (set : ℕ → Bool) → AreSamePairs ps qs → IsLargestNeedy qs n set → IsLargestNeedy ps n set
+largest-back ps qs n set same l = record {
+  needy = needy-back ps qs n set same l.needy;
+  largest = λ other needy. l.largest other (needy-forth ps qs n other same needy);
+}
+
+pub same_pairs : (pairs half sorted : List (ℕ × ℕ)) (n : ℕ) → AreInRange pairs n → half ≡ by_second pairs n → sorted ≡ by_second half n → AreSamePairs pairs sorted
+same_pairs pairs half sorted n range h s =
+    let is : sorted ≡ by_second (by_second pairs n) n = s ∙ ap (λ q. by_second q n) h in
+    subst (AreSamePairs pairs) (sym is) (twice-same pairs n range)
+
+pub rising_pairs : (pairs half sorted : List (ℕ × ℕ)) (n : ℕ) → AreApart pairs → half ≡ by_second pairs n → sorted ≡ by_second half n → AreRising sorted
+rising_pairs pairs half sorted n apart h s =
+    let is : sorted ≡ by_second (by_second pairs n) n = s ∙ ap (λ q. by_second q n) h in
+    subst AreRising (sym is) (twice pairs n apart)
+
+turned_to : (sorted arcs : List (ℕ × ℕ)) (n : ℕ) → AreInRange arcs n → sorted ≡ by_second arcs n → AreTurned sorted arcs
+turned_to sorted arcs n range is = turned_back arcs sorted (subst (AreTurned arcs) (sym is) (turned_pairs arcs n range))
+
+pub over_is : (sorted arcs : List (ℕ × ℕ)) (left : List ℕ) (n : ℕ) → AreInRange arcs n → sorted ≡ by_second arcs n → AreInRange sorted n → length left ≡ n
+    → IsCountedDown arcs left → IsLargestNeedy sorted (length left) (left_over left)
+over_is sorted arcs left n range is sorted_range size end =
+    over-largest sorted arcs left end.order end.tail (turned_to sorted arcs n range is) (subst (AreInRange sorted) (sym size) sorted_range) end.settled
+
+-- the same pairs in another order have the same cycle
+least-back : (ps qs : List (ℕ × ℕ)) (set : ℕ → Bool) (u p : ℕ) → AreSamePairs ps qs → IsLeastNeeded qs set u p → IsLeastNeeded ps set u p
+least-back ps qs set u p same l = record {
+  needed = (let r = l.needed in let b = same.back r.0 r.1 in (b.0, b.1, ap (λ (x : ℕ × ℕ). x.0) b.2 ∙ r.2, ap (λ (x : ℕ × ℕ). x.1) b.2 ∙ r.3));
+  member = l.member;
+  least = λ k h e m.
+      let f = same.forth k h in
+      let x = ap (λ (y : ℕ × ℕ). y.1) f.2 in
+      subst (λ y. p ≤ y) x (l.least f.0 f.1 (ap (λ (y : ℕ × ℕ). y.0) f.2 ∙ e) (ap set x ∙ m));
+}
+
+pub cycle-back : (ps qs : List (ℕ × ℕ)) (n : ℕ) (cycle : List ℕ) → AreSamePairs ps qs → IsCycleList qs n cycle → IsCycleList ps n cycle
+cycle-back ps qs n cycle same c = record {
+  set = c.set;
+  largest = largest-back ps qs n c.set same c.largest;
+  walk = c.walk;
+  walked = record {
+    some = c.walked.some;
+    first = c.walked.first;
+    next = λ i h. least-back ps qs c.set (get_or c.walk i 0) (get_or c.walk (i + 1) 0) same (c.walked.next i h);
+    apart = c.walked.apart;
+  };
+  visit = c.visit;
+  visited = c.visited;
+  repeats = least-back ps qs c.set (get_or c.walk (length c.walk - 1) 0) (get_or c.walk c.visit 0) same c.repeats;
+  is = c.is;
+}
+
+pub made_acyclic : (sorted arcs : List (ℕ × ℕ)) (left : List ℕ) (n : ℕ) → AreInRange arcs n → sorted ≡ by_second arcs n → AreInRange sorted n → length left ≡ n
+    → IsCountedDown arcs left → ((u : ℕ) → u < length left → get_or left u 0 ≡ 0) → IsAcyclic sorted
+made_acyclic sorted arcs left n range is sorted_range size end none =
+    acyclic sorted arcs left end.order end.tail (turned_to sorted arcs n range is) (subst (AreInRange sorted) (sym size) sorted_range) end.settled none

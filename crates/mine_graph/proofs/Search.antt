@@ -1,0 +1,50 @@
+-- Looking for a pair among those of its block, by halves: those before the place found are less, the others are not.
+use Rattle.std.proofs.Common.{◌≡◌, ℕ, ◌+◌, ◌-◌, ◌<◌, ◌≤◌, ap, ◌∙◌, arith, ⊎_elim, List, take, drop, get_or, length}
+use Rattle.std.specs.Prelude.{◌⊎◌, ◌↔◌}
+use Rattle.std.proofs.lemmas.Bool.{cases_order}
+use Rattle.std.proofs.lemmas.List.{get_or-drop, get_or-take, length-drop, length-take-le}
+use Rattle.pit_model.specs.Graph.{first_of, second_of, AreRising, IsBefore}
+
+-- the pairs from `begin` up to `end`, as a part of all
+module _ (pairs row : List (ℕ × ℕ)) (begin end : ℕ) (order : begin ≤ end) (inside : end ≤ length pairs) (is : row ≡ take (end - begin) (drop begin pairs)) where
+  pub length-row : length row ≡ end - begin
+  length-row = ap (λ (q : List (ℕ × ℕ)). length q) is ∙ length-take-le (end - begin) (drop begin pairs) (omega (arith, length-drop begin pairs))
+
+  pub second-row : (i : ℕ) → i < length row → second_of row i ≡ second_of pairs (begin + i)
+  second-row i l =
+      let here : get_or row i (0, 0) ≡ get_or pairs (begin + i) (0, 0) =
+      ap (λ (q : List (ℕ × ℕ)). get_or q i (0, 0)) is
+      ∙ get_or-take (end - begin) (drop begin pairs) i (0, 0) (let s = length-row in omega arith)
+      ∙ get_or-drop begin pairs i (0, 0) in
+      ap (λ (x : ℕ × ℕ). x.1) here
+
+  module _ (u : ℕ) (rising : AreRising pairs) (own : (k : ℕ) → k < length pairs → (first_of pairs k ≡ u) ↔ ((begin ≤ k) × (k < end))) where
+    -- a pair of the block stands at the place
+    pub found_at : (p place k : ℕ)
+        → ((i : ℕ) → i < place → second_of row i < p) → ((i : ℕ) → place ≤ i → i < length row → p ≤ second_of row i)
+        → k < length pairs → first_of pairs k ≡ u → second_of pairs k ≡ p
+        → (begin + place < end) × (second_of pairs (begin + place) ≡ p)
+    found_at p place k before after l e s =
+        let size = length-row in
+        let f = (own k l).0 e in
+        let from = f.0 in
+        let to = f.1 in
+        let j : ℕ = k - begin in
+        let back : begin + j ≡ k = omega arith in
+        let here : second_of row j ≡ p = second-row j (omega arith) ∙ ap (second_of pairs) back ∙ s in
+        ⊎_elim
+        (λ (same : place ≡ j).
+        let at : begin + place ≡ k = omega arith in
+        (omega arith, ap (second_of pairs) at ∙ s))
+        (λ (apart : (place < j) ⊎ (j < place)). absurd (⊎_elim
+        (λ (less : place < j).
+        let at = after place (omega arith) (omega arith) in
+        let there = second-row place (omega arith) in
+        let x = (own (begin + place) (omega arith)).1 (omega arith, omega arith) in
+        ⊎_elim
+        (λ (r : first_of pairs (begin + place) < first_of pairs k). let z : ⊥ = omega arith in z)
+        (λ (r : (first_of pairs (begin + place) ≡ first_of pairs k) × (second_of pairs (begin + place) < second_of pairs k)). let y = r.1 in let z : ⊥ = omega arith in z)
+        (rising (begin + place) k (omega arith) l))
+        (λ (more : j < place). let at = before j more in let z : ⊥ = omega arith in z)
+        apart))
+        (cases_order place j)

@@ -1,0 +1,65 @@
+-- The values of a list of blocks, summed: small, and for the members of a set the worth of the set.
+use Rattle.std.proofs.Common.{◌≡◌, ℕ, zero, suc, ◌+◌, ◌*◌, ◌^◌, ◌<◌, ◌≤◌, Bool, true, false, cond, refl, sym, ap, ◌∙◌, arith, ⊎_elim, List, [], ◌∷◌, ◌++◌, get_or, length}
+use Rattle.std.specs.Prelude.{ℤ, pos, neg_ℤ, ◌+ℤ◌, ◌≤ℤ◌}
+use Rattle.std.specs.List.{All, filter, range_with_len}
+use Rattle.std.proofs.lemmas.Bool.{cases_Bool}
+use Rattle.std.proofs.lemmas.Int.{ints}
+use Rattle.std.proofs.lemmas.List.{append-nil, get_or_append_left, get_or_at, length_push}
+use Rattle.std.proofs.lemmas.List.Elements.{All-get_or, filter-append}
+use mir.Val.{SFits}
+use mir.Syntax.{w128}
+use Rattle.pit_model.specs.Sum.{total, when}
+use Rattle.pit_model.specs.Mine.{Instance, members, value}
+use Rattle.pit_model.specs.Limits.{IsWithinLimits}
+use Rattle.pit_model.proofs.Sums.{total-same}
+use Rattle.mine_graph.proofs.Members.{members-in, members-out}
+
+-- a sum of numbers within 10^23 of 0
+pub total-small : (n : ℕ) (f : ℕ → ℤ) → ((i : ℕ) → i < n → (neg_ℤ (pos (10 ^ 23)) ≤ℤ f i) × (f i ≤ℤ pos (10 ^ 23)))
+    → (pos 0 ≤ℤ (total n f +ℤ pos (n * 10 ^ 23))) × (total n f ≤ℤ pos (n * 10 ^ 23))
+total-small zero f small = (omega (arith, ints), omega (arith, ints))
+total-small (suc n) f small =
+    let rest = total-small n f (λ i l. small i (omega arith)) in
+    let above = rest.0 in
+    let below = rest.1 in
+    let last = small n (omega arith) in
+    let low = last.0 in
+    let high = last.1 in
+    (omega (arith, ints), omega (arith, ints))
+
+abbrev summed : (ℕ → ℤ) → List ℕ → ℤ
+summed f xs = total (length xs) (λ i. f (get_or xs i 0))
+
+summed-more : (f : ℕ → ℤ) (xs : List ℕ) (x : ℕ) → summed f (xs ++ x ∷ []) ≡ summed f xs +ℤ f x
+summed-more f xs x =
+    let size : length (xs ++ x ∷ []) ≡ suc (length xs) = omega (arith, length_push xs x) in
+    let front : total (length xs) (λ i. f (get_or (xs ++ x ∷ []) i 0)) ≡ summed f xs =
+    total-same (length xs) (λ i. f (get_or (xs ++ x ∷ []) i 0)) (λ i. f (get_or xs i 0)) (λ i l. ap f (get_or_append_left xs (x ∷ []) 0 i l)) in
+    let last : f (get_or (xs ++ x ∷ []) (length xs) 0) ≡ f x = ap f (get_or_at xs x [] 0 (length xs) refl) in
+    ap (λ k. total k (λ i. f (get_or (xs ++ x ∷ []) i 0))) size ∙ ap (λ s. s +ℤ f (get_or (xs ++ x ∷ []) (length xs) 0)) front ∙ ap (λ s. summed f xs +ℤ s) last
+
+-- one block more, where the sums so far and the value are within the limits
+pub summed_fits : (mine : Instance) (xs : List ℕ) (i : ℕ) → IsWithinLimits mine → length xs ≤ mine.blocks → All (λ u. u < mine.blocks) xs → i < length xs
+    → (SFits w128 (value mine (get_or xs i 0))) × (SFits w128 (total i (λ k. value mine (get_or xs k 0)) +ℤ value mine (get_or xs i 0)))
+summed_fits mine xs i limits few below l =
+    let at : (k : ℕ) → k < length xs → get_or xs k 0 < mine.blocks = λ k h. All-get_or (λ u. u < mine.blocks) xs k 0 h below in
+    let rest = total-small i (λ k. value mine (get_or xs k 0)) (λ k h. (limits.low (get_or xs k 0) (at k (omega arith)), limits.high (get_or xs k 0) (at k (omega arith)))) in
+    let lower = rest.0 in
+    let upper = rest.1 in
+    let low = limits.low (get_or xs i 0) (at i l) in
+    let high = limits.high (get_or xs i 0) (at i l) in
+    let most = limits.few_blocks in
+    (omega (arith, ints), omega (arith, ints))
+
+-- by the numbers up to n: the last one is a member, or not
+pub summed-members : (n : ℕ) (set : ℕ → Bool) (f : ℕ → ℤ) → summed f (members n set) ≡ total n (λ u. when (set u) (f u))
+summed-members zero set f = refl
+summed-members (suc n) set f = ⊎_elim
+    (λ (e : set n ≡ true).
+    ap (summed f) (members-in n set e) ∙ summed-more f (members n set) n ∙ ap (λ s. s +ℤ f n) (summed-members n set f)
+    ∙ ap (λ b. total n (λ u. when (set u) (f u)) +ℤ when b (f n)) (sym e))
+    (λ (e : set n ≡ false).
+    ap (summed f) (members-out n set e) ∙ summed-members n set f
+    ∙ (let none : total n (λ u. when (set u) (f u)) ≡ total n (λ u. when (set u) (f u)) +ℤ pos 0 = omega (arith, ints) in none)
+    ∙ ap (λ b. total n (λ u. when (set u) (f u)) +ℤ when b (f n)) (sym e))
+    (cases_Bool (set n))

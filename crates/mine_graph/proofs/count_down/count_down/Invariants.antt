@@ -1,0 +1,9 @@
+use Rattle.std.proofs.Common.{◌≤◌}
+use Rattle.mine_graph.specs.Queue.{IsSettled}
+use Rattle.mine_graph.proofs.count_down.count_down.Given as goal
+
+abbrev pub invariant-loop-head : goal.invariant-loop-head
+invariant-loop-head l = record {
+  state : IsSettled l.arcs l.left l.order l.tail l.head;
+  ahead : l.head ≤ l.tail;
+}

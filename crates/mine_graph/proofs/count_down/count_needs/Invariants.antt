@@ -1,0 +1,6 @@
+use Rattle.std.proofs.Common.{◌≡◌, ℕ, ◌<◌, get_or, length}
+use Rattle.mine_graph.specs.Queue.{count, leads_to}
+use Rattle.mine_graph.proofs.count_down.count_needs.Given as goal
+
+abbrev pub invariant-loop-i : goal.invariant-loop-i
+invariant-loop-i l = (u : ℕ) → u < length l.left → get_or l.left u 0 ≡ count l.i (leads_to l.arcs u)

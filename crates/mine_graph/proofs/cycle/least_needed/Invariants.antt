@@ -1,0 +1,6 @@
+use Rattle.std.proofs.Common.{◌≡◌, ℕ, ◌<◌, ◌≤◌, get_or}
+use Rattle.pit_model.specs.Graph.{second_of}
+use Rattle.mine_graph.proofs.cycle.least_needed.Given as goal
+
+abbrev pub invariant-loop-k : goal.invariant-loop-k
+invariant-loop-k l = (x : ℕ) → get_or l.starts l.at 0 ≤ x → x < l.k → get_or l.left (second_of l.pairs x) 0 ≡ 0

@@ -1,0 +1,6 @@
+mod Simple
+mod Climbing
+mod Carrying
+mod Assembled
+mod Sending
+mod Keeping

@@ -1,0 +1,92 @@
+#!/usr/bin/env python3
+"""Makes a synthetic mine: a grid of blocks with ore bodies in it, and the slopes that a pit must keep.
+
+    tools/make_mine.py --blocks 1000 --slopes 1:5 --seed 7 --out examples/small_mine/mine
+
+writes mine.upit (the value of each block), mine.prec (the blocks that each block needs) and mine.blocks (place, revenue
+and cost of each block; a block's value is its revenue less its cost). The same arguments give the same bytes.
+
+Blocks are numbered from the top level down, row by row. Slopes: with 1:5 a block needs the block above it and that
+one's four neighbours, with 1:9 all nine; with cone it needs, in the three levels above, the blocks within a cone of
+45 degrees (of the third level the outer ring alone, since the inner ones follow).
+"""
+
+import argparse
+import math
+import random
+
+
+def grid_of(blocks):
+    """Width, breadth and depth of a flat box with about so many blocks."""
+    depth = max(1, round((blocks / 16) ** (1 / 3)))
+    side = max(1, round(math.sqrt(blocks / depth)))
+    return side, side, depth
+
+
+def offsets_of(slopes):
+    """Where the needed blocks lie: steps east, north and up."""
+    if slopes == "1:5":
+        return [(0, 0, 1), (-1, 0, 1), (1, 0, 1), (0, -1, 1), (0, 1, 1)]
+    if slopes == "1:9":
+        return [(x, y, 1) for y in (-1, 0, 1) for x in (-1, 0, 1)]
+    around = [(x, y) for y in range(-3, 4) for x in range(-3, 4)]
+    cone = [(x, y, up) for up in (1, 2) for x, y in around if x * x + y * y <= up * up]
+    return cone + [(x, y, 3) for x, y in around if 4 < x * x + y * y <= 9]
+
+
+class Ore:
+    """An ellipsoid in which the grade falls from its middle to its rim."""
+
+    def __init__(self, rng, width, breadth, depth):
+        self.middle = (rng.uniform(0.25, 0.75) * width, rng.uniform(0.25, 0.75) * breadth, rng.uniform(0.3, 0.8) * depth)
+        self.radius = (rng.uniform(0.12, 0.3) * width, rng.uniform(0.12, 0.3) * breadth, rng.uniform(0.2, 0.5) * depth)
+        self.richness = rng.uniform(6, 20)
+
+    def grade(self, place):
+        far = sum(((p - m) / max(r, 0.5)) ** 2 for p, m, r in zip(place, self.middle, self.radius))
+        return self.richness * (1 - far) if far < 1 else 0.0
+
+
+def decimal(cents):
+    return f"{cents // 100}.{cents % 100:02d}" if cents >= 0 else f"-{-cents // 100}.{-cents % 100:02d}"
+
+
+def write_mine(prefix, blocks, slopes, seed):
+    rng = random.Random(f"{seed}/{blocks}/{slopes}")
+    width, breadth, depth = grid_of(blocks)
+    ores = [Ore(rng, width, breadth, depth) for _ in range(3)]
+    offsets = offsets_of(slopes)
+    count = width * breadth * depth
+    with open(prefix + ".upit", "w") as model, open(prefix + ".prec", "w") as prec, open(prefix + ".blocks", "w") as table:
+        model.write(f"NAME: mine of {count} blocks, slopes {slopes}, seed {seed}\nTYPE: UPIT\nNBLOCKS: {count}\nOBJECTIVE_FUNCTION:\n")
+        block = 0
+        for z in range(depth):
+            for y in range(breadth):
+                for x in range(width):
+                    grade = sum(ore.grade((x, y, z)) for ore in ores)
+                    revenue = round(100 * grade * rng.uniform(0.6, 1.4)) if grade > 0 else 0
+                    cost = round(100 * (1 + 0.02 * z) * rng.uniform(0.9, 1.1))
+                    model.write(f"{block} {decimal(revenue - cost)}\n")
+                    table.write(f"{block} {x} {y} {-z} {decimal(revenue)} {decimal(cost)}\n")
+                    needs = sorted(
+                        ((z - up) * breadth + y + north) * width + x + east
+                        for east, north, up in offsets
+                        if z >= up and 0 <= x + east < width and 0 <= y + north < breadth
+                    )
+                    if needs:
+                        prec.write(f"{block} {len(needs)} {' '.join(map(str, needs))}\n")
+                    block += 1
+
+
+def main():
+    parser = argparse.ArgumentParser(description="Makes a synthetic mine.")
+    parser.add_argument("--blocks", type=int, default=1000, help="about how many blocks (default 1000)")
+    parser.add_argument("--slopes", choices=("1:5", "1:9", "cone"), default="1:5", help="default 1:5")
+    parser.add_argument("--seed", type=int, default=1, help="default 1")
+    parser.add_argument("--out", required=True, help="the files are OUT.upit, OUT.prec and OUT.blocks")
+    options = parser.parse_args()
+    write_mine(options.out, options.blocks, options.slopes, options.seed)
+
+
+if __name__ == "__main__":
+    main()
