@@ -8,3 +8,8 @@ pub mod UpitGrammar
 pub mod UpitFault
 pub mod UpitLimits
 pub mod Refused
+pub mod Prec
+pub mod Marks
+pub mod PrecGrammar
+pub mod PrecFault
+pub mod PrecLimits

@@ -8,6 +8,7 @@ mod input;
 mod lines;
 mod number;
 mod output;
+mod prec;
 mod rows;
 mod upit;
 
@@ -17,5 +18,6 @@ pub use input::{FileReader, MemoryReader, read_all};
 pub use lines::{next_field, two_fields};
 pub use number::{decimal, digits};
 pub use output::{MemoryWriter, StreamWriter, write_all};
+pub use prec::{parse_prec, prec_law, read_prec};
 pub use rows::{Row, Rows};
 pub use upit::{Model, parse_upit, read_upit, upit_law};
