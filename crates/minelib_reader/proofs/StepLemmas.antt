@@ -6,7 +6,7 @@ use Rattle.std.specs.Str.{bytes_eq}
 use Rattle.minelib_reader.specs.declared.fault.Fault.{Fault}
 use Rattle.std.specs.Prelude.{IfOk, IfErr}
 use Rattle.minelib_reader.specs.declared.fault.Refusal.{Refusal}
-use Rattle.minelib_reader.specs.declared.fault.Refusal.TheVariants.{NoMemory, ReadFailed}
+use Rattle.minelib_reader.specs.declared.fault.Refusal.TheVariants.{NoMemory, ReadFailed, WriteFailed}
 use Rattle.minelib_reader.specs.Answer.{Gives, FailsBy, FailsAt}
 use Rattle.minelib_reader.specs.Text.{two_of}
 use Rattle.minelib_reader.specs.Steps.{◌>>=◌, or_fault, check, fault_of, IsFirstFault}
@@ -102,6 +102,7 @@ value_told view (Err e) reading P holds h = tt
 refusal_told : {Y : Type 0} (r : Refusal) (e : Fault) (reading : Result Y Fault) (P : Fault → Type 0) → (reading ≡ Err e → P e) → FailsBy r e reading → FailsAt r e P
 refusal_told NoMemory e reading P holds h = h
 refusal_told ReadFailed e reading P holds h = h
+refusal_told WriteFailed e reading P holds h = h
 refusal_told _ e reading P holds h = holds h
 
 pub fault_told : {X Y : Type 0} (view : X → Y) (r : Result X Fault) (reading : Result Y Fault) (P : Fault → Type 0) → ((e : Fault) → reading ≡ Err e → P e) → Gives view r reading → IfErr r (λ e. FailsAt e.refusal e P)
@@ -112,4 +113,5 @@ fault_told view (Err e) reading P holds h = refusal_told e.refusal e reading P (
 pub fails_map : {X Y : Type 0} (r : Refusal) (e : Fault) (part : Result X Fault) (whole : Result Y Fault) → (part ≡ Err e → whole ≡ Err e) → FailsBy r e part → FailsBy r e whole
 fails_map NoMemory e part whole f h = h
 fails_map ReadFailed e part whole f h = h
+fails_map WriteFailed e part whole f h = h
 fails_map _ e part whole f h = f h
