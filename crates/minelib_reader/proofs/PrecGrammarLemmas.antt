@@ -76,8 +76,16 @@ reads_line : (n from total : ℕ) (r : Row) (id : ℕ) (needs : List ℕ) → Sp
 unfolding needs_line front_of
 reads_line n from total r id needs s =
     let count : length s.need_fields ≡ length needs = sym (length-map s.need_fields whole_of) ∙ ap length s.are_needs ∙ length-map needs Some in
-    rw (s.fields, s.is_id, lt-ltb id n s.known, le-leb from id s.rising, s.is_count, eq-eqb (length s.need_fields) (length needs) count, le-leb (total + length needs) most_pairs s.few,
-      reads_needs n id r.line [] s.need_fields needs s.are_needs s.below s.others s.distinct (all_new needs)) refl
+    rw (
+      s.fields,
+      s.is_id,
+      lt-ltb id n s.known,
+      le-leb from id s.rising,
+      s.is_count,
+      eq-eqb (length s.need_fields) (length needs) count,
+      le-leb (total + length needs) most_pairs s.few,
+      reads_needs n id r.line [] s.need_fields needs s.are_needs s.below s.others s.distinct (all_new needs),
+    ) refl
 
 pub reads : (n from total : ℕ) (rows : List Row) (pairs : List (ℕ × ℕ)) → SpellsPairs n from total rows pairs → pairs_from n from total rows ≡ Ok pairs
 unfolding pairs_from

@@ -62,13 +62,15 @@ all_good n from total (r ∷ rows) pairs le s =
     let ih = all_good n (id + 1) (total + length needs) rows behind line.few s.5 in
     let rising = line.rising in
     let count = ih.few in
+    let pair_with : ℕ → ℕ × ℕ = λ p. (id, p) in
+    let size : length (pairs_of id needs) ≡ length needs = length-map needs pair_with in
     let apart : All (λ x. All (λ y. y ≢ x) behind) (pairs_of id needs) =
     All-map (λ x. All (λ y. y ≢ x) behind) (λ p. (id, p)) needs (λ k d lt j e in-list same.
     let more = (ih.good j e in-list).from_is in
     let first = ap (λ (x : ℕ × ℕ). x.0) same in
     omega (arith, more, first)) in
     let all : AllGood n from total (pairs_of id needs ++ behind) = record {
-      few = omega (arith, count, length-append (pairs_of id needs) behind, length-map needs (λ p. (id, p)));
+      few = omega (arith, count, length-append (pairs_of id needs) behind, size);
       good = All-append (IsGood n from) (pairs_of id needs) behind (good_line n from total r id needs line) (lower n from (id + 1) behind (omega (arith, rising)) ih.good);
       distinct = distinct-append (pairs_of id needs) behind (distinct-pairs_of id needs line.distinct) ih.distinct apart;
     } in

@@ -55,9 +55,9 @@ values_err f count n i (suc k) (r ∷ rows) e size clear here h =
     elim (bind_err (value_line i r) (λ v. values_from count (i + 1) k rows >>= with_value v) e h) [
       | inl stop ↦ first_at f e e (place_of i) clear (at ∙ that_fault (value_line i r) e stop) refl
       | inr go ↦ elim (bind_err (values_from count (i + 1) k rows) (with_value go.0) e go.2) [
-          | inl stop ↦ values_err f count n (i + 1) k rows e (omega (arith, size)) (clear_next f i clear (at ∙ no_fault (value_line i r) go.0 go.1)) (follows_next f count n i r rows here) stop
-          | inr end ↦ absurd (let no = end.2 in cc)
-        ]
+        | inl stop ↦ values_err f count n (i + 1) k rows e (omega (arith, size)) (clear_next f i clear (at ∙ no_fault (value_line i r) go.0 go.1)) (follows_next f count n i r rows here) stop
+        | inr end ↦ absurd (let no = end.2 in cc)
+      ]
     ]
 
 values_ok : (f : Faults) (count n i k : ℕ) (rows : List Row) (x : List ℤ × List Row) → k + i ≡ n → AreClear f (place_of i) → Follows f count n i rows → values_from count i k rows ≡ Ok x

@@ -43,7 +43,16 @@ Refuses ReadFailed source fault old new Others = (new.failures ≡ old.failures 
 Refuses WriteFailed source fault old new Others = ⊥
 Refuses _ source fault old new Others = Others
 
+-- the call read a text, all that was left, of which this holds
+abbrev pub ReadsText : Progress → Progress → Type 0 → (List ℕ → Type 0) → Type 0
+ReadsText old new AtEnd Holds = (text : List ℕ) × IsRead old new AtEnd text × Holds text
+
 -- the answer, seen by view, is what the reading gives of the text that the call read
 abbrev pub Answers : {X Y : Type 0} → (X → Y) → (List ℕ → Result Y Fault) → Source → Progress → Progress → Type 0 → Result X Fault → Type 0
-Answers view reading source old new AtEnd (Ok x) = (text : List ℕ) × IsRead old new AtEnd text × (reading text ≡ Ok (view x))
-Answers view reading source old new AtEnd (Err e) = Refuses e.refusal source e old new ((text : List ℕ) × IsRead old new AtEnd text × (reading text ≡ Err e))
+Answers view reading source old new AtEnd (Ok x) = ReadsText old new AtEnd (λ text. reading text ≡ Ok (view x))
+Answers view reading source old new AtEnd (Err e) = Refuses e.refusal source e old new (ReadsText old new AtEnd (λ text. reading text ≡ Err e))
+
+-- the answer, seen by view, is spelled by the text that the call read, or the fault is the first one of that text
+abbrev pub AnswersBy : {X Y : Type 0} → (X → Y) → (List ℕ → Y → Type 0) → (List ℕ → Fault → Type 0) → Source → Progress → Progress → Type 0 → Result X Fault → Type 0
+AnswersBy view Spells IsFirst source old new AtEnd (Ok x) = ReadsText old new AtEnd (λ text. Spells text (view x))
+AnswersBy view Spells IsFirst source old new AtEnd (Err e) = Refuses e.refusal source e old new (ReadsText old new AtEnd (λ text. IsFirst text e))
