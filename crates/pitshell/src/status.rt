@@ -15,10 +15,10 @@ pub enum Status {
 
 /// The exit status: 0 where it is done, 4 where the answer is no, 3 where the budget is used up, and 1 at any other fault.
 /// The status 2 is that of a command line that is not understood.
-pub fn exit_code(result: &Result<Status, Fault>) -> u8
-    ensures { result ≡ status_of result.now }
+pub fn exit_code(outcome: &Result<Status, Fault>) -> u8
+    ensures { result ≡ status_of outcome.now }
 {
-    match result {
+    match outcome {
         Ok(Status::Done) => 0,
         Ok(Status::No) => 4,
         Err(fault) => match &fault.refusal {
