@@ -1,5 +1,7 @@
 -- Where one step of reading a mine is refused, the mine is refused so: by cases on the refusal.
-use Rattle.std.proofs.Common.{◌≡◌, ℕ, List, inl, inr}
+use Rattle.std.proofs.Common.{◌≡◌, ℕ, List, inl, inr, refl, sym, subst}
+use Rattle.minelib_reader.specs.Refused.{write_failed}
+use Rattle.minelib_reader.specs.Device.{Progress}
 use Rattle.minelib_reader.specs.Answer.{Refuses, ReadsText, IsNowhere}
 use Rattle.minelib_reader.specs.Upit.{Upit}
 use Rattle.minelib_reader.specs.UpitGrammar.{SpellsUpit}
@@ -10,7 +12,7 @@ use Rattle.minelib_reader.specs.declared.fault.Refusal.{Refusal}
 use Rattle.minelib_reader.specs.declared.fault.Refusal.TheVariants.{NoMemory, ReadFailed, WriteFailed, Cycle}
 use Rattle.minelib_reader.specs.declared.fault.Source.TheVariants as sources
 use Rattle.mine_graph.specs.Faults.{RefusesPairs, IsGraphFault}
-use Rattle.pitshell.specs.Solve.{Reading, Gave, NeverFailed, GaveMine, FirstFault, in_model, in_prec, in_pairs, RefusesMine}
+use Rattle.pitshell.specs.Solve.{Reading, Gave, NeverFailed, GaveMine, FirstFault, in_model, in_prec, in_pairs, RefusesMine, RefusesRun, IsCutShort}
 
 pub model_refused :
     (r : Refusal) (e : Fault) (model prec : Reading) → NeverFailed prec
@@ -37,3 +39,12 @@ pairs_refused NoMemory e model prec upit pairs given is h = (h, given.model_give
 pairs_refused ReadFailed e model prec upit pairs given is h = absurd h
 pairs_refused WriteFailed e model prec upit pairs given is h = h
 pairs_refused _ e model prec upit pairs given is h = in_pairs upit pairs given is
+
+-- a refusal before anything is written is one of the run
+pub run_refused : (r : Refusal) (e : Fault) (model prec : Reading) (out : Progress) → RefusesMine r e model prec → RefusesRun r e model prec out out
+run_refused WriteFailed e model prec out h = absurd h
+run_refused _ e model prec out h = (h, refl)
+
+pub write_refused : (e : Fault) (model prec : Reading) (before after : Progress) → e ≡ write_failed → IsCutShort model prec before after → RefusesRun e.refusal e model prec before after
+write_refused e model prec before after is cut =
+    subst (λ f. RefusesRun f.refusal f model prec before after) (sym is) (refl, cut)

@@ -1,6 +1,6 @@
 -- What a run of `solve` writes, and what it refuses, over the bytes that went through its readers and its writer.
-use Rattle.std.specs.Prelude.{◌≡◌, ℕ, ◌+◌, ◌++◌, ◌⊎◌, Bool, List}
-use Rattle.minelib_reader.specs.Device.{Progress, Begins}
+use Rattle.std.specs.Prelude.{◌≡◌, ℕ, ◌+◌, ◌++◌, ◌⊎◌, Bool, List, Result}
+use Rattle.minelib_reader.specs.Device.{Progress, Begins, Writes}
 use Rattle.minelib_reader.specs.Answer.{IsRead, IsNowhere}
 use Rattle.minelib_reader.specs.Refused.{write_failed}
 use Rattle.minelib_reader.specs.Upit.{Upit}
@@ -57,6 +57,10 @@ pub record IsPitText (mine : Instance) (text : List ℕ) : Type 0 where
   pub pit : ℕ → Bool
   pub is_pit : IsPit mine pit
   pub is_text : text ≡ pit_text mine.blocks (members mine.blocks pit) (worth mine pit)
+
+-- the text of a mine's pit was written, or a beginning of it
+abbrev pub WritesPit : {E : Type 0} → Instance → Progress → Progress → Result (Unit {0}) E → Type 0
+WritesPit mine before after result = (text : List ℕ) × IsPitText mine text × Writes before after text result
 
 -- the readers gave a mine without a cycle, and this is the text of its pit
 pub record Solves (model prec : Reading) (text : List ℕ) : Type 0 where

@@ -2,15 +2,21 @@
 //! `solve` does the work over readers and writers; `main` opens files, calls it and gives the exit status.
 #![tactic(auto)]
 
+ghost use Rattle.std.specs.Prelude.{◌≡◌, ◌^◌, IfOk};
+ghost use Rattle.minelib_reader.specs.Device.{unread};
+
 mod command_line;
 mod mine;
 mod options;
 mod solve;
 mod status;
 
+#[cfg(test)]
+mod tests;
+
 
 use command_line::command;
-use minelib_reader::{Fault, FileReader, Refusal, Source, StreamWriter};
+use minelib_reader::{Fault, FileReader, InBytes, Refusal, Source, StreamWriter};
 use options::{Options, SolveOptions};
 use report::write_fault;
 use solve::run_solve;
@@ -21,7 +27,9 @@ use std::io;
 use std::process::ExitCode;
 
 /// Opens an input; one that cannot be opened is a read that failed.
-fn open(rt: &HostRuntime, path: &str, source: Source) -> Result<FileReader, Fault> {
+fn open(rt: &HostRuntime, path: &str, source: Source) -> Result<FileReader, Fault>
+    ensures unread { IfOk result (λ r. ⟦<FileReader as InBytes>⟧.progress r ≡ unread (2 ^ 40)) }
+{
     match File::open(rt, path) {
         Ok(file) => Ok(FileReader::new(file)),
         Err(_) => Err(Fault {
@@ -33,7 +41,7 @@ fn open(rt: &HostRuntime, path: &str, source: Source) -> Result<FileReader, Faul
 }
 
 /// Solves the mine of two files, and writes its pit to standard output.
-fn solve(rt: &HostRuntime, options: &SolveOptions<'_>) -> Result<Status, Fault> {
+fn solve_files(rt: &HostRuntime, options: &SolveOptions<'_>) -> Result<Status, Fault> {
     let mut model = open(rt, options.model, Source::Model)?;
     let mut prec = open(rt, options.prec, Source::Precedence)?;
     let mut out = StreamWriter::new(io::writer(rt));
@@ -51,7 +59,7 @@ fn main(rt: HostRuntime) -> anyhow::Result<ExitCode> {
     };
     let result = match Options::of(&matches) {
         None => return Ok(ExitCode::from(2)),
-        Some(Options::Solve(options)) => solve(&rt, &options),
+        Some(Options::Solve(options)) => solve_files(&rt, &options),
     };
     if let Err(fault) = &result {
         let _ = write_fault(&mut StreamWriter::new(io::writer(&rt.stderr())), fault);
