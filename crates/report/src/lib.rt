@@ -8,3 +8,6 @@ mod pit;
 
 pub use fault::write_fault;
 pub use pit::write_pit;
+
+#[cfg(test)]
+mod tests;
