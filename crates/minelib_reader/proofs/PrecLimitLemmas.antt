@@ -1,14 +1,13 @@
 -- What is spelled keeps the limits: few pairs, in range, of two blocks each, and none twice.
 -- Its idea: ids rise from line to line, so pairs of two lines differ by their block, and those of one line by what it needs.
-use Rattle.std.proofs.Common.{◌≡◌, ◌≢◌, ℕ, zero, suc, ◌+◌, ◌<◌, ◌≤◌, ◌^◌, List, [], ◌∷◌, ◌++◌, length, map, get_or, refl, sym, ap, subst, ◌∙◌, arith, length-append}
+use Rattle.std.proofs.Common.{◌≡◌, ◌≢◌, ℕ, zero, suc, ◌+◌, ◌<◌, ◌≤◌, List, [], ◌∷◌, ◌++◌, length, get_or, sym, ap, subst, arith, length-append}
 use Rattle.std.proofs.lemmas.List.{length-map}
-use Rattle.std.proofs.lemmas.List.Elements.{All-nil, All-append, All-cons, All-head, All-tail, All-map}
+use Rattle.std.proofs.lemmas.List.Elements.{All-nil, All-append, All-head, All-tail, All-map}
 use Rattle.std.specs.List.{All}
-use Rattle.pit_model.specs.Graph.{AreInRange, AreApart, first_of, second_of}
 use Rattle.minelib_reader.specs.Text.{Row}
 use Rattle.minelib_reader.specs.Prec.{most_pairs, pairs_of}
 use Rattle.minelib_reader.specs.PrecGrammar.{AreDistinct, SpellsLine, SpellsPairs}
-use Rattle.minelib_reader.specs.PrecLimits.{AreOfTwo, ArePrecedences}
+use Rattle.minelib_reader.specs.PrecLimits.{ArePrecedences}
 
 -- of two blocks below n, the first at least from
 pub record IsGood (n from : ℕ) (x : ℕ × ℕ) : Type 0 where

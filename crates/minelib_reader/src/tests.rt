@@ -61,10 +61,7 @@ fn model_told(alloc: Global, read: Result<Model, Fault>) -> Result<String, Alloc
 }
 
 /// The pairs that were read, or the words of the fault.
-fn pairs_told(
-    alloc: Global,
-    read: Result<Vec<(u32, u32)>, Fault>,
-) -> Result<String, AllocError> {
+fn pairs_told(alloc: Global, read: Result<Vec<(u32, u32)>, Fault>) -> Result<String, AllocError> {
     match read {
         Ok(pairs) => format!(in alloc; "{pairs:?}"),
         Err(fault) => format!(in alloc; "{fault}"),
@@ -191,12 +188,18 @@ fn each_read_fails_in_turn(rt: HostRuntime) -> Result<(), Fail> {
     let model = b"NAME: t\nTYPE: UPIT\nNBLOCKS: 1\nOBJECTIVE_FUNCTION:\n0 1\n";
     for calls in 0..model.len() + 1 {
         let read = read_upit(rt.alloc(), &mut SlowReader::new(model, calls));
-        assert_eq!(rt; model_told(rt.alloc(), read)?.as_str(), "read failed in model line 0");
+        assert_eq!(rt;
+            model_told(rt.alloc(), read)?.as_str(),
+            "read failed in model line 0"
+        );
     }
     let pairs = b"0 1 1\nx";
     for calls in 0..pairs.len() + 1 {
         let read = read_prec(rt.alloc(), &mut SlowReader::new(pairs, calls), 2);
-        assert_eq!(rt; pairs_told(rt.alloc(), read)?.as_str(), "read failed in precedence line 0");
+        assert_eq!(rt;
+            pairs_told(rt.alloc(), read)?.as_str(),
+            "read failed in precedence line 0"
+        );
     }
     Ok(())
 }
@@ -210,19 +213,31 @@ fn writers(rt: HostRuntime) -> Result<(), Fail> {
     let mut wide = MemoryWriter::new(rt.alloc(), 14);
     assert_eq!(rt; write_all(&mut wide, text), Ok(()));
     assert_eq!(rt; wide.text.as_slice(), text.as_slice());
-    assert_eq!(rt; format!(in rt.alloc(); "{}", Fault::write_failed())?.as_str(), "write failed in none line 0");
+    assert_eq!(rt;
+        format!(in rt.alloc(); "{}", Fault::write_failed())?.as_str(),
+        "write failed in none line 0"
+    );
     Ok(())
 }
 
 #[test]
 fn files(rt: HostRuntime) -> Result<(), Fail> {
     let mut none = FileReader::new(File::open(&rt, "/dev/null")?);
-    assert_eq!(rt; pairs_told(rt.alloc(), read_prec(rt.alloc(), &mut none, 2))?.as_str(), "[]");
+    assert_eq!(rt;
+        pairs_told(rt.alloc(), read_prec(rt.alloc(), &mut none, 2))?.as_str(),
+        "[]"
+    );
     let mut name = FileReader::new(File::open(&rt, "/proc/sys/kernel/ostype")?);
-    assert_eq!(rt; read_all(rt.alloc(), &mut name, Source::Blocks)?.as_slice(), b"Linux\n".as_slice());
+    assert_eq!(rt;
+        read_all(rt.alloc(), &mut name, Source::Blocks)?.as_slice(),
+        b"Linux\n".as_slice()
+    );
     let mut folder = FileReader::new(File::open(&rt, "/")?);
     let read = read_upit(rt.alloc(), &mut folder);
-    assert_eq!(rt; model_told(rt.alloc(), read)?.as_str(), "read failed in model line 0");
+    assert_eq!(rt;
+        model_told(rt.alloc(), read)?.as_str(),
+        "read failed in model line 0"
+    );
     let mut sink = StreamWriter::new(File::create(&rt, "/dev/null")?);
     assert_eq!(rt; write_all(&mut sink, b"PIT\n"), Ok(()));
     let mut full = StreamWriter::new(File::create(&rt, "/dev/full")?);
@@ -232,9 +247,15 @@ fn files(rt: HostRuntime) -> Result<(), Fail> {
 
 #[test]
 fn fields_and_numbers(rt: HostRuntime) {
-    assert_eq!(rt; two_fields(b" 7\t-1.25 "), Some((b"7".as_slice(), b"-1.25".as_slice())));
+    assert_eq!(rt;
+        two_fields(b" 7\t-1.25 "),
+        Some((b"7".as_slice(), b"-1.25".as_slice()))
+    );
     assert_eq!(rt; two_fields(b"7"), None);
-    assert_eq!(rt; next_field(b"\t ab c"), Some((b"ab".as_slice(), b" c".as_slice())));
+    assert_eq!(rt;
+        next_field(b"\t ab c"),
+        Some((b"ab".as_slice(), b" c".as_slice()))
+    );
     assert_eq!(rt; digits(b"0042", 10), Some(42));
     assert_eq!(rt; digits(b"00000000042", 10), None);
     assert_eq!(rt; decimal(b"-1.25"), Some(-1250000));
