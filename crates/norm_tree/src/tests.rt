@@ -1,6 +1,6 @@
 //! Three traces over the pairs (0, 1), (0, 3), (2, 1), worked by hand: where a merger cuts the path within a branch,
 //! where it cuts between two strong branches, and where a residual is used up exactly and the link stays.
-ghost use Rattle.std.specs.Prelude.{◌≡◌, ℕ, ◌<◌, ◌^◌, ℤ, pos, neg_ℤ, ◌≤ℤ◌, length, get_or};
+ghost use Rattle.std.specs.Prelude.{◌≡◌, ℕ, ◌<◌, ◌^◌, IfOk, ℤ, pos, neg_ℤ, ◌≤ℤ◌, length, get_or};
 
 use super::*;
 use mine_graph::{Graph, Instance};
@@ -14,6 +14,7 @@ fn opening(alloc: Global, values: Vec<i128>) -> Result<NormTree, Fault>
     requires count { length values.items ≡ 4 }
     requires low { (u : ℕ) → u < 4 → neg_ℤ (pos (10 ^ 23)) ≤ℤ get_or values.items u (pos 0) }
     requires high { (u : ℕ) → u < 4 → get_or values.items u (pos 0) ≤ℤ pos (10 ^ 23) }
+    ensures { IfOk result (λ tree. tree.mine.blocks ≡ 4) }
 {
     let pairs = vec![in alloc; (0, 1), (0, 3), (2, 1)]?;
     let graph = Arc::new(alloc, Graph::new(alloc, 4, pairs)?)?;
