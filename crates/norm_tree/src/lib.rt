@@ -11,3 +11,6 @@ mod start;
 mod tree;
 
 pub use tree::NormTree;
+
+#[cfg(test)]
+mod tests;

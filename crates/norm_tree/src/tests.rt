@@ -1,0 +1,178 @@
+//! Three traces over the pairs (0, 1), (0, 3), (2, 1), worked by hand: where a merger cuts the path within a branch,
+//! where it cuts between two strong branches, and where a residual is used up exactly and the link stays.
+ghost use Rattle.std.specs.Prelude.{◌≡◌, ℕ, ◌<◌, ◌^◌, IfOk, ℤ, pos, neg_ℤ, ◌≤ℤ◌, length, get_or};
+
+use super::*;
+use mine_graph::{Graph, Instance};
+use minelib_reader::Fault;
+use std::alloc::Global;
+use std::sync::Arc;
+use std::test::*;
+
+/// The opening tree of the four blocks with these values, in millionths.
+fn opening(alloc: Global, values: Vec<i128>) -> Result<NormTree, Fault>
+    requires count { length values.items ≡ 4 }
+    requires low { (u : ℕ) → u < 4 → neg_ℤ (pos (10 ^ 23)) ≤ℤ get_or values.items u (pos 0) }
+    requires high { (u : ℕ) → u < 4 → get_or values.items u (pos 0) ≤ℤ pos (10 ^ 23) }
+    ensures { IfOk result (λ tree. tree.mine.blocks ≡ 4) }
+{
+    let pairs = vec![in alloc; (0, 1), (0, 3), (2, 1)]?;
+    let graph = Arc::new(alloc, Graph::new(alloc, 4, pairs)?)?;
+    NormTree::start(alloc, &Instance::new(graph, values))
+}
+
+/// The parents and the roots are these.
+fn stands(tree: &NormTree, parents: &[Option<u32>], roots: &[u32]) -> bool {
+    let n = tree.instance().graph().n() as usize;
+    parents.len() == n
+        && roots.len() == n
+        && (0..n).all(|u| {
+            tree.parent(u as u32) == parents[u] && tree.root(u as u32) == roots[u]
+        })
+}
+
+/// The arc is a merger arc, and after its merger the parents, the roots and the flow are these.
+fn merges(
+    tree: &mut NormTree,
+    arc: u32,
+    parents: [Option<u32>; 4],
+    roots: [u32; 4],
+    flow: [i128; 3],
+) -> Result<bool, Fault> {
+    Ok(
+        tree.try_merge(arc)
+            && stands(tree, &parents, &roots)
+            && tree.flow()?.as_slice() == flow.as_slice(),
+    )
+}
+
+/// The arc is no merger arc now.
+fn stays(tree: &mut NormTree, arc: u32) -> bool {
+    !tree.is_merger(arc) && !tree.try_merge(arc)
+}
+
+/// No merger arc is left, and the strong blocks are these.
+fn ends(tree: &NormTree, pit: &[u32]) -> Result<bool, Fault> {
+    Ok(tree.find_merger() == None && tree.pit()?.as_slice() == pit)
+}
+
+#[test]
+fn opens(rt: HostRuntime) -> Result<(), Fail> {
+    let values = vec![in rt.alloc(); 1_000_000, -2_000_000, 5_000_000, -2_000_000]?;
+    let mut tree = opening(rt.alloc(), values)?;
+    tree.law();
+    assert!(rt; stands(&tree, &[None; 4], &[0, 1, 2, 3]));
+    assert_eq!(rt; tree.find_merger(), Some(0));
+    assert_eq!(rt; tree.rank(), 30_000_002);
+    assert!(rt; tree.is_strong(2));
+    assert!(rt; stays(&mut tree, 3));
+    assert!(rt; stays(&mut tree, u32::MAX));
+    Ok(())
+}
+
+#[test]
+fn cuts_within_a_branch(rt: HostRuntime) -> Result<(), Fail> {
+    let values = vec![in rt.alloc(); 1_000_000, -2_000_000, 5_000_000, -2_000_000]?;
+    let mut tree = opening(rt.alloc(), values)?;
+    assert!(rt;
+        merges(
+            &mut tree,
+            0,
+            [Some(1), None, None, None],
+            [1, 1, 2, 3],
+            [1_000_000, 0, 0]
+        )?
+    );
+    assert!(rt; stays(&mut tree, 1));
+    assert!(rt;
+        merges(
+            &mut tree,
+            2,
+            [Some(1), None, Some(1), None],
+            [1, 1, 1, 3],
+            [1_000_000, 0, 5_000_000]
+        )?
+    );
+    assert!(rt;
+        merges(
+            &mut tree,
+            1,
+            [Some(3), None, Some(1), None],
+            [3, 1, 1, 3],
+            [0, 1_000_000, 5_000_000]
+        )?
+    );
+    assert!(rt; ends(&tree, &[1, 2])?);
+    Ok(())
+}
+
+#[test]
+fn cuts_between_strong_branches(rt: HostRuntime) -> Result<(), Fail> {
+    let values = vec![in rt.alloc(); 4_000_000, -2_000_000, 5_000_000, -2_000_000]?;
+    let mut tree = opening(rt.alloc(), values)?;
+    assert!(rt;
+        merges(
+            &mut tree,
+            0,
+            [Some(1), None, None, None],
+            [1, 1, 2, 3],
+            [4_000_000, 0, 0]
+        )?
+    );
+    assert!(rt; stays(&mut tree, 2));
+    assert!(rt;
+        merges(
+            &mut tree,
+            1,
+            [Some(3), Some(0), None, None],
+            [3, 3, 2, 3],
+            [2_000_000, 2_000_000, 0]
+        )?
+    );
+    assert!(rt;
+        merges(
+            &mut tree,
+            2,
+            [Some(3), None, Some(1), None],
+            [3, 1, 1, 3],
+            [0, 4_000_000, 5_000_000]
+        )?
+    );
+    assert!(rt; ends(&tree, &[0, 1, 2, 3])?);
+    Ok(())
+}
+
+#[test]
+fn keeps_a_link_that_is_used_up_exactly(rt: HostRuntime) -> Result<(), Fail> {
+    let values = vec![in rt.alloc(); 4_000_000, -2_000_000, 2_000_000, -2_000_000]?;
+    let mut tree = opening(rt.alloc(), values)?;
+    assert!(rt;
+        merges(
+            &mut tree,
+            0,
+            [Some(1), None, None, None],
+            [1, 1, 2, 3],
+            [4_000_000, 0, 0]
+        )?
+    );
+    assert!(rt;
+        merges(
+            &mut tree,
+            1,
+            [Some(3), Some(0), None, None],
+            [3, 3, 2, 3],
+            [2_000_000, 2_000_000, 0]
+        )?
+    );
+    assert!(rt;
+        merges(
+            &mut tree,
+            2,
+            [Some(3), Some(0), Some(1), None],
+            [3, 3, 3, 3],
+            [0, 4_000_000, 2_000_000]
+        )?
+    );
+    assert!(rt; ends(&tree, &[0, 1, 2, 3])?);
+    Ok(())
+}
