@@ -37,9 +37,9 @@ certified_text mine pit listed written flow n sum is count same same2 shown summ
   pit = shown.set;
   is_pit = certificate_gives_pit mine shown.set (λ k. get_or flow k (pos 0)) (instance_is_simple mine is).in_range shown.certifies;
   is_text =
-    ap (λ m. pit_text m written sum) count
-    ∙ ap (λ p. pit_text mine.blocks p sum) (same2 ∙ shown.listed)
-    ∙ ap (pit_text mine.blocks (members mine.blocks shown.set)) (summed shown.set (same ∙ shown.listed));
+      ap (λ m. pit_text m written sum) count
+      ∙ ap (λ p. pit_text mine.blocks p sum) (same2 ∙ shown.listed)
+      ∙ ap (pit_text mine.blocks (members mine.blocks shown.set)) (summed shown.set (same ∙ shown.listed));
 }
 
 -- the pit and its text do not depend on the order of the pairs

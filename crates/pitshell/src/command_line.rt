@@ -22,8 +22,16 @@ fn file<'a>(alloc: Global, name: &'a str, help: &'a str) -> Arg<'a> {
 
 /// `pitshell` with its subcommands.
 pub fn command<'a>(alloc: Global) -> Result<Command<'a>, AllocError> {
-    let model = file(alloc, "model", "Optimisation model (.upit): the value of each block");
-    let prec = file(alloc, "prec", "Precedence (.prec): the blocks that each block needs");
+    let model = file(
+        alloc,
+        "model",
+        "Optimisation model (.upit): the value of each block",
+    );
+    let prec = file(
+        alloc,
+        "prec",
+        "Precedence (.prec): the blocks that each block needs",
+    );
     let solve = Command::new(alloc, "solve")
         .about("Writes the smallest closed set of greatest worth: the ultimate pit")
         .after_help(STATUSES)

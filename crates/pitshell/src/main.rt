@@ -10,10 +10,8 @@ mod mine;
 mod options;
 mod solve;
 mod status;
-
 #[cfg(test)]
 mod tests;
-
 
 use command_line::command;
 use minelib_reader::{Fault, FileReader, InBytes, Refusal, Source, StreamWriter};
@@ -21,10 +19,9 @@ use options::{Options, SolveOptions};
 use report::write_fault;
 use solve::run_solve;
 use status::{Status, exit_code};
-use std::env;
 use std::fs::File;
-use std::io;
 use std::process::ExitCode;
+use std::{env, io};
 
 /// Opens an input; one that cannot be opened is a read that failed.
 fn open(rt: &HostRuntime, path: &str, source: Source) -> Result<FileReader, Fault>

@@ -24,7 +24,11 @@ fn pit_of(alloc: Global, mine: &Instance) -> Result<Certificate, Fault>
 }
 
 /// Writes the text of the pit that a certificate shows.
-fn put_pit<W: OutBytes>(out: &mut W, mine: &Instance, certificate: &Certificate) -> Result<(), Fault>
+fn put_pit<W: OutBytes>(
+    out: &mut W,
+    mine: &Instance,
+    certificate: &Certificate,
+) -> Result<(), Fault>
     requires countable { (W.progress out.old).failures < 2 ^ 63 }
     requires shown { IsCertificate mine.now certificate.now.pit.items certificate.now.flow.items }
     ensures written { WritesPit mine.now (W.progress out.old) (W.progress out.new) result }

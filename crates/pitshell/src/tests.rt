@@ -4,10 +4,18 @@ ghost use Rattle.std.specs.Prelude.{◌≤◌, ◌^◌, length};
 
 use super::*;
 use minelib_reader::{MemoryReader, MemoryWriter};
+use std::process::Abort;
 use std::test::*;
 
 /// Runs `solve` over two texts, and compares standard output, standard error and the exit status.
-fn expect(rt: &HostRuntime, model: &str, prec: &str, out: &str, err: &str, status: u8) -> Result<(), Fail>
+fn expect<R: Abort + AllocGlobal>(
+    rt: &R,
+    model: &str,
+    prec: &str,
+    out: &str,
+    err: &str,
+    status: u8,
+) -> Result<(), Fail>
     requires model { length model.now ≤ 2 ^ 40 }
     requires prec { length prec.now ≤ 2 ^ 40 }
 {
@@ -194,12 +202,22 @@ fn refuses_the_first_fault(rt: HostRuntime) -> Result<(), Fail> {
 fn leaves_a_beginning_where_writing_fails(rt: HostRuntime) -> Result<(), Fail> {
     let text = "PIT\nBLOCKS: 2\nIN: 2\nWORTH: 2.000000\n0\n1\n";
     for room in 0..text.len() {
-        let mut model = MemoryReader::new(b"NAME: t\nTYPE: UPIT\nNBLOCKS: 2\nOBJECTIVE_FUNCTION:\n0 -3\n1 5\n");
+        let mut model = MemoryReader::new(
+            b"NAME: t\nTYPE: UPIT\nNBLOCKS: 2\nOBJECTIVE_FUNCTION:\n0 -3\n1 5\n",
+        );
         let mut prec = MemoryReader::new(b"1 1 0\n");
         let mut out = MemoryWriter::new(rt.alloc(), room);
         let result = run_solve(rt.alloc(), &mut model, &mut prec, &mut out);
         assert_eq!(rt; exit_code(&result), 1);
-        assert!(rt; matches!(result, Err(Fault { refusal: Refusal::WriteFailed, .. })));
+        assert!(rt;
+            matches!(
+                result,
+                Err(Fault {
+                    refusal: Refusal::WriteFailed,
+                    ..
+                })
+            )
+        );
         assert_eq!(rt; out.text.as_slice(), &text.as_bytes()[..room]);
     }
     Ok(())

@@ -32,5 +32,5 @@ returns-in_err-graph-clause-refused g c =
     let m = c.in_ok-mine.ensures.answers in
     let q = c.in_ok-pairs.ensures.answers in
     rw (p.1, p.2) (pairs_refused e.refusal e model prec (upit c.in_ok-mine.mine.n c.in_ok-mine.mine.values.items) c.in_ok-pairs.pairs.items
-      (record { model_text = m.0; prec_text = q.0; model_given = m.1; prec_given = q.1; model_spelled = m.2; prec_spelled = q.2 })
-      c.in_err-graph.ensures.refused c.in_err-graph.ensures.refused)
+    (record { model_text = m.0; prec_text = q.0; model_given = m.1; prec_given = q.1; model_spelled = m.2; prec_spelled = q.2 })
+    c.in_err-graph.ensures.refused c.in_err-graph.ensures.refused)

@@ -17,6 +17,6 @@ pub returns-clause-written : goal.returns-clause-written
 returns-clause-written g c =
     let count : c.n.result ≡ c.args.mine.now.blocks = search rules in
     let shown = certified_text c.args.mine.now c.args.certificate.now.pit.items c.deref.result.now c.deref-3.result.now c.args.certificate.now.flow.items
-      c.n.result c.worth-worth.result c.law.ensures count c.deref.ensures.value c.deref-3.ensures.value c.requires.shown c.worth-worth.ensures.set in
+    c.n.result c.worth-worth.result c.law.ensures count c.deref.ensures.value c.deref-3.ensures.value c.requires.shown c.worth-worth.ensures.set in
     let fits : SFits w128 c.worth-worth.result = search rules in
     (_, shown, simp to_z-of_z at c.write_pit.ensures.text)
