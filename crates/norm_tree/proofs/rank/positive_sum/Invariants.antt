@@ -1,4 +1,4 @@
-use Rattle.std.proofs.Common.{◌≡◌, ℕ, ◌*◌, length, get_or}
+use Rattle.std.proofs.Common.{◌≡◌, ◌*◌, get_or}
 use Rattle.std.specs.Prelude.{pos, ◌≤ℤ◌}
 use Rattle.pit_model.specs.Sum.{total}
 use Rattle.pit_model.specs.Limits.{most_worth}
