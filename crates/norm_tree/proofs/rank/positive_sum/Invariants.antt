@@ -1,3 +1,4 @@
+-- The sum so far is at most the greatest excess times the number of excesses so far.
 use Rattle.std.proofs.Common.{◌≡◌, ◌*◌, get_or}
 use Rattle.std.specs.Prelude.{pos, ◌≤ℤ◌}
 use Rattle.pit_model.specs.Sum.{total}

@@ -1,3 +1,4 @@
+-- The values read one by one are the list of values, which is within the limits.
 use Rattle.std.proofs.Common.{◌≡◌, ◌<◌, sym, ap, ◌∙◌, subst, length, get_or, List}
 use Rattle.std.specs.Prelude.{ℤ, pos, ◌≤ℤ◌, neg_ℤ, ◌^◌}
 use Rattle.pit_model.specs.Graph.{Graph}

@@ -1,3 +1,4 @@
+-- The sum of the kept excesses is the sum of the excesses, and neither the product nor the sum leaves the type.
 use Rattle.std.proofs.Common.{ap, ◌∙◌, rules}
 use Rattle.std.specs.Prelude.{pos}
 use Rattle.pit_model.specs.Graph.{Graph}

@@ -1,3 +1,4 @@
+-- The weak ones among the blocks so far.
 use Rattle.std.proofs.Common.{◌≡◌, ◌≤◌}
 use Rattle.std.specs.Prelude.{pos, not}
 use Rattle.pit_model.specs.Sum.{total, when}
