@@ -1,17 +1,17 @@
 -- The rank fits its type: no value is above 10^23, and there are at most 2^22 blocks.
-use Rattle.std.proofs.Common.{◌≡◌, ℕ, zero, suc, ◌+◌, ◌*◌, ◌^◌, ◌<◌, ◌≤◌, Bool, true, false, refl, sym, ap, ◌∙◌, arith, ⊎_elim, List, get_or, length, rules}
+use Rattle.std.proofs.Common.{◌≡◌, ℕ, zero, suc, ◌+◌, ◌*◌, ◌^◌, ◌<◌, ◌≤◌, true, false, ap, ◌∙◌, arith, ⊎_elim, List, get_or, length, rules}
 use Rattle.std.specs.Prelude.{ℤ, pos, negsuc, ◌+ℤ◌, ◌*ℤ◌, ◌≤ℤ◌, int_lt, FitsSigned}
 use Rattle.std.proofs.lemmas.Bool.{cases_Bool}
 use Rattle.std.proofs.Math.Nat.{mul-le-mul_right, mul-le-mul_left}
 use Rattle.std.proofs.lemmas.Int.{ints, to_z-of_z}
-use mir.Val.{SFits, to_z, of_z}
+use mir.Val.{to_z, of_z}
 use mir.Syntax.{w128}
 use Rattle.pit_model.specs.Sum.{total}
 use Rattle.pit_model.specs.Mine.{Instance, value}
 use Rattle.pit_model.specs.Flow.{excess}
 use Rattle.pit_model.specs.Tree.{Tree, flow, IsNormalised}
 use Rattle.pit_model.specs.Limits.{IsInstance, most_worth}
-use Rattle.pit_model.specs.Rank.{positive_part, positive_excess, positive_worth, weak_count, rank}
+use Rattle.pit_model.specs.Rank.{positive_part, positive_excess, positive_worth, rank}
 use Rattle.norm_tree.specs.Kept.{AreExcesses}
 use Rattle.pit_model.proofs.Sums.{total-same}
 use Rattle.pit_model.proofs.Simple.{instance_is_simple}

@@ -1,4 +1,5 @@
-use Rattle.std.proofs.Common.{◌≡◌, ℕ, ◌*◌, length, get_or}
+-- The sum so far is at most the greatest excess times the number of excesses so far.
+use Rattle.std.proofs.Common.{◌≡◌, ◌*◌, get_or}
 use Rattle.std.specs.Prelude.{pos, ◌≤ℤ◌}
 use Rattle.pit_model.specs.Sum.{total}
 use Rattle.pit_model.specs.Limits.{most_worth}

@@ -1,4 +1,5 @@
-use Rattle.std.proofs.Common.{◌≡◌, ℕ, ◌<◌, ◌≤◌, sym, ap, ◌∙◌, subst, arith, length, get_or, List}
+-- The values read one by one are the list of values, which is within the limits.
+use Rattle.std.proofs.Common.{◌≡◌, ◌<◌, sym, ap, ◌∙◌, subst, length, get_or, List}
 use Rattle.std.specs.Prelude.{ℤ, pos, ◌≤ℤ◌, neg_ℤ, ◌^◌}
 use Rattle.pit_model.specs.Graph.{Graph}
 use Rattle.norm_tree.proofs.Starting.{values_again, instance_same}

@@ -1,11 +1,11 @@
-use Rattle.std.proofs.Common.{◌≡◌, ℕ, suc, ◌+◌, ◌*◌, ◌^◌, ◌<◌, ◌≤◌, refl, sym, ap, ◌∙◌, arith, length, rules}
-use Rattle.std.specs.Prelude.{ℤ, pos, ◌+ℤ◌, ◌*ℤ◌, ◌≤ℤ◌}
+-- The sum of the kept excesses is the sum of the excesses, and neither the product nor the sum leaves the type.
+use Rattle.std.proofs.Common.{ap, ◌∙◌, rules}
+use Rattle.std.specs.Prelude.{pos}
 use Rattle.pit_model.specs.Graph.{Graph}
 use Rattle.pit_model.specs.Mine.{Instance}
-use Rattle.std.proofs.lemmas.Int.{to_z-of_z, ints}
-use mir.Val.{SFits, to_z, of_z}
+use Rattle.std.proofs.lemmas.Int.{to_z-of_z}
+use mir.Val.{SFits}
 use mir.Syntax.{w128}
-use Rattle.pit_model.specs.Rank.{positive_excess, weak_count}
 use Rattle.norm_tree.proofs.Ranking.{excesses_small, sum_is, one_more, product_fits, product_cast, rank_fits, rank_cast}
 use Rattle.norm_tree.proofs.tree.NormTree.rank.Goals as goal
 

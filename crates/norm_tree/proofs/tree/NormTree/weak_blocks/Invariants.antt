@@ -1,4 +1,5 @@
-use Rattle.std.proofs.Common.{◌≡◌, ℕ, ◌≤◌}
+-- The weak ones among the blocks so far.
+use Rattle.std.proofs.Common.{◌≡◌, ◌≤◌}
 use Rattle.std.specs.Prelude.{pos, not}
 use Rattle.pit_model.specs.Sum.{total, when}
 use Rattle.pit_model.specs.Tree.{is_strong}
