@@ -1,5 +1,5 @@
 -- The pieces of the line, one after the other, and at the end nothing waits.
-use Rattle.std.proofs.Common.{◌≡◌, ◌∙◌, ap, [], ◌++◌, List, ℕ}
+use Rattle.std.proofs.Common.{ap}
 use Rattle.std.specs.Prelude.{decimal}
 use Rattle.std.proofs.lemmas.List.{append-nil}
 use Rattle.report.specs.FaultText.{fault_text}
