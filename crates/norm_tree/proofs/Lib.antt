@@ -4,3 +4,4 @@ mod Carrying
 mod Assembled
 mod Sending
 mod Keeping
+mod Ranking

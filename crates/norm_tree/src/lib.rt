@@ -5,6 +5,7 @@ mod climb;
 mod find;
 mod path;
 mod pit;
+mod rank;
 mod send;
 mod start;
 mod tree;
