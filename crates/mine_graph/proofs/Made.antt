@@ -1,5 +1,5 @@
 -- The lists of a new graph.
-use Rattle.std.proofs.Common.{◌≡◌, ℕ, ◌+◌, ◌-◌, ◌<◌, ◌≤◌, Bool, sym, ap, ◌∙◌, subst, List, get_or, length}
+use Rattle.std.proofs.Common.{◌≡◌, ℕ, ◌+◌, ◌-◌, ◌<◌, ◌≤◌, Bool, sym, ap, ◌∙◌, arith, subst, List, get_or, length}
 use Rattle.std.specs.Prelude.{IsTrue}
 use Rattle.pit_model.specs.Graph.{first_of, second_of, AreInRange, AreSamePairs, AreApart, AreRising, IsAcyclic}
 use Rattle.pit_model.specs.Cycle.{IsNeedy, IsLargestNeedy, IsLeast, IsLeastNeeded, IsWalk, IsCycleList}
@@ -89,3 +89,14 @@ pub made_acyclic : (sorted arcs : List (ℕ × ℕ)) (left : List ℕ) (n : ℕ)
     → IsCountedDown arcs left → ((u : ℕ) → u < length left → get_or left u 0 ≡ 0) → IsAcyclic sorted
 made_acyclic sorted arcs left n range is sorted_range size end none =
     acyclic sorted arcs left end.order end.tail (turned_to sorted arcs n range is) (subst (AreInRange sorted) (sym size) sorted_range) end.settled none
+
+pub acyclic-back : (ps qs : List (ℕ × ℕ)) → AreSamePairs ps qs → IsAcyclic qs → IsAcyclic ps
+acyclic-back ps qs same acyclic = (
+  acyclic.0,
+  λ k l.
+      let f = same.forth k l in
+      let falls = acyclic.1 f.0 f.1 in
+      let a = ap (λ (x : ℕ × ℕ). acyclic.0 x.0) f.2 in
+      let b = ap (λ (x : ℕ × ℕ). acyclic.0 x.1) f.2 in
+      omega arith,
+)

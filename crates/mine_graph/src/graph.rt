@@ -1,12 +1,13 @@
 //! The graph of the pairs "u needs p". Making one sorts the pairs (sort.rt), counts needs down (count_down.rt), and
 //! refuses by the cycle that is left over (cycle.rt); so its type carries that it has none.
-ghost use Rattle.std.specs.Prelude.{◌≡◌, ◌<◌, ◌≤◌, ◌^◌, ◌↔◌, ℕ, length, get_or, IfOk, IfErr, IfSome, IfNone};
-ghost use Rattle.pit_model.specs.Graph.{first_of, second_of, AreApart, AreInRange, AreSamePairs, IsGraph};
+ghost use Rattle.std.specs.Prelude.{◌≡◌, ◌<◌, ◌≤◌, ◌^◌, ◌↔◌, ◌==◌, ℕ, length, get_or, IfOk, IfErr, IfSome, IfNone};
+ghost use Rattle.pit_model.specs.Graph.{first_of, second_of, AreApart, AreInRange, AreSamePairs, IsAcyclic, IsGraph};
+ghost use Rattle.pit_model.specs.Mine.{members};
 ghost use Rattle.mine_graph.specs.Faults.{IsGraphFault};
 
 use crate::count_down::{first_left, needs_left};
 use crate::cycle::cycle_of;
-use crate::sort::sort_by_second;
+use crate::sort::{number_by_second, sort_by_second};
 use minelib_reader::{Fault, Refusal, Source};
 use std::alloc::Global;
 use std::marker::Model;
@@ -18,6 +19,8 @@ pub struct Graph {
     blocks: u32,
     starts: Vec<u32>,
     pairs: Vec<(u32, u32)>,
+    user_starts: Vec<u32>,
+    users: Vec<u32>,
 }
 
 impl Model for Graph {
@@ -28,7 +31,7 @@ impl Model for Graph {
 
     ghost view = { λ g. record { blocks = g.blocks; pairs = g.pairs.items } };
 
-    ghost invariant = { λ g. IsKept g.blocks g.starts.items g.pairs.items };
+    ghost invariant = { λ g. IsKept g.blocks g.starts.items g.pairs.items g.user_starts.items g.users.items };
 }
 
 impl Graph {
@@ -41,13 +44,15 @@ impl Graph {
         requires apart { AreApart pairs.items }
         ensures blocks { IfOk result (λ g. g.blocks ≡ n) }
         ensures same { IfOk result (λ g. AreSamePairs pairs.items g.pairs) }
+        ensures acyclic { IfOk result (λ _. IsAcyclic pairs.items) }
         ensures refused { IfErr result (IsGraphFault pairs.items n) }
     {
-        let (user_starts, users) = sort_by_second(alloc, n, &pairs)?;
+        let (half_starts, half) = sort_by_second(alloc, n, &pairs)?;
         drop(pairs);
-        let left = needs_left(alloc, n, &users, &user_starts)?;
-        let (starts, sorted) = sort_by_second(alloc, n, &users)?;
-        drop(users);
+        let left = needs_left(alloc, n, &half, &half_starts)?;
+        let (starts, sorted) = sort_by_second(alloc, n, &half)?;
+        drop(half);
+        let (user_starts, users) = number_by_second(alloc, n, &sorted)?;
         match first_left(&left) {
             Some(first) => Err(Fault {
                 refusal: Refusal::Cycle(cycle_of(alloc, &sorted, &starts, &left, first)?),
@@ -58,6 +63,8 @@ impl Graph {
                 blocks: n,
                 starts,
                 pairs: sorted,
+                user_starts,
+                users,
             }),
         }
     }
@@ -101,6 +108,16 @@ impl Graph {
         ensures own { (k : ℕ) → k < length self.now.pairs → (first_of self.now.pairs k ≡ u) ↔ ((result.start ≤ k) × (k < result.end)) }
     {
         self.starts[u as usize]..self.starts[u as usize + 1]
+    }
+
+    /// The numbers of the pairs by which a block is needed, rising.
+    pub fn users(&self, p: u32) -> &[u32]
+        requires { p < self.now.blocks }
+        ensures { result.now ≡ members (length self.now.pairs) (λ k. second_of self.now.pairs k == p) }
+    {
+        let begin = self.user_starts[p as usize] as usize;
+        let end = self.user_starts[p as usize + 1] as usize;
+        &self.users[begin..end]
     }
 
     /// The number of a pair, by halving the row of its block.

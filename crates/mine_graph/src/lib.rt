@@ -10,3 +10,6 @@ mod sort;
 pub use cycle::acyclic_has_no_needy;
 pub use graph::Graph;
 pub use instance::Instance;
+
+#[cfg(test)]
+mod tests;

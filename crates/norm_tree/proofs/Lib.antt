@@ -1,6 +1,7 @@
-mod Simple
+mod Starting
 mod Climbing
 mod Carrying
 mod Assembled
 mod Sending
 mod Keeping
+mod Ranking

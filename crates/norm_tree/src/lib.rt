@@ -2,8 +2,12 @@
 #![tactic(auto)]
 
 mod climb;
+mod find;
 mod path;
+mod pit;
+mod rank;
 mod send;
+mod start;
 mod tree;
 
 pub use tree::NormTree;

@@ -1,0 +1,19 @@
+//! The strong blocks of a tree, which are the pit where no merger arc is left.
+ghost use Rattle.std.specs.Prelude.{◌≡◌, IfOk, IfErr};
+ghost use Rattle.minelib_reader.specs.Refused.{no_memory};
+ghost use Rattle.pit_model.specs.Mine.{members};
+ghost use Rattle.pit_model.specs.Tree.{is_strong};
+
+use crate::tree::NormTree;
+use minelib_reader::Fault;
+
+impl NormTree {
+    /// The strong blocks, rising.
+    pub fn pit(&self) -> Result<Vec<u32>, Fault>
+        ensures strong { IfOk result (λ v. v.items ≡ members self.now.mine.blocks (is_strong self.now.mine self.now.tree)) }
+        ensures no_memory { IfErr result (λ e. e ≡ no_memory) }
+    {
+        let n = self.instance().graph().n();
+        Ok((0..n).filter(|&u| self.is_strong(u)).collect(self.alloc())?)
+    }
+}

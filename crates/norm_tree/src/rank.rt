@@ -1,0 +1,47 @@
+//! The rank of a tree, which each merger lowers: the sum of the positive excesses first, then the number of weak blocks.
+ghost use Rattle.std.specs.Prelude.{◌≡◌, ℕ, ◌^◌, ◌<◌, ◌≤◌, ℤ, pos, ◌≤ℤ◌, length, get_or};
+ghost use Rattle.pit_model.specs.Sum.{total};
+ghost use Rattle.pit_model.specs.Limits.{most_worth};
+ghost use Rattle.pit_model.specs.Rank.{positive_part, rank, weak_count};
+
+use crate::tree::NormTree;
+
+/// The sum of the positive ones.
+fn positive_sum(excesses: &[i128]) -> i128
+    requires few { length excesses.now ≤ 2 ^ 22 }
+    requires small { (u : ℕ) → u < length excesses.now → get_or excesses.now u (pos 0) ≤ℤ pos most_worth }
+    ensures { result ≡ total (length excesses.now) (λ u. positive_part (get_or excesses.now u (pos 0))) }
+{
+    let mut sum = 0;
+    for excess in excesses {
+        if *excess > 0 {
+            sum += *excess;
+        }
+    }
+    sum
+}
+
+impl NormTree {
+    /// How many blocks are weak.
+    fn weak_blocks(&self) -> u32
+        ensures count { pos result ≡ weak_count self.now.mine self.now.tree }
+        ensures bound { result ≤ self.now.mine.blocks }
+    {
+        let mut weak = 0;
+        for block in 0..self.instance().graph().n() {
+            if !self.is_strong(block) {
+                weak += 1;
+            }
+        }
+        weak
+    }
+
+    /// The sum of the positive excesses, times one more than the number of blocks, and the number of weak blocks.
+    pub fn rank(&self) -> i128
+        ensures { result ≡ rank self.now.mine self.now.tree }
+    {
+        self.law();
+        let blocks = i128::from(self.instance().graph().n());
+        positive_sum(self.excesses()) * (blocks + 1) + i128::from(self.weak_blocks())
+    }
+}
