@@ -1,12 +1,12 @@
 -- The reading of a precedence file fails by the fault of the least line that breaks a check, and only where one does.
 -- Its idea: what a line that was read names is what `id_in` and `count_in` take from its fields, so that the state
 -- behind it is the one that the next line is checked against.
-use Rattle.std.proofs.Common.{◌≡◌, ℕ, zero, suc, ◌+◌, ◌<◌, ◌≤◌, Bool, true, false, eqb, leb, ltb, List, [], ◌∷◌, ◌++◌, length, take, Option, Some, None, Result, Ok, Err, refl, sym, ap, subst, ◌∙◌, arith, inl, inr, ◌&&◌}
+use Rattle.std.proofs.Common.{◌≡◌, ℕ, zero, suc, ◌+◌, ◌<◌, ◌≤◌, eqb, leb, ltb, List, [], ◌∷◌, ◌++◌, length, take, Option, Some, None, Result, Ok, Err, refl, sym, ap, subst, ◌∙◌, arith, inl, inr, ◌&&◌}
 use Rattle.std.proofs.lemmas.Bool.{eqb-true, leb-true, ltb-true, and_parts}
 use Rattle.std.specs.List.{slice_get}
 use Rattle.minelib_reader.specs.declared.fault.Fault.{Fault}
 use Rattle.minelib_reader.specs.declared.fault.Refusal.TheVariants.{OverLimit, NotWhole, IdOutOfPlace, WrongFieldCount}
-use Rattle.minelib_reader.specs.Steps.{◌>>=◌, or_fault, check, fault_of, IsFirstFault}
+use Rattle.minelib_reader.specs.Steps.{◌>>=◌, or_fault, check, IsFirstFault}
 use Rattle.minelib_reader.specs.Text.{Row, two_and_more}
 use Rattle.minelib_reader.specs.Number.{whole_of}
 use Rattle.minelib_reader.specs.Prec.{most_pairs, in_precedence, needs_from, front_of, needs_line, pairs_of, pairs_from}

@@ -1,12 +1,11 @@
 -- What the grammar of a precedence file spells is read, and what is read is spelled: predecessors, a line, all lines.
 -- Its idea: reading keeps the list of what it saw on a line, so 'nothing twice' is 'each is new to what was seen before it'.
-use Rattle.std.proofs.Common.{◌≡◌, ◌≢◌, ℕ, zero, suc, ◌+◌, ◌<◌, ◌≤◌, Bool, true, false, not, eqb, leb, ltb, ◌||◌, ◌&&◌, List, [], ◌∷◌, ◌++◌, length, map, Option, Some, None, Result, Ok, Err, refl, sym, ap, subst, ◌∙◌, arith, eq-eqb}
-use Rattle.std.proofs.lemmas.Bool.{eqb-true, eqb-false, ne_eqb, leb-true, le-leb, ltb-true, lt-ltb}
+use Rattle.std.proofs.Common.{◌≡◌, ◌≢◌, ℕ, ◌+◌, ◌<◌, ◌≤◌, Bool, true, false, not, eqb, ltb, ◌||◌, List, [], ◌∷◌, ◌++◌, length, map, Option, Some, Ok, refl, sym, ap, subst, ◌∙◌, eq-eqb}
+use Rattle.std.proofs.lemmas.Bool.{eqb-false, ne_eqb, le-leb, ltb-true, lt-ltb}
 use Rattle.std.proofs.lemmas.List.{length-map}
 use Rattle.std.proofs.lemmas.List.Folds.{list_any-append}
 use Rattle.std.proofs.lemmas.List.Elements.{All-nil, All-cons, All-head, All-tail}
-use Rattle.std.specs.List.{All, list_any}
-use Rattle.minelib_reader.specs.declared.fault.Fault.{Fault}
+use Rattle.std.specs.List.{All}
 use Rattle.minelib_reader.specs.declared.fault.Refusal.TheVariants.{NotWhole, PredecessorOutOfRange, NeedsItself, PredecessorTwice}
 use Rattle.minelib_reader.specs.Steps.{◌>>=◌, or_fault, check}
 use Rattle.minelib_reader.specs.Text.{Row}
@@ -14,7 +13,7 @@ use Rattle.minelib_reader.specs.Number.{whole_of}
 use Rattle.minelib_reader.specs.Prec.{most_pairs, in_precedence, is_among, need_of, needs_from, front_of, needs_line, pairs_of, pairs_from}
 use Rattle.minelib_reader.specs.PrecGrammar.{AreDistinct, numbers_of, SpellsLine, SpellsPairs}
 use Rattle.minelib_reader.proofs.StepLemmas.{bind_ok, done, ok_is, given, tested}
-use Rattle.minelib_reader.proofs.PrecFaultLemmas.{LineFound, line_found}
+use Rattle.minelib_reader.proofs.PrecFaultLemmas.{line_found}
 
 -- none of them was seen
 abbrev AreNew : List ℕ → List ℕ → Type 0
@@ -76,8 +75,16 @@ reads_line : (n from total : ℕ) (r : Row) (id : ℕ) (needs : List ℕ) → Sp
 unfolding needs_line front_of
 reads_line n from total r id needs s =
     let count : length s.need_fields ≡ length needs = sym (length-map s.need_fields whole_of) ∙ ap length s.are_needs ∙ length-map needs Some in
-    rw (s.fields, s.is_id, lt-ltb id n s.known, le-leb from id s.rising, s.is_count, eq-eqb (length s.need_fields) (length needs) count, le-leb (total + length needs) most_pairs s.few,
-      reads_needs n id r.line [] s.need_fields needs s.are_needs s.below s.others s.distinct (all_new needs)) refl
+    rw (
+      s.fields,
+      s.is_id,
+      lt-ltb id n s.known,
+      le-leb from id s.rising,
+      s.is_count,
+      eq-eqb (length s.need_fields) (length needs) count,
+      le-leb (total + length needs) most_pairs s.few,
+      reads_needs n id r.line [] s.need_fields needs s.are_needs s.below s.others s.distinct (all_new needs),
+    ) refl
 
 pub reads : (n from total : ℕ) (rows : List Row) (pairs : List (ℕ × ℕ)) → SpellsPairs n from total rows pairs → pairs_from n from total rows ≡ Ok pairs
 unfolding pairs_from

@@ -1,14 +1,13 @@
 -- What is spelled keeps the limits: few pairs, in range, of two blocks each, and none twice.
 -- Its idea: ids rise from line to line, so pairs of two lines differ by their block, and those of one line by what it needs.
-use Rattle.std.proofs.Common.{◌≡◌, ◌≢◌, ℕ, zero, suc, ◌+◌, ◌<◌, ◌≤◌, ◌^◌, List, [], ◌∷◌, ◌++◌, length, map, get_or, refl, sym, ap, subst, ◌∙◌, arith, length-append}
+use Rattle.std.proofs.Common.{◌≡◌, ◌≢◌, ℕ, zero, suc, ◌+◌, ◌<◌, ◌≤◌, List, [], ◌∷◌, ◌++◌, length, get_or, sym, ap, subst, arith, length-append}
 use Rattle.std.proofs.lemmas.List.{length-map}
-use Rattle.std.proofs.lemmas.List.Elements.{All-nil, All-append, All-cons, All-head, All-tail, All-map}
+use Rattle.std.proofs.lemmas.List.Elements.{All-nil, All-append, All-head, All-tail, All-map}
 use Rattle.std.specs.List.{All}
-use Rattle.pit_model.specs.Graph.{AreInRange, AreApart, first_of, second_of}
 use Rattle.minelib_reader.specs.Text.{Row}
 use Rattle.minelib_reader.specs.Prec.{most_pairs, pairs_of}
 use Rattle.minelib_reader.specs.PrecGrammar.{AreDistinct, SpellsLine, SpellsPairs}
-use Rattle.minelib_reader.specs.PrecLimits.{AreOfTwo, ArePrecedences}
+use Rattle.minelib_reader.specs.PrecLimits.{ArePrecedences}
 
 -- of two blocks below n, the first at least from
 pub record IsGood (n from : ℕ) (x : ℕ × ℕ) : Type 0 where
@@ -62,13 +61,15 @@ all_good n from total (r ∷ rows) pairs le s =
     let ih = all_good n (id + 1) (total + length needs) rows behind line.few s.5 in
     let rising = line.rising in
     let count = ih.few in
+    let pair_with : ℕ → ℕ × ℕ = λ p. (id, p) in
+    let size : length (pairs_of id needs) ≡ length needs = length-map needs pair_with in
     let apart : All (λ x. All (λ y. y ≢ x) behind) (pairs_of id needs) =
     All-map (λ x. All (λ y. y ≢ x) behind) (λ p. (id, p)) needs (λ k d lt j e in-list same.
     let more = (ih.good j e in-list).from_is in
     let first = ap (λ (x : ℕ × ℕ). x.0) same in
     omega (arith, more, first)) in
     let all : AllGood n from total (pairs_of id needs ++ behind) = record {
-      few = omega (arith, count, length-append (pairs_of id needs) behind, length-map needs (λ p. (id, p)));
+      few = omega (arith, count, length-append (pairs_of id needs) behind, size);
       good = All-append (IsGood n from) (pairs_of id needs) behind (good_line n from total r id needs line) (lower n from (id + 1) behind (omega (arith, rising)) ih.good);
       distinct = distinct-append (pairs_of id needs) behind (distinct-pairs_of id needs line.distinct) ih.distinct apart;
     } in

@@ -1,12 +1,12 @@
 -- Reading the lines of a precedence file one after the other, as a loop does.
-use Rattle.std.proofs.Common.{◌≡◌, ℕ, zero, suc, ◌+◌, ◌≤◌, List, [], ◌∷◌, ◌++◌, length, Result, Ok, Err, refl, sym, ap, subst, ◌∙◌, append_assoc, arith}
+use Rattle.std.proofs.Common.{◌≡◌, ℕ, suc, ◌+◌, List, [], ◌∷◌, ◌++◌, length, Result, Ok, Err, refl, sym, ap, ◌∙◌, append_assoc}
 use Rattle.std.proofs.lemmas.List.{append-nil}
 use Rattle.minelib_reader.specs.declared.fault.Fault.{Fault}
 use Rattle.minelib_reader.specs.Steps.{◌>>=◌}
 use Rattle.minelib_reader.specs.Text.{Row}
 use Rattle.minelib_reader.specs.Marks.{AddsLine}
 use Rattle.minelib_reader.specs.Prec.{need_of, needs_from, front_of, needs_line, pairs_of, pairs_from}
-use Rattle.minelib_reader.proofs.StepLemmas.{bind_ok, done, ok_is}
+use Rattle.minelib_reader.proofs.StepLemmas.{bind_ok, ok_is}
 
 -- as many predecessors are read as fields name them
 pub length_needs : (n id line : ℕ) (seen : List ℕ) (fields : List (List ℕ)) (ps : List ℕ) → needs_from n id line seen fields ≡ Ok ps → length ps ≡ length fields

@@ -1,5 +1,5 @@
 -- What steps that succeed, or that end in a fault, tell of each of them.
-use Rattle.std.proofs.Common.{◌≡◌, ℕ, zero, suc, ◌+◌, ◌<◌, Bool, true, false, List, [], ◌∷◌, Option, Some, None, Result, Ok, Err, refl, sym, ap, subst, ◌∙◌, arith, ◌⊎◌, inl, inr}
+use Rattle.std.proofs.Common.{◌≡◌, ℕ, suc, ◌<◌, Bool, true, false, List, [], ◌∷◌, Option, Some, None, Result, Ok, Err, refl, sym, ap, subst, ◌∙◌, arith, ◌⊎◌, inl, inr}
 use Rattle.std.proofs.lemmas.Bool.{cases_lt}
 use Rattle.std.proofs.lemmas.Slice.Eq.{bytes_eq-Decides}
 use Rattle.std.specs.Str.{bytes_eq}
@@ -69,9 +69,9 @@ clear_none f j lt = absurd (omega (arith, lt))
 
 pub clear_more : (f : ℕ → Option Fault) (k : ℕ) → AreClear f k → f k ≡ None → AreClear f (suc k)
 clear_more f k before here j lt = elim (cases_lt j k) [
-    | inl below ↦ before j below
-    | inr le ↦ let same : k ≡ j = omega (arith, lt, le) in subst (λ (x : ℕ). f x ≡ None) same here
-  ]
+  | inl below ↦ before j below
+  | inr le ↦ let same : k ≡ j = omega (arith, lt, le) in subst (λ (x : ℕ). f x ≡ None) same here
+]
 
 some_or_none : {A : Type 0} (o : Option A) (x : A) → o ≡ None → o ≡ Some x → ⊥
 some_or_none None x n s = absurd cc
@@ -80,12 +80,12 @@ some_or_none (Some y) x n s = absurd cc
 -- a text has one first fault at most
 pub one_first : (f : ℕ → Option Fault) (d e : Fault) → IsFirstFault f d → IsFirstFault f e → d ≡ e
 one_first f d e p q = elim (cases_lt p.place q.place) [
-    | inl lt ↦ absurd (some_or_none (f p.place) d (q.none_before p.place lt) p.here)
-    | inr le ↦ elim (cases_lt q.place p.place) [
-        | inl lt ↦ absurd (some_or_none (f q.place) e (p.none_before q.place lt) q.here)
-        | inr ge ↦ let same : p.place ≡ q.place = omega (arith, le, ge) in some_is d e (sym p.here ∙ ap f same ∙ q.here)
-      ]
+  | inl lt ↦ absurd (some_or_none (f p.place) d (q.none_before p.place lt) p.here)
+  | inr le ↦ elim (cases_lt q.place p.place) [
+    | inl lt ↦ absurd (some_or_none (f q.place) e (p.none_before q.place lt) q.here)
+    | inr ge ↦ let same : p.place ≡ q.place = omega (arith, le, ge) in some_is d e (sym p.here ∙ ap f same ∙ q.here)
   ]
+]
 
 -- where reading fails by a first fault, and succeeds with none, it fails by each first fault
 pub fails_by_first : {A : Type 0} (reading r : Result A Fault) (f : ℕ → Option Fault) (e : Fault) → reading ≡ r → ((x : A) → reading ≡ Ok x → (k : ℕ) → f k ≡ None)

@@ -21,3 +21,6 @@ pub use output::{MemoryWriter, StreamWriter, write_all};
 pub use prec::{parse_prec, prec_law, read_prec};
 pub use rows::{Row, Rows};
 pub use upit::{Model, parse_upit, read_upit, upit_law};
+
+#[cfg(test)]
+mod tests;

@@ -5,7 +5,7 @@ ghost use Rattle.std.specs.Prelude.{◌≡◌, ◌↔◌, ℕ, List, ◌≤◌, 
 ghost use Rattle.std.specs.List.{All};
 ghost use Rattle.minelib_reader.specs.declared.fault.Fault.{Fault as AnyFault};
 ghost use Rattle.minelib_reader.specs.declared.fault.Source.TheVariants as sources;
-ghost use Rattle.minelib_reader.specs.Answer.{Gives, Answers, FailsBy, FailsAt};
+ghost use Rattle.minelib_reader.specs.Answer.{Gives, Answers, AnswersBy, FailsBy, FailsAt};
 ghost use Rattle.minelib_reader.specs.Marks.{AreMarked, AddsLine};
 ghost use Rattle.minelib_reader.specs.Prec.{in_precedence, need_of, needs_from, front_of, needs_line, pairs_of, prec_of, most_pairs};
 ghost use Rattle.minelib_reader.specs.PrecFault.{IsFirstPrecFault};
@@ -175,8 +175,7 @@ fn parse_lines(alloc: Global, text: &[u8], n: u32) -> Result<Vec<(u32, u32)>, Fa
 pub fn prec_law()
     ensures spelled { (n : ℕ) (text : List ℕ) (pairs : List (ℕ × ℕ)) → (prec_of n text ≡ Ok pairs) ↔ SpellsPrec n text pairs }
     ensures faulty { (n : ℕ) (text : List ℕ) (fault : AnyFault) → (prec_of n text ≡ Err fault) ↔ IsFirstPrecFault n text fault }
-{
-}
+{}
 
 /// The pairs (u, p) of "u needs p" that a text spells for n blocks, in order of line and place, else the first fault of
 /// the text, or `NoMemory`.
@@ -193,9 +192,9 @@ pub fn parse_prec(alloc: Global, text: &[u8], n: u32) -> Result<Vec<(u32, u32)>,
     parse_lines(alloc, text, n)
 }
 
-/// Reads the pairs (u, p) of "u needs p" for n blocks, all that the reader has left. `Answers` says that the text that
-/// was read spells these pairs, or which fault it is; refused by `ReadFailed` exactly where the reader counted a failure
-/// in this call.
+/// The pairs (u, p) of "u needs p" for n blocks, in order of line and place, that all spells which the reader has left,
+/// else the first fault of that text. Refused by `ReadFailed` exactly where the reader counted a failure in this call, and
+/// by `NoMemory`.
 pub fn read_prec<R: InBytes>(
     alloc: Global,
     reader: &mut R,
@@ -203,8 +202,11 @@ pub fn read_prec<R: InBytes>(
 ) -> Result<Vec<(u32, u32)>, Fault>
     requires countable { (R.progress reader.old).failures < 2 ^ 63 }
     requires bounded { (R.progress reader.old).allowance ≤ 2 ^ 40 }
-    ensures exact { Answers (λ v. v.items) (prec_of n) sources.Precedence (R.progress reader.old) (R.progress reader.new) (R.IsAtEnd reader.new) result }
+    ensures answers { AnswersBy (λ v. v.items) (SpellsPrec n) (IsFirstPrecFault n) sources.Precedence (R.progress reader.old) (R.progress reader.new) (R.IsAtEnd reader.new) result }
     ensures lawful { IfOk result (λ v. ArePrecedences n v.items) }
+
+    // The same by what is read of a text.
+    ensures exact { Answers (λ v. v.items) (prec_of n) sources.Precedence (R.progress reader.old) (R.progress reader.new) (R.IsAtEnd reader.new) result }
 {
     let text = read_all(alloc, reader, Source::Precedence)?;
     parse_prec(alloc, &text, n)

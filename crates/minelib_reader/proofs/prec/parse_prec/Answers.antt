@@ -1,5 +1,5 @@
 -- What `parse_lines` answers is what is read of the text, and the laws say what that is.
-use Rattle.std.proofs.Common.{List, ℕ, subst}
+use Rattle.std.proofs.Common.{subst}
 use Rattle.minelib_reader.specs.Answer.{Gives}
 use Rattle.minelib_reader.specs.Text.{rows_of}
 use Rattle.minelib_reader.specs.Prec.{prec_of}

@@ -1,5 +1,5 @@
 -- Each way through the loop is one step of `needs_from`.
-use Rattle.std.proofs.Common.{◌≡◌, ◌+◌, set, ◌∷◌, ◌++◌, [], ℕ, List, length, length-set, subst, sym, ap, ◌∙◌, arith, rules}
+use Rattle.std.proofs.Common.{◌+◌, set, [], ℕ, List, length-set, subst, sym, arith}
 use Rattle.std.proofs.Common.{◌≤◌}
 use Rattle.std.proofs.lemmas.List.Elements.{All-set}
 use Rattle.std.proofs.lemmas.Result.{err_from_is_err_and}
