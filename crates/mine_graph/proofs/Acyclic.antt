@@ -1,14 +1,13 @@
 -- Counting down tells whether there is a cycle. The place in the queue is a height, since each block stands after all
 -- that it needs. What is left over is needy, since an arc to it was never handled; and it is the largest needy set, since
 -- no block of such a set is ever queued: the first of them to be queued would need one that was queued sooner.
-use Rattle.std.proofs.Common.{◌≡◌, ℕ, zero, suc, ◌+◌, ◌-◌, ◌<◌, ◌≤◌, Bool, true, false, cond, eqb, ltb, refl, sym, ap, ◌∙◌, arith, subst, inl, inr, ⊎_elim, List, get_or, length}
-use Rattle.std.specs.Prelude.{◌⊎◌, IsTrue, if◌then◌else◌, ◌&&◌, not}
-use Rattle.std.proofs.lemmas.Bool.{cases_eq, cases_lt, cases_Bool, false≢true, true≢false, eq-eqb, ne_eqb, and_parts, eqb-true, lt-ltb, ltb-true, not-true}
+use Rattle.std.proofs.Common.{◌≡◌, ℕ, zero, suc, ◌<◌, ◌≤◌, Bool, true, false, cond, eqb, refl, sym, ap, ◌∙◌, arith, ⊎_elim, List, get_or, length}
+use Rattle.std.specs.Prelude.{not}
+use Rattle.std.proofs.lemmas.Bool.{cases_eq, cases_lt, true≢false, eq-eqb, ne_eqb, and_parts, eqb-true, lt-ltb, ltb-true, not-true}
 use Rattle.std.proofs.lemmas.List.{get_or_past}
 use Rattle.pit_model.specs.Graph.{first_of, second_of, AreInRange, IsAcyclic}
 use Rattle.pit_model.specs.Cycle.{IsNeedy, IsLargestNeedy, AcyclicHasNoNeedy}
-use Rattle.mine_graph.specs.Rows.{turned}
-use Rattle.mine_graph.specs.Queue.{count, is_open, leads_to, IsSettled}
+use Rattle.mine_graph.specs.Queue.{is_open, IsSettled}
 use Rattle.mine_graph.specs.Left.{left_over}
 use Rattle.mine_graph.proofs.Counts.{count-some}
 

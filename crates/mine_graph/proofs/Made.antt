@@ -1,8 +1,7 @@
 -- The lists of a new graph.
 use Rattle.std.proofs.Common.{◌≡◌, ℕ, ◌+◌, ◌-◌, ◌<◌, ◌≤◌, Bool, sym, ap, ◌∙◌, arith, subst, List, get_or, length}
-use Rattle.std.specs.Prelude.{IsTrue}
-use Rattle.pit_model.specs.Graph.{first_of, second_of, AreInRange, AreSamePairs, AreApart, AreRising, IsAcyclic}
-use Rattle.pit_model.specs.Cycle.{IsNeedy, IsLargestNeedy, IsLeast, IsLeastNeeded, IsWalk, IsCycleList}
+use Rattle.pit_model.specs.Graph.{AreInRange, AreSamePairs, AreApart, AreRising, IsAcyclic}
+use Rattle.pit_model.specs.Cycle.{IsNeedy, IsLargestNeedy, IsLeastNeeded, IsCycleList}
 use Rattle.mine_graph.specs.Rows.{by_second}
 use Rattle.mine_graph.specs.Queue.{IsCountedDown}
 use Rattle.mine_graph.specs.Left.{left_over}

@@ -1,13 +1,13 @@
 -- The steps of counting down: with each arc that is handled less is left of its block, and a block of which nothing is
 -- left has all its arcs handled, so all that it needs stands before it in the queue.
-use Rattle.std.proofs.Common.{◌≡◌, ℕ, zero, suc, ◌+◌, ◌-◌, ◌<◌, ◌≤◌, Bool, true, false, not, eqb, refl, sym, ap, ◌∙◌, arith, subst, inl, inr, ⊎_elim, List, [], ◌∷◌, set, get_or, length}
-use Rattle.std.specs.Prelude.{◌⊎◌, ◌&&◌, ◌||◌}
-use Rattle.std.proofs.lemmas.Bool.{cases_eq, cases_lt, cases_Bool, false≢true, true≢false, eq-eqb, ne_eqb, and_from, and_left, and_right, and_parts, or_left, or_right, or_cases, or_from, eqb-true}
+use Rattle.std.proofs.Common.{◌≡◌, ℕ, suc, ◌+◌, ◌-◌, ◌<◌, ◌≤◌, Bool, true, false, not, eqb, refl, sym, ap, ◌∙◌, arith, ⊎_elim, List, set, get_or, length}
+use Rattle.std.specs.Prelude.{◌&&◌, ◌||◌}
+use Rattle.std.proofs.lemmas.Bool.{cases_eq, cases_Bool, false≢true, eq-eqb, ne_eqb, and_from, and_left, and_right, or_left, or_right, or_cases, or_from, eqb-true}
 use Rattle.std.proofs.lemmas.List.{get_or-set_same, get_or-set_other, length-set}
 use Rattle.pit_model.specs.Graph.{first_of, second_of}
 use Rattle.mine_graph.specs.Rows.{AreStarts}
 use Rattle.mine_graph.specs.Queue.{count, leads_to, is_open, IsQueue, IsCounted, IsSettled}
-use Rattle.mine_graph.proofs.Counts.{count-same, count-fewer, count-none, count-some, count-yes, count-no, pigeon_more}
+use Rattle.mine_graph.proofs.Counts.{count-same, count-fewer, count-none, count-yes, count-no, pigeon_more}
 
 -- settled up to `head`, and the arcs from `begin` up to `k` of the block at `head` are handled too
 pub record IsSettling (arcs : List (ℕ × ℕ)) (left order : List ℕ) (tail head begin k end : ℕ) : Type 0 where

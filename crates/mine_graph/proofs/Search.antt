@@ -3,7 +3,7 @@ use Rattle.std.proofs.Common.{◌≡◌, ℕ, ◌+◌, ◌-◌, ◌<◌, ◌≤�
 use Rattle.std.specs.Prelude.{◌⊎◌, ◌↔◌}
 use Rattle.std.proofs.lemmas.Bool.{cases_order}
 use Rattle.std.proofs.lemmas.List.{get_or-drop, get_or-take, length-drop, length-take-le}
-use Rattle.pit_model.specs.Graph.{first_of, second_of, AreRising, IsBefore}
+use Rattle.pit_model.specs.Graph.{first_of, second_of, AreRising}
 
 -- the pairs from `begin` up to `end`, as a part of all
 module _ (pairs row : List (ℕ × ℕ)) (begin end : ℕ) (order : begin ≤ end) (inside : end ≤ length pairs) (is : row ≡ take (end - begin) (drop begin pairs)) where

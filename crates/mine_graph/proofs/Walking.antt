@@ -1,11 +1,11 @@
 -- The walk round a cycle. As long as it meets no block twice it has no more places than there are blocks, so it comes
 -- back; and since pairs rise, the first needed block that is left over is the least.
-use Rattle.std.proofs.Common.{◌≡◌, ℕ, zero, suc, ◌+◌, ◌-◌, ◌<◌, ◌≤◌, Bool, true, false, refl, sym, ap, ◌∙◌, arith, subst, inl, inr, ⊎_elim, List, set, take, drop, get_or, length}
+use Rattle.std.proofs.Common.{◌≡◌, ℕ, zero, suc, ◌+◌, ◌-◌, ◌<◌, ◌≤◌, Bool, true, refl, sym, ap, ◌∙◌, arith, subst, ⊎_elim, List, set, take, drop, get_or, length}
 use Rattle.std.specs.Prelude.{◌⊎◌, IsTrue}
-use Rattle.std.proofs.lemmas.Bool.{cases_eq, cases_lt, cases_order, false≢true, lt-ltb, ltb-true}
-use Rattle.std.proofs.lemmas.List.{get_or-set_same, get_or-set_other, length-set, get_or_past, get_or-take, length-take-le, drop-take}
-use Rattle.pit_model.specs.Graph.{first_of, second_of, AreRising, IsBefore, AreSamePairs}
-use Rattle.pit_model.specs.Cycle.{IsNeedy, IsLargestNeedy, IsLeast, IsLeastNeeded, IsWalk, IsCycleList}
+use Rattle.std.proofs.lemmas.Bool.{cases_eq, cases_lt, cases_order, lt-ltb, ltb-true}
+use Rattle.std.proofs.lemmas.List.{get_or-set_same, get_or-set_other, get_or_past, get_or-take, length-take-le, drop-take}
+use Rattle.pit_model.specs.Graph.{first_of, second_of, AreRising}
+use Rattle.pit_model.specs.Cycle.{IsLargestNeedy, IsLeast, IsLeastNeeded, IsWalk, IsCycleList}
 use Rattle.mine_graph.specs.Rows.{AreStarts}
 use Rattle.mine_graph.specs.Left.{left_over}
 use Rattle.mine_graph.proofs.Counts.{pigeon_more}

@@ -4,16 +4,13 @@ use Rattle.minelib_reader.specs.declared.fault.Fault.{Fault}
 use Rattle.minelib_reader.specs.declared.fault.Refusal.{Refusal}
 use Rattle.minelib_reader.specs.declared.fault.Refusal.TheVariants.{NoMemory, ReadFailed, WriteFailed}
 use Rattle.minelib_reader.specs.declared.fault.Source.{Source}
-use Rattle.minelib_reader.specs.declared.fault.Source.TheVariants as sources
 use Rattle.minelib_reader.specs.Device.{Progress}
-
--- the fault names no place
-abbrev pub IsNowhere : Fault → Type 0
-IsNowhere fault = (fault.source ≡ sources.None) × (fault.line ≡ 0)
+use Rattle.minelib_reader.specs.Refused.{no_memory}
+use Rattle.minelib_reader.specs.Steps.{at_line}
 
 -- the fault is that of the reading, unless memory was refused; a text fails neither to be read nor to be written
 abbrev pub FailsBy : {Y : Type 0} → Refusal → Fault → Result Y Fault → Type 0
-FailsBy NoMemory fault reading = IsNowhere fault
+FailsBy NoMemory fault reading = fault ≡ no_memory
 FailsBy ReadFailed fault reading = ⊥
 FailsBy WriteFailed fault reading = ⊥
 FailsBy _ fault reading = reading ≡ Err fault
@@ -31,15 +28,15 @@ pub record IsRead (old new : Progress) (AtEnd : Type 0) (text : List ℕ) : Type
 
 -- the fault is one of the text, of which this is said, unless memory was refused; a text fails neither to be read nor to be written
 abbrev pub FailsAt : Refusal → Fault → (Fault → Type 0) → Type 0
-FailsAt NoMemory fault IsFault = IsNowhere fault
+FailsAt NoMemory fault IsFault = fault ≡ no_memory
 FailsAt ReadFailed fault IsFault = ⊥
 FailsAt WriteFailed fault IsFault = ⊥
 FailsAt _ fault IsFault = IsFault fault
 
 -- memory was refused, and no read failed; or one read failed, and the fault names the source; or as said of the other refusals
 abbrev pub Refuses : Refusal → Source → Fault → Progress → Progress → Type 0 → Type 0
-Refuses NoMemory source fault old new Others = (new.failures ≡ old.failures) × IsNowhere fault
-Refuses ReadFailed source fault old new Others = (new.failures ≡ old.failures + 1) × (fault.source ≡ source) × (fault.line ≡ 0)
+Refuses NoMemory source fault old new Others = (new.failures ≡ old.failures) × (fault ≡ no_memory)
+Refuses ReadFailed source fault old new Others = (new.failures ≡ old.failures + 1) × (fault ≡ at_line source ReadFailed 0)
 Refuses WriteFailed source fault old new Others = ⊥
 Refuses _ source fault old new Others = Others
 

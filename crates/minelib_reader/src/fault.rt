@@ -1,8 +1,7 @@
 //! Why a text or a run was refused: one type for all crates.
 //! The printed texts are those of `report::write_fault`; the derive only makes these error types.
 ghost use Rattle.std.specs.Prelude.{◌≡◌};
-ghost use Rattle.minelib_reader.specs.declared.fault.Refusal.TheVariants.{NoMemory, WriteFailed};
-ghost use Rattle.minelib_reader.specs.declared.fault.Source.TheVariants as sources;
+ghost use Rattle.minelib_reader.specs.Refused.{no_memory, write_failed};
 
 use std::alloc::{AllocError, AllocFailed};
 use thiserror::Error;
@@ -88,7 +87,7 @@ pub struct Fault {
 impl Fault {
     /// What a caller of a writer answers where a write failed.
     pub fn write_failed() -> Fault
-        ensures { result ≡ record { refusal = WriteFailed; source = sources.None; line = 0 } }
+        ensures { result ≡ write_failed }
     {
         Fault {
             refusal: Refusal::WriteFailed,
@@ -99,7 +98,7 @@ impl Fault {
 }
 
 impl From<AllocError> for Fault {
-    ghost from_gives = { λ _ f. f ≡ record { refusal = NoMemory; source = sources.None; line = 0 } };
+    ghost from_gives = { λ _ f. f ≡ no_memory };
 
     fn from(_e: AllocError) -> Fault {
         Fault {
@@ -111,7 +110,7 @@ impl From<AllocError> for Fault {
 }
 
 impl<T: Drop> From<AllocFailed<T>> for Fault {
-    ghost from_gives = { λ _ f. f ≡ record { refusal = NoMemory; source = sources.None; line = 0 } };
+    ghost from_gives = { λ _ f. f ≡ no_memory };
 
     fn from(_e: AllocFailed<T>) -> Fault {
         Fault {

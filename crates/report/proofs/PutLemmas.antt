@@ -1,11 +1,10 @@
 -- Pieces that are put one after the other: what is sent and what waits, together, is the text.
-use Rattle.std.proofs.Common.{◌≡◌, ℕ, ◌+◌, ◌<◌, ◌^◌, Bool, true, false, List, [], ◌++◌, refl, sym, ap, subst, ◌∙◌, append_assoc, arith}
+use Rattle.std.proofs.Common.{◌≡◌, ℕ, ◌+◌, Bool, true, false, List, [], ◌++◌, sym, ap, subst, ◌∙◌, append_assoc, arith}
 use Rattle.std.proofs.lemmas.Bool.{true≢false, false≢true}
 use Rattle.std.proofs.lemmas.List.{append-nil}
 use Rattle.std.specs.Prelude.{Result, Ok, Err}
 use Rattle.minelib_reader.specs.declared.fault.Fault.{Fault}
 use Rattle.minelib_reader.specs.Device.{Progress, Begins, Writes}
-use Rattle.minelib_reader.specs.Refused.{write_failed}
 use Rattle.report.specs.Puts.{Waiting, Answers, PutCases, Puts, IsReadyCases, IsReady}
 
 -- sent, then waiting: first x with y behind it, then more

@@ -7,7 +7,7 @@ ghost use Rattle.report.specs.FaultText.{cycle_block, detail_of, fault_text, num
 ghost use Rattle.report.specs.Puts.{IsReady, Puts};
 
 use crate::number::put_number;
-use crate::out::{Out, finish, put};
+use crate::out::{Out, end_line, finish, put};
 use minelib_reader::{Fault, OutBytes, Refusal, Source};
 
 /// The number of a refusal.
@@ -157,6 +157,6 @@ pub fn write_fault<W: OutBytes>(writer: &mut W, fault: &Fault) -> Result<(), Fau
     put_detail(writer, &mut out, &fault.refusal);
     put(writer, &mut out, source_words(fault.source));
     put_place(writer, &mut out, fault.source, fault.line);
-    put(writer, &mut out, b"\n");
+    end_line(writer, &mut out);
     finish(writer, &mut out)
 }

@@ -1,6 +1,6 @@
 //! Pieces of a text go into a buffer of 64 KiB, so that the writer is called once for each 64 KiB and not for each piece.
 //! After a write that failed nothing is written any more; so the text stands where it broke off.
-ghost use Rattle.std.specs.Prelude.{◌≡◌, ◌+◌, ◌≤◌, [], ◌++◌, false, length};
+ghost use Rattle.std.specs.Prelude.{◌≡◌, ◌+◌, ◌≤◌, [], ◌++◌, false, codes, length};
 ghost use Rattle.report.specs.Puts.{Answers, IsReady, Puts};
 
 use minelib_reader::{Fault, OutBytes, write_all};
@@ -89,6 +89,15 @@ pub fn put<W: OutBytes>(writer: &mut W, out: &mut Out, text: &[u8])
 {
     make_room(writer, out, text.len());
     out.append(text);
+}
+
+/// Ends a line.
+pub fn end_line<W: OutBytes>(writer: &mut W, out: &mut Out)
+    requires { IsReady (W.progress writer.old) out.old }
+    ensures puts { Puts (W.progress writer.old) out.old (W.progress writer.new) out.new (codes "\n") }
+    ensures ready { IsReady (W.progress writer.new) out.new }
+{
+    put(writer, out, b"\n");
 }
 
 /// Writes what waits, and answers whether each write went well.

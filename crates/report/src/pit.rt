@@ -6,7 +6,7 @@ ghost use Rattle.pit_model.specs.PitText.{line_of, pit_head, pit_text};
 ghost use Rattle.report.specs.Puts.{IsReady, Puts};
 
 use crate::number::{put_millionths, put_number};
-use crate::out::{Out, finish, put};
+use crate::out::{Out, end_line, finish, put};
 use minelib_reader::{Fault, OutBytes};
 
 /// Writes the lines before the first block: how many blocks there are, how many are in the pit, and its worth.
@@ -21,7 +21,7 @@ fn put_head<W: OutBytes>(writer: &mut W, out: &mut Out, n: u32, count: usize, wo
     put_number(writer, out, count);
     put(writer, out, b"\nWORTH: ");
     put_millionths(writer, out, worth);
-    put(writer, out, b"\n");
+    end_line(writer, out);
 }
 
 /// Writes the line of a block.
@@ -31,7 +31,7 @@ fn put_line<W: OutBytes>(writer: &mut W, out: &mut Out, id: u32)
     ensures ready { IsReady (W.progress writer.new) out.new }
 {
     put_number(writer, out, id);
-    put(writer, out, b"\n");
+    end_line(writer, out);
 }
 
 /// Writes the text of a pit of so many blocks, with its worth in millionths. Refused where a write failed: a beginning

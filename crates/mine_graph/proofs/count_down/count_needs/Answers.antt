@@ -1,5 +1,5 @@
 -- A block is counted no more often than there are arcs.
-use Rattle.std.proofs.Common.{◌≡◌, ℕ, ◌+◌, ◌<◌, get_or, length, arith, ap, sym, ◌∙◌}
+use Rattle.std.proofs.Common.{◌+◌, get_or, arith, ap, sym, ◌∙◌}
 use Rattle.std.proofs.lemmas.List.{length-set}
 use Rattle.pit_model.specs.Graph.{second_of}
 use Rattle.mine_graph.specs.Queue.{count, leads_to}

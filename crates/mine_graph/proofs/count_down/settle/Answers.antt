@@ -1,10 +1,8 @@
 -- An arc that is not handled yet leaves something of its block, and so the queue has room for it.
-use Rattle.std.proofs.Common.{◌≡◌, ℕ, suc, ◌+◌, ◌-◌, ◌<◌, ◌≤◌, get_or, length, set, arith, ap, sym, ◌∙◌, refl}
-use Rattle.std.proofs.lemmas.List.{get_or-set_other, get_or-set_same}
-use Rattle.pit_model.specs.Graph.{first_of, second_of}
+use Rattle.std.proofs.Common.{◌≡◌, ℕ, ◌+◌, ◌<◌, get_or, length, arith, ap, sym, ◌∙◌, refl}
+use Rattle.std.proofs.lemmas.List.{get_or-set_other}
+use Rattle.pit_model.specs.Graph.{second_of}
 use Rattle.mine_graph.specs.Rows.{AreStarts}
-use Rattle.mine_graph.specs.Queue.{IsSettled}
-use Rattle.mine_graph.proofs.Queue.{IsSettling}
 use Rattle.mine_graph.proofs.Queue.{settling_none, settling_all, some, fits, settling_still, settling_free}
 use Rattle.mine_graph.proofs.count_down.settle.Goals as goal
 use Rattle.mine_graph.proofs.count_down.settle.Goals.{then-left-user-eq0, else-left-user-eq0}

@@ -1,9 +1,7 @@
 -- The walk cut after its last block, from the first visit of the repeated one on.
-use Rattle.std.proofs.Common.{◌≡◌, ℕ, ◌+◌, ◌-◌, ◌<◌, ◌≤◌, arith, get_or, length, take, drop, ◌++◌, ◌∙◌}
+use Rattle.std.proofs.Common.{◌≡◌, ℕ, arith, length, drop, ◌∙◌}
 use Rattle.std.proofs.lemmas.List.{take_at}
 use Rattle.std.proofs.lemmas.Result.{IfOk-weaker}
-use Rattle.pit_model.specs.Cycle.{IsCycleList}
-use Rattle.mine_graph.specs.Left.{left_over}
 use Rattle.mine_graph.proofs.Walking.{cycle_is, cut_walk}
 use Rattle.mine_graph.proofs.cycle.cycle_of.Goals as goal
 

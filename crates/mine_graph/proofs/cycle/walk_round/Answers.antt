@@ -1,5 +1,5 @@
 -- A new block makes the walk longer, which the number of blocks bounds; one that has a place closes the cycle.
-use Rattle.std.proofs.Common.{◌≡◌, ℕ, ◌+◌, ◌-◌, ◌<◌, ◌≤◌, arith, get_or, length, set, subst, sym, ◌∙◌}
+use Rattle.std.proofs.Common.{◌+◌, ◌-◌, arith, get_or, subst, sym, ◌∙◌}
 use Rattle.std.proofs.lemmas.List.{length-set}
 use Rattle.pit_model.specs.Cycle.{IsLeastNeeded}
 use Rattle.mine_graph.specs.Left.{left_over}

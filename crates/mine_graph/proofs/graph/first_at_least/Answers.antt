@@ -1,5 +1,5 @@
 -- Where the seconds rise, the test "less than p" parts the pairs at the place that the binary search answers.
-use Rattle.std.proofs.Common.{ℕ, ◌<◌, ◌≤◌, ltb, length, get_or, arith, rules}
+use Rattle.std.proofs.Common.{ℕ, ltb, get_or, arith, rules}
 use Rattle.std.proofs.lemmas.Bool.{ltb-true, ltb-false}
 use Rattle.std.proofs.lemmas.List.Sorted.{IsNonDecreasingBy-from_default, IsPartitionPoint-from_clause, IsPartitionedBy-ltb}
 use Rattle.mine_graph.proofs.graph.first_at_least.Goals as goal

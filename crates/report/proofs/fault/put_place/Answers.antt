@@ -1,5 +1,5 @@
 -- A line above 0 has its word and its number.
-use Rattle.std.proofs.Common.{◌≡◌, ◌-◌, ◌++◌, ◌∙◌, suc, ap, sym, arith, ℕ, List}
+use Rattle.std.proofs.Common.{◌≡◌, ◌-◌, ◌++◌, ◌∙◌, suc, ap, sym, arith, ℕ}
 use Rattle.std.specs.Prelude.{decimal}
 use Rattle.report.specs.FaultText.{place_text, place_word}
 use Rattle.report.proofs.PutLemmas.{puts_then, puts_as}

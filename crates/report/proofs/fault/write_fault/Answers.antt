@@ -1,5 +1,5 @@
 -- The pieces of the line, one after the other, and at the end nothing waits.
-use Rattle.std.proofs.Common.{◌≡◌, ◌∙◌, ap, [], ◌++◌, List, ℕ}
+use Rattle.std.proofs.Common.{ap}
 use Rattle.std.specs.Prelude.{decimal}
 use Rattle.std.proofs.lemmas.List.{append-nil}
 use Rattle.report.specs.FaultText.{fault_text}
@@ -15,6 +15,6 @@ returns-clause-text g c =
     let five = puts_then _ _ _ _ _ _ _ _ four c.put_detail.ensures.puts in
     let six = puts_then _ _ _ _ _ _ _ _ five (puts_as c.source_words.ensures.text c.put-4.ensures.puts) in
     let seven = puts_then _ _ _ _ _ _ _ _ six c.put_place.ensures.puts in
-    let eight = puts_then _ _ _ _ _ _ _ _ seven c.put-5.ensures.puts in
+    let eight = puts_then _ _ _ _ _ _ _ _ seven c.end_line.ensures.puts in
     puts_end _ _ _ _ _ c.finish.result (puts_as (append-nil _) (puts_then _ _ _ _ _ _ _ _ eight c.finish.ensures.puts))
     c.new-out.ensures.bytes c.new-out.ensures.failed c.finish.ensures.none c.finish.ensures.answers

@@ -15,4 +15,4 @@ returns-clause-puts g c =
     let four = puts_then _ _ _ _ _ _ _ _ three c.put_number-2.ensures.puts in
     let five = puts_then _ _ _ _ _ _ _ _ four c.put-3.ensures.puts in
     let six = puts_then _ _ _ _ _ _ _ _ five (puts_as (ap with_six_decimals e) c.put_millionths.ensures.puts) in
-    puts_then _ _ _ _ _ _ _ _ six c.put-4.ensures.puts
+    puts_then _ _ _ _ _ _ _ _ six c.end_line.ensures.puts

@@ -1,5 +1,5 @@
 -- One line more, and at the end nothing waits.
-use Rattle.std.proofs.Common.{◌≡◌, ◌∙◌, ◌∷◌, [], false, ◌++◌, ◌+◌, List, ℕ, take, length, get_or, to_z, of_z, ap, sym, refl, arith}
+use Rattle.std.proofs.Common.{◌≡◌, ◌∙◌, [], ◌++◌, ◌+◌, List, ℕ, take, length, get_or, to_z, of_z, ap, sym, refl, arith}
 use Rattle.std.specs.Prelude.{ℤ}
 use Rattle.std.specs.Int.{w128}
 use Rattle.std.specs.List.{flat_map}

@@ -1,5 +1,5 @@
 -- The head and the lines so far were put.
-use Rattle.std.proofs.Common.{◌≡◌, [], false, ◌++◌, take, length}
+use Rattle.std.proofs.Common.{[], false, ◌++◌, take, length}
 use Rattle.std.specs.List.{flat_map}
 use Rattle.pit_model.specs.PitText.{pit_head, line_of}
 use Rattle.report.specs.Puts.{Puts, IsReady}
