@@ -1,6 +1,6 @@
 //! What the readers of this crate read from, and what the writers of the program write to.
 //! `input` and `output` have an implementation over memory and one over a file each.
-ghost use Rattle.std.specs.Prelude.{◌≡◌, ◌<◌, ◌^◌, length, Ok};
+ghost use Rattle.std.specs.Prelude.{◌≡◌, ◌<◌, ◌^◌, ℕ, List, length, Option, None, Ok};
 ghost use Rattle.minelib_reader.specs.Device.{Progress, ReadGives, WriteTakes};
 
 /// A call of the device failed, and was counted.
@@ -15,12 +15,16 @@ pub trait InBytes {
     /// No byte is left to be read.
     ghost IsAtEnd: { Self → Type 0 };
 
+    /// The whole text, where it is known beforehand: what was read and what is still to come. Of a file it is not.
+    ghost known_text: { Self → Option (List ℕ) } = { λ _. None };
+
     /// Reads the next bytes into the front of the buffer, and answers how many. None come only at the end.
     fn read(&mut self, buf: &mut [u8]) -> Result<usize, DeviceFailed>
         requires countable { (progress self.old).failures < 2 ^ 63 }
         requires room { 0 < length buf.old }
         ensures gives { ReadGives (progress self.old) (progress self.new) result buf.new }
-        ensures end { result ≡ Ok 0 → IsAtEnd self.new };
+        ensures end { result ≡ Ok 0 → IsAtEnd self.new }
+        ensures same { known_text self.new ≡ known_text self.old };
 }
 
 /// A taker of bytes.

@@ -1,6 +1,6 @@
 //! A reader over memory and one over a file, which meet `InBytes`,
 //! and `read_all`, by which the readers of this crate take a whole text.
-ghost use Rattle.std.specs.Prelude.{◌≡◌, ◌≤◌, ◌<◌, ◌^◌, ◌-◌, length, take, IfOk, MatchResult, IsTrue};
+ghost use Rattle.std.specs.Prelude.{◌≡◌, ◌≤◌, ◌<◌, ◌^◌, ◌-◌, length, take, IfOk, MatchResult, Some, IsTrue};
 ghost use Rattle.minelib_reader.specs.Device.{Progress, unread};
 ghost use Rattle.minelib_reader.specs.Answer.{IsRead, Refuses};
 
@@ -22,7 +22,7 @@ pub struct MemoryReader<'a> {
 impl<'a> MemoryReader<'a> {
     /// Begins at the front of the text.
     pub fn new(text: &'a [u8]) -> MemoryReader<'a>
-        ensures text { result.text.now ≡ text.entry.now }
+        ensures text { ⟦<MemoryReader<'a> as InBytes>⟧.known_text result ≡ Some text.entry.now }
         ensures start { ⟦<MemoryReader<'a> as InBytes>⟧.progress result ≡ unread (length text.entry.now) }
     {
         MemoryReader { text, at: 0 }
@@ -33,6 +33,8 @@ impl InBytes for MemoryReader<'_> {
     ghost progress = { λ r. record { bytes = take r.at r.text.now; failures = 0; allowance = length r.text.now - r.at } };
 
     ghost IsAtEnd = { λ r. r.at ≡ length r.text.now };
+
+    ghost known_text = { λ r. Some r.text.now };
 
     fn read(&mut self, buf: &mut [u8]) -> Result<usize, DeviceFailed> {
         let rest = &self.text[self.at..];
@@ -101,6 +103,7 @@ pub fn read_all<R: InBytes>(alloc: Global, reader: &mut R, source: Source) -> Re
         (λ v. IsRead (R.progress reader.old) (R.progress reader.new) (R.IsAtEnd reader.new) v.items)
         (λ e. Refuses e.refusal source e (R.progress reader.old) (R.progress reader.new) ⊥) }
     ensures short { IfOk result (λ v. length v.items ≤ (R.progress reader.old).allowance) }
+    ensures same { R.known_text reader.new ≡ R.known_text reader.old }
 {
     let mut text = Vec::new(alloc);
     let mut chunk = [0u8; CHUNK];

@@ -204,6 +204,7 @@ pub fn read_prec<R: InBytes>(
     requires bounded { (R.progress reader.old).allowance ≤ 2 ^ 40 }
     ensures answers { AnswersBy (λ v. v.items) (SpellsPrec n) (IsFirstPrecFault n) sources.Precedence (R.progress reader.old) (R.progress reader.new) (R.IsAtEnd reader.new) result }
     ensures lawful { IfOk result (λ v. ArePrecedences n v.items) }
+    ensures same { R.known_text reader.new ≡ R.known_text reader.old }
 
     // The same by what is read of a text.
     ensures exact { Answers (λ v. v.items) (prec_of n) sources.Precedence (R.progress reader.old) (R.progress reader.new) (R.IsAtEnd reader.new) result }

@@ -1,6 +1,6 @@
 //! Texts with answers that were worked out by hand, read whole, byte by byte and with a failure at each read;
 //! and writers that take few bytes or fail.
-ghost use Rattle.std.specs.Prelude.{◌≡◌, ◌≤◌, ◌-◌, length, take};
+ghost use Rattle.std.specs.Prelude.{◌≡◌, ◌≤◌, ◌-◌, length, take, IfOk};
 ghost use Rattle.minelib_reader.specs.Device.{Progress};
 
 use super::*;
@@ -50,6 +50,14 @@ impl InBytes for SlowReader<'_> {
         self.at += 1;
         Ok(1)
     }
+}
+
+/// What lies in memory is read whole.
+fn read_back(alloc: Global, text: &[u8]) -> Result<Vec<u8>, Fault>
+    ensures { IfOk result (λ v. v.items ≡ text.now) }
+{
+    let mut reader = MemoryReader::new(text);
+    read_all(alloc, &mut reader, Source::Model)
 }
 
 /// The values that were read, or the words of the fault.
@@ -212,7 +220,10 @@ fn writers(rt: HostRuntime) -> Result<(), Fail> {
     assert_eq!(rt; short.text.as_slice(), b"PIT\nBLO".as_slice());
     let mut wide = MemoryWriter::new(rt.alloc(), 14);
     assert_eq!(rt; write_all(&mut wide, text), Ok(()));
-    assert_eq!(rt; wide.text.as_slice(), text.as_slice());
+    assert_eq!(rt;
+        read_back(rt.alloc(), &wide.text)?.as_slice(),
+        text.as_slice()
+    );
     assert_eq!(rt;
         format!(in rt.alloc(); "{}", Fault::write_failed())?.as_str(),
         "write failed in none line 0"

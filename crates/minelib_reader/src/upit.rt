@@ -205,6 +205,7 @@ pub fn read_upit<R: InBytes>(alloc: Global, reader: &mut R) -> Result<Model, Fau
     requires bounded { (R.progress reader.old).allowance ≤ 2 ^ 40 }
     ensures answers { AnswersBy (λ m. upit m.n m.values.items) SpellsUpit IsFirstUpitFault sources.Model (R.progress reader.old) (R.progress reader.new) (R.IsAtEnd reader.new) result }
     ensures small { IfOk result (λ m. IsSmallModel m.n m.values.items) }
+    ensures same { R.known_text reader.new ≡ R.known_text reader.old }
 
     // The same by what is read of a text.
     ensures exact { Answers (λ m. upit m.n m.values.items) upit_of sources.Model (R.progress reader.old) (R.progress reader.new) (R.IsAtEnd reader.new) result }
