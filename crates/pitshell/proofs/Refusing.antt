@@ -2,7 +2,7 @@
 use Rattle.std.proofs.Common.{◌≡◌, ℕ, List, inl, inr, refl, sym, subst}
 use Rattle.minelib_reader.specs.Refused.{write_failed}
 use Rattle.minelib_reader.specs.Device.{Progress}
-use Rattle.minelib_reader.specs.Answer.{Refuses, ReadsText, IsNowhere}
+use Rattle.minelib_reader.specs.Answer.{Refuses, ReadsText}
 use Rattle.minelib_reader.specs.Upit.{Upit}
 use Rattle.minelib_reader.specs.UpitGrammar.{SpellsUpit}
 use Rattle.minelib_reader.specs.UpitFault.{IsFirstUpitFault}
@@ -34,7 +34,7 @@ prec_refused _ e model prec upit text given spelled h = in_prec text h.0 upit gi
 
 pub pairs_refused :
     (r : Refusal) (e : Fault) (model prec : Reading) (upit : Upit) (pairs : List (ℕ × ℕ)) → GaveMine model prec upit pairs
-    → IsGraphFault pairs upit.n e → RefusesPairs pairs upit.n r e.source e.line → RefusesMine r e model prec
+    → IsGraphFault pairs upit.n e → RefusesPairs pairs upit.n r e → RefusesMine r e model prec
 pairs_refused NoMemory e model prec upit pairs given is h = (h, given.model_given.failures, given.prec_given.failures)
 pairs_refused ReadFailed e model prec upit pairs given is h = absurd h
 pairs_refused WriteFailed e model prec upit pairs given is h = h

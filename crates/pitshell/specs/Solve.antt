@@ -1,8 +1,9 @@
 -- What a run of `solve` writes, and what it refuses, over the bytes that went through its readers and its writer.
 use Rattle.std.specs.Prelude.{◌≡◌, ℕ, ◌+◌, ◌++◌, ◌⊎◌, Bool, List, Result}
 use Rattle.minelib_reader.specs.Device.{Progress, Begins, Writes}
-use Rattle.minelib_reader.specs.Answer.{IsRead, IsNowhere}
-use Rattle.minelib_reader.specs.Refused.{write_failed}
+use Rattle.minelib_reader.specs.Answer.{IsRead}
+use Rattle.minelib_reader.specs.Refused.{no_memory, write_failed}
+use Rattle.minelib_reader.specs.Steps.{at_line}
 use Rattle.minelib_reader.specs.Upit.{Upit}
 use Rattle.minelib_reader.specs.UpitGrammar.{SpellsUpit}
 use Rattle.minelib_reader.specs.UpitFault.{IsFirstUpitFault}
@@ -38,7 +39,7 @@ NeverFailed r = r.after.failures ≡ r.before.failures
 
 -- one read failed, and the fault names the source
 abbrev pub FailedOnce : Source → Fault → Reading → Type 0
-FailedOnce source fault r = (r.after.failures ≡ r.before.failures + 1) × (fault.source ≡ source) × (fault.line ≡ 0)
+FailedOnce source fault r = (r.after.failures ≡ r.before.failures + 1) × (fault ≡ at_line source ReadFailed 0)
 
 -- the readers gave two texts, which spell a model and pairs for its blocks
 pub record GaveMine (model prec : Reading) (upit : Upit) (pairs : List (ℕ × ℕ)) : Type 0 where
@@ -96,7 +97,7 @@ pub data FirstFault (fault : Fault) (model prec : Reading) : Type 0 where
 
 -- why no mine was read
 abbrev pub RefusesMine : Refusal → Fault → Reading → Reading → Type 0
-RefusesMine NoMemory fault model prec = IsNowhere fault × NeverFailed model × NeverFailed prec
+RefusesMine NoMemory fault model prec = (fault ≡ no_memory) × NeverFailed model × NeverFailed prec
 RefusesMine ReadFailed fault model prec = FailedOnce sources.Model fault model ⊎ FailedOnce sources.Precedence fault prec
 RefusesMine WriteFailed fault model prec = ⊥
 RefusesMine _ fault model prec = FirstFault fault model prec
