@@ -1,4 +1,6 @@
--- What counting down tells of cycles.
+-- Counting down tells whether there is a cycle. The place in the queue is a height, since each block stands after all
+-- that it needs. What is left over is needy, since an arc to it was never handled; and it is the largest needy set, since
+-- no block of such a set is ever queued: the first of them to be queued would need one that was queued sooner.
 use Rattle.std.proofs.Common.{◌≡◌, ℕ, zero, suc, ◌+◌, ◌-◌, ◌<◌, ◌≤◌, Bool, true, false, cond, eqb, ltb, refl, sym, ap, ◌∙◌, arith, subst, inl, inr, ⊎_elim, List, get_or, length}
 use Rattle.std.specs.Prelude.{◌⊎◌, IsTrue, if◌then◌else◌, ◌&&◌, not}
 use Rattle.std.proofs.lemmas.Bool.{cases_eq, cases_lt, cases_Bool, false≢true, true≢false, eq-eqb, ne_eqb, and_parts, eqb-true, lt-ltb, ltb-true, not-true}

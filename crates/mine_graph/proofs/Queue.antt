@@ -1,4 +1,5 @@
--- The steps of counting down.
+-- The steps of counting down: with each arc that is handled less is left of its block, and a block of which nothing is
+-- left has all its arcs handled, so all that it needs stands before it in the queue.
 use Rattle.std.proofs.Common.{◌≡◌, ℕ, zero, suc, ◌+◌, ◌-◌, ◌<◌, ◌≤◌, Bool, true, false, not, eqb, refl, sym, ap, ◌∙◌, arith, subst, inl, inr, ⊎_elim, List, [], ◌∷◌, set, get_or, length}
 use Rattle.std.specs.Prelude.{◌⊎◌, ◌&&◌, ◌||◌}
 use Rattle.std.proofs.lemmas.Bool.{cases_eq, cases_lt, cases_Bool, false≢true, true≢false, eq-eqb, ne_eqb, and_from, and_left, and_right, and_parts, or_left, or_right, or_cases, or_from, eqb-true}

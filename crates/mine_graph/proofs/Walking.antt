@@ -1,4 +1,5 @@
--- The walk round a cycle.
+-- The walk round a cycle. As long as it meets no block twice it has no more places than there are blocks, so it comes
+-- back; and since pairs rise, the first needed block that is left over is the least.
 use Rattle.std.proofs.Common.{◌≡◌, ℕ, zero, suc, ◌+◌, ◌-◌, ◌<◌, ◌≤◌, Bool, true, false, refl, sym, ap, ◌∙◌, arith, subst, inl, inr, ⊎_elim, List, set, take, drop, get_or, length}
 use Rattle.std.specs.Prelude.{◌⊎◌, IsTrue}
 use Rattle.std.proofs.lemmas.Bool.{cases_eq, cases_lt, cases_order, false≢true, lt-ltb, ltb-true}

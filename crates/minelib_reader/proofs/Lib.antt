@@ -6,3 +6,8 @@ pub mod UpitLemmas
 pub mod StepLemmas
 pub mod UpitGrammarLemmas
 pub mod UpitFaultLemmas
+pub mod PrecLemmas
+pub mod PrecLineLemmas
+pub mod PrecFaultLemmas
+pub mod PrecGrammarLemmas
+pub mod PrecLimitLemmas

@@ -1,12 +1,12 @@
 -- What steps that succeed, or that end in a fault, tell of each of them.
-use Rattle.std.proofs.Common.{◌≡◌, ℕ, zero, suc, ◌+◌, ◌<◌, Bool, true, false, List, [], ◌∷◌, Option, Some, None, Result, Ok, Err, refl, sym, ap, subst, ◌∙◌, arith, ◌⊎◌, inl, inr}
+use Rattle.std.proofs.Common.{◌≡◌, ℕ, suc, ◌<◌, Bool, true, false, List, [], ◌∷◌, Option, Some, None, Result, Ok, Err, refl, sym, ap, subst, ◌∙◌, arith, ◌⊎◌, inl, inr}
 use Rattle.std.proofs.lemmas.Bool.{cases_lt}
 use Rattle.std.proofs.lemmas.Slice.Eq.{bytes_eq-Decides}
 use Rattle.std.specs.Str.{bytes_eq}
 use Rattle.minelib_reader.specs.declared.fault.Fault.{Fault}
 use Rattle.std.specs.Prelude.{IfOk, IfErr}
 use Rattle.minelib_reader.specs.declared.fault.Refusal.{Refusal}
-use Rattle.minelib_reader.specs.declared.fault.Refusal.TheVariants.{NoMemory, ReadFailed}
+use Rattle.minelib_reader.specs.declared.fault.Refusal.TheVariants.{NoMemory, ReadFailed, WriteFailed}
 use Rattle.minelib_reader.specs.Answer.{Gives, FailsBy, FailsAt}
 use Rattle.minelib_reader.specs.Text.{two_of}
 use Rattle.minelib_reader.specs.Steps.{◌>>=◌, or_fault, check, fault_of, IsFirstFault}
@@ -69,9 +69,9 @@ clear_none f j lt = absurd (omega (arith, lt))
 
 pub clear_more : (f : ℕ → Option Fault) (k : ℕ) → AreClear f k → f k ≡ None → AreClear f (suc k)
 clear_more f k before here j lt = elim (cases_lt j k) [
-    | inl below ↦ before j below
-    | inr le ↦ let same : k ≡ j = omega (arith, lt, le) in subst (λ (x : ℕ). f x ≡ None) same here
-  ]
+  | inl below ↦ before j below
+  | inr le ↦ let same : k ≡ j = omega (arith, lt, le) in subst (λ (x : ℕ). f x ≡ None) same here
+]
 
 some_or_none : {A : Type 0} (o : Option A) (x : A) → o ≡ None → o ≡ Some x → ⊥
 some_or_none None x n s = absurd cc
@@ -80,12 +80,12 @@ some_or_none (Some y) x n s = absurd cc
 -- a text has one first fault at most
 pub one_first : (f : ℕ → Option Fault) (d e : Fault) → IsFirstFault f d → IsFirstFault f e → d ≡ e
 one_first f d e p q = elim (cases_lt p.place q.place) [
-    | inl lt ↦ absurd (some_or_none (f p.place) d (q.none_before p.place lt) p.here)
-    | inr le ↦ elim (cases_lt q.place p.place) [
-        | inl lt ↦ absurd (some_or_none (f q.place) e (p.none_before q.place lt) q.here)
-        | inr ge ↦ let same : p.place ≡ q.place = omega (arith, le, ge) in some_is d e (sym p.here ∙ ap f same ∙ q.here)
-      ]
+  | inl lt ↦ absurd (some_or_none (f p.place) d (q.none_before p.place lt) p.here)
+  | inr le ↦ elim (cases_lt q.place p.place) [
+    | inl lt ↦ absurd (some_or_none (f q.place) e (p.none_before q.place lt) q.here)
+    | inr ge ↦ let same : p.place ≡ q.place = omega (arith, le, ge) in some_is d e (sym p.here ∙ ap f same ∙ q.here)
   ]
+]
 
 -- where reading fails by a first fault, and succeeds with none, it fails by each first fault
 pub fails_by_first : {A : Type 0} (reading r : Result A Fault) (f : ℕ → Option Fault) (e : Fault) → reading ≡ r → ((x : A) → reading ≡ Ok x → (k : ℕ) → f k ≡ None)
@@ -102,6 +102,7 @@ value_told view (Err e) reading P holds h = tt
 refusal_told : {Y : Type 0} (r : Refusal) (e : Fault) (reading : Result Y Fault) (P : Fault → Type 0) → (reading ≡ Err e → P e) → FailsBy r e reading → FailsAt r e P
 refusal_told NoMemory e reading P holds h = h
 refusal_told ReadFailed e reading P holds h = h
+refusal_told WriteFailed e reading P holds h = h
 refusal_told _ e reading P holds h = holds h
 
 pub fault_told : {X Y : Type 0} (view : X → Y) (r : Result X Fault) (reading : Result Y Fault) (P : Fault → Type 0) → ((e : Fault) → reading ≡ Err e → P e) → Gives view r reading → IfErr r (λ e. FailsAt e.refusal e P)
@@ -112,4 +113,5 @@ fault_told view (Err e) reading P holds h = refusal_told e.refusal e reading P (
 pub fails_map : {X Y : Type 0} (r : Refusal) (e : Fault) (part : Result X Fault) (whole : Result Y Fault) → (part ≡ Err e → whole ≡ Err e) → FailsBy r e part → FailsBy r e whole
 fails_map NoMemory e part whole f h = h
 fails_map ReadFailed e part whole f h = h
+fails_map WriteFailed e part whole f h = h
 fails_map _ e part whole f h = f h

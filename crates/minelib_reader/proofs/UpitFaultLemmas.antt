@@ -1,6 +1,6 @@
 -- The reading of a model fails by the fault of the least line that breaks a check, and only where one does.
 -- Its idea: reading goes through the places in order; where it goes on a place is clear, and where it stops is the first fault.
-use Rattle.std.proofs.Common.{◌≡◌, ℕ, ℤ, zero, suc, ◌+◌, ◌-◌, ◌<◌, ◌≤◌, Bool, true, false, cond, ltb, List, [], ◌∷◌, length, Option, Some, None, Result, Ok, Err, refl, sym, ap, subst, ◌∙◌, arith, inl, inr}
+use Rattle.std.proofs.Common.{◌≡◌, ℕ, ℤ, zero, suc, ◌+◌, ◌-◌, List, [], ◌∷◌, Option, Some, None, Result, Ok, Err, refl, sym, ap, subst, ◌∙◌, arith, inl, inr}
 use Rattle.std.proofs.lemmas.Bool.{cases_lt, lt-ltb, le-ltb}
 use Rattle.std.specs.List.{slice_get}
 use Rattle.minelib_reader.specs.declared.fault.Fault.{Fault}
@@ -10,7 +10,7 @@ use Rattle.minelib_reader.specs.Text.{Row}
 use Rattle.minelib_reader.specs.Upit.{Upit, upit, in_model, due, name_line, type_line, blocks_line, objective_line, value_line, values_from, ended, header_of, upit_of_rows}
 use Rattle.minelib_reader.specs.UpitFault.{number_in, place_fault, fault_in_rows}
 use Rattle.minelib_reader.proofs.StepLemmas.{bind_ok, bind_err, ok_is, done, failed, no_fault, that_fault, AreClear, clear_none, clear_more}
-use Rattle.minelib_reader.proofs.UpitGrammarLemmas.{after_type, after_title, after_blocks, after_kind, after_number, after_objective, HeaderLines, header_lines, all_steps, AllSteps}
+use Rattle.minelib_reader.proofs.UpitGrammarLemmas.{after_type, after_title, after_blocks, after_kind, after_number, after_objective, HeaderLines, header_lines, all_steps}
 
 abbrev Faults : Type 0
 Faults = ℕ → Option Fault
@@ -55,9 +55,9 @@ values_err f count n i (suc k) (r ∷ rows) e size clear here h =
     elim (bind_err (value_line i r) (λ v. values_from count (i + 1) k rows >>= with_value v) e h) [
       | inl stop ↦ first_at f e e (place_of i) clear (at ∙ that_fault (value_line i r) e stop) refl
       | inr go ↦ elim (bind_err (values_from count (i + 1) k rows) (with_value go.0) e go.2) [
-          | inl stop ↦ values_err f count n (i + 1) k rows e (omega (arith, size)) (clear_next f i clear (at ∙ no_fault (value_line i r) go.0 go.1)) (follows_next f count n i r rows here) stop
-          | inr end ↦ absurd (let no = end.2 in cc)
-        ]
+        | inl stop ↦ values_err f count n (i + 1) k rows e (omega (arith, size)) (clear_next f i clear (at ∙ no_fault (value_line i r) go.0 go.1)) (follows_next f count n i r rows here) stop
+        | inr end ↦ absurd (let no = end.2 in cc)
+      ]
     ]
 
 values_ok : (f : Faults) (count n i k : ℕ) (rows : List Row) (x : List ℤ × List Row) → k + i ≡ n → AreClear f (place_of i) → Follows f count n i rows → values_from count i k rows ≡ Ok x

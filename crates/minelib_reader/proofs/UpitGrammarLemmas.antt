@@ -1,5 +1,5 @@
 -- What the grammar of a model spells is read, and what is read is spelled: each line by itself, then all of them.
-use Rattle.std.proofs.Common.{◌≡◌, ℕ, ℤ, zero, suc, ◌+◌, ◌≤◌, Bool, true, false, eqb, leb, List, [], ◌∷◌, length, Option, Some, None, Result, Ok, Err, refl, sym, ap, subst, ◌∙◌, arith, rules, tests, eq-eqb}
+use Rattle.std.proofs.Common.{◌≡◌, ℕ, ℤ, zero, suc, ◌+◌, ◌≤◌, true, eqb, leb, List, [], ◌∷◌, length, Option, Some, None, Result, Ok, refl, sym, ap, subst, ◌∙◌, eq-eqb}
 use Rattle.std.proofs.lemmas.Bool.{eqb-true, leb-true, le-leb, and_parts}
 use Rattle.std.specs.Str.{bytes_eq}
 use Rattle.std.specs.Prelude.{codes}
@@ -110,8 +110,7 @@ blocks_found r n e =
     let c = bind_ok (or_fault (in_model NotWhole r.line) (whole_of a.0.1)) last n b.2 in
     let d = bind_ok (limit c.0) (λ few. done c.0) n c.2 in
     let is_n = ok_is c.0 n d.2 in
-    let header = same_bytes a.0.0 (codes "NBLOCKS:") (tested (in_model WrongHeader r.line) (bytes_eq a.0.0 (codes "NBLOCKS:")) b.0 b.1) in
-    (
+    let header = same_bytes a.0.0 (codes "NBLOCKS:") (tested (in_model WrongHeader r.line) (bytes_eq a.0.0 (codes "NBLOCKS:")) b.0 b.1) in (
       a.0.1,
       two r.fields a.0 (given (in_model WrongHeader r.line) (two_of r.fields) a.0 a.1) ∙ ap (λ (x : List ℕ). x ∷ a.0.1 ∷ []) header,
       given (in_model NotWhole r.line) (whole_of a.0.1) c.0 c.1 ∙ ap (λ (k : ℕ). Some k) is_n,

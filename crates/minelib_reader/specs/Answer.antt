@@ -2,7 +2,7 @@
 use Rattle.std.specs.Prelude.{◌≡◌, ℕ, ◌+◌, ◌++◌, List, Result, Ok, Err}
 use Rattle.minelib_reader.specs.declared.fault.Fault.{Fault}
 use Rattle.minelib_reader.specs.declared.fault.Refusal.{Refusal}
-use Rattle.minelib_reader.specs.declared.fault.Refusal.TheVariants.{NoMemory, ReadFailed}
+use Rattle.minelib_reader.specs.declared.fault.Refusal.TheVariants.{NoMemory, ReadFailed, WriteFailed}
 use Rattle.minelib_reader.specs.declared.fault.Source.{Source}
 use Rattle.minelib_reader.specs.declared.fault.Source.TheVariants as sources
 use Rattle.minelib_reader.specs.Device.{Progress}
@@ -11,10 +11,11 @@ use Rattle.minelib_reader.specs.Device.{Progress}
 abbrev pub IsNowhere : Fault → Type 0
 IsNowhere fault = (fault.source ≡ sources.None) × (fault.line ≡ 0)
 
--- the fault is that of the reading, unless memory was refused; a text doesn't fail to be read
+-- the fault is that of the reading, unless memory was refused; a text fails neither to be read nor to be written
 abbrev pub FailsBy : {Y : Type 0} → Refusal → Fault → Result Y Fault → Type 0
 FailsBy NoMemory fault reading = IsNowhere fault
 FailsBy ReadFailed fault reading = ⊥
+FailsBy WriteFailed fault reading = ⊥
 FailsBy _ fault reading = reading ≡ Err fault
 
 -- the answer, seen by view, is what the reading gives, unless memory was refused
@@ -28,19 +29,30 @@ pub record IsRead (old new : Progress) (AtEnd : Type 0) (text : List ℕ) : Type
   pub failures : new.failures ≡ old.failures
   pub ended : AtEnd
 
--- the fault is one of the text, of which this is said, unless memory was refused; a text doesn't fail to be read
+-- the fault is one of the text, of which this is said, unless memory was refused; a text fails neither to be read nor to be written
 abbrev pub FailsAt : Refusal → Fault → (Fault → Type 0) → Type 0
 FailsAt NoMemory fault IsFault = IsNowhere fault
 FailsAt ReadFailed fault IsFault = ⊥
+FailsAt WriteFailed fault IsFault = ⊥
 FailsAt _ fault IsFault = IsFault fault
 
 -- memory was refused, and no read failed; or one read failed, and the fault names the source; or as said of the other refusals
 abbrev pub Refuses : Refusal → Source → Fault → Progress → Progress → Type 0 → Type 0
 Refuses NoMemory source fault old new Others = (new.failures ≡ old.failures) × IsNowhere fault
 Refuses ReadFailed source fault old new Others = (new.failures ≡ old.failures + 1) × (fault.source ≡ source) × (fault.line ≡ 0)
+Refuses WriteFailed source fault old new Others = ⊥
 Refuses _ source fault old new Others = Others
+
+-- the call read a text, all that was left, of which this holds
+abbrev pub ReadsText : Progress → Progress → Type 0 → (List ℕ → Type 0) → Type 0
+ReadsText old new AtEnd Holds = (text : List ℕ) × IsRead old new AtEnd text × Holds text
 
 -- the answer, seen by view, is what the reading gives of the text that the call read
 abbrev pub Answers : {X Y : Type 0} → (X → Y) → (List ℕ → Result Y Fault) → Source → Progress → Progress → Type 0 → Result X Fault → Type 0
-Answers view reading source old new AtEnd (Ok x) = (text : List ℕ) × IsRead old new AtEnd text × (reading text ≡ Ok (view x))
-Answers view reading source old new AtEnd (Err e) = Refuses e.refusal source e old new ((text : List ℕ) × IsRead old new AtEnd text × (reading text ≡ Err e))
+Answers view reading source old new AtEnd (Ok x) = ReadsText old new AtEnd (λ text. reading text ≡ Ok (view x))
+Answers view reading source old new AtEnd (Err e) = Refuses e.refusal source e old new (ReadsText old new AtEnd (λ text. reading text ≡ Err e))
+
+-- the answer, seen by view, is spelled by the text that the call read, or the fault is the first one of that text
+abbrev pub AnswersBy : {X Y : Type 0} → (X → Y) → (List ℕ → Y → Type 0) → (List ℕ → Fault → Type 0) → Source → Progress → Progress → Type 0 → Result X Fault → Type 0
+AnswersBy view Spells IsFirst source old new AtEnd (Ok x) = ReadsText old new AtEnd (λ text. Spells text (view x))
+AnswersBy view Spells IsFirst source old new AtEnd (Err e) = Refuses e.refusal source e old new (ReadsText old new AtEnd (λ text. IsFirst text e))

@@ -1,6 +1,5 @@
 pub mod Device
 pub mod Answer
-pub mod Refused
 pub mod Steps
 pub mod Number
 pub mod Text
@@ -8,3 +7,9 @@ pub mod Upit
 pub mod UpitGrammar
 pub mod UpitFault
 pub mod UpitLimits
+pub mod Refused
+pub mod Prec
+pub mod Marks
+pub mod PrecGrammar
+pub mod PrecFault
+pub mod PrecLimits

@@ -39,6 +39,11 @@ abbrev pub two_of : List (List ℕ) → Option (List ℕ × List ℕ)
 two_of (a ∷ b ∷ []) = Some (a, b)
 two_of fs = None
 
+-- the first two fields of a line that has them, and the others
+abbrev pub two_and_more : List (List ℕ) → Option (List ℕ × List ℕ × List (List ℕ))
+two_and_more (a ∷ b ∷ fs) = Some (a, b, fs)
+two_and_more fs = None
+
 -- the rows of the rest of a text before which k lines stand, and the number of lines of the whole text
 abbrev pub rows_at : ℕ → List ℕ → List Row
 rows_at k rest = rows_from (k + 1) (lines rest)

@@ -1,5 +1,5 @@
 -- An optimisation model: the checks of each line in their order, and the reading of all lines by them.
-use Rattle.std.specs.Prelude.{◌≡◌, ℕ, zero, suc, ℤ, ◌+◌, Bool, true, false, nat_le, ◌==◌, ◌&&◌, List, [], ◌∷◌, length, Option, Some, None, Result, Ok, Err, codes}
+use Rattle.std.specs.Prelude.{ℕ, zero, suc, ℤ, ◌+◌, Bool, false, nat_le, ◌==◌, ◌&&◌, List, [], ◌∷◌, Option, Some, None, Result, Ok, Err, codes}
 use Rattle.std.specs.Str.{bytes_eq}
 use Rattle.minelib_reader.specs.declared.fault.Fault.{Fault}
 use Rattle.minelib_reader.specs.declared.fault.Refusal.{Refusal}

@@ -1,4 +1,5 @@
-//! A reader over memory, one over a file, and `read_all`, by which the readers of this crate take a whole text.
+//! A reader over memory and one over a file, which meet `InBytes`,
+//! and `read_all`, by which the readers of this crate take a whole text.
 ghost use Rattle.std.specs.Prelude.{◌≡◌, ◌≤◌, ◌<◌, ◌^◌, ◌-◌, length, take, IfOk, MatchResult, IsTrue};
 ghost use Rattle.minelib_reader.specs.Device.{Progress, unread};
 ghost use Rattle.minelib_reader.specs.Answer.{IsRead, Refuses};

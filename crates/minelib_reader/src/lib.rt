@@ -8,6 +8,7 @@ mod input;
 mod lines;
 mod number;
 mod output;
+mod prec;
 mod rows;
 mod upit;
 
@@ -16,6 +17,10 @@ pub use fault::{Fault, Refusal, Source};
 pub use input::{FileReader, MemoryReader, read_all};
 pub use lines::{next_field, two_fields};
 pub use number::{decimal, digits};
-pub use output::{StreamWriter, MemoryWriter, write_all};
+pub use output::{MemoryWriter, StreamWriter, write_all};
+pub use prec::{parse_prec, prec_law, read_prec};
 pub use rows::{Row, Rows};
 pub use upit::{Model, parse_upit, read_upit, upit_law};
+
+#[cfg(test)]
+mod tests;

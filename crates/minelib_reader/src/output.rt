@@ -1,4 +1,5 @@
-//! A writer into memory, one into a stream, and `write_all`, by which the program writes its texts.
+//! A writer into memory and one into a stream, which meet `OutBytes`,
+//! and `write_all`, by which the program writes its texts.
 ghost use Rattle.std.specs.Prelude.{◌≡◌, ◌<◌, ◌^◌, []};
 ghost use Rattle.minelib_reader.specs.Device.{Progress, unread, Writes};
 

@@ -3,7 +3,7 @@
 ghost use Rattle.std.specs.Prelude.{◌≡◌, ◌↔◌, ℕ, List, Ok, Err, ◌≤◌, ◌+◌, ◌<◌, ◌^◌, length, IfOk, IfErr};
 ghost use Rattle.minelib_reader.specs.declared.fault.Fault.{Fault as AnyFault};
 ghost use Rattle.minelib_reader.specs.declared.fault.Source.TheVariants as sources;
-ghost use Rattle.minelib_reader.specs.Answer.{Gives, Answers, FailsAt};
+ghost use Rattle.minelib_reader.specs.Answer.{Gives, Answers, AnswersBy, FailsAt};
 ghost use Rattle.minelib_reader.specs.Number.{IsWithin};
 ghost use Rattle.minelib_reader.specs.Text.{Row as TextRow, row, rows_at, lines_at, fields_of};
 ghost use Rattle.minelib_reader.specs.Upit.{Upit, upit, in_model, due, name_line, type_line, blocks_line, objective_line, value_line, values_from, ended, header_of, upit_of};
@@ -196,16 +196,18 @@ pub fn parse_upit(alloc: Global, text: &[u8]) -> Result<Model, Fault>
 pub fn upit_law()
     ensures spelled { (text : List ℕ) (m : Upit) → (upit_of text ≡ Ok m) ↔ SpellsUpit text m }
     ensures faulty { (text : List ℕ) (fault : AnyFault) → (upit_of text ≡ Err fault) ↔ IsFirstUpitFault text fault }
-{
-}
+{}
 
-/// Reads a model, all that the reader has left. `Answers` says that the text that was read spells the model, or which
-/// fault it is; refused by `ReadFailed` exactly where the reader counted a failure in this call.
+/// The model that all spells which the reader has left, else the first fault of that text. Refused by `ReadFailed` exactly
+/// where the reader counted a failure in this call, and by `NoMemory`.
 pub fn read_upit<R: InBytes>(alloc: Global, reader: &mut R) -> Result<Model, Fault>
     requires countable { (R.progress reader.old).failures < 2 ^ 63 }
     requires bounded { (R.progress reader.old).allowance ≤ 2 ^ 40 }
-    ensures exact { Answers (λ m. upit m.n m.values.items) upit_of sources.Model (R.progress reader.old) (R.progress reader.new) (R.IsAtEnd reader.new) result }
+    ensures answers { AnswersBy (λ m. upit m.n m.values.items) SpellsUpit IsFirstUpitFault sources.Model (R.progress reader.old) (R.progress reader.new) (R.IsAtEnd reader.new) result }
     ensures small { IfOk result (λ m. IsSmallModel m.n m.values.items) }
+
+    // The same by what is read of a text.
+    ensures exact { Answers (λ m. upit m.n m.values.items) upit_of sources.Model (R.progress reader.old) (R.progress reader.new) (R.IsAtEnd reader.new) result }
 {
     let text = read_all(alloc, reader, Source::Model)?;
     parse_upit(alloc, &text)

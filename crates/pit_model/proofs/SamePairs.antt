@@ -4,7 +4,7 @@ use Rattle.std.specs.Prelude.{ℤ, ◌≤ℤ◌, IsTrue}
 use Rattle.pit_model.specs.Graph.{AreSamePairs}
 use Rattle.pit_model.specs.Mine.{Instance, arcs, source, target, IsClosed, worth, IsPit, instance_of, PitKnowsNoOrder}
 
-turned : (ps qs : List (ℕ × ℕ)) → AreSamePairs ps qs → AreSamePairs qs ps
+pub turned : (ps qs : List (ℕ × ℕ)) → AreSamePairs ps qs → AreSamePairs qs ps
 turned ps qs same = record { count = sym same.count; forth = same.back; back = same.forth }
 
 closed_in : (blocks : ℕ) (values : List ℤ) (ps qs : List (ℕ × ℕ)) (set : ℕ → Bool) → AreSamePairs ps qs → IsClosed (instance_of blocks values ps) set → IsClosed (instance_of blocks values qs) set

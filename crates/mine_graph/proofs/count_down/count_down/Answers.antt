@@ -1,3 +1,4 @@
+-- At first no arc is handled.
 use Rattle.std.proofs.Common.{◌≡◌, ℕ, ◌+◌, ◌<◌, ◌≤◌, get_or, length, arith}
 use Rattle.mine_graph.proofs.Queue.{settled_none}
 use Rattle.mine_graph.proofs.count_down.count_down.Goals as goal

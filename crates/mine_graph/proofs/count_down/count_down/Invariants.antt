@@ -1,3 +1,4 @@
+-- The arcs of the blocks before the head are handled, and the head is in the queue or at its end.
 use Rattle.std.proofs.Common.{◌≤◌}
 use Rattle.mine_graph.specs.Queue.{IsSettled}
 use Rattle.mine_graph.proofs.count_down.count_down.Given as goal

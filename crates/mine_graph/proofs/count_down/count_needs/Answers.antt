@@ -1,3 +1,4 @@
+-- A block is counted no more often than there are arcs.
 use Rattle.std.proofs.Common.{◌≡◌, ℕ, ◌+◌, ◌<◌, get_or, length, arith, ap, sym, ◌∙◌}
 use Rattle.std.proofs.lemmas.List.{length-set}
 use Rattle.pit_model.specs.Graph.{second_of}

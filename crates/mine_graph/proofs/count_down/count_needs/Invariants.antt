@@ -1,3 +1,4 @@
+-- The arcs so far are counted.
 use Rattle.std.proofs.Common.{◌≡◌, ℕ, ◌<◌, get_or, length}
 use Rattle.mine_graph.specs.Queue.{count, leads_to}
 use Rattle.mine_graph.proofs.count_down.count_needs.Given as goal

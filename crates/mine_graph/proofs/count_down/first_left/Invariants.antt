@@ -1,3 +1,4 @@
+-- Nothing is left of the blocks so far.
 use Rattle.std.proofs.Common.{◌≡◌, ℕ, ◌<◌, get_or}
 use Rattle.mine_graph.proofs.count_down.first_left.Given as goal
 

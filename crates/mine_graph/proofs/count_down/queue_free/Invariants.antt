@@ -1,3 +1,4 @@
+-- The queue holds the free blocks so far.
 use Rattle.mine_graph.proofs.Queue.{IsQueuing}
 use Rattle.mine_graph.proofs.count_down.queue_free.Given as goal
 

@@ -1,3 +1,4 @@
+-- An arc that is not handled yet leaves something of its block, and so the queue has room for it.
 use Rattle.std.proofs.Common.{◌≡◌, ℕ, suc, ◌+◌, ◌-◌, ◌<◌, ◌≤◌, get_or, length, set, arith, ap, sym, ◌∙◌, refl}
 use Rattle.std.proofs.lemmas.List.{get_or-set_other, get_or-set_same}
 use Rattle.pit_model.specs.Graph.{first_of, second_of}

@@ -1,3 +1,4 @@
+-- The arcs of the block at the head are handled up to k, and its place in the queue stays.
 use Rattle.std.proofs.Common.{◌≡◌, ◌≤◌, get_or}
 use Rattle.mine_graph.proofs.Queue.{IsSettling}
 use Rattle.mine_graph.proofs.count_down.settle.Given as goal

@@ -1,3 +1,4 @@
+-- In rising pairs the first block that is left over is the least; one is found, since the block is needy.
 use Rattle.std.proofs.Common.{◌≡◌, ℕ, arith}
 use Rattle.mine_graph.proofs.Walking.{least_found, none_missed}
 use Rattle.mine_graph.proofs.cycle.least_needed.Goals as goal

@@ -1,3 +1,4 @@
+-- Nothing is left of what the block needs so far.
 use Rattle.std.proofs.Common.{◌≡◌, ℕ, ◌<◌, ◌≤◌, get_or}
 use Rattle.pit_model.specs.Graph.{second_of}
 use Rattle.mine_graph.proofs.cycle.least_needed.Given as goal

@@ -1,3 +1,4 @@
+-- A new block makes the walk longer, which the number of blocks bounds; one that has a place closes the cycle.
 use Rattle.std.proofs.Common.{◌≡◌, ℕ, ◌+◌, ◌-◌, ◌<◌, ◌≤◌, arith, get_or, length, set, subst, sym, ◌∙◌}
 use Rattle.std.proofs.lemmas.List.{length-set}
 use Rattle.pit_model.specs.Cycle.{IsLeastNeeded}
@@ -33,7 +34,8 @@ pub returns-then-places-next-ne0-clause-visit : goal.returns-then-places-next-ne
 returns-then-places-next-ne0-clause-visit c =
     let r = repeated c.args.pairs.now c.args.left.now c.loop-count.path c.loop-count.places c.loop-count.invariant.path_size c.loop-count.invariant.places_size c.loop-count.count c.least_needed-next.result c.loop-count.invariant.walk c.loop-count.invariant.at c.loop-count.invariant.room
     c.least_needed-next.ensures c.if-places-next-ne0.true in
-    r.0
+    let l = r.0 in
+    omega arith
 
 pub returns-then-places-next-ne0-clause-repeats : goal.returns-then-places-next-ne0-clause-repeats
 returns-then-places-next-ne0-clause-repeats c =

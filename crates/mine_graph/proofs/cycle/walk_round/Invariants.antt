@@ -1,3 +1,4 @@
+-- The walk so far, and the place of each of its blocks.
 use Rattle.std.proofs.Common.{◌≡◌, ◌≤◌, length}
 use Rattle.pit_model.specs.Cycle.{IsWalk}
 use Rattle.mine_graph.specs.Left.{left_over}

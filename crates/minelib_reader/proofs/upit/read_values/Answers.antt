@@ -1,6 +1,6 @@
 -- Each way through the loop is one step of `values_from`.
-use Rattle.std.proofs.Common.{◌≡◌, ℕ, ℤ, List, ◌∷◌, [], ◌++◌, ◌-◌, ◌+◌, Result, Ok, ap, subst, sym, ◌∙◌}
-use Rattle.std.proofs.Common.{to_z, of_z, rules, arith, length, length-append, ◌^◌}
+use Rattle.std.proofs.Common.{◌≡◌, ℕ, ℤ, List, ◌∷◌, [], ◌++◌, ◌-◌, ◌+◌, ap, subst, sym, ◌∙◌}
+use Rattle.std.proofs.Common.{rules, arith, length, length-append, ◌^◌}
 use Rattle.std.proofs.lemmas.List.Elements.{All-append, All-cons, All-nil}
 use Rattle.minelib_reader.specs.Number.{IsWithin}
 use Rattle.minelib_reader.specs.UpitLimits.{AreSmall}

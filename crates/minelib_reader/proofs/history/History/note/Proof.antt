@@ -1,11 +1,11 @@
 -- The body is empty: the walk opens the borrow of the history and closes it at the longer list.
-use Rattle.std.proofs.Common.{[], ◌∷◌, ◌++◌, refl, length}
+use Rattle.std.proofs.Common.{[], ◌∷◌, ◌++◌, refl}
 use Rattle.std.proofs.raw_atomic.Walks.{proved}
 use base.Fml.{ftrue, flft}
 use base.Logic.{id⊢}
 use mir.Syntax.{named}
 use mir.Val.{vunit}
-use types.Kit.{‵, ◌⊛◌, ◌$◌, ◌∵◌, !, qed, done, move, keep, use1, split, join, fsplit, fsplit3, feq_i, suffices, frame, group}
+use types.Kit.{‵, ◌⊛◌, ◌$◌, ◌∵◌, !, qed, done, move, keep, use1, split, join, fsplit3, feq_i, suffices, frame, group}
 use types.Run.{enter, of_opd, unit_lit, returns}
 use types.ByLocal.{alloc_all, pass_all, free_all, look_at, sets}
 use denote.Builtin.{u8}
@@ -13,7 +13,7 @@ use denote.Exit.{yes}
 use denote.Ref.{MutRef, mut_vals, mut_Tells}
 use denote.Signature.{plain}
 use denote.Slice.{ShrSlice, shr_slice_vals, shr_slice_Tells}
-use denote.Steps.{nothing, opens, closes}
+use denote.Steps.{opens, closes}
 use denote.Triple.Walked.{Stays, says, stay_ref, Goes-ref, stay_none_slice, Goes-none_slice, ends_at}
 use Rattle.minelib_reader.specs.declared.history.History.{History}
 use Rattle.minelib_reader.specs.contracts.history.History.{the_row as row}

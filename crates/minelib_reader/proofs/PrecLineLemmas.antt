@@ -1,0 +1,75 @@
+-- Reading the lines of a precedence file one after the other, as a loop does.
+use Rattle.std.proofs.Common.{◌≡◌, ℕ, suc, ◌+◌, List, [], ◌∷◌, ◌++◌, length, Result, Ok, Err, refl, sym, ap, ◌∙◌, append_assoc}
+use Rattle.std.proofs.lemmas.List.{append-nil}
+use Rattle.minelib_reader.specs.declared.fault.Fault.{Fault}
+use Rattle.minelib_reader.specs.Steps.{◌>>=◌}
+use Rattle.minelib_reader.specs.Text.{Row}
+use Rattle.minelib_reader.specs.Marks.{AddsLine}
+use Rattle.minelib_reader.specs.Prec.{need_of, needs_from, front_of, needs_line, pairs_of, pairs_from}
+use Rattle.minelib_reader.proofs.StepLemmas.{bind_ok, ok_is}
+
+-- as many predecessors are read as fields name them
+pub length_needs : (n id line : ℕ) (seen : List ℕ) (fields : List (List ℕ)) (ps : List ℕ) → needs_from n id line seen fields ≡ Ok ps → length ps ≡ length fields
+unfolding needs_from
+length_needs n id line seen [] ps h = ap length (sym (ok_is [] ps h))
+length_needs n id line seen (f ∷ fields) ps h =
+    let a = bind_ok (need_of n id line seen f) (λ p. needs_from n id line (seen ++ p ∷ []) fields >>= λ others. Ok (p ∷ others)) ps h in
+    let b = bind_ok (needs_from n id line (seen ++ a.0 ∷ []) fields) (λ others. Ok (a.0 ∷ others)) ps a.2 in
+    ap length (sym (ok_is (a.0 ∷ b.0) ps b.2)) ∙ ap suc (length_needs n id line (seen ++ a.0 ∷ []) fields b.0 b.1)
+
+pub front_stops : (e : Fault) (n from total : ℕ) (r : Row) → front_of n from total r ≡ Err e → needs_line n from total r ≡ Err e
+unfolding needs_line
+front_stops e n from total r h = rw h refl
+
+pub needs_stop : (e : Fault) (n from total : ℕ) (r : Row) (front : ℕ × ℕ × List (List ℕ)) → front_of n from total r ≡ Ok front → needs_from n front.0 r.line [] front.2 ≡ Err e → needs_line n from total r ≡ Err e
+unfolding needs_line
+needs_stop e n from total r front f h = rw (f, h) refl
+
+pub line_added : (n from total : ℕ) (r : Row) (front : ℕ × ℕ × List (List ℕ)) (ps : List ℕ) (old new : List (ℕ × ℕ)) → front_of n from total r ≡ Ok front → needs_from n front.0 r.line [] front.2 ≡ Ok ps
+    → front.1 ≡ length front.2 → new ≡ old ++ pairs_of front.0 ps → AddsLine n from total r old new (front.0 + 1) (total + front.1)
+unfolding needs_line
+line_added n from total r front ps old new f h count pairs = record {
+  id = front.0;
+  needs = ps;
+  read = rw (f, h) refl;
+  pairs = pairs;
+  next = refl;
+  sum = ap (λ (k : ℕ). total + k) (count ∙ sym (length_needs n front.0 r.line [] front.2 ps h));
+}
+
+abbrev Pairs : Type 0
+Pairs = Result (List (ℕ × ℕ)) Fault
+
+-- the pairs read before, and those still read
+abbrev pub with_pairs : List (ℕ × ℕ) → Pairs → Pairs
+with_pairs front read = read >>= λ ps. Ok (front ++ ps)
+
+regroup : (old more : List (ℕ × ℕ)) (read : Pairs) → with_pairs old (read >>= λ others. Ok (more ++ others)) ≡ with_pairs (old ++ more) read
+regroup old more (Ok ps) = ap (λ (xs : List (ℕ × ℕ)). Ok xs) (sym (append_assoc old more ps))
+regroup old more (Err e) = refl
+
+pub begin : (read : Pairs) → with_pairs [] read ≡ read
+begin (Ok ps) = refl
+begin (Err e) = refl
+
+pub go_on : (n from total from' total' : ℕ) (rows rest : List Row) (r : Row) (old new : List (ℕ × ℕ)) (all : Pairs) → rows ≡ r ∷ rest → AddsLine n from total r old new from' total'
+    → with_pairs old (pairs_from n from total rows) ≡ all → with_pairs new (pairs_from n from' total' rest) ≡ all
+unfolding pairs_from
+go_on n from total from' total' rows rest r old new all are a so_far =
+    let behind = pairs_from n (a.id + 1) (total + length a.needs) rest in
+    let one : with_pairs old (pairs_from n from total rows) ≡ with_pairs (old ++ pairs_of a.id a.needs) behind = rw (are, a.read) (regroup old (pairs_of a.id a.needs) behind) in
+    ap (λ (x : List (ℕ × ℕ)). with_pairs x (pairs_from n from' total' rest)) a.pairs
+    ∙ ap (λ (k : ℕ). with_pairs (old ++ pairs_of a.id a.needs) (pairs_from n k total' rest)) a.next
+    ∙ ap (λ (k : ℕ). with_pairs (old ++ pairs_of a.id a.needs) (pairs_from n (a.id + 1) k rest)) a.sum
+    ∙ sym one ∙ so_far
+
+pub stop : (e : Fault) (n from total : ℕ) (rows rest : List Row) (r : Row) (old : List (ℕ × ℕ)) (all : Pairs) → rows ≡ r ∷ rest → needs_line n from total r ≡ Err e → with_pairs old (pairs_from n from total rows) ≡ all → all ≡ Err e
+unfolding pairs_from
+stop e n from total rows rest r old all are h so_far =
+    let one : with_pairs old (pairs_from n from total rows) ≡ Err e = rw (are, h) refl in sym so_far ∙ one
+
+pub end : (n from total : ℕ) (rows : List Row) (old : List (ℕ × ℕ)) (all : Pairs) → rows ≡ [] → with_pairs old (pairs_from n from total rows) ≡ all → all ≡ Ok old
+unfolding pairs_from
+end n from total rows old all none so_far =
+    let one : with_pairs old (pairs_from n from total rows) ≡ Ok (old ++ []) = rw none refl in
+    sym so_far ∙ one ∙ ap (λ (xs : List (ℕ × ℕ)). Ok xs) (append-nil old)

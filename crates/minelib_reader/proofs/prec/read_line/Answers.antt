@@ -1,0 +1,33 @@
+-- A line is its front and then its predecessors.
+use Rattle.std.proofs.Common.{[]}
+use Rattle.std.proofs.lemmas.Result.{err_from_is_err_and}
+use Rattle.minelib_reader.specs.Text.{row, fields_of}
+use Rattle.minelib_reader.specs.Prec.{needs_from, front_of, needs_line}
+use Rattle.minelib_reader.proofs.StepLemmas.{fails_map}
+use Rattle.minelib_reader.proofs.PrecLineLemmas.{front_stops, needs_stop, line_added}
+use Rattle.minelib_reader.proofs.prec.read_line.Goals as goal
+
+pub returns-in_err-front-clause-err : goal.returns-in_err-front-clause-err
+returns-in_err-front-clause-err c =
+    let p = err_from_is_err_and c.from_residual.result c.from_residual.ensures.1 in
+    let e = c.in_err-front.field-0.0 in
+    let b = c.args.before in
+    let r = row c.args.r.line (fields_of c.args.r.text.now) in
+    rw (p.1, p.2) (fails_map e.refusal e (front_of c.args.n b.from b.total r) (needs_line c.args.n b.from b.total r) (front_stops e c.args.n b.from b.total r) c.in_err-front.ensures.gives)
+
+pub returns-in_err-read_needs-clause-err : goal.returns-in_err-read_needs-clause-err
+returns-in_err-read_needs-clause-err c =
+    let p = err_from_is_err_and c.from_residual-in_err-read_needs.result c.from_residual-in_err-read_needs.ensures.1 in
+    let e = c.in_err-read_needs.field-0.0 in
+    let b = c.args.before in
+    let f = c.in_ok-front.front in
+    let r = row c.args.r.line (fields_of c.args.r.text.now) in
+    rw (p.1, p.2) (fails_map e.refusal e (needs_from c.args.n f.id c.args.r.line [] (fields_of f.rest.now)) (needs_line c.args.n b.from b.total r)
+    (needs_stop e c.args.n b.from b.total r (f.id, f.count, fields_of f.rest.now) c.in_ok-front.ensures.gives) c.in_err-read_needs.ensures.err)
+
+pub returns-clause-ok : goal.returns-clause-ok
+returns-clause-ok c =
+    let b = c.args.before in
+    let f = c.in_ok-front.front in
+    let done = c.in_ok-read_needs.ensures.ok in
+    line_added c.args.n b.from b.total (row c.args.r.line (fields_of c.args.r.text.now)) (f.id, f.count, fields_of f.rest.now) done.0 _ _ c.in_ok-front.ensures.gives done.1 c.in_ok-front.ensures.count done.2

@@ -1,0 +1,47 @@
+-- The first fault of a precedence file: that of the least line that breaks a check, and on it the first check.
+use Rattle.std.specs.Prelude.{ℕ, ◌+◌, List, [], ◌∷◌, take, Option, Some, None}
+use Rattle.std.specs.List.{slice_get}
+use Rattle.minelib_reader.specs.declared.fault.Fault.{Fault}
+use Rattle.minelib_reader.specs.Steps.{fault_of, IsFirstFault}
+use Rattle.minelib_reader.specs.Text.{Row, rows_of}
+use Rattle.minelib_reader.specs.Number.{whole_of}
+use Rattle.minelib_reader.specs.Prec.{needs_line}
+
+-- the number of a field, and 0 where it writes none
+abbrev pub number_or_zero : Option ℕ → ℕ
+number_or_zero None = 0
+number_or_zero (Some n) = n
+
+-- what a line names as its id and as its count
+abbrev pub id_in : List (List ℕ) → ℕ
+id_in [] = 0
+id_in (f ∷ fs) = number_or_zero (whole_of f)
+
+abbrev pub count_in : List (List ℕ) → ℕ
+count_in (f ∷ g ∷ fs) = number_or_zero (whole_of g)
+count_in fs = 0
+
+-- the least id that a line may have behind these lines, where it was from before them
+abbrev pub from_behind : ℕ → List Row → ℕ
+from_behind from [] = from
+from_behind from (r ∷ rows) = from_behind (id_in r.fields + 1) rows
+
+-- the sum of the counts of these lines, on top of total
+abbrev pub total_behind : ℕ → List Row → ℕ
+total_behind total [] = total
+total_behind total (r ∷ rows) = total_behind (total + count_in r.fields) rows
+
+-- the first check that a line breaks, if there is the line
+abbrev pub line_fault : ℕ → ℕ → ℕ → Option Row → Option Fault
+line_fault n from total None = None
+line_fault n from total (Some r) = fault_of (needs_line n from total r)
+
+abbrev pub fault_behind : ℕ → ℕ → ℕ → List Row → ℕ → Option Fault
+fault_behind n from total rows k = line_fault n (from_behind from (take k rows)) (total_behind total (take k rows)) (slice_get rows k)
+
+-- the first check that the text breaks in its line with fields number k, counted from 0
+abbrev pub prec_fault_at : ℕ → List ℕ → ℕ → Option Fault
+prec_fault_at n text k = fault_behind n 0 0 (rows_of text) k
+
+abbrev pub IsFirstPrecFault : ℕ → List ℕ → Fault → Type 0
+IsFirstPrecFault n text fault = IsFirstFault (prec_fault_at n text) fault

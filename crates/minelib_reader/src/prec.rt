@@ -1,0 +1,213 @@
+//! The text of a precedence file (`.prec`): for a block a line with its id, how many blocks it needs, and these.
+//! Each line is checked in the order of `specs/Prec.antt`; the first fault ends the reading.
+//! Blocks seen on a line are marked by its id plus one, so that ids, which rise, need no clearing of the marks.
+ghost use Rattle.std.specs.Prelude.{◌≡◌, ◌↔◌, ℕ, List, ◌≤◌, ◌+◌, ◌<◌, ◌^◌, ◌++◌, [], length, IfOk, IfErr, Ok, Err};
+ghost use Rattle.std.specs.List.{All};
+ghost use Rattle.minelib_reader.specs.declared.fault.Fault.{Fault as AnyFault};
+ghost use Rattle.minelib_reader.specs.declared.fault.Source.TheVariants as sources;
+ghost use Rattle.minelib_reader.specs.Answer.{Gives, Answers, AnswersBy, FailsBy, FailsAt};
+ghost use Rattle.minelib_reader.specs.Marks.{AreMarked, AddsLine};
+ghost use Rattle.minelib_reader.specs.Prec.{in_precedence, need_of, needs_from, front_of, needs_line, pairs_of, prec_of, most_pairs};
+ghost use Rattle.minelib_reader.specs.PrecFault.{IsFirstPrecFault};
+ghost use Rattle.minelib_reader.specs.PrecGrammar.{SpellsPrec};
+ghost use Rattle.minelib_reader.specs.PrecLimits.{ArePrecedences};
+ghost use Rattle.minelib_reader.specs.Text.{row, fields_of};
+
+use crate::device::InBytes;
+use crate::fault::{Fault, Refusal, Source};
+use crate::input::read_all;
+use crate::lines::{count_fields, first_two, next_field};
+use crate::number::digits;
+use crate::rows::{Row, Rows};
+use std::alloc::Global;
+
+const MOST_PAIRS: u64 = 67_108_864;
+
+/// What the lines before tell a line: the least id that it may have, and how many pairs they have.
+#[derive(Clone, Copy)]
+struct Before {
+    from: u32,
+    total: u64,
+}
+
+/// The front of a line, and the part of it that names the predecessors.
+#[derive(Clone, Copy)]
+struct Front<'a> {
+    id: u32,
+    count: u64,
+    rest: &'a [u8],
+}
+
+fn in_precedence(refusal: Refusal, line: u64) -> Fault
+    ensures { result ≡ in_precedence refusal line }
+{
+    Fault {
+        refusal,
+        source: Source::Precedence,
+        line,
+    }
+}
+
+/// One predecessor of a block, where the marks tell those that were seen on its line.
+#[tactic(auto, unfolding(crate::specs::Prec::need_of))]
+fn read_need(n: u32, id: u32, line: u64, marks: &[u32], field: &[u8]) -> Result<u32, Fault>
+    requires sizes { length marks.now ≡ n }
+    requires known { id < n }
+    ensures gives { (seen : List ℕ) → AreMarked n id marks.now seen → Gives (λ p. p) result (need_of n id line seen field.now) }
+    ensures below { IfOk result (λ p. p < n) }
+{
+    let Some(p) = digits(field, 10) else {
+        return Err(in_precedence(Refusal::NotWhole, line));
+    };
+    if p >= u64::from(n) {
+        return Err(in_precedence(Refusal::PredecessorOutOfRange, line));
+    }
+    let p = p as u32;
+    if p == id {
+        return Err(in_precedence(Refusal::NeedsItself, line));
+    }
+    if marks[p as usize] == id + 1 {
+        return Err(in_precedence(Refusal::PredecessorTwice, line));
+    }
+    Ok(p)
+}
+
+/// Adds the pairs of a block, from left to right.
+fn read_needs(
+    n: u32,
+    id: u32,
+    line: u64,
+    marks: &mut Vec<u32>,
+    text: &[u8],
+    pairs: &mut Vec<(u32, u32)>,
+) -> Result<(), Fault>
+    requires sizes { length marks.old.items ≡ n }
+    requires known { id < n }
+    requires old_marks { All (λ m. m ≤ id) marks.old.items }
+    ensures ok { IfOk result (λ u. (ps : List ℕ) × (needs_from n id line [] (fields_of text.now) ≡ Ok ps) × (pairs.new.items ≡ pairs.old.items ++ pairs_of id ps)) }
+    ensures err { IfErr result (λ e. FailsBy e.refusal e (needs_from n id line [] (fields_of text.now))) }
+    ensures sizes { length marks.new.items ≡ n }
+    ensures new_marks { All (λ m. m ≤ id + 1) marks.new.items }
+{
+    let mut rest = text;
+    while let Some((field, behind)) = next_field(rest) {
+        let p = read_need(n, id, line, marks, field)?;
+        marks[p as usize] = id + 1;
+        pairs.push((id, p))?;
+        rest = behind;
+    }
+    Ok(())
+}
+
+/// The id of a line and how many predecessors it has, checked up to these.
+#[tactic(auto, unfolding(crate::specs::Prec::front_of))]
+fn read_front<'a>(n: u32, before: Before, r: Row<'a>) -> Result<Front<'a>, Fault>
+    requires few { before.total ≤ most_pairs }
+    ensures gives { Gives (λ f. (f.id, f.count, fields_of f.rest.now)) result (front_of n before.from before.total (row r.entry.line (fields_of r.entry.text.now))) }
+    ensures known { IfOk result (λ f. f.id < n) }
+    ensures rising { IfOk result (λ f. before.from ≤ f.id) }
+    ensures few { IfOk result (λ f. before.total + f.count ≤ most_pairs) }
+    ensures count { IfOk result (λ f. f.count ≡ length (fields_of f.rest.now)) }
+{
+    let Some((first, second, rest)) = first_two(r.text) else {
+        return Err(in_precedence(Refusal::WrongFieldCount, r.line));
+    };
+    let Some(id) = digits(first, 10) else {
+        return Err(in_precedence(Refusal::NotWhole, r.line));
+    };
+    if id >= u64::from(n) || id < u64::from(before.from) {
+        return Err(in_precedence(Refusal::IdOutOfPlace, r.line));
+    }
+    let Some(count) = digits(second, 10) else {
+        return Err(in_precedence(Refusal::NotWhole, r.line));
+    };
+    if count_fields(rest) as u64 != count {
+        return Err(in_precedence(Refusal::WrongFieldCount, r.line));
+    }
+    if before.total + count > MOST_PAIRS {
+        return Err(in_precedence(Refusal::OverLimit, r.line));
+    }
+    let id = id as u32;
+    Ok(Front { id, count, rest })
+}
+
+/// Adds the pairs of a line, and answers what it and the lines before tell the next.
+fn read_line(
+    n: u32,
+    before: Before,
+    marks: &mut Vec<u32>,
+    r: Row,
+    pairs: &mut Vec<(u32, u32)>,
+) -> Result<Before, Fault>
+    requires sizes { length marks.old.items ≡ n }
+    requires few { before.total ≤ most_pairs }
+    requires old_marks { All (λ m. m ≤ before.from) marks.old.items }
+    ensures ok { IfOk result (λ after. AddsLine n before.from before.total (row r.entry.line (fields_of r.entry.text.now)) pairs.old.items pairs.new.items after.from after.total) }
+    ensures err { IfErr result (λ e. FailsBy e.refusal e (needs_line n before.from before.total (row r.entry.line (fields_of r.entry.text.now)))) }
+    ensures few { IfOk result (λ after. after.total ≤ most_pairs) }
+    ensures sizes { length marks.new.items ≡ n }
+    ensures new_marks { IfOk result (λ after. All (λ m. m ≤ after.from) marks.new.items) }
+{
+    let front = read_front(n, before, r)?;
+    read_needs(n, front.id, r.line, marks, front.rest, pairs)?;
+    Ok(Before {
+        from: front.id + 1,
+        total: before.total + front.count,
+    })
+}
+
+/// The pairs of all lines.
+fn parse_lines(alloc: Global, text: &[u8], n: u32) -> Result<Vec<(u32, u32)>, Fault>
+    requires { length text.now ≤ 2 ^ 40 }
+    ensures { Gives (λ v. v.items) result (prec_of n text.now) }
+{
+    let mut rows = Rows::new(text);
+    let mut marks = vec![in alloc; 0u32; n as usize]?;
+    let mut pairs = Vec::new(alloc);
+    let mut before = Before { from: 0, total: 0 };
+    while let Some(row) = rows.next_row() {
+        before = read_line(n, before, &mut marks, row, &mut pairs)?;
+    }
+    Ok(pairs)
+}
+
+/// Each text spells one list of pairs for n blocks or has one first fault, and not both: what is read of it says which.
+pub fn prec_law()
+    ensures spelled { (n : ℕ) (text : List ℕ) (pairs : List (ℕ × ℕ)) → (prec_of n text ≡ Ok pairs) ↔ SpellsPrec n text pairs }
+    ensures faulty { (n : ℕ) (text : List ℕ) (fault : AnyFault) → (prec_of n text ≡ Err fault) ↔ IsFirstPrecFault n text fault }
+{}
+
+/// The pairs (u, p) of "u needs p" that a text spells for n blocks, in order of line and place, else the first fault of
+/// the text, or `NoMemory`.
+pub fn parse_prec(alloc: Global, text: &[u8], n: u32) -> Result<Vec<(u32, u32)>, Fault>
+    requires { length text.now ≤ 2 ^ 40 }
+    // Which pairs or which fault it is.
+    ensures exact { Gives (λ v. v.items) result (prec_of n text.now) }
+    // What is read is spelled so, and what is spelled so is read, unless memory runs out.
+    ensures spelled { IfOk result (λ v. SpellsPrec n text.now v.items) }
+    ensures read { (pairs : List (ℕ × ℕ)) → SpellsPrec n text.now pairs → Gives (λ v. v.items) result (Ok pairs) }
+    ensures first_fault { IfErr result (λ e. FailsAt e.refusal e (IsFirstPrecFault n text.now)) }
+    ensures lawful { IfOk result (λ v. ArePrecedences n v.items) }
+{
+    parse_lines(alloc, text, n)
+}
+
+/// The pairs (u, p) of "u needs p" for n blocks, in order of line and place, that all spells which the reader has left,
+/// else the first fault of that text. Refused by `ReadFailed` exactly where the reader counted a failure in this call, and
+/// by `NoMemory`.
+pub fn read_prec<R: InBytes>(
+    alloc: Global,
+    reader: &mut R,
+    n: u32,
+) -> Result<Vec<(u32, u32)>, Fault>
+    requires countable { (R.progress reader.old).failures < 2 ^ 63 }
+    requires bounded { (R.progress reader.old).allowance ≤ 2 ^ 40 }
+    ensures answers { AnswersBy (λ v. v.items) (SpellsPrec n) (IsFirstPrecFault n) sources.Precedence (R.progress reader.old) (R.progress reader.new) (R.IsAtEnd reader.new) result }
+    ensures lawful { IfOk result (λ v. ArePrecedences n v.items) }
+
+    // The same by what is read of a text.
+    ensures exact { Answers (λ v. v.items) (prec_of n) sources.Precedence (R.progress reader.old) (R.progress reader.new) (R.IsAtEnd reader.new) result }
+{
+    let text = read_all(alloc, reader, Source::Precedence)?;
+    parse_prec(alloc, &text, n)
+}

@@ -1,0 +1,269 @@
+//! Texts with answers that were worked out by hand, read whole, byte by byte and with a failure at each read;
+//! and writers that take few bytes or fail.
+ghost use Rattle.std.specs.Prelude.{◌≡◌, ◌≤◌, ◌-◌, length, take};
+ghost use Rattle.minelib_reader.specs.Device.{Progress};
+
+use super::*;
+use std::alloc::{AllocError, Global};
+use std::fs::File;
+use std::test::*;
+
+/// Gives one byte a call, and fails once it was called so many times.
+#[derive(Drop)]
+struct SlowReader<'a> {
+    text: &'a [u8],
+    at: usize,
+    calls: usize,
+    failures: u64,
+    ghost in_text: { at ≤ length text.now },
+}
+
+impl<'a> SlowReader<'a> {
+    fn new(text: &'a [u8], calls: usize) -> SlowReader<'a>
+        ensures failures { result.failures ≡ 0 }
+        ensures length { result.text.now ≡ text.entry.now }
+    {
+        SlowReader {
+            text,
+            at: 0,
+            calls,
+            failures: 0,
+        }
+    }
+}
+
+impl InBytes for SlowReader<'_> {
+    ghost progress = { λ r. record { bytes = take r.at r.text.now; failures = r.failures; allowance = length r.text.now - r.at } };
+
+    ghost IsAtEnd = { λ r. r.at ≡ length r.text.now };
+
+    fn read(&mut self, buf: &mut [u8]) -> Result<usize, DeviceFailed> {
+        if self.calls == 0 {
+            self.failures += 1;
+            return Err(DeviceFailed);
+        }
+        self.calls -= 1;
+        if self.at == self.text.len() {
+            return Ok(0);
+        }
+        buf[0] = self.text[self.at];
+        self.at += 1;
+        Ok(1)
+    }
+}
+
+/// The values that were read, or the words of the fault.
+fn model_told(alloc: Global, read: Result<Model, Fault>) -> Result<String, AllocError> {
+    match read {
+        Ok(model) => format!(in alloc; "{} {:?}", model.n, model.values),
+        Err(fault) => format!(in alloc; "{fault}"),
+    }
+}
+
+/// The pairs that were read, or the words of the fault.
+fn pairs_told(alloc: Global, read: Result<Vec<(u32, u32)>, Fault>) -> Result<String, AllocError> {
+    match read {
+        Ok(pairs) => format!(in alloc; "{pairs:?}"),
+        Err(fault) => format!(in alloc; "{fault}"),
+    }
+}
+
+const MODELS: [(&str, &str); 13] = [
+    (
+        "NAME: t\nTYPE: UPIT\nNBLOCKS: 0\nOBJECTIVE_FUNCTION:\n",
+        "0 []",
+    ),
+    (
+        "NAME: t\nTYPE: UPIT\nNBLOCKS: 4\nOBJECTIVE_FUNCTION:\n0 1\n1 -2\n2 5\n3 -2\n",
+        "4 [1000000, -2000000, 5000000, -2000000]",
+    ),
+    (
+        "NAME: t\nTYPE: UPIT\nNBLOCKS: 1\nOBJECTIVE_FUNCTION:\n0\t+1.5\r\n",
+        "1 [1500000]",
+    ),
+    (
+        "\n \t\nNAME: a pit\nTYPE: UPIT\r\nNBLOCKS: 01\nOBJECTIVE_FUNCTION:\n\n000 -0",
+        "1 [0]",
+    ),
+    (
+        "NAME: t\nTYPE: UPIT\nNBLOCKS: 1\nOBJECTIVE_FUNCTION:\n0 999999999999.999999\n",
+        "1 [999999999999999999]",
+    ),
+    (
+        "NAME: t\nTYPE: UPIT\nNBLOCKS: 2\nOBJECTIVE_FUNCTION:\n0 1\n1 1.0000001\n",
+        "not a decimal in model line 6",
+    ),
+    (
+        "NAME: t\nTYPE: UPIT\nNBLOCKS: 5\nOBJECTIVE_FUNCTION:\n0 1\n1 1\n2 1\n",
+        "ends early in model line 8",
+    ),
+    (
+        "NAME: t\nTYPE: UPIT\nNBLOCKS: 4194305\nOBJECTIVE_FUNCTION:\n",
+        "over the limit in model line 3",
+    ),
+    (
+        "NAME: t\nTYPE: UPIT\nNBLOCKS: 12345678901\nOBJECTIVE_FUNCTION:\n",
+        "not a whole number in model line 3",
+    ),
+    (
+        "NAME: t\nTYPE: CPIT\nNBLOCKS: x\n",
+        "wrong header in model line 2",
+    ),
+    (
+        "NAME: t\nTYPE: UPIT\nNBLOCKS: 2\nOBJECTIVE_FUNCTION:\n0 1\n2 1.\n",
+        "id out of place in model line 6",
+    ),
+    (
+        "NAME: t\nTYPE: UPIT\nNBLOCKS: 1\nOBJECTIVE_FUNCTION:\n0 1 1\n",
+        "wrong number of fields in model line 5",
+    ),
+    (
+        "NAME: t\nTYPE: UPIT\nNBLOCKS: 1\nOBJECTIVE_FUNCTION:\n0 1\n\n1 1\n",
+        "line after the end in model line 7",
+    ),
+];
+
+#[test]
+fn models_whole_and_by_bytes(rt: HostRuntime) -> Result<(), Fail> {
+    for (text, told) in MODELS {
+        let text = text.as_bytes();
+        let whole = read_upit(rt.alloc(), &mut MemoryReader::new(text));
+        assert_eq!(rt; model_told(rt.alloc(), whole)?.as_str(), told);
+        let slow = read_upit(rt.alloc(), &mut SlowReader::new(text, text.len() + 1));
+        assert_eq!(rt; model_told(rt.alloc(), slow)?.as_str(), told);
+    }
+    Ok(())
+}
+
+const PRECEDENCES: [(u32, &str, &str); 13] = [
+    (0, "", "[]"),
+    (
+        5,
+        "0 2 1 3\n2 1 1\n4 1 1\n",
+        "[(0, 1), (0, 3), (2, 1), (4, 1)]",
+    ),
+    (3, "0 0\n\n 2\t2 1 0", "[(2, 1), (2, 0)]"),
+    (
+        2,
+        "1 2 0 0\n",
+        "predecessor named twice in precedence line 1",
+    ),
+    (2, "1 1 1\n", "block needs itself in precedence line 1"),
+    (
+        2,
+        "1 1 7\n",
+        "predecessor out of range in precedence line 1",
+    ),
+    (2, "1 2 0\n", "wrong number of fields in precedence line 1"),
+    (2, "1 0\n0 0\n", "id out of place in precedence line 2"),
+    (2, "2 1 0\n", "id out of place in precedence line 1"),
+    (
+        2,
+        "1\n1 1 7\n",
+        "wrong number of fields in precedence line 1",
+    ),
+    (
+        2,
+        "0 0\n1 1 +0\n",
+        "not a whole number in precedence line 2",
+    ),
+    (2, "1 x 7\n", "not a whole number in precedence line 1"),
+    (2, "1 3 7\n", "wrong number of fields in precedence line 1"),
+];
+
+#[test]
+fn pairs_whole_and_by_bytes(rt: HostRuntime) -> Result<(), Fail> {
+    for (n, text, told) in PRECEDENCES {
+        let text = text.as_bytes();
+        let whole = read_prec(rt.alloc(), &mut MemoryReader::new(text), n);
+        assert_eq!(rt; pairs_told(rt.alloc(), whole)?.as_str(), told);
+        let slow = read_prec(rt.alloc(), &mut SlowReader::new(text, text.len() + 1), n);
+        assert_eq!(rt; pairs_told(rt.alloc(), slow)?.as_str(), told);
+    }
+    Ok(())
+}
+
+#[test]
+fn each_read_fails_in_turn(rt: HostRuntime) -> Result<(), Fail> {
+    let model = b"NAME: t\nTYPE: UPIT\nNBLOCKS: 1\nOBJECTIVE_FUNCTION:\n0 1\n";
+    for calls in 0..model.len() + 1 {
+        let read = read_upit(rt.alloc(), &mut SlowReader::new(model, calls));
+        assert_eq!(rt;
+            model_told(rt.alloc(), read)?.as_str(),
+            "read failed in model line 0"
+        );
+    }
+    let pairs = b"0 1 1\nx";
+    for calls in 0..pairs.len() + 1 {
+        let read = read_prec(rt.alloc(), &mut SlowReader::new(pairs, calls), 2);
+        assert_eq!(rt;
+            pairs_told(rt.alloc(), read)?.as_str(),
+            "read failed in precedence line 0"
+        );
+    }
+    Ok(())
+}
+
+#[test]
+fn writers(rt: HostRuntime) -> Result<(), Fail> {
+    let text = b"PIT\nBLOCKS: 2\n";
+    let mut short = MemoryWriter::new(rt.alloc(), 7);
+    assert_eq!(rt; write_all(&mut short, text), Err(DeviceFailed));
+    assert_eq!(rt; short.text.as_slice(), b"PIT\nBLO".as_slice());
+    let mut wide = MemoryWriter::new(rt.alloc(), 14);
+    assert_eq!(rt; write_all(&mut wide, text), Ok(()));
+    assert_eq!(rt; wide.text.as_slice(), text.as_slice());
+    assert_eq!(rt;
+        format!(in rt.alloc(); "{}", Fault::write_failed())?.as_str(),
+        "write failed in none line 0"
+    );
+    Ok(())
+}
+
+#[test]
+fn files(rt: HostRuntime) -> Result<(), Fail> {
+    let mut none = FileReader::new(File::open(&rt, "/dev/null")?);
+    assert_eq!(rt;
+        pairs_told(rt.alloc(), read_prec(rt.alloc(), &mut none, 2))?.as_str(),
+        "[]"
+    );
+    let mut name = FileReader::new(File::open(&rt, "/proc/sys/kernel/ostype")?);
+    assert_eq!(rt;
+        read_all(rt.alloc(), &mut name, Source::Blocks)?.as_slice(),
+        b"Linux\n".as_slice()
+    );
+    let mut folder = FileReader::new(File::open(&rt, "/")?);
+    let read = read_upit(rt.alloc(), &mut folder);
+    assert_eq!(rt;
+        model_told(rt.alloc(), read)?.as_str(),
+        "read failed in model line 0"
+    );
+    let mut sink = StreamWriter::new(File::create(&rt, "/dev/null")?);
+    assert_eq!(rt; write_all(&mut sink, b"PIT\n"), Ok(()));
+    let mut full = StreamWriter::new(File::create(&rt, "/dev/full")?);
+    assert_eq!(rt; write_all(&mut full, b"PIT\n"), Err(DeviceFailed));
+    Ok(())
+}
+
+#[test]
+fn fields_and_numbers(rt: HostRuntime) {
+    assert_eq!(rt;
+        two_fields(b" 7\t-1.25 "),
+        Some((b"7".as_slice(), b"-1.25".as_slice()))
+    );
+    assert_eq!(rt; two_fields(b"7"), None);
+    assert_eq!(rt;
+        next_field(b"\t ab c"),
+        Some((b"ab".as_slice(), b" c".as_slice()))
+    );
+    assert_eq!(rt; digits(b"0042", 10), Some(42));
+    assert_eq!(rt; digits(b"00000000042", 10), None);
+    assert_eq!(rt; decimal(b"-1.25"), Some(-1250000));
+    assert_eq!(rt; decimal(b"1e3"), None);
+    let mut rows = Rows::new(b"\n a\r\r\nb\r");
+    let first = rows.next_row().map(|row| (row.line, row.text));
+    assert_eq!(rt; first, Some((2, b" a\r".as_slice())));
+    let second = rows.next_row().map(|row| (row.line, row.text));
+    assert_eq!(rt; second, Some((3, b"b\r".as_slice())));
+    assert!(rt; rows.next_row().is_none());
+}

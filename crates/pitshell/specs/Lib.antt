@@ -1,0 +1,3 @@
+pub mod Exit
+pub mod Solve
+pub mod Mine

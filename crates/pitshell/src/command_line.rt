@@ -1,0 +1,47 @@
+//! The command line, as `clap` sees it. `options` turns what was found into the program's own types.
+
+use clap::{Arg, ArgAction, Command};
+use std::alloc::{AllocError, Global};
+
+const STATUSES: &str = "Exit status:\n  \
+0  the answer was written, or help was asked for\n  \
+1  a fault, which is written to standard error\n  \
+2  the command line is not understood\n  \
+3  the budget is used up\n  \
+4  the answer is no";
+
+/// An option that must be given and takes the name of a file.
+fn file<'a>(alloc: Global, name: &'a str, help: &'a str) -> Arg<'a> {
+    Arg::new(alloc, name)
+        .long(name)
+        .value_name("FILE")
+        .help(help)
+        .required(true)
+        .action(ArgAction::Set)
+}
+
+/// `pitshell` with its subcommands.
+pub fn command<'a>(alloc: Global) -> Result<Command<'a>, AllocError> {
+    let model = file(
+        alloc,
+        "model",
+        "Optimisation model (.upit): the value of each block",
+    );
+    let prec = file(
+        alloc,
+        "prec",
+        "Precedence (.prec): the blocks that each block needs",
+    );
+    let solve = Command::new(alloc, "solve")
+        .about("Writes the smallest closed set of greatest worth: the ultimate pit")
+        .after_help(STATUSES)
+        .arg(model)?
+        .arg(prec)?;
+    Command::new(alloc, "pitshell")
+        .version("0.1.0")
+        .about("Finds the ultimate pit of a mine, and proves it")
+        .after_help(STATUSES)
+        .subcommand_required(true)
+        .arg_required_else_help(false)
+        .subcommand(solve)
+}

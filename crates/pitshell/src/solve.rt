@@ -1,0 +1,70 @@
+//! `solve`: from the bytes of a model and a precedence file to the bytes of the pit.
+ghost use Rattle.std.specs.Prelude.{◌≡◌, ◌<◌, ◌≤◌, ◌^◌, IfOk, IfErr};
+ghost use Rattle.minelib_reader.specs.Refused.{no_memory, write_failed};
+ghost use Rattle.pit_model.specs.Certificate.{IsCertificate};
+ghost use Rattle.pitshell.specs.Solve.{reading, IsDone, RefusesRun, WritesPit};
+
+use crate::mine::read_mine;
+use crate::status::Status;
+use certificate::Certificate;
+use mine_graph::Instance;
+use minelib_reader::{Fault, InBytes, OutBytes};
+use report::write_pit;
+use solver::{Outcome, solve_single};
+use std::alloc::Global;
+
+/// The pit of a mine with its certificate.
+fn pit_of(alloc: Global, mine: &Instance) -> Result<Certificate, Fault>
+    ensures shown { IfOk result (λ c. IsCertificate mine.now c.pit.items c.flow.items) }
+    ensures refused { IfErr result (λ e. e ≡ no_memory) }
+{
+    match solve_single(alloc, mine)? {
+        Outcome::Pit(certificate) => Ok(certificate),
+    }
+}
+
+/// Writes the text of the pit that a certificate shows.
+fn put_pit<W: OutBytes>(
+    out: &mut W,
+    mine: &Instance,
+    certificate: &Certificate,
+) -> Result<(), Fault>
+    requires countable { (W.progress out.old).failures < 2 ^ 63 }
+    requires shown { IsCertificate mine.now certificate.now.pit.items certificate.now.flow.items }
+    ensures written { WritesPit mine.now (W.progress out.old) (W.progress out.new) result }
+    ensures refused { IfErr result (λ e. e ≡ write_failed) }
+{
+    mine.law();
+    let worth = mine.worth(&certificate.pit);
+    write_pit(out, mine.graph().n(), &certificate.pit, worth)
+}
+
+/// Reads a model and then a precedence file, and writes the text of the pit: of the smallest closed set of greatest worth.
+///
+/// Refused by the first fault of the files (3 to 14), for want of memory (1), where a read failed (2), all with nothing
+/// written; and where a write failed (18), with a beginning of the text written.
+pub fn run_solve<M: InBytes, P: InBytes, W: OutBytes>(
+    alloc: Global,
+    model: &mut M,
+    prec: &mut P,
+    out: &mut W,
+) -> Result<Status, Fault>
+    requires model_countable { (M.progress model.old).failures < 2 ^ 63 }
+    requires model_bounded { (M.progress model.old).allowance ≤ 2 ^ 40 }
+    requires prec_countable { (P.progress prec.old).failures < 2 ^ 63 }
+    requires prec_bounded { (P.progress prec.old).allowance ≤ 2 ^ 40 }
+    requires out_countable { (W.progress out.old).failures < 2 ^ 63 }
+    ensures done { IfOk result (IsDone
+        (reading (M.progress model.old) (M.progress model.new) (M.IsAtEnd model.new))
+        (reading (P.progress prec.old) (P.progress prec.new) (P.IsAtEnd prec.new))
+        (W.progress out.old) (W.progress out.new)) }
+    ensures refused { IfErr result (λ e. RefusesRun e.refusal e
+        (reading (M.progress model.old) (M.progress model.new) (M.IsAtEnd model.new))
+        (reading (P.progress prec.old) (P.progress prec.new) (P.IsAtEnd prec.new))
+        (W.progress out.old) (W.progress out.new)) }
+{
+    let mine = read_mine(alloc, model, prec)?;
+    let certificate = pit_of(alloc, &mine)?;
+    put_pit(out, &mine, &certificate)?;
+    Ok(Status::Done)
+}

@@ -1,0 +1,50 @@
+//! The text of a pit: its head, and a line for each block.
+ghost use Rattle.std.specs.Prelude.{◌≡◌, ◌<◌, ◌^◌, IfErr};
+ghost use Rattle.minelib_reader.specs.Device.{Writes};
+ghost use Rattle.minelib_reader.specs.Refused.{write_failed};
+ghost use Rattle.pit_model.specs.PitText.{line_of, pit_head, pit_text};
+ghost use Rattle.report.specs.Puts.{IsReady, Puts};
+
+use crate::number::{put_millionths, put_number};
+use crate::out::{Out, finish, put};
+use minelib_reader::{Fault, OutBytes};
+
+/// Writes the lines before the first block: how many blocks there are, how many are in the pit, and its worth.
+fn put_head<W: OutBytes>(writer: &mut W, out: &mut Out, n: u32, count: usize, worth: i128)
+    requires { IsReady (W.progress writer.old) out.old }
+    ensures puts { Puts (W.progress writer.old) out.old (W.progress writer.new) out.new (pit_head n count worth) }
+    ensures ready { IsReady (W.progress writer.new) out.new }
+{
+    put(writer, out, b"PIT\nBLOCKS: ");
+    put_number(writer, out, n);
+    put(writer, out, b"\nIN: ");
+    put_number(writer, out, count);
+    put(writer, out, b"\nWORTH: ");
+    put_millionths(writer, out, worth);
+    put(writer, out, b"\n");
+}
+
+/// Writes the line of a block.
+fn put_line<W: OutBytes>(writer: &mut W, out: &mut Out, id: u32)
+    requires { IsReady (W.progress writer.old) out.old }
+    ensures puts { Puts (W.progress writer.old) out.old (W.progress writer.new) out.new (line_of id) }
+    ensures ready { IsReady (W.progress writer.new) out.new }
+{
+    put_number(writer, out, id);
+    put(writer, out, b"\n");
+}
+
+/// Writes the text of a pit of so many blocks, with its worth in millionths. Refused where a write failed: a beginning
+/// of the text was written then. It takes no memory.
+pub fn write_pit<W: OutBytes>(writer: &mut W, n: u32, pit: &[u32], worth: i128) -> Result<(), Fault>
+    requires { (W.progress writer.old).failures < 2 ^ 63 }
+    ensures text { Writes (W.progress writer.old) (W.progress writer.new) (pit_text n pit.now worth) result }
+    ensures refused { IfErr result (λ fault. fault ≡ write_failed) }
+{
+    let mut out = Out::new();
+    put_head(writer, &mut out, n, pit.len(), worth);
+    for &id in pit {
+        put_line(writer, &mut out, id);
+    }
+    finish(writer, &mut out)
+}

@@ -1,0 +1,10 @@
+//! How a solve ended.
+
+use certificate::Certificate;
+
+/// How a solve ended.
+#[derive(Debug, Drop)]
+pub enum Outcome {
+    /// The pit, with the flow that shows it.
+    Pit(Certificate),
+}
