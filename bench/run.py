@@ -3,9 +3,10 @@
 
     bench/run.py [--bin build/pitshell] [--blocks 1000 10000 50000] [--slopes 1:5] [--runs 3]
 
-For each size it makes a mine (tools/make_mine.py, seed 1) under bench/work/, and times two runs, the best of so many each:
-`reading` is a run over the same files with every value turned negative, so that no block is worth digging and the solver
-has nothing to do but one look at each arc; `whole` is the run over the mine itself. Solving is the difference.
+For each size it makes a mine (tools/make_mine.py, seed 1) under bench/work/, and times three runs, the best of so many each.
+`reading`: the same files with one more precedence line that is refused, so the run ends when all is read. `graph`: the
+mine with every value turned negative, so that no block is worth digging and nothing is left to do but to make the graph
+and to look once at each arc; less the reading. `solving`: the mine itself, less both.
 Results go to standard output and, with date, machine and command, to bench/results/.
 """
 
@@ -25,11 +26,11 @@ from make_mine import write_mine  # noqa: E402
 
 
 def mine_files(blocks, slopes):
-    """The files of a mine, made where they are missing, and the model with every value negative."""
+    """The files of a mine, made where they are missing, with every value negative, and with a last line to refuse."""
     WORK.mkdir(exist_ok=True)
     prefix = WORK / f"mine_{blocks}_{slopes.replace(':', '_')}"
-    model, prec, waste = (prefix.with_suffix(end) for end in (".upit", ".prec", ".waste.upit"))
-    if not waste.exists():
+    model, prec, waste, broken = (prefix.with_suffix(end) for end in (".upit", ".prec", ".waste.upit", ".broken.prec"))
+    if not broken.exists():
         write_mine(str(prefix), blocks, slopes, 1)
         lines = model.read_text().splitlines()
         with open(waste, "w") as file:
@@ -37,39 +38,42 @@ def mine_files(blocks, slopes):
                 words = line.split()
                 keep = number < 4 or words[1].startswith("-")
                 file.write(line + "\n" if keep else f"{words[0]} -{words[1]}\n")
-    return model, prec, waste
+        broken.write_text(prec.read_text() + "0 0\n")
+    return model, prec, waste, broken
 
 
-def timed(command):
+def timed(command, status=0):
     """Seconds of one run, its peak memory in megabytes, and the first lines that it wrote."""
     start = time.perf_counter()
-    with subprocess.Popen(command, stdout=subprocess.PIPE) as process:
+    with subprocess.Popen(command, stdout=subprocess.PIPE, stderr=subprocess.DEVNULL) as process:
         head = process.stdout.read(200)
         while process.stdout.read(1 << 20):
             pass
-        _, status, usage = os.wait4(process.pid, 0)
-        process.returncode = os.waitstatus_to_exitcode(status)
-    if process.returncode != 0:
+        _, ended, usage = os.wait4(process.pid, 0)
+        process.returncode = os.waitstatus_to_exitcode(ended)
+    if process.returncode != status:
         raise SystemExit(f"{' '.join(map(str, command))} ended with status {process.returncode}")
     return time.perf_counter() - start, usage.ru_maxrss / 1024, head.decode()
 
 
-def best(command, runs):
-    return min((timed(command) for _ in range(runs)), key=lambda row: row[0])
+def best(command, runs, status=0):
+    return min((timed(command, status) for _ in range(runs)), key=lambda row: row[0])
 
 
 def measure(program, blocks, slopes, runs):
-    model, prec, waste = mine_files(blocks, slopes)
+    model, prec, waste, broken = mine_files(blocks, slopes)
     size = (model.stat().st_size + prec.stat().st_size) / 1e6
     arcs = sum(int(line.split()[1]) for line in open(prec))
     count = int(open(model).readlines(400)[2].split()[1])
-    command = [program, "solve", "--prec", prec, "--model"]
-    reading, read_memory, _ = best(command + [waste], runs)
-    whole, memory, head = best(command + [model], runs)
+    command = [program, "solve", "--model"]
+    reading, read_memory, _ = best(command + [model, "--prec", broken], runs, status=1)
+    graph, graph_memory, _ = best(command + [waste, "--prec", prec], runs)
+    whole, memory, head = best(command + [model, "--prec", prec], runs)
     inside, worth = head.split("\n")[2:4]
     return (
         f"| {count} | {arcs} | {size:.1f} | {reading:.3f} | {size / reading:.0f} | {read_memory:.0f} "
-        f"| {max(0.0, whole - reading):.3f} | {memory:.0f} | {inside.split()[1]} | {worth.split()[1]} |"
+        f"| {max(0.0, graph - reading):.3f} | {graph_memory:.0f} | {max(0.0, whole - graph):.3f} | {memory:.0f} "
+        f"| {inside.split()[1]} | {worth.split()[1]} |"
     )
 
 
@@ -86,8 +90,8 @@ def main():
         "",
         f"{platform.machine()}, {os.cpu_count()} cores; `bench/run.py {' '.join(sys.argv[1:])}`",
         "",
-        "| blocks | arcs | MB of text | reading s | MB/s | MB peak | solving s | MB peak | in the pit | worth |",
-        "|---|---|---|---|---|---|---|---|---|---|",
+        "| blocks | arcs | MB of text | reading s | MB/s | MB peak | graph s | MB peak | solving s | MB peak | in the pit | worth |",
+        "|---|---|---|---|---|---|---|---|---|---|---|---|",
     ]
     print("\n".join(lines), flush=True)
     for blocks in options.blocks:
