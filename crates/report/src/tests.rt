@@ -73,148 +73,169 @@ fn a_full_writer_holds_a_beginning(rt: HostRuntime) -> Result<(), Fail> {
     Ok(())
 }
 
+/// The text of a fault, as a writer with room for all of it takes it.
+fn fault_text(
+    alloc: Global,
+    refusal: Refusal,
+    source: Source,
+    line: u64,
+) -> Result<Vec<u8>, Fault> {
+    let mut writer = MemoryWriter::new(alloc, 1 << 20);
+    let fault = Fault {
+        refusal,
+        source,
+        line,
+    };
+    write_fault(&mut writer, &fault)?;
+    Ok(writer.text)
+}
+
 #[test]
-fn faults(rt: HostRuntime) -> Result<(), Fail> {
-    let two = vec![in rt.alloc(); 1, 2]?;
-    let three = vec![in rt.alloc(); 0, 1, 2]?;
-    for (refusal, source, line, text) in [
-        (Refusal::NoMemory, Source::None, 0, "error 1: no memory\n"),
-        (
-            Refusal::ReadFailed,
-            Source::Model,
-            0,
-            "error 2: read failed in model\n",
-        ),
+fn faults_of_a_line(rt: HostRuntime) -> Result<(), Fail> {
+    for (refusal, text) in [
         (
             Refusal::WrongHeader,
-            Source::Certificate,
-            1,
-            "error 3: wrong header in certificate line 1\n",
+            "error 3: wrong header in model line 8\n",
         ),
         (
             Refusal::OverLimit,
-            Source::Model,
-            3,
-            "error 4: over the limit in model line 3\n",
-        ),
-        (
-            Refusal::OverLimit,
-            Source::Factors,
-            1,
-            "error 4: over the limit in factors item 1\n",
+            "error 4: over the limit in model line 8\n",
         ),
         (
             Refusal::NotWhole,
-            Source::Factors,
-            2,
-            "error 5: not a whole number in factors item 2\n",
+            "error 5: not a whole number in model line 8\n",
         ),
         (
             Refusal::NotDecimal,
-            Source::Model,
-            6,
-            "error 6: not a decimal in model line 6\n",
+            "error 6: not a decimal in model line 8\n",
         ),
         (
             Refusal::IdOutOfPlace,
-            Source::Precedence,
-            2,
-            "error 7: id out of place in precedence line 2\n",
+            "error 7: id out of place in model line 8\n",
         ),
         (
+            Refusal::WrongFieldCount,
+            "error 11: wrong number of fields in model line 8\n",
+        ),
+        (Refusal::EndsEarly, "error 12: ends early in model line 8\n"),
+        (
+            Refusal::AfterEnd,
+            "error 13: line after the end in model line 8\n",
+        ),
+    ] {
+        let written = fault_text(rt.alloc(), refusal, Source::Model, 8)?;
+        assert_eq!(rt; written.as_slice(), text.as_bytes());
+    }
+    Ok(())
+}
+
+#[test]
+fn faults_of_a_predecessor(rt: HostRuntime) -> Result<(), Fail> {
+    for (refusal, text) in [
+        (
             Refusal::PredecessorOutOfRange,
-            Source::Precedence,
-            1,
             "error 8: predecessor out of range in precedence line 1\n",
         ),
         (
             Refusal::NeedsItself,
-            Source::Precedence,
-            1,
             "error 9: block needs itself in precedence line 1\n",
         ),
         (
             Refusal::PredecessorTwice,
-            Source::Precedence,
-            1,
             "error 10: predecessor named twice in precedence line 1\n",
         ),
+    ] {
+        let written = fault_text(rt.alloc(), refusal, Source::Precedence, 1)?;
+        assert_eq!(rt; written.as_slice(), text.as_bytes());
+    }
+    Ok(())
+}
+
+#[test]
+fn faults_of_a_whole_file(rt: HostRuntime) -> Result<(), Fail> {
+    let two = vec![in rt.alloc(); 1, 2]?;
+    let three = vec![in rt.alloc(); 0, 1, 2]?;
+    for (refusal, source, text) in [
         (
-            Refusal::WrongFieldCount,
-            Source::Blocks,
-            2,
-            "error 11: wrong number of fields in blocks line 2\n",
-        ),
-        (
-            Refusal::EndsEarly,
+            Refusal::ReadFailed,
             Source::Model,
-            8,
-            "error 12: ends early in model line 8\n",
-        ),
-        (
-            Refusal::AfterEnd,
-            Source::Journal,
-            9,
-            "error 13: line after the end in journal line 9\n",
+            "error 2: read failed in model\n",
         ),
         (
             Refusal::Cycle(three),
             Source::Precedence,
-            0,
             "error 14: cycle 0 1 2 in precedence\n",
         ),
         (
             Refusal::Cycle(two),
             Source::Precedence,
-            0,
             "error 14: cycle 1 2 in precedence\n",
         ),
         (
             Refusal::NegativeColumn(1),
             Source::Blocks,
-            0,
             "error 15: negative value at block 1 in blocks\n",
         ),
         (
             Refusal::NoSuchColumn(0),
             Source::Blocks,
-            0,
             "error 16: no column 0 in blocks\n",
+        ),
+    ] {
+        let written = fault_text(rt.alloc(), refusal, source, 0)?;
+        assert_eq!(rt; written.as_slice(), text.as_bytes());
+    }
+    Ok(())
+}
+
+#[test]
+fn faults_by_source(rt: HostRuntime) -> Result<(), Fail> {
+    for (refusal, source, text) in [
+        (
+            Refusal::WrongFieldCount,
+            Source::Blocks,
+            "error 11: wrong number of fields in blocks line 2\n",
         ),
         (
             Refusal::CountsDiffer,
             Source::Certificate,
-            2,
             "error 17: counts differ in certificate line 2\n",
         ),
         (
-            Refusal::WriteFailed,
-            Source::None,
-            0,
-            "error 18: write failed\n",
+            Refusal::EndsEarly,
+            Source::Journal,
+            "error 12: ends early in journal line 2\n",
         ),
         (
             Refusal::FactorsNotRising,
             Source::Factors,
-            2,
             "error 19: factors not rising in factors item 2\n",
         ),
         (
+            Refusal::NotWhole,
+            Source::Factors,
+            "error 5: not a whole number in factors item 2\n",
+        ),
+    ] {
+        let written = fault_text(rt.alloc(), refusal, source, 2)?;
+        assert_eq!(rt; written.as_slice(), text.as_bytes());
+    }
+    Ok(())
+}
+
+#[test]
+fn faults_of_a_run(rt: HostRuntime) -> Result<(), Fail> {
+    for (refusal, text) in [
+        (Refusal::NoMemory, "error 1: no memory\n"),
+        (Refusal::WriteFailed, "error 18: write failed\n"),
+        (
             Refusal::Exhausted(0),
-            Source::None,
-            0,
             "error 20: exhausted after 0 mergers\n",
         ),
-        (Refusal::NoSeat, Source::None, 0, "error 22: no seat\n"),
+        (Refusal::NoSeat, "error 22: no seat\n"),
     ] {
-        let mut writer = MemoryWriter::new(rt.alloc(), 1 << 20);
-        let fault = Fault {
-            refusal,
-            source,
-            line,
-        };
-        write_fault(&mut writer, &fault)?;
-        assert_eq!(rt; writer.text.as_slice(), text.as_bytes());
+        let written = fault_text(rt.alloc(), refusal, Source::None, 0)?;
+        assert_eq!(rt; written.as_slice(), text.as_bytes());
     }
     Ok(())
 }
