@@ -222,3 +222,17 @@ fn leaves_a_beginning_where_writing_fails(rt: HostRuntime) -> Result<(), Fail> {
     }
     Ok(())
 }
+
+#[test]
+fn statuses(rt: HostRuntime) -> Result<(), Fail> {
+    assert_eq!(rt; exit_code(&Ok(Status::Done)), 0);
+    assert_eq!(rt; exit_code(&Ok(Status::No)), 4);
+    assert_eq!(rt; exit_code(&Err(Fault::write_failed())), 1);
+    let exhausted = Fault {
+        refusal: Refusal::Exhausted(2),
+        source: Source::None,
+        line: 0,
+    };
+    assert_eq!(rt; exit_code(&Err(exhausted)), 3);
+    Ok(())
+}
