@@ -4,6 +4,9 @@ ghost use Rattle.std.specs.Prelude.{◌≡◌, ◌≤◌, ◌<◌, ◌^◌, ◌*
 ghost use Rattle.std.specs.Option.{option_map};
 ghost use Rattle.minelib_reader.specs.Number.{digits_of, cut_at, millionths_of, decimal_of, IsWithin};
 
+/// A decimal, as a whole number of millionths.
+pub type Decimal = i128;
+
 /// The number that 1 to `most` digits write.
 #[tactic(auto, unfolding(crate::specs::Number::digits_of))]
 pub fn digits(text: &[u8], most: usize) -> Option<u64>
@@ -74,7 +77,7 @@ fn millionths(text: &[u8]) -> Option<u64>
 
 /// A sign or none, and 1 to 12 digits with up to 6 more behind a point, in millionths.
 #[tactic(auto, unfolding(crate::specs::Number::decimal_of))]
-pub fn decimal(field: &[u8]) -> Option<i128>
+pub fn decimal(field: &[u8]) -> Option<Decimal>
     ensures value { result ≡ decimal_of field.now }
     ensures bounded { IfSome result (IsWithin (10 ^ 18)) }
 {

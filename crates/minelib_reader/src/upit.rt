@@ -15,7 +15,7 @@ use crate::device::InBytes;
 use crate::fault::{Fault, Refusal, Source};
 use crate::input::read_all;
 use crate::lines::{next_field, two_fields};
-use crate::number::{decimal, digits};
+use crate::number::{Decimal, decimal, digits};
 use crate::rows::{Row, Rows};
 use std::alloc::Global;
 
@@ -25,7 +25,7 @@ const MOST_BLOCKS: u64 = 4_194_304;
 #[derive(Debug, Drop)]
 pub struct Model {
     pub n: u32,
-    pub values: Vec<i128>,
+    pub values: Vec<Decimal>,
 }
 
 fn in_model(refusal: Refusal, line: u64) -> Fault
@@ -79,7 +79,7 @@ fn read_blocks(r: Row) -> Result<u32, Fault>
 }
 
 #[tactic(auto, unfolding(crate::specs::Upit::value_line))]
-fn read_value(id: u32, r: Row) -> Result<i128, Fault>
+fn read_value(id: u32, r: Row) -> Result<Decimal, Fault>
     ensures gives { Gives (λ v. v) result (value_line id (row r.entry.line (fields_of r.entry.text.now))) }
     ensures small { IfOk result (IsWithin (10 ^ 18)) }
 {
@@ -123,7 +123,7 @@ fn next_due<'a>(rows: &mut Rows<'a>) -> Result<Row<'a>, Fault>
     }
 }
 
-fn read_values(alloc: Global, n: u32, rows: &mut Rows) -> Result<Vec<i128>, Fault>
+fn read_values(alloc: Global, n: u32, rows: &mut Rows) -> Result<Vec<Decimal>, Fault>
     ensures gives { Gives (λ v. (v.items, rows_at rows.new.number rows.new.rest.now)) result
         (values_from (lines_at rows.old.number rows.old.rest.now) 0 n (rows_at rows.old.number rows.old.rest.now)) }
     ensures count { IfOk result (λ v. length v.items ≡ n) }

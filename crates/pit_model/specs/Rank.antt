@@ -1,4 +1,4 @@
--- The rank of a tree, which each merger lowers: so there are at most P * (n + 1) + n of them.
+-- The rank of a tree, which each merger lowers: so there are at most P * (n + 1) + n of them (Hochbaum 2008).
 use Rattle.std.specs.Prelude.{◌≡◌, ℕ, suc, ◌<◌, ℤ, pos, ◌+ℤ◌, ◌*ℤ◌, ◌≤ℤ◌, ◌<ℤ◌, int_lt, not, IsTrue}
 use Rattle.pit_model.specs.Sum.{total, when}
 use Rattle.pit_model.specs.Mine.{Instance, value, IsSimple}

@@ -13,12 +13,14 @@ mod status;
 #[cfg(test)]
 mod tests;
 
+use clap::error::ErrorKind;
 use command_line::command;
 use minelib_reader::{Fault, FileReader, InBytes, Refusal, Source, StreamWriter};
 use options::{Options, SolveOptions};
 use report::write_fault;
 use solve::run_solve;
 use status::{Status, exit_code};
+use std::alloc::AllocError;
 use std::fs::File;
 use std::process::ExitCode;
 use std::{env, io};
@@ -45,21 +47,48 @@ fn solve_files(rt: &HostRuntime, options: &SolveOptions<'_>) -> Result<Status, F
     run_solve(rt.alloc(), &mut model, &mut prec, &mut out)
 }
 
-fn main(rt: HostRuntime) -> anyhow::Result<ExitCode> {
-    let words: Vec<String> = env::args(&rt)?.collect(rt.alloc())?;
-    let matches = match command(rt.alloc())?.try_get_matches_from(words.as_slice()) {
-        Ok(matches) => matches,
-        Err(error) => {
-            error.print(&rt)?;
-            return Ok(ExitCode::from(error.exit_code() as u8));
-        }
-    };
-    let result = match Options::of(&matches) {
-        None => return Ok(ExitCode::from(2)),
-        Some(Options::Solve(options)) => solve_files(&rt, &options),
-    };
-    if let Err(fault) = &result {
+/// Tells how a run ended: a fault goes to standard error, and the exit status is answered.
+fn ended(rt: &HostRuntime, outcome: Result<Status, Fault>) -> ExitCode {
+    if let Err(fault) = &outcome {
         let _ = write_fault(&mut StreamWriter::new(io::writer(&rt.stderr())), fault);
     }
-    Ok(ExitCode::from(exit_code(&result)))
+    ExitCode::from(exit_code(&outcome))
+}
+
+/// Tells what `clap` has to say: help, the version, or what is wrong with the command line. Want of memory is a fault here too.
+fn explain(rt: &HostRuntime, error: &clap::Error) -> ExitCode {
+    if error.kind() == ErrorKind::OutOfMemory {
+        return ended(rt, Err(Fault::from(AllocError)));
+    }
+    let _ = error.print(rt);
+    ExitCode::from(error.exit_code() as u8)
+}
+
+/// The words of the command line.
+fn words_of(rt: &HostRuntime) -> Result<Vec<String>, Fault> {
+    match env::args(rt) {
+        Ok(words) => Ok(words.collect(rt.alloc())?),
+        Err(_) => Err(Fault::from(AllocError)),
+    }
+}
+
+/// Does what the words of the command line ask for.
+fn run(rt: &HostRuntime, words: &[String]) -> Result<ExitCode, Fault> {
+    match command(rt.alloc())?.try_get_matches_from(words) {
+        Err(error) => Ok(explain(rt, &error)),
+        Ok(matches) => match Options::of(&matches) {
+            None => Ok(ExitCode::from(2)),
+            Some(Options::Solve(options)) => Ok(ended(rt, solve_files(rt, &options))),
+        },
+    }
+}
+
+fn main(rt: HostRuntime) -> ExitCode {
+    match words_of(&rt) {
+        Err(fault) => ended(&rt, Err(fault)),
+        Ok(words) => match run(&rt, &words) {
+            Err(fault) => ended(&rt, Err(fault)),
+            Ok(code) => code,
+        },
+    }
 }
