@@ -2,7 +2,9 @@
 //! `solve` does the work over readers and writers; `main` opens files, calls it and gives the exit status.
 #![tactic(auto)]
 
-ghost use Rattle.std.specs.Prelude.{◌≡◌, ◌^◌, IfOk};
+ghost use Rattle.std.specs.Prelude.{◌≡◌, ◌^◌, IfOk, IfErr};
+ghost use Rattle.minelib_reader.specs.Steps.{at_line};
+ghost use Rattle.minelib_reader.specs.declared.fault.Refusal.TheVariants.{ReadFailed};
 ghost use Rattle.minelib_reader.specs.Device.{unread};
 
 mod command_line;
@@ -28,6 +30,7 @@ use std::{env, io};
 /// Opens an input; one that cannot be opened is a read that failed.
 fn open(rt: &HostRuntime, path: &str, source: Source) -> Result<FileReader, Fault>
     ensures unread { IfOk result (λ r. ⟦<FileReader as InBytes>⟧.progress r ≡ unread (2 ^ 40)) }
+    ensures refused { IfErr result (λ e. e ≡ at_line source ReadFailed 0) }
 {
     match File::open(rt, path) {
         Ok(file) => Ok(FileReader::new(file)),
