@@ -11,3 +11,7 @@ pub mod PrecLineLemmas
 pub mod PrecFaultLemmas
 pub mod PrecGrammarLemmas
 pub mod PrecLimitLemmas
+mod BlocksLineLemmas
+mod BlocksFaultLemmas
+mod BlocksGrammarLemmas
+mod ColumnLemmas

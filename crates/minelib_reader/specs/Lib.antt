@@ -13,3 +13,9 @@ pub mod Marks
 pub mod PrecGrammar
 pub mod PrecFault
 pub mod PrecLimits
+pub mod Table
+pub mod Blocks
+pub mod BlocksGrammar
+pub mod BlocksFault
+pub mod Column
+pub mod Added

@@ -16,6 +16,12 @@ digits_of most ds = if (nat_lt 0 (length ds) && nat_le (length ds) most) && all_
 abbrev pub whole_of : List ℕ → Option ℕ
 whole_of field = digits_of 10 field
 
+-- a sign `-` or none, and 1 to 10 digits
+unfoldable pub signed_of : List ℕ → Option ℤ
+signed_of field =
+    if slice_index field 0 == 45 then option_and_then (λ n. Some (neg_ℤ (pos n))) (whole_of (drop 1 field))
+    else option_and_then (λ n. Some (pos n)) (whole_of field)
+
 -- what stands before and after a place
 abbrev pub parts_at : List ℕ → ℕ → List ℕ × List ℕ
 parts_at text at = (take at text, drop (at + 1) text)

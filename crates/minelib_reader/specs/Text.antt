@@ -44,6 +44,11 @@ abbrev pub two_and_more : List (List ℕ) → Option (List ℕ × List ℕ × Li
 two_and_more (a ∷ b ∷ fs) = Some (a, b, fs)
 two_and_more fs = None
 
+-- the first four fields of a line that has them, and the others
+abbrev pub four_and_more : List (List ℕ) → Option (List ℕ × List ℕ × List ℕ × List ℕ × List (List ℕ))
+four_and_more (a ∷ b ∷ c ∷ d ∷ fs) = Some (a, b, c, d, fs)
+four_and_more fs = None
+
 -- the rows of the rest of a text before which k lines stand, and the number of lines of the whole text
 abbrev pub rows_at : ℕ → List ℕ → List Row
 rows_at k rest = rows_from (k + 1) (lines rest)

@@ -1,6 +1,8 @@
 //! Readers of mine models, the devices that they read from and write to, and the faults that they answer.
 #![tactic(auto)]
 
+mod blocks;
+mod columns;
 mod device;
 mod fault;
 mod history;
@@ -10,8 +12,11 @@ mod number;
 mod output;
 mod prec;
 mod rows;
+mod table;
 mod upit;
 
+pub use blocks::{blocks_law, parse_blocks, read_blocks};
+pub use columns::column;
 pub use device::{DeviceFailed, InBytes, OutBytes};
 pub use fault::{Fault, Refusal, Source};
 pub use input::{FileReader, MemoryReader, read_all};
@@ -20,6 +25,7 @@ pub use number::{Decimal, decimal, digits};
 pub use output::{MemoryWriter, StreamWriter, write_all};
 pub use prec::{parse_prec, prec_law, read_prec};
 pub use rows::{Row, Rows};
+pub use table::BlockTable;
 pub use upit::{Model, parse_upit, read_upit, upit_law};
 
 #[cfg(test)]

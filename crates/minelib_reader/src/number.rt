@@ -2,7 +2,7 @@
 //! The lines of a file are read by them; the limits of each number are the caller's.
 ghost use Rattle.std.specs.Prelude.{◌≡◌, ◌≤◌, ◌<◌, ◌^◌, ◌*◌, ◌-◌, ◌+◌, ◌==◌, length, IfSome, position};
 ghost use Rattle.std.specs.Option.{option_map};
-ghost use Rattle.minelib_reader.specs.Number.{digits_of, cut_at, millionths_of, decimal_of, IsWithin};
+ghost use Rattle.minelib_reader.specs.Number.{digits_of, cut_at, millionths_of, decimal_of, signed_of, IsWithin};
 
 /// A decimal, as a whole number of millionths.
 pub type Decimal = i128;
@@ -27,6 +27,17 @@ pub fn digits(text: &[u8], most: usize) -> Option<u64>
         value = value * 10 + u64::from(*byte - b'0');
     }
     Some(value)
+}
+
+/// A sign `-` or none, and 1 to 10 digits.
+#[tactic(auto, unfolding(crate::specs::Number::signed_of))]
+pub(crate) fn signed(field: &[u8]) -> Option<i64>
+    ensures value { result ≡ signed_of field.now }
+{
+    match field {
+        [b'-', rest @ ..] => Some(-(digits(rest, 10)? as i64)),
+        _ => Some(digits(field, 10)? as i64),
+    }
 }
 
 /// The place of the first such byte.

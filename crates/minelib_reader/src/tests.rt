@@ -1,6 +1,6 @@
 //! Texts with answers that were worked out by hand, read whole, byte by byte and with a failure at each read;
 //! and writers that take few bytes or fail.
-ghost use Rattle.std.specs.Prelude.{◌≡◌, ◌≤◌, ◌-◌, length, take, IfOk};
+ghost use Rattle.std.specs.Prelude.{◌≡◌, ◌≤◌, ◌<◌, ◌-◌, length, take, IfOk};
 ghost use Rattle.minelib_reader.specs.Device.{Progress};
 
 use super::*;
@@ -72,6 +72,42 @@ fn model_told(alloc: Global, read: Result<Model, Fault>) -> Result<String, Alloc
 fn pairs_told(alloc: Global, read: Result<Vec<(u32, u32)>, Fault>) -> Result<String, AllocError> {
     match read {
         Ok(pairs) => format!(in alloc; "{pairs:?}"),
+        Err(fault) => format!(in alloc; "{fault}"),
+    }
+}
+
+/// A block with its place and its attributes.
+fn block_told(alloc: Global, table: &BlockTable, id: u32) -> Result<String, AllocError>
+    requires { id < length table.now.places }
+{
+    let mut told = format!(in alloc; "; {id} at {:?}:", table.place(id))?;
+    for k in 0..table.width() {
+        told.push_str(&format!(in alloc; " {}", table.attribute(id, k))?)?;
+    }
+    Ok(told)
+}
+
+/// The table that was read, or the words of the fault.
+fn table_told(alloc: Global, read: Result<BlockTable, Fault>) -> Result<String, AllocError> {
+    match read {
+        Ok(table) => {
+            let mut told = format!(in alloc; "{} of {}", table.len(), table.width())?;
+            for id in 0..table.len() {
+                told.push_str(&block_told(alloc, &table, id)?)?;
+            }
+            Ok(told)
+        }
+        Err(fault) => format!(in alloc; "{fault}"),
+    }
+}
+
+/// One column of the table that a text spells, or the words of the fault.
+fn column_told(alloc: Global, text: &[u8], k: u32) -> Result<String, AllocError> {
+    match read_blocks(alloc, &mut MemoryReader::new(text)) {
+        Ok(table) => match column(alloc, &table, k) {
+            Ok(values) => format!(in alloc; "{values:?}"),
+            Err(fault) => format!(in alloc; "{fault}"),
+        },
         Err(fault) => format!(in alloc; "{fault}"),
     }
 }
@@ -191,6 +227,84 @@ fn pairs_whole_and_by_bytes(rt: HostRuntime) -> Result<(), Fail> {
     Ok(())
 }
 
+const BLOCKS: [(&str, &str); 19] = [
+    ("", "0 of 0"),
+    ("0 0 0 -2147483648\n", "1 of 0; 0 at (0, 0, -2147483648):"),
+    (
+        "\n0 1 -2 2147483647 4 +0.5\r\n\t1\t0 0 -0  -1.25 7",
+        "2 of 2; 0 at (1, -2, 2147483647): 4000000 500000; 1 at (0, 0, 0): -1250000 7000000",
+    ),
+    ("0 0 0 2147483648\n", "over the limit in blocks line 1"),
+    ("0 0 -2147483649 0\n", "over the limit in blocks line 1"),
+    ("0 0 0 +1\n", "not a whole number in blocks line 1"),
+    ("0 0 - 0\n", "not a whole number in blocks line 1"),
+    ("0 12345678901 0 0\n", "not a whole number in blocks line 1"),
+    (
+        "0 0 0 0 1 2\n1 0 0 0 1\n",
+        "wrong number of fields in blocks line 2",
+    ),
+    ("0 0 0\n", "wrong number of fields in blocks line 1"),
+    (
+        "0 0 0 0\n1 0 0\n",
+        "wrong number of fields in blocks line 2",
+    ),
+    (
+        "0 0 0 0\n1 0 0 0 x\n",
+        "wrong number of fields in blocks line 2",
+    ),
+    ("x 0 0 0\n", "not a whole number in blocks line 1"),
+    ("1 0 0 0\n", "id out of place in blocks line 1"),
+    ("0 0 0 0\n0 0 0 0\n", "id out of place in blocks line 2"),
+    ("0 0 0 0 1.0000001\n", "not a decimal in blocks line 1"),
+    ("0 0 0 2147483648 x\n", "over the limit in blocks line 1"),
+    ("0 0 0 0 1 x\n1\n", "not a decimal in blocks line 1"),
+    (
+        "x 0 0 0 1 1 1 1 1 1 1 1 1 1 1 1 1 1 1 1 1 1 1 1 1 1 1 1 1 1 1 1 1 1 1 1 1 1 1 1 1 1 1 1 1 1 1 1 1 1 1 1 1 1 1 1 1 1 1 1 1 1 1 1 1 1 1 1 1\n",
+        "over the limit in blocks line 1",
+    ),
+];
+
+#[test]
+fn tables_whole_and_by_bytes(rt: HostRuntime) -> Result<(), Fail> {
+    for (text, told) in BLOCKS {
+        let text = text.as_bytes();
+        let whole = read_blocks(rt.alloc(), &mut MemoryReader::new(text));
+        assert_eq!(rt; table_told(rt.alloc(), whole)?.as_str(), told);
+        let slow = read_blocks(rt.alloc(), &mut SlowReader::new(text, text.len() + 1));
+        assert_eq!(rt; table_told(rt.alloc(), slow)?.as_str(), told);
+    }
+    Ok(())
+}
+
+const COLUMNS: [(&str, u32, &str); 6] = [
+    ("", 0, "no column 0 in blocks line 0"),
+    ("0 0 0 -2147483648\n", 0, "no column 0 in blocks line 0"),
+    (
+        "0 0 0 0 4\n1 0 0 0 -1\n2 0 0 0 -2\n",
+        0,
+        "negative value at block 1 in blocks line 0",
+    ),
+    (
+        "0 0 0 0 4 1\n1 0 0 0 -1 0\n2 0 0 0 -2 2.5\n",
+        1,
+        "[1000000, 0, 2500000]",
+    ),
+    (
+        "0 0 0 0 4 1\n1 0 0 0 -1 0\n",
+        2,
+        "no column 2 in blocks line 0",
+    ),
+    ("0 0 0 0 x\n", 0, "not a decimal in blocks line 1"),
+];
+
+#[test]
+fn columns_of_tables(rt: HostRuntime) -> Result<(), Fail> {
+    for (text, k, told) in COLUMNS {
+        assert_eq!(rt; column_told(rt.alloc(), text.as_bytes(), k)?.as_str(), told);
+    }
+    Ok(())
+}
+
 #[test]
 fn each_read_fails_in_turn(rt: HostRuntime) -> Result<(), Fail> {
     let model = b"NAME: t\nTYPE: UPIT\nNBLOCKS: 1\nOBJECTIVE_FUNCTION:\n0 1\n";
@@ -207,6 +321,14 @@ fn each_read_fails_in_turn(rt: HostRuntime) -> Result<(), Fail> {
         assert_eq!(rt;
             pairs_told(rt.alloc(), read)?.as_str(),
             "read failed in precedence line 0"
+        );
+    }
+    let blocks = b"0 0 0 0 1\nx";
+    for calls in 0..blocks.len() + 1 {
+        let read = read_blocks(rt.alloc(), &mut SlowReader::new(blocks, calls));
+        assert_eq!(rt;
+            table_told(rt.alloc(), read)?.as_str(),
+            "read failed in blocks line 0"
         );
     }
     Ok(())

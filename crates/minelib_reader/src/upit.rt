@@ -59,7 +59,7 @@ fn check_type(r: Row) -> Result<(), Fault>
 }
 
 #[tactic(auto, unfolding(crate::specs::Upit::blocks_line))]
-fn read_blocks(r: Row) -> Result<u32, Fault>
+fn read_count(r: Row) -> Result<u32, Fault>
     ensures gives { Gives (λ n. n) result (blocks_line (row r.entry.line (fields_of r.entry.text.now))) }
     ensures few { IfOk result (λ n. n ≤ 4194304) }
 {
@@ -150,7 +150,7 @@ fn read_header(rows: &mut Rows) -> Result<u32, Fault>
     let kind = next_due(rows)?;
     check_type(kind)?;
     let blocks = next_due(rows)?;
-    let n = read_blocks(blocks)?;
+    let n = read_count(blocks)?;
     let objective = next_due(rows)?;
     check_objective(objective)?;
     Ok(n)

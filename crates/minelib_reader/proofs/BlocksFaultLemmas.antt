@@ -1,0 +1,118 @@
+-- The reading of a block model file fails by the fault of the least line that breaks a check, and only where one does.
+-- Its idea: each line is checked by its place and the width alone, and the width is known where the first line passes.
+use Rattle.std.proofs.Common.{◌≡◌, ℕ, zero, suc, ◌+◌, ◌-◌, ◌<◌, leb, List, [], ◌∷◌, ◌++◌, length, Option, Some, None, Result, Ok, Err, refl, sym, ap, subst, ◌∙◌, arith, inl, inr, ℤ, ◌⊎◌}
+use Rattle.std.specs.List.{slice_get}
+use Rattle.minelib_reader.specs.declared.fault.Fault.{Fault}
+use Rattle.minelib_reader.specs.declared.fault.Refusal.TheVariants.{OverLimit, WrongFieldCount}
+use Rattle.minelib_reader.specs.Steps.{◌>>=◌, check, fault_of, IsFirstFault}
+use Rattle.minelib_reader.specs.Text.{Row}
+use Rattle.minelib_reader.specs.Table.{Place, Table, table}
+use Rattle.minelib_reader.specs.Blocks.{most_columns, in_blocks, width_line, width_of, block_line, blocks_from, as_table, table_of_rows}
+use Rattle.minelib_reader.specs.BlocksFault.{line_fault, fault_in_rows}
+use Rattle.minelib_reader.proofs.StepLemmas.{bind_ok, bind_err, done, ok_is, no_fault, that_fault}
+
+-- the width that the first line gives is the one that it names
+pub width_is : (r : Row) (w : ℕ) → width_line r ≡ Ok w → length r.fields - 4 ≡ w
+unfolding width_line
+width_is r w e =
+    let few = λ (u : Unit {0}). check (in_blocks OverLimit r.line) (leb (length r.fields - 4) most_columns) >>= λ v. done (length r.fields - 4) in
+    let a = bind_ok (check (in_blocks WrongFieldCount r.line) (leb 4 (length r.fields))) few w e in
+    let b = bind_ok (check (in_blocks OverLimit r.line) (leb (length r.fields - 4) most_columns)) (λ v. done (length r.fields - 4)) w a.2 in
+    ok_is (length r.fields - 4) w b.2
+
+-- the fault of block i + k, where the blocks from i on are those of the rows
+abbrev pub block_fault : ℕ → ℕ → Option Row → Option Fault
+block_fault width i None = None
+block_fault width i (Some r) = fault_of (block_line width i r)
+
+abbrev pub fault_from : ℕ → ℕ → List Row → ℕ → Option Fault
+fault_from width i rows k = block_fault width (i + k) (slice_get rows k)
+
+abbrev Blocks : Type 0
+Blocks = Result (List Place × List ℤ) Fault
+
+abbrev onto : Place × List ℤ → List Place × List ℤ → Blocks
+onto block others = done (block.0 ∷ others.0, block.1 ++ others.1)
+
+from_next : (width i : ℕ) (r : Row) (rows : List Row) (k : ℕ) → fault_from width i (r ∷ rows) (suc k) ≡ fault_from width (i + 1) rows k
+from_next width i r rows k = let same : i + suc k ≡ i + 1 + k = omega arith in ap (λ (j : ℕ). block_fault width j (slice_get rows k)) same
+
+from_first : (width i : ℕ) (r : Row) (rows : List Row) → fault_from width i (r ∷ rows) 0 ≡ fault_of (block_line width i r)
+from_first width i r rows = let same : i + 0 ≡ i = omega arith in ap (λ (j : ℕ). fault_of (block_line width j r)) same
+
+none_before_next : (f g : ℕ → Option Fault) (k : ℕ) → f 0 ≡ None → ((j : ℕ) → f (suc j) ≡ g j) → ((j : ℕ) → j < k → g j ≡ None) → (j : ℕ) → j < suc k → f j ≡ None
+none_before_next f g k first same clear zero lt = first
+none_before_next f g k first same clear (suc j) lt = same j ∙ clear j (omega (arith, lt))
+
+blocks_fail : (width i : ℕ) (rows : List Row) (e : Fault) → blocks_from width i rows ≡ Err e → IsFirstFault (fault_from width i rows) e
+unfolding blocks_from
+blocks_fail width i [] e h = absurd cc
+blocks_fail width i (r ∷ rows) e h =
+    elim (bind_err (block_line width i r) (λ block. blocks_from width (i + 1) rows >>= onto block) e h) [
+      | inl stop ↦ record { place = 0; none_before = λ j lt. absurd (omega (arith, lt)); here = from_first width i r rows ∙ that_fault (block_line width i r) e stop }
+      | inr go ↦
+          elim (bind_err (blocks_from width (i + 1) rows) (onto go.0) e go.2) [
+            | inl stop ↦
+                let first = blocks_fail width (i + 1) rows e stop in
+                let same = from_next width i r rows in
+                record {
+                  place = suc first.place;
+                  none_before = none_before_next (fault_from width i (r ∷ rows)) (fault_from width (i + 1) rows) first.place (from_first width i r rows ∙ no_fault (block_line width i r) go.0 go.1) same first.none_before;
+                  here = same first.place ∙ first.here;
+                }
+            | inr end ↦ absurd (let no = end.2 in cc)
+          ]
+    ]
+
+blocks_clear : (width i : ℕ) (rows : List Row) (b : List Place × List ℤ) → blocks_from width i rows ≡ Ok b → (k : ℕ) → fault_from width i rows k ≡ None
+unfolding blocks_from
+blocks_clear width i [] b h zero = refl
+blocks_clear width i [] b h (suc k) = refl
+blocks_clear width i (r ∷ rows) b h k =
+    let a = bind_ok (block_line width i r) (λ block. blocks_from width (i + 1) rows >>= onto block) b h in
+    let d = bind_ok (blocks_from width (i + 1) rows) (onto a.0) b a.2 in
+    let behind = blocks_clear width (i + 1) rows d.0 d.1 in
+    none_before_next (fault_from width i (r ∷ rows)) (fault_from width (i + 1) rows) k (from_first width i r rows ∙ no_fault (block_line width i r) a.0 a.1) (from_next width i r rows) (λ j lt. behind j) k (omega arith)
+
+-- where the first line gives the width, the faults of the text are those of its blocks
+same_faults_by : (r : Row) (rows : List Row) (w : ℕ) → width_line r ≡ Ok w → (k : ℕ) → line_fault w k (slice_get (r ∷ rows) k) ≡ block_fault w k (slice_get (r ∷ rows) k)
+same_faults_by r rows w e zero = ap (λ (x : Result ℕ Fault). fault_of (x >>= λ v. block_line v 0 r)) e
+same_faults_by r rows w e (suc k) = later (slice_get rows k)
+  where
+    later : (o : Option Row) → line_fault w (suc k) o ≡ block_fault w (suc k) o
+    later None = refl
+    later (Some x) = refl
+
+from_start : (w k : ℕ) (o : Option Row) → block_fault w k o ≡ block_fault w (0 + k) o
+from_start w k o = let same : k ≡ 0 + k = omega arith in ap (λ (j : ℕ). block_fault w j o) same
+
+same_faults : (r : Row) (rows : List Row) (w : ℕ) → width_line r ≡ Ok w → (k : ℕ) → fault_in_rows (r ∷ rows) k ≡ fault_from w 0 (r ∷ rows) k
+same_faults r rows w e k = ap (λ (v : ℕ). line_fault v k (slice_get (r ∷ rows) k)) (width_is r w e) ∙ same_faults_by r rows w e k ∙ from_start w k (slice_get (r ∷ rows) k)
+
+abbrev with_width : ℕ → List Place × List ℤ → Result Table Fault
+with_width w b = done (table w b.0 b.1)
+
+pub fails_first : (rows : List Row) (e : Fault) → table_of_rows rows ≡ Err e → IsFirstFault (fault_in_rows rows) e
+unfolding table_of_rows blocks_from
+fails_first [] e h = absurd cc
+fails_first (r ∷ rows) e h =
+    elim (bind_err (width_line r) (λ w. as_table w (blocks_from w 0 (r ∷ rows))) e h) [
+      | inl stop ↦ record { place = 0; none_before = λ j lt. absurd (omega (arith, lt)); here = ap (λ (x : Result ℕ Fault). fault_of (x >>= λ v. block_line v 0 r)) stop }
+      | inr go ↦
+          elim (bind_err (blocks_from go.0 0 (r ∷ rows)) (with_width go.0) e go.2) [
+            | inl stop ↦
+                let first = blocks_fail go.0 0 (r ∷ rows) e stop in
+                let same = same_faults r rows go.0 go.1 in
+                record { place = first.place; none_before = λ j lt. same j ∙ first.none_before j lt; here = same first.place ∙ first.here }
+            | inr end ↦ absurd (let no = end.2 in cc)
+          ]
+    ]
+
+pub clear_where_read : (rows : List Row) (t : Table) → table_of_rows rows ≡ Ok t → (k : ℕ) → fault_in_rows rows k ≡ None
+unfolding table_of_rows
+clear_where_read [] t h zero = refl
+clear_where_read [] t h (suc k) = refl
+clear_where_read (r ∷ rows) t h k =
+    let a = bind_ok (width_line r) (λ w. as_table w (blocks_from w 0 (r ∷ rows))) t h in
+    let b = bind_ok (blocks_from a.0 0 (r ∷ rows)) (with_width a.0) t a.2 in
+    same_faults r rows a.0 a.1 k ∙ blocks_clear a.0 0 (r ∷ rows) b.0 b.1 k
