@@ -1,0 +1,6 @@
+pub mod Dealing
+pub mod Drawing
+pub mod Holders
+pub mod Seated
+pub mod Turns
+pub mod Workers

@@ -1,0 +1,6 @@
+pub mod DrawSeats
+pub mod Drawn
+pub mod Ledger
+pub mod Refused
+pub mod Rooms
+pub mod Seats
