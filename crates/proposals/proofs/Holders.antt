@@ -38,7 +38,7 @@ or_at (y ∷ ys) zero x a e = some-injective y a e
 or_at (y ∷ ys) (suc i) x a e = or_at ys i x a e
 
 -- what the holder knows of the worker i is what its row says
-row_of : (n : ℕ) (s : St) (h : Boarded n s) (id i : ℕ) (v : Knows) (q : Rack) (r : Row) → get_elem? s.views id ≡ some v → v.holder ≡ Some q → get_elem? h.rows i ≡ some r → get_or q.served i nothing ≡ served_of r
+pub row_of : (n : ℕ) (s : St) (h : Boarded n s) (id i : ℕ) (v : Knows) (q : Rack) (r : Row) → get_elem? s.views id ≡ some v → v.holder ≡ Some q → get_elem? h.rows i ≡ some r → get_or q.served i nothing ≡ served_of r
 row_of n s h id i v q r seat is at = ap (λ (l : List Served). get_or l i nothing) (h.holders id v q seat is).serves ∙ or_at (map served_of h.rows) i nothing (served_of r) (at_map served_of h.rows i r at)
 
 -- a step of the holder, in a row that is not fresh

@@ -1,5 +1,6 @@
 pub mod DrawSeats
 pub mod Drawn
+pub mod Law
 pub mod Ledger
 pub mod Refused
 pub mod Rooms
