@@ -32,3 +32,7 @@ pub use verdict::{Reply, Verdict};
 
 #[cfg(test)]
 mod tests;
+#[cfg(test)]
+mod thread_tests;
+#[cfg(test)]
+mod walk_tests;
