@@ -9,8 +9,8 @@ use Rattle.atomic_table.specs.Seated.{TableId}
 use Rattle.atomic_table.specs.declared.shared.Seat.{Seat}
 use Rattle.atomic_table.proofs.Lists.{at_set, set_else}
 use Rattle.proposals.specs.declared.hand.Hand.{Hand}
-use Rattle.proposals.specs.declared.hand.Share.{Share}
-use Rattle.proposals.specs.Drawn.{one_if, times, past, total, hand, Fits, Given, share, whole, drawing, all_drawn, IsEachBelowOnce, Drew, nobody, cut, one_seat, gathered}
+use Rattle.proposals.specs.declared.hand.Batch.{Batch}
+use Rattle.proposals.specs.Drawn.{one_if, times, past, total, hand, Fits, Given, batch, whole, drawing, all_drawn, IsEachBelowOnce, Drew, nobody, cut, one_seat, gathered}
 use Rattle.proposals.specs.DrawSeats.{IsDrawer}
 use Rattle.proposals.proofs.Dealing.{at_end}
 
@@ -34,20 +34,20 @@ pub past_append : (c : ℕ) (l m : List ℕ) → past c (l ++ m) ≡ past c l + 
 past_append c [] m = omega arith
 past_append c (y ∷ ys) m = let h = past_append c ys m in omega arith
 
-abbrev Each : Share → List Hand → Type 0
+abbrev Each : Batch → List Hand → Type 0
 Each k l = (j : ℕ) (v : Hand) → get_elem? l j ≡ some v → Fits k v
 
-total_below : (k : Share) (l : List Hand) → Each k l → total (λ v. past k.chunks v.drawn) l ≤ total (λ v. v.seats) l
+total_below : (k : Batch) (l : List Hand) → Each k l → total (λ v. past k.chunks v.drawn) l ≤ total (λ v. v.seats) l
 total_below k [] h = omega arith
 total_below k (x ∷ xs) h = let a = (h 0 x refl).once_past in let b = total_below k xs (λ j v e. h (suc j) v e) in omega arith
 
-each_set : (k : Share) (l : List Hand) (i : ℕ) (w : Hand) → Each k l → Fits k w → Each k (set l i w)
+each_set : (k : Batch) (l : List Hand) (i : ℕ) (w : Hand) → Each k l → Fits k w → Each k (set l i w)
 each_set k l i w h mine j v e = ⊎_elim
     (λ (t : (j ≡ i) × (w ≡ v)). subst (λ (x : Hand). Fits k x) t.1 mine)
     (λ (t : (j ≢ i) × (get_elem? l j ≡ some v)). h j v t.1)
     (at_set l i j w v e)
 
-each_snoc : (k : Share) (l : List Hand) (w : Hand) → Each k l → Fits k w → Each k (l ++ w ∷ [])
+each_snoc : (k : Batch) (l : List Hand) (w : Hand) → Each k l → Fits k w → Each k (l ++ w ∷ [])
 each_snoc k l w h mine j v e = ⊎_elim
     (λ (t : get_elem? l j ≡ some v). h j v t)
     (λ (t : (j ≡ length l) × (w ≡ v)). subst (λ (x : Hand). Fits k x) t.1 mine)
@@ -67,7 +67,7 @@ next_bound : (n c d : ℕ) → n ≤ c + d → n + 1 ≤ c + (d + cond (ltb n c)
 next_bound n c d le = grind (arith, nat_tests)
 
 -- a seat that is not done has room: were it done, the seats that are done would still be no more than the seats
-slack : (k : Share) (s : St) (h : Given k s) (id : ℕ) (v : Hand) → get_elem? s.views id ≡ some v → v.seats ≡ 1 → past k.chunks v.drawn ≡ 0 → total (λ x. past k.chunks x.drawn) s.views + 1 ≤ k.seats
+slack : (k : Batch) (s : St) (h : Given k s) (id : ℕ) (v : Hand) → get_elem? s.views id ≡ some v → v.seats ≡ 1 → past k.chunks v.drawn ≡ 0 → total (λ x. past k.chunks x.drawn) s.views + 1 ≤ k.seats
 slack k s h id v at one going =
     let w : Hand = hand v.chunks 1 (k.chunks ∷ []) in
     let p : past k.chunks w.drawn ≡ 1 = let u = is_past k.chunks in omega arith in
@@ -79,7 +79,7 @@ slack k s h id v at one going =
     omega arith
 
 -- a draw
-pub may_draw : (k : Share) (slots id : ℕ) (me : Me (Unit {0}) Hand) → me.0.seats ≡ 1 → past me.0.chunks me.0.drawn ≡ 0 → Allows (Given k) slots id me 0 (λ n. (n + 1) % 18446744073709551616) (Drew (step slots 0 1 0 none) me)
+pub may_draw : (k : Batch) (slots id : ℕ) (me : Me (Unit {0}) Hand) → me.0.seats ≡ 1 → past me.0.chunks me.0.drawn ≡ 0 → Allows (Given k) slots id me 0 (λ n. (n + 1) % 18446744073709551616) (Drew (step slots 0 1 0 none) me)
 may_draw k slots id me one going s h _ at _ = subst Goal (sym found) (w, keeps, tt, given, (let b = h.bound in let c = h.small in omega (arith, room), refl))
   where
     n : ℕ
@@ -127,7 +127,7 @@ may_draw k slots id me one going s h _ at _ = subst Goal (sym found) (w, keeps, 
     }
 
 -- a seat that stands for none may come at any time
-pub may_enter : (k : Share) (slots i : ℕ) → Enters (Given k) slots i (λ _ w. w ≡ nobody)
+pub may_enter : (k : Batch) (slots i : ℕ) → Enters (Given k) slots i (λ _ w. w ≡ nobody)
 may_enter k slots i s h _ _ = (
   nobody,
   record {
@@ -143,7 +143,7 @@ may_enter k slots i s h _ _ = (
 )
 
 -- the first seat gives a seat away
-pub may_cut : (k : Share) (id : ℕ) (v : Hand) → 0 < v.seats → v.drawn ≡ [] → Splits (Given k) id v (cut v) (one_seat v)
+pub may_cut : (k : Batch) (id : ℕ) (v : Hand) → 0 < v.seats → v.drawn ≡ [] → Splits (Given k) id v (cut v) (one_seat v)
 may_cut k id v some_left clean s h at = record {
   counter = h.counter;
   words = h.words;
@@ -160,7 +160,7 @@ may_cut k id v some_left clean s h at = record {
     front = set s.views id (cut v)
 
 -- one seat takes another in
-pub may_gather : (k : Share) (id other : ℕ) (v w : Hand) → 0 < w.seats → Joins (Given k) id v other w (gathered v w) nobody
+pub may_gather : (k : Batch) (id other : ℕ) (v w : Hand) → 0 < w.seats → Joins (Given k) id v other w (gathered v w) nobody
 may_gather k id other v w full s h at apart there = record {
   counter = h.counter;
   words = h.words;
@@ -195,7 +195,7 @@ all_zero x (v ∷ vs) h e =
     omega (arith, clean, more)
 
 -- the last state of a counter, seen by a seat that stands for all: the others stand for none, so it has drawn all that was drawn
-pub all_seen : (k : Share) (id : ℕ) (m : Hand) (ws : List ℕ) (xs : List (Unit {0})) (c : ℕ) → Final (Seen (Given k) id m) ws xs → m.seats ≡ k.seats → get_elem? ws 0 ≡ some c → IsEachBelowOnce c m.drawn
+pub all_seen : (k : Batch) (id : ℕ) (m : Hand) (ws : List ℕ) (xs : List (Unit {0})) (c : ℕ) → Final (Seen (Given k) id m) ws xs → m.seats ≡ k.seats → get_elem? ws 0 ≡ some c → IsEachBelowOnce c m.drawn
 all_seen k id m ws xs c f full at x = subst (λ (z : ℕ). times x m.drawn ≡ one_if (ltb x z)) stands (let a = none_else in let t = total_set (λ (v : Hand). times x v.drawn) s.views id m nobody seat in let p = h.once x in omega arith)
   where
     s : St
@@ -219,7 +219,7 @@ all_seen k id m ws xs c f full at x = subst (λ (z : ℕ). times x m.drawn ≡ o
         (let t = total_set (λ (v : Hand). v.seats) s.views id m nobody seat in let q = h.seats in omega (arith, t, q, full))
 
 -- the counter at the start
-pub may_begin : (c n : ℕ) → c < 4294967296 → n < 4294967296 → Given (share c n) (opening (0 ∷ []) [] (whole (share c n)))
+pub may_begin : (c n : ℕ) → c < 4294967296 → n < 4294967296 → Given (batch c n) (opening (0 ∷ []) [] (whole (batch c n)))
 may_begin c n low few = record {
   counter = 0;
   words = refl;
@@ -230,8 +230,8 @@ may_begin c n low few = record {
   small = omega (arith, low, few);
 }
   where
-    first : Each (share c n) (whole (share c n) ∷ [])
-    first zero v e = subst (λ (x : Hand). Fits (share c n) x) (some-injective (whole (share c n)) v e) record { same = λ _. refl; once_past = omega arith; empty = λ _. refl }
+    first : Each (batch c n) (whole (batch c n) ∷ [])
+    first zero v e = subst (λ (x : Hand). Fits (batch c n) x) (some-injective (whole (batch c n)) v e) record { same = λ _. refl; once_past = omega arith; empty = λ _. refl }
     first (suc j) v e = absurd (some-ne-none v (sym e))
 
 -- one seat fewer to gather

@@ -1,5 +1,5 @@
 -- What the holder's seat holds after a claim, for callers that go on from it.
-use Rattle.std.proofs.Common.{◌≡◌, ℕ, zero, suc, ◌+◌, ◌-◌, ◌<◌, ◌≤◌, List, [], ◌∷◌, length, get_or, set, Some, refl, ap, ◌∙◌, subst, sym, arith, length-set}
+use Rattle.std.proofs.Common.{◌≡◌, ℕ, zero, suc, ◌-◌, ◌<◌, ◌≤◌, List, [], ◌∷◌, length, get_or, set, Some, refl, ap, ◌∙◌, subst, sym, arith, length-set}
 use Rattle.proposals.specs.declared.knows.Served.{Served}
 use Rattle.proposals.specs.Ledger.{nothing, served, claimed_from, answered_to, claiming}
 

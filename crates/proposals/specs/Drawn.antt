@@ -4,7 +4,7 @@ use mathlib.Core.Option.{some}
 use lib.ListN.{get_elem?}
 use Rattle.atomic_table.specs.Table.{State, Me, Step}
 use Rattle.proposals.specs.declared.hand.Hand.{Hand}
-use Rattle.proposals.specs.declared.hand.Share.{Share}
+use Rattle.proposals.specs.declared.hand.Batch.{Batch}
 
 abbrev pub one_if : Bool → ℕ
 one_if b = cond b 1 0
@@ -28,13 +28,13 @@ abbrev pub hand : ℕ → ℕ → List ℕ → Hand
 hand c n d = record { chunks = c; seats = n; drawn = d }
 
 -- a seat that stands for none has drawn nothing, and each seat was past the chunks once at most
-pub record Fits (k : Share) (v : Hand) : Type 0 where
+pub record Fits (k : Batch) (v : Hand) : Type 0 where
   pub same : 0 < v.seats → v.chunks ≡ k.chunks
   pub once_past : past k.chunks v.drawn ≤ v.seats
   pub empty : v.seats ≡ 0 → v.drawn ≡ []
 
 -- The rule: the numbers below the counter stand each once over all seats, and no other number stands there
-pub record Given (k : Share) (s : State (Unit {0}) Hand) : Type 0 where
+pub record Given (k : Batch) (s : State (Unit {0}) Hand) : Type 0 where
   pub counter : ℕ
   pub words : s.words ≡ counter ∷ []
   pub once : (x : ℕ) → total (λ v. times x v.drawn) s.views ≡ one_if (ltb x counter)
@@ -43,10 +43,10 @@ pub record Given (k : Share) (s : State (Unit {0}) Hand) : Type 0 where
   pub each : (j : ℕ) (v : Hand) → get_elem? s.views j ≡ some v → Fits k v
   pub small : k.chunks + k.seats < 18446744073709551616
 
-abbrev pub share : ℕ → ℕ → Share
-share c n = record { chunks = c; seats = n }
+abbrev pub batch : ℕ → ℕ → Batch
+batch c n = record { chunks = c; seats = n }
 
-abbrev pub whole : Share → Hand
+abbrev pub whole : Batch → Hand
 whole k = hand k.chunks k.seats []
 
 -- the seat has drawn one number more

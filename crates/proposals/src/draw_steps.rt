@@ -1,12 +1,12 @@
 //! The rule of the counter, and what its one kind of step tells.
 //! The rule is defined in `specs/Drawn.antt`; `proofs/Drawing.antt` shows that each step keeps it.
-use crate::hand::{Hand, Share};
+use crate::hand::{Batch, Hand};
 use atomic_table::{Join, Play, Split, TableRule};
 
 /// The rule of a counter: over all seats, the numbers below it stand each once.
 pub struct Counts;
 
-impl TableRule<(), Hand, Share> for Counts {
+impl TableRule<(), Hand, Batch> for Counts {
     ghost use Rattle.proposals.specs.Drawn.{Given, whole};
 
     ghost holds = { Given };

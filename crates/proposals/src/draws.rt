@@ -1,19 +1,19 @@
 //! The counter of chunks: a table of one word, from which each seat draws numbers, each number once.
 //! It has one kind of step. Workers draw the chunks that they go over, and whoever has all seats again closes it.
 ghost use Rattle.std.specs.Prelude.{◌≡◌, ◌<◌, ◌≤◌, [], length, IfOk, IfErr, MatchOption};
-ghost use Rattle.proposals.specs.Drawn.{share, whole, new_seats, Gets, GetsNone, all_drawn, IsEachBelowOnce};
+ghost use Rattle.proposals.specs.Drawn.{batch, whole, new_seats, Gets, GetsNone, all_drawn, IsEachBelowOnce};
 ghost use Rattle.proposals.specs.Refused.{no_memory, no_seat};
 
 use crate::draw_seats::{DrawSeat, Lot};
 use crate::draw_steps::{Counts, Deal, Draw, Gather, Sit};
-use crate::hand::{Hand, Share};
+use crate::hand::{Batch, Hand};
 use crate::refused::no_table;
 use atomic_table::{Seat, Table};
 use minelib_reader::Fault;
 use std::alloc::Global;
 use std::marker::PhantomData;
 
-type Counter = Table<(), Hand, Share, Counts, Global>;
+type Counter = Table<(), Hand, Batch, Counts, Global>;
 
 /// A counter from which seats draw the numbers of chunks, from 0.
 #[derive(Drop)]
@@ -35,8 +35,8 @@ pub struct UnnamedDraws {
     chunks: u32,
     seats: u32,
     ghost seated: { seat.table_id ≡ counter.shared.table_id },
-    ghost first: { seat.me ≡ (whole (share chunks seats), []) },
-    ghost keyed: { counter.shared.key ≡ share chunks seats },
+    ghost first: { seat.me ≡ (whole (batch chunks seats), []) },
+    ghost keyed: { counter.shared.key ≡ batch chunks seats },
     ghost wide: { counter.shared.table_id.words ≡ 1 },
     ghost slotless: { counter.shared.table_id.slots ≡ 0 },
 }
@@ -48,7 +48,7 @@ impl UnnamedDraws {
         ensures made { IfOk result (λ draws. (draws.chunks ≡ chunks) × (draws.seats ≡ seats)) }
         ensures refused { IfErr result (λ fault. fault ≡ no_seat) }
     {
-        let key = Share {
+        let key = Batch {
             chunks: chunks as u64,
             seats: seats as u64,
         };

@@ -12,7 +12,7 @@ pub struct Hand {
 
 /// How many chunks and seats there are.
 #[derive(Clone, Copy, Debug)]
-pub struct Share {
+pub struct Batch {
     pub chunks: u64,
     pub seats: u64,
 }

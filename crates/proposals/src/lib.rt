@@ -22,7 +22,7 @@ pub use board::{Board, UnnamedBoard};
 pub use draw_seats::{DrawSeat, Lot};
 pub use draw_steps::Counts;
 pub use draws::{Draws, UnnamedDraws};
-pub use hand::{Hand, Share};
+pub use hand::{Batch, Hand};
 pub use knows::{Desk, Knows, Rack, Served};
 pub use law::ledger_law;
 pub use room::Room;

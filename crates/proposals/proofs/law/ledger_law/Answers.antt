@@ -1,3 +1,4 @@
+-- The table, phase by phase.
 use Rattle.proposals.proofs.Table.{ledger_stands}
 use Rattle.proposals.proofs.law.ledger_law.Goals as goal
 

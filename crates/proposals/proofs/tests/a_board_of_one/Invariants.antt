@@ -1,3 +1,4 @@
+-- The run's board or counter is the one that was just made.
 use Rattle.proposals.proofs.tests.a_board_of_one.Given as goal
 
 abbrev pub ghosts-asks_go_back : goal.ghosts-asks_go_back

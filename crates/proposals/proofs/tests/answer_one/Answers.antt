@@ -1,3 +1,4 @@
+-- The claim is the one that is answered, and neither step changes the number of workers.
 use Rattle.std.proofs.Common.{◌-◌, ◌∙◌}
 use Rattle.proposals.proofs.Serving.{claimed_in, as_long}
 use Rattle.proposals.proofs.tests.answer_one.Goals as goal

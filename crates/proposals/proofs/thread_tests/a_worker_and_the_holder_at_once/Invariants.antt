@@ -1,3 +1,4 @@
+-- The run's board or counter is the one that was just made.
 use Rattle.proposals.proofs.thread_tests.a_worker_and_the_holder_at_once.Given as goal
 
 abbrev pub ghosts-two_threads : goal.ghosts-two_threads

@@ -1,3 +1,4 @@
+-- The run's board or counter is the one that was just made.
 use Rattle.proposals.proofs.walk_tests.a_walk_over_a_board_of_three.Given as goal
 
 abbrev pub ghosts-walk : goal.ghosts-walk

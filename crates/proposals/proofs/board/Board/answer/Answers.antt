@@ -1,3 +1,4 @@
+-- The claimed word may become the verdict's, since the holder's seat knows the claim.
 use Rattle.std.proofs.Common.{Some, sym, ◌∙◌, ◌≡◌, ◌-◌, ◌<◌, subst, ℕ}
 use Rattle.proposals.specs.Ledger.{claimed_from}
 use Rattle.proposals.proofs.Seated.{cell_in, answer_as, answered_as}

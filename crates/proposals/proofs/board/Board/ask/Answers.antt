@@ -1,3 +1,4 @@
+-- A seat that remembers no ask knows of none, so its word is idle or answered and may become the ask's.
 use Rattle.std.proofs.Common.{arith, Option, sym, ap, ◌∙◌, ◌<◌, subst, ℕ}
 use Rattle.proposals.specs.Seats.{IsWorker}
 use Rattle.proposals.proofs.Seated.{ask_as, asked_as}

@@ -1,3 +1,4 @@
+-- The word is exchanged only where the ask still stands; else the seat is as it was.
 use Rattle.std.proofs.Common.{None, sym, ap, ◌∙◌, ◌≡◌, ◌-◌, ◌<◌, subst, ℕ}
 use Rattle.proposals.specs.Ledger.{claimed_from, claiming}
 use Rattle.proposals.proofs.Seated.{cell_in, claim_as, claimed_as, not_claimed_as}

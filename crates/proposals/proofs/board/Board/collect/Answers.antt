@@ -1,3 +1,4 @@
+-- A load, which collects the reply where the word has a verdict.
 use Rattle.std.proofs.Common.{Option, sym, ap, ◌∙◌, ◌<◌, subst, ℕ}
 use Rattle.proposals.specs.Seats.{IsWorker}
 use Rattle.proposals.proofs.Seated.{collect_as}

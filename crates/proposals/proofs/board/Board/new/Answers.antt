@@ -1,3 +1,4 @@
+-- Each split deals the next worker its seat.
 use Rattle.std.proofs.Common.{arith, sym, ap, ◌<◌, subst, ℕ, replicate}
 use Rattle.proposals.specs.Ledger.{rack, nothing}
 use Rattle.proposals.proofs.Dealing.{may_deal}

@@ -1,3 +1,4 @@
+-- So many seats are dealt, and the holder's seat counts them.
 use Rattle.std.proofs.Common.{◌-◌, ◌≡◌, ◌≤◌, [], None, Some, replicate}
 use Rattle.proposals.specs.Ledger.{knows, rack, nothing, desks}
 use Rattle.proposals.proofs.board.Board.new.Given as goal

@@ -1,3 +1,4 @@
+-- The two seats are one for a load, which sees both sides of the worker's ledger, and are parted again.
 use Rattle.std.proofs.Common.{arith, sym, ap, ◌∙◌, subst}
 use Rattle.proposals.specs.Seats.{IsHolder}
 use Rattle.proposals.proofs.Dealing.{may_sit, may_meet, may_part}

@@ -1,3 +1,4 @@
+-- The load tells the arc that is claimed, so the store gives back the very ask.
 use Rattle.std.proofs.Common.{arith, Some, sym, ap, ◌∙◌, ◌≡◌, ◌-◌, ◌<◌, subst, ℕ}
 use Rattle.proposals.specs.Seats.{rack_in}
 use Rattle.proposals.specs.Ledger.{claimed_from, rack_or}

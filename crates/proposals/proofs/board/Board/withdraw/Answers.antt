@@ -1,3 +1,4 @@
+-- The word is exchanged only where the ask still stands unclaimed.
 use Rattle.std.proofs.Common.{Option, sym, ap, ◌∙◌, ◌<◌, subst, ℕ}
 use Rattle.proposals.specs.Seats.{IsWorker}
 use Rattle.proposals.proofs.Seated.{withdraw_as}

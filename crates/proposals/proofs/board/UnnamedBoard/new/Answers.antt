@@ -1,3 +1,4 @@
+-- At the start all words are 0 and all rows are fresh.
 use Rattle.std.proofs.Common.{[], sym, ◌∙◌, subst, ℕ, List}
 use Rattle.atomic_table.specs.Table.{opening}
 use Rattle.proposals.specs.Ledger.{Boarded, opener}

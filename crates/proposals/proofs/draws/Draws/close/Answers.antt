@@ -1,3 +1,4 @@
+-- The seat that gathered all others stands for every seat, so what it has drawn is all that was drawn.
 use Rattle.std.proofs.Common.{arith, sym, ap, ◌∙◌, ◌≡◌, ◌+◌, ◌++◌, ◌∷◌, [], length, length-append}
 use Rattle.proposals.specs.Drawn.{times, all_drawn}
 use Rattle.proposals.proofs.Drawing.{may_enter, may_gather, all_seen, no_seats, times_append, times_last}

@@ -1,3 +1,4 @@
+-- What is gathered and what is left are together what there was.
 use Rattle.std.proofs.Common.{◌+◌, ◌≡◌, ℕ, [], length}
 use Rattle.proposals.specs.Drawn.{times, all_drawn}
 use Rattle.proposals.proofs.draws.Draws.close.Given as goal

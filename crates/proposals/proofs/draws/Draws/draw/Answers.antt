@@ -1,3 +1,4 @@
+-- A seat that is not done may draw, and is done where its number is not below the chunks.
 use Rattle.std.proofs.Common.{arith, Bool, true, sym, ap, subst, ◌∙◌}
 use Rattle.proposals.specs.DrawSeats.{IsDrawer}
 use Rattle.proposals.specs.Drawn.{one_if}

@@ -1,3 +1,4 @@
+-- Each split takes one seat off those that the first seat stands for.
 use Rattle.std.proofs.Common.{arith, ap, ◌<◌}
 use Rattle.proposals.proofs.Drawing.{may_cut}
 use Rattle.proposals.proofs.draws.Draws.new.Goals as goal

@@ -1,3 +1,4 @@
+-- The first seat stands for the seats that are not dealt.
 use Rattle.std.proofs.Common.{◌-◌, ◌≡◌, ◌≤◌, []}
 use Rattle.proposals.specs.Drawn.{hand, new_seats}
 use Rattle.proposals.proofs.draws.Draws.new.Given as goal

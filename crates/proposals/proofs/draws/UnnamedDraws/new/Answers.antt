@@ -1,3 +1,4 @@
+-- At the start the counter is 0 and nothing is drawn.
 use Rattle.std.proofs.Common.{arith}
 use Rattle.proposals.proofs.Drawing.{may_begin}
 use Rattle.proposals.proofs.draws.UnnamedDraws.new.Goals as goal
