@@ -1,0 +1,195 @@
+-- What the holder's steps owe.
+use Rattle.std.proofs.Common.{◌≡◌, ◌≢◌, ◌⊎◌, ℕ, zero, suc, ◌+◌, ◌<◌, ◌≤◌, List, [], ◌∷◌, ◌++◌, map, length, get_or, set, Some, None, eqb, sym, refl, ap, ◌∙◌, subst, inl, inr, ⊎_elim, arith, eq-eqb, ne_eqb}
+use mathlib.Core.Logic.{dite}
+use mathlib.Core.Option.{none, some, some-injective, some-ne-none}
+use native.Mathlib.Decide.{ℕ_discrete}
+use lib.ListN.{get_elem?}
+use prog.Atomic.{either}
+use Rattle.atomic_table.specs.Table.{Me, Act, Valid, step, keeps, stepped, Allows, carried_after}
+use Rattle.atomic_table.proofs.Lists.{at_map}
+use Rattle.proposals.specs.declared.verdict.Verdict.{Verdict}
+use Rattle.proposals.specs.declared.verdict.Verdict.TheVariants.{Applied, Stale, Spent}
+use Rattle.proposals.specs.declared.verdict.Reply.{Reply}
+use Rattle.proposals.specs.declared.knows.Desk.{Desk}
+use Rattle.proposals.specs.declared.knows.Served.{Served}
+use Rattle.proposals.specs.declared.knows.Rack.{Rack}
+use Rattle.proposals.specs.declared.knows.Knows.{Knows}
+use Rattle.proposals.specs.Ledger.{code, reply, arcs, Phase, idle, asks, claims, gave, took, Row, row, SmallAt, fresh, served_of, word_of, asked_at, collected_at, word_at, DeskFits, RackFits, Boarded, knows, nothing, rack, served, answered_to, claimed_from, claiming, answering, unclaiming, Claimed, Reads, Answered, Unclaimed, Meets, Agreed}
+use Rattle.proposals.proofs.Turns.{KeepsDesk, desk_kept, arcs_snoc, turn, word_is, still, racks_set, St}
+use Rattle.proposals.proofs.Workers.{low}
+
+abbrev Sat : Type 0
+Sat = Me (Unit {0}) Knows
+
+same_code : (v u : Verdict) → code v ≡ code u → v ≡ u
+same_code Applied Applied e = refl
+same_code Applied Stale e = absurd (omega arith)
+same_code Applied Spent e = absurd (omega arith)
+same_code Stale Applied e = absurd (omega arith)
+same_code Stale Stale e = refl
+same_code Stale Spent e = absurd (omega arith)
+same_code Spent Applied e = absurd (omega arith)
+same_code Spent Stale e = absurd (omega arith)
+same_code Spent Spent e = refl
+
+or_at : {A : Type 0} (l : List A) (i : ℕ) (x a : A) → get_elem? l i ≡ some a → get_or l i x ≡ a
+or_at [] i x a e = absurd (some-ne-none a (sym e))
+or_at (y ∷ ys) zero x a e = some-injective y a e
+or_at (y ∷ ys) (suc i) x a e = or_at ys i x a e
+
+-- what the holder knows of the worker i is what its row says
+pub row_of : (n : ℕ) (s : St) (h : Boarded n s) (id i : ℕ) (v : Knows) (q : Rack) (r : Row) → get_elem? s.views id ≡ some v → v.holder ≡ Some q → get_elem? h.rows i ≡ some r → get_or q.served i nothing ≡ served_of r
+row_of n s h id i v q r seat is at = ap (λ (l : List Served). get_or l i nothing) (h.holders id v q seat is).serves ∙ or_at (map served_of h.rows) i nothing (served_of r) (at_map served_of h.rows i r at)
+
+-- a step of the holder, in a row that is not fresh
+serves : (n : ℕ) (s : St) (h : Boarded n s) (id i k : ℕ) (c : List (ℕ × Unit {0})) (v : Knows) (q : Rack) (x : Served) (r r' : Row) → get_elem? s.views id ≡ some v → v.holder ≡ Some q → get_elem? h.rows i ≡ some r
+    → k ≡ word_of r' → SmallAt r'.phase → r ≢ fresh → KeepsDesk r r' → served_of r' ≡ x
+    → Boarded n (stepped s i k id c (knows v.worker (Some (rack q.dealt (set q.served i x)))) keeps)
+serves n s h id i k c v q x r r' seat is at word small old keep new =
+    let f = h.holders id v q seat is in
+    let in_use : i < h.dealt = ⊎_elim (λ (lt : i < h.dealt). lt) (λ (le : h.dealt ≤ i). absurd (old (h.new i r le at))) (below i h.dealt) in
+    turn n s h id i k c r r' (knows v.worker (Some (rack q.dealt (set q.served i x)))) at word small in_use (inl keep) (inr f.own)
+    (λ d e. mine d e)
+    (λ y e. let same : rack q.dealt (set q.served i x) ≡ y = cc in subst (λ (z : Rack). RackFits (set h.rows i r') h.holder h.dealt id z) same record {
+      own = f.own;
+      count = f.count;
+      serves = ap (λ (l : List Served). set l i x) f.serves ∙ sym (racks_set h.rows i r r' at x new);
+    })
+  where
+    below : (a b : ℕ) → (a < b) ⊎ (b ≤ a)
+    below a zero = inr (omega arith)
+    below zero (suc b) = inl (omega arith)
+    below (suc a) (suc b) = ⊎_elim (λ (x : a < b). inl (omega arith)) (λ (y : b ≤ a). inr (omega arith)) (below a b)
+
+    mine : (d : Desk) → v.worker ≡ Some d → DeskFits (set h.rows i r') h.owner h.dealt id d
+    mine d e = desk_kept h.rows i r r' at h.owner h.dealt id d keep (h.workers id v d seat e)
+
+asks_not_fresh : (d : List Reply) (b : ℕ) → row d (asks b) ≢ fresh
+asks_not_fresh d b e = let f : asks b ≡ idle = ap (λ (r : Row). r.phase) e in cc
+
+claims_not_fresh : (d : List Reply) (b : ℕ) → row d (claims b) ≢ fresh
+claims_not_fresh d b e = let f : claims b ≡ idle = ap (λ (r : Row). r.phase) e in cc
+
+module _ (n slots id i : ℕ) (me : Sat) (q : Rack) (is : me.0.holder ≡ Some q) (inside : i < n) where
+  row_there : (s : St) (h : Boarded n s) → (r : Row) × (get_elem? h.rows i ≡ some r)
+  row_there s h = there h.rows i (omega (arith, h.wide))
+    where
+      there : (l : List Row) (j : ℕ) → j < length l → (r : Row) × (get_elem? l j ≡ some r)
+      there [] j lt = absurd (omega arith)
+      there (x ∷ xs) zero lt = (x, refl)
+      there (x ∷ xs) (suc j) lt = there xs j (omega arith)
+
+  -- `claim_ask`: a compare_exchange of the arc a, as asked, to claimed
+  module _ (a : ℕ) (small : a < 4294967296) where
+    abbrev Claims : St → Type 0
+    Claims s = (w : Knows) × (x : Act (Unit {0})) × Valid s.homes me.1 x × Boarded n (stepped s i (either (eqb (get_or s.words i 0) (4294967296 + a)) (8589934592 + a) (get_or s.words i 0)) id me.1 w x)
+        × Claimed (step slots i (4294967296 + a) (8589934592 + a) none) me (get_or s.words i 0) (w, carried_after me.1 x)
+
+    claims_not : (s : St) (h : Boarded n s) (r : Row) → get_elem? s.views id ≡ some me.0 → get_elem? h.rows i ≡ some r → word_at r.phase ≢ 4294967296 + a → Claims s
+    claims_not s h r seat at other =
+        let ne : get_or s.words i 0 ≢ 4294967296 + a = λ e. other (sym (word_is n s h i r at) ∙ e) in (
+          me.0,
+          keeps,
+          tt,
+          subst (λ b. Boarded n (stepped s i (either b (8589934592 + a) (get_or s.words i 0)) id me.1 me.0 keeps)) (sym (ne_eqb _ _ ne)) (still n s h id i me.1 me.0 r seat at),
+          λ y b e f. ((λ hit. absurd (ne hit)), (λ _. refl)),
+        )
+
+    claims_at : (s : St) (h : Boarded n s) (done : List Reply) (p : Phase) → get_elem? s.views id ≡ some me.0 → get_elem? h.rows i ≡ some (row done p) → Claims s
+    claims_at s h done idle seat at = claims_not s h (row done idle) seat at (λ e. omega arith)
+    claims_at s h done (took r) seat at = claims_not s h (row done (took r)) seat at (λ e. let l = low r.verdict in omega arith)
+    claims_at s h done (gave r) seat at = claims_not s h (row done (gave r)) seat at (λ e. let l = low r.verdict in omega arith)
+    claims_at s h done (claims b) seat at = claims_not s h (row done (claims b)) seat at (λ e. omega arith)
+    claims_at s h done (asks b) seat at = dite (ℕ_discrete b a)
+        (λ same.
+        let hit : get_or s.words i 0 ≡ 4294967296 + a = word_is n s h i (row done (asks b)) at ∙ ap (λ (x : ℕ). 4294967296 + x) same in
+        let knew : get_or q.served i nothing ≡ served done None = row_of n s h id i me.0 q (row done (asks b)) seat is at in
+        let x : Served = served (answered_to q.served i) (Some a) in (
+          knows me.0.worker (Some (rack q.dealt (set q.served i x))),
+          keeps,
+          tt,
+          subst (λ y. Boarded n (stepped s i (either y (8589934592 + a) (get_or s.words i 0)) id me.1 (knows me.0.worker (Some (rack q.dealt (set q.served i x)))) keeps)) (sym (eq-eqb _ _ hit))
+              (serves n s h id i (8589934592 + a) me.1 me.0 q x (row done (asks b)) (row done (claims a)) seat is at refl small (asks_not_fresh done b) (ap (λ (y : ℕ). arcs done ++ y ∷ []) (sym same), refl)
+              (λ k. served (sym (ap (λ (z : Served). z.answered) knew) k) (Some a))),
+          λ y c e f. ((λ _. let g : a ≡ c = omega arith in let m : q ≡ y = cc in (ap (λ (z : Rack). claimed_from z.served i) (sym m) ∙ ap (λ (z : Served). z.claimed) knew, λ k. (knows me.0.worker (Some (rack (m k).dealt (claiming (m k).served i (g k)))), me.1))), (λ miss. absurd (miss hit))),
+        ))
+        (λ ne. claims_not s h (row done (asks b)) seat at (λ e. ne (omega arith)))
+
+    pub may_claim : Allows (Boarded n) slots id me i (λ x. either (eqb x (4294967296 + a)) (8589934592 + a) x) (Claimed (step slots i (4294967296 + a) (8589934592 + a) none) me)
+    may_claim s h _ seat _ = let r = row_there s h in claims_at s h r.0.done r.0.phase seat r.1
+
+  -- the arc a is claimed: the holder may answer, or give the ask back
+  module _ (a : ℕ) (has : claimed_from q.served i ≡ Some a) where
+    -- the row of the worker i is then this
+    row_claimed : (s : St) (h : Boarded n s) (seat : get_elem? s.views id ≡ some me.0) → (done : List Reply) × (get_elem? h.rows i ≡ some (row done (claims a))) × (a < 4294967296) × (answered_to q.served i ≡ done)
+    row_claimed s h seat = let r = row_there s h in by r.0.done r.0.phase r.1
+      where
+        by : (done : List Reply) (p : Phase) → get_elem? h.rows i ≡ some (row done p) → (d : List Reply) × (get_elem? h.rows i ≡ some (row d (claims a))) × (a < 4294967296) × (answered_to q.served i ≡ d)
+        by done idle at = absurd (let k : claimed_from q.served i ≡ None = ap (λ (z : Served). z.claimed) (row_of n s h id i me.0 q (row done idle) seat is at) in cc)
+        by done (asks b) at = absurd (let k : claimed_from q.served i ≡ None = ap (λ (z : Served). z.claimed) (row_of n s h id i me.0 q (row done (asks b)) seat is at) in cc)
+        by done (gave b) at = absurd (let k : claimed_from q.served i ≡ None = ap (λ (z : Served). z.claimed) (row_of n s h id i me.0 q (row done (gave b)) seat is at) in cc)
+        by done (took b) at = absurd (let k : claimed_from q.served i ≡ None = ap (λ (z : Served). z.claimed) (row_of n s h id i me.0 q (row done (took b)) seat is at) in cc)
+        by done (claims b) at =
+            let knew = row_of n s h id i me.0 q (row done (claims b)) seat is at in
+            let k : claimed_from q.served i ≡ Some b = ap (λ (z : Served). z.claimed) knew in
+            let same : b ≡ a = cc in
+            (done, subst (λ (x : ℕ). get_elem? h.rows i ≡ some (row done (claims x))) same at, subst (λ (x : ℕ). x < 4294967296) same (h.small i (row done (claims b)) at), ap (λ (z : Served). z.answered) knew)
+
+    pub may_read : Allows (Boarded n) slots id me i (λ x. x) (Reads (step slots i 0 0 none) me)
+    may_read s h _ seat _ =
+        let r = row_claimed s h seat in
+        let w = word_is n s h i (row r.0 (claims a)) r.1 in (
+          me.0,
+          keeps,
+          tt,
+          still n s h id i me.1 me.0 (row r.0 (claims a)) seat r.1,
+          (refl, λ y b e f. let g : q ≡ y = cc in let k : a ≡ b = let m : Some a ≡ Some b = sym has ∙ (ap (λ (z : Rack). claimed_from z.served i) g ∙ f) in cc in (w ∙ ap (λ (z : ℕ). 8589934592 + z) k, subst (λ (z : ℕ). z < 4294967296) k r.2)),
+        )
+
+    pub may_answer : (v : Verdict) → Allows (Boarded n) slots id me i (λ _. code v) (λ _. Answered (step slots i (code v) 0 none) me (code v))
+    may_answer v s h _ seat _ =
+        let r = row_claimed s h seat in
+        let x : Served = served (answered_to q.served i ++ reply a v ∷ []) None in (
+          knows me.0.worker (Some (rack q.dealt (set q.served i x))),
+          keeps,
+          tt,
+          serves n s h id i (code v) me.1 me.0 q x (row r.0 (claims a)) (row r.0 (gave (reply a v))) seat is r.1 refl tt (claims_not_fresh r.0 a) (arcs_snoc r.0 (reply a v), refl)
+              (λ k. served (sym r.3 k ++ reply a v ∷ []) None),
+          λ y b u e f c. let g : q ≡ y = cc in let k : a ≡ b = let m : Some a ≡ Some b = sym has ∙ (ap (λ (z : Rack). claimed_from z.served i) g ∙ f) in cc in
+              let same : v ≡ u = same_code v u c in
+              λ j. (knows me.0.worker (Some (rack (g j).dealt (answering (g j).served i (reply (k j) (same j))))), me.1),
+        )
+
+    pub may_unclaim : Allows (Boarded n) slots id me i (λ _. 4294967296 + a) (λ _. Unclaimed (step slots i (4294967296 + a) 0 none) me (4294967296 + a))
+    may_unclaim s h _ seat _ =
+        let r = row_claimed s h seat in
+        let x : Served = served (answered_to q.served i) None in (
+          knows me.0.worker (Some (rack q.dealt (set q.served i x))),
+          keeps,
+          tt,
+          serves n s h id i (4294967296 + a) me.1 me.0 q x (row r.0 (claims a)) (row r.0 (asks a)) seat is r.1 refl r.2 (claims_not_fresh r.0 a) (refl, refl) (λ k. served (sym r.3 k) None),
+          λ y e. let g : q ≡ y = cc in λ j. (knows me.0.worker (Some (rack (g j).dealt (unclaiming (g j).served i))), me.1),
+        )
+
+-- the two seats as one: what the ledger says of both
+pub may_agree : (n slots id : ℕ) (me : Sat) (d : Desk) (q : Rack) → me.0.worker ≡ Some d → me.0.holder ≡ Some q → Allows (Boarded n) slots id me d.cell (λ x. x) (Agreed (step slots d.cell 0 0 none) me)
+may_agree n slots id me d q is has s h _ seat _ =
+    let f = h.workers id me.0 d seat is in
+    let knew = row_of n s h id d.cell me.0 q f.at seat has f.is in (
+      me.0,
+      keeps,
+      tt,
+      still n s h id d.cell me.1 me.0 f.at seat f.is,
+      (
+        refl,
+        λ x y e g. let same : d ≡ x = cc in let same' : q ≡ y = cc in
+            subst (λ (z : Desk × Rack). Meets z.0 (get_or z.1.served z.0.cell nothing)) (λ k. (same k, same' k)) (subst (λ (z : Served). Meets d z) (sym knew) (meets d f.at.done f.at.phase f.asks f.takes)),
+      ),
+    )
+  where
+    meets : (d : Desk) (done : List Reply) (p : Phase) → d.asked ≡ asked_at done p → d.collected ≡ collected_at done p → Meets d (served_of (row done p))
+    meets d done idle a b = inl (a, inl b)
+    meets d done (asks x) a b = inr (x, a, b)
+    meets d done (claims x) a b = inr (x, a, b)
+    meets d done (gave r) a b = inl (a, inr (r, ap (λ l. l ++ r ∷ []) (sym b)))
+    meets d done (took r) a b = inl (a, inl b)

@@ -1,0 +1,268 @@
+-- The ledger of each worker: what it asked (Q), what was answered to it (R), what it collected (K), and what is claimed from it (C).
+use Rattle.std.specs.Prelude.{◌≡◌, ◌≢◌, ◌⊎◌, ℕ, zero, suc, ◌+◌, ◌<◌, ◌≤◌, List, [], ◌∷◌, ◌++◌, map, length, replicate, slice_index_or as get_or, slice_set as set, Option, Some, None}
+use mathlib.Core.Option.{some}
+use lib.ListN.{get_elem?}
+use Rattle.atomic_table.specs.Table.{State, Me, Step}
+use Rattle.proposals.specs.declared.verdict.Verdict.{Verdict}
+use Rattle.proposals.specs.declared.verdict.Verdict.TheVariants.{Applied, Stale, Spent}
+use Rattle.proposals.specs.declared.verdict.Reply.{Reply}
+use Rattle.proposals.specs.declared.knows.Desk.{Desk}
+use Rattle.proposals.specs.declared.knows.Served.{Served}
+use Rattle.proposals.specs.declared.knows.Rack.{Rack}
+use Rattle.proposals.specs.declared.knows.Knows.{Knows}
+
+abbrev pub code : Verdict → ℕ
+code Applied = 1
+code Stale = 2
+code Spent = 3
+
+abbrev pub reply : ℕ → Verdict → Reply
+reply a v = record { arc = a; verdict = v }
+
+abbrev pub arcs : List Reply → List ℕ
+arcs = map (λ (r : Reply). r.arc)
+
+-- where a worker stands, beside the replies that were done with before
+pub data Phase : Type 0 where
+  idle : Phase
+  asks : ℕ → Phase
+  claims : ℕ → Phase
+  gave : Reply → Phase
+  took : Reply → Phase
+
+pub record Row : Type 0 where
+  pub done : List Reply
+  pub phase : Phase
+
+abbrev pub row : List Reply → Phase → Row
+row d p = record { done = d; phase = p }
+
+abbrev pub word_at : Phase → ℕ
+word_at idle = 0
+word_at (asks a) = 4294967296 + a
+word_at (claims a) = 8589934592 + a
+word_at (gave r) = code r.verdict
+word_at (took r) = code r.verdict
+
+abbrev pub asked_at : List Reply → Phase → List ℕ
+asked_at d idle = arcs d
+asked_at d (asks a) = arcs d ++ a ∷ []
+asked_at d (claims a) = arcs d ++ a ∷ []
+asked_at d (gave r) = arcs (d ++ r ∷ [])
+asked_at d (took r) = arcs (d ++ r ∷ [])
+
+abbrev pub answered_at : List Reply → Phase → List Reply
+answered_at d idle = d
+answered_at d (asks a) = d
+answered_at d (claims a) = d
+answered_at d (gave r) = d ++ r ∷ []
+answered_at d (took r) = d ++ r ∷ []
+
+abbrev pub collected_at : List Reply → Phase → List Reply
+collected_at d idle = d
+collected_at d (asks a) = d
+collected_at d (claims a) = d
+collected_at d (gave r) = d
+collected_at d (took r) = d ++ r ∷ []
+
+abbrev pub claimed_at : Phase → Option ℕ
+claimed_at idle = None
+claimed_at (asks a) = None
+claimed_at (claims a) = Some a
+claimed_at (gave r) = None
+claimed_at (took r) = None
+
+abbrev pub SmallAt : Phase → Type 0
+SmallAt idle = Unit {0}
+SmallAt (asks a) = a < 4294967296
+SmallAt (claims a) = a < 4294967296
+SmallAt (gave r) = Unit {0}
+SmallAt (took r) = Unit {0}
+
+abbrev pub word_of : Row → ℕ
+word_of r = word_at r.phase
+
+abbrev pub asked : Row → List ℕ
+asked r = asked_at r.done r.phase
+
+abbrev pub collected : Row → List Reply
+collected r = collected_at r.done r.phase
+
+abbrev pub served_of : Row → Served
+served_of r = record { answered = answered_at r.done r.phase; claimed = claimed_at r.phase }
+
+abbrev pub fresh : Row
+fresh = row [] idle
+
+-- what the rule says of a worker's knowledge
+pub record DeskFits (rows : List Row) (owner : ℕ → ℕ) (most seat : ℕ) (d : Desk) : Type 0 where
+  pub own : owner d.cell ≡ seat
+  pub within : d.cell < most
+  pub at : Row
+  pub is : get_elem? rows d.cell ≡ some at
+  pub asks : d.asked ≡ asked at
+  pub takes : d.collected ≡ collected at
+
+-- and of the holder's
+pub record RackFits (rows : List Row) (holder dealt seat : ℕ) (r : Rack) : Type 0 where
+  pub own : holder ≡ seat
+  pub count : r.dealt ≡ dealt
+  pub serves : r.served ≡ map served_of rows
+
+-- The rule. There is one row for each worker, which gives its word and what its seat and the holder's seat know
+pub record Boarded (n : ℕ) (s : State (Unit {0}) Knows) : Type 0 where
+  pub rows : List Row
+  pub owner : ℕ → ℕ
+  pub holder : ℕ
+  pub dealt : ℕ
+  pub words : s.words ≡ map word_of rows
+  pub wide : length rows ≡ n
+  pub small : (i : ℕ) (r : Row) → get_elem? rows i ≡ some r → SmallAt r.phase
+  pub new : (i : ℕ) (r : Row) → dealt ≤ i → get_elem? rows i ≡ some r → r ≡ fresh
+  pub workers : (j : ℕ) (v : Knows) (d : Desk) → get_elem? s.views j ≡ some v → v.worker ≡ Some d → DeskFits rows owner dealt j d
+  pub holders : (j : ℕ) (v : Knows) (r : Rack) → get_elem? s.views j ≡ some v → v.holder ≡ Some r → RackFits rows holder dealt j r
+
+abbrev pub nothing : Served
+nothing = record { answered = []; claimed = None }
+
+abbrev pub knows : Option Desk → Option Rack → Knows
+knows w h = record { worker = w; holder = h }
+
+abbrev pub desk : ℕ → List ℕ → List Reply → Desk
+desk i q k = record { cell = i; asked = q; collected = k }
+
+abbrev pub rack : ℕ → List Served → Rack
+rack n ss = record { dealt = n; served = ss }
+
+abbrev pub opener : ℕ → Knows
+opener n = knows None (Some (rack 0 (replicate n nothing)))
+
+abbrev pub nobody : Knows
+nobody = knows None None
+
+-- no ask is open
+abbrev pub IsIdle : Desk → Type 0
+IsIdle d = d.asked ≡ arcs d.collected
+
+-- the ask for this arc is open
+abbrev pub IsOpen : Desk → ℕ → Type 0
+IsOpen d a = d.asked ≡ arcs d.collected ++ a ∷ []
+
+abbrev pub asking : Desk → ℕ → Desk
+asking d a = desk d.cell (d.asked ++ a ∷ []) d.collected
+
+abbrev pub withdrawn : Desk → Desk
+withdrawn d = desk d.cell (arcs d.collected) d.collected
+
+abbrev pub collecting : Desk → Reply → Desk
+collecting d r = desk d.cell d.asked (d.collected ++ r ∷ [])
+
+abbrev Sat : Type 0
+Sat = Me (Unit {0}) Knows
+
+abbrev At : Type 0
+At = Step (Unit {0})
+
+-- What each kind of step tells.
+abbrev pub Asked : At → Sat → ℕ → Sat → Type 0
+Asked st m n m' = (d : Desk) (a : ℕ) → m.0.worker ≡ Some d → n ≡ 4294967296 + a → m' ≡ (knows (Some (asking d a)) m.0.holder, m.1)
+
+abbrev pub Withdrew : At → Sat → ℕ → Sat → Type 0
+Withdrew st m n m' = (d : Desk) → m.0.worker ≡ Some d → (n ≡ st.first → m' ≡ (knows (Some (withdrawn d)) m.0.holder, m.1)) × (n ≢ st.first → m' ≡ m)
+
+abbrev pub Collected : At → Sat → ℕ → Sat → Type 0
+Collected st m n m' = (d : Desk) (a : ℕ) → m.0.worker ≡ Some d → IsOpen d a
+    → (n < 4 → (v : Verdict) × (n ≡ code v) × (m' ≡ (knows (Some (collecting d (reply a v))) m.0.holder, m.1))) × (4 ≤ n → m' ≡ m)
+
+-- The holder's side.
+abbrev pub served : List Reply → Option ℕ → Served
+served rs c = record { answered = rs; claimed = c }
+
+-- R and C of a worker
+abbrev pub answered_to : List Served → ℕ → List Reply
+answered_to ss i = (get_or ss i nothing).answered
+
+abbrev pub claimed_from : List Served → ℕ → Option ℕ
+claimed_from ss i = (get_or ss i nothing).claimed
+
+abbrev pub serving : Rack → ℕ → Served → Rack
+serving q i x = rack q.dealt (set q.served i x)
+
+-- the arc a is claimed from a worker that had none claimed
+abbrev pub claiming : List Served → ℕ → ℕ → List Served
+claiming ss i a = set ss i (served (answered_to ss i) (Some a))
+
+abbrev pub answering : List Served → ℕ → Reply → List Served
+answering ss i r = set ss i (served (answered_to ss i ++ r ∷ []) None)
+
+abbrev pub unclaiming : List Served → ℕ → List Served
+unclaiming ss i = set ss i (served (answered_to ss i) None)
+
+abbrev pub Claimed : At → Sat → ℕ → Sat → Type 0
+Claimed st m n m' = (q : Rack) (a : ℕ) → m.0.holder ≡ Some q → st.first ≡ 4294967296 + a
+    → (n ≡ st.first → (claimed_from q.served st.word ≡ None) × (m' ≡ (knows m.0.worker (Some (rack q.dealt (claiming q.served st.word a))), m.1))) × (n ≢ st.first → m' ≡ m)
+
+abbrev pub Reads : At → Sat → ℕ → Sat → Type 0
+Reads st m n m' = (m' ≡ m) × ((q : Rack) (a : ℕ) → m.0.holder ≡ Some q → claimed_from q.served st.word ≡ Some a → (n ≡ 8589934592 + a) × (a < 4294967296))
+
+abbrev pub Answered : At → Sat → ℕ → Sat → Type 0
+Answered st m n m' = (q : Rack) (a : ℕ) (v : Verdict) → m.0.holder ≡ Some q → claimed_from q.served st.word ≡ Some a → n ≡ code v → m' ≡ (knows m.0.worker (Some (rack q.dealt (answering q.served st.word (reply a v)))), m.1)
+
+abbrev pub Unclaimed : At → Sat → ℕ → Sat → Type 0
+Unclaimed st m n m' = (q : Rack) → m.0.holder ≡ Some q → m' ≡ (knows m.0.worker (Some (rack q.dealt (unclaiming q.served st.word))), m.1)
+
+-- Meeting: what the ledger says of a worker's seat and the holder's seat together
+abbrev pub Meets : Desk → Served → Type 0
+Meets d x =
+    ((d.asked ≡ arcs x.answered) × ((d.collected ≡ x.answered) ⊎ ((r : Reply) × (x.answered ≡ d.collected ++ r ∷ []))))
+    ⊎ ((a : ℕ) × (d.asked ≡ arcs x.answered ++ a ∷ []) × (d.collected ≡ x.answered))
+
+abbrev pub Agreed : At → Sat → ℕ → Sat → Type 0
+Agreed st m n m' = (m' ≡ m) × ((d : Desk) (q : Rack) → m.0.worker ≡ Some d → m.0.holder ≡ Some q → Meets d (get_or q.served d.cell nothing))
+
+abbrev pub sat : At → Sat → ℕ → Sat → Type 0
+sat st m n m' = m'.0 ≡ nobody
+
+-- The holder's seat gives the next worker a seat.
+abbrev pub one_more : Option Rack → Option Rack
+one_more None = None
+one_more (Some q) = Some (rack (q.dealt + 1) q.served)
+
+abbrev pub newcomer : Option Rack → Option Desk
+newcomer None = None
+newcomer (Some q) = Some (desk q.dealt [] [])
+
+abbrev pub dealing : Knows → Knows
+dealing v = knows v.worker (one_more v.holder)
+
+abbrev pub dealt_to : Knows → Knows
+dealt_to v = knows (newcomer v.holder) None
+
+-- the two seats as one
+abbrev pub meeting : Knows → Knows → Knows
+meeting v w = knows v.worker w.holder
+
+abbrev pub worker_part : Knows → Knows
+worker_part v = knows v.worker None
+
+abbrev pub holder_part : Knows → Knows
+holder_part v = knows None v.holder
+
+-- What a seat is seen as.
+abbrev pub desk_or : Option Desk → Desk
+desk_or None = desk 0 [] []
+desk_or (Some d) = d
+
+abbrev pub rack_or : Option Rack → Rack
+rack_or None = rack 0 []
+rack_or (Some q) = q
+
+-- what a worker's seat remembers of its open ask
+abbrev pub OpenIs : Option ℕ → Desk → Type 0
+OpenIs None d = IsIdle d
+OpenIs (Some a) d = IsOpen d a × (a < 4294967296)
+
+-- the seats of so many workers, in order
+abbrev pub desks : ℕ → List Desk
+desks zero = []
+desks (suc n) = desks n ++ desk n [] [] ∷ []

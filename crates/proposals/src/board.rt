@@ -1,0 +1,112 @@
+//! The board: one word for each worker, and the seats that step on them.
+//! It is made without a name, and named by a type; its calls stand in `ask`, `serve` and `settle`.
+ghost use Rattle.std.specs.Prelude.{◌≡◌, ◌<◌, [], length, IfOk, IfErr, replicate};
+ghost use Rattle.proposals.specs.Ledger.{opener, nothing, desks};
+ghost use Rattle.proposals.specs.Refused.{no_memory, IsNoRoom};
+
+use crate::knows::Knows;
+use crate::refused::no_table;
+use crate::room::Room;
+use crate::seats::{HolderSeat, WorkerSeat};
+use crate::steps::{Asks, Deal};
+use atomic_table::{Seat, Table};
+use minelib_reader::Fault;
+use std::alloc::Global;
+use std::marker::PhantomData;
+
+type Cells = Table<(), Knows, u64, Asks, Global>;
+
+// An asked arc stands in its word above this, and a claimed one above twice this.
+pub(crate) const ASKED: u64 = 1 << 32;
+
+/// The words on which workers ask and the holder answers. Workers are numbered from 1.
+#[derive(Drop)]
+pub struct Board<B: Room> {
+    pub(crate) cells: Cells,
+    room: PhantomData<B>,
+    ghost named: { cells.shared.table_id ≡ B.board },
+    ghost counted: { cells.shared.key ≡ cells.shared.table_id.words },
+    ghost few: { cells.shared.table_id.words < 4294967296 },
+}
+
+/// A board that no type names yet.
+#[derive(Drop)]
+pub struct UnnamedBoard {
+    cells: Cells,
+    seat: Seat<(), Knows>,
+    workers: u32,
+    ghost seated: { seat.table_id ≡ cells.shared.table_id },
+    ghost first: { seat.me ≡ (opener workers, []) },
+    ghost keyed: { cells.shared.key ≡ workers },
+    ghost wide: { cells.shared.table_id.words ≡ workers },
+}
+
+impl UnnamedBoard {
+    /// Takes the memory of a board's words, one for each worker, all idle.
+    /// Errors: `NoMemory` where memory was refused, `NoSeat` where the table was.
+    pub fn new(alloc: Global, workers: u32) -> Result<UnnamedBoard, Fault>
+        ensures made { IfOk result (λ board. board.workers ≡ workers) }
+        ensures refused { IfErr result IsNoRoom }
+    {
+        let words = vec![in alloc; 0u64; workers as usize]?;
+        let key = workers as u64;
+        match Table::of_words(alloc, words.as_slice(), &key) {
+            Ok((cells, seat)) => Ok(UnnamedBoard {
+                cells,
+                seat,
+                workers,
+            }),
+            Err(_) => Err(no_table()),
+        }
+    }
+}
+
+impl<B: Room> Board<B> {
+    /// The board under the name `B`, with a seat for each worker, in order, and the holder's.
+    /// Nothing was asked, answered or collected, and nothing is claimed.
+    /// Errors: `NoMemory` where memory for the seats was refused.
+    pub fn new(
+        alloc: Global,
+        unnamed: UnnamedBoard,
+    ) -> Result<(Board<B>, Vec<WorkerSeat<B>>, HolderSeat<B>), Fault>
+        requires { unnamed.cells.shared.table_id ≡ B.board }
+        ensures workers { IfOk result (λ made. made.1.items ≡ desks unnamed.workers) }
+        ensures holder { IfOk result (λ made. made.2 ≡ replicate unnamed.workers nothing) }
+        ensures refused { IfErr result (λ fault. fault ≡ no_memory) }
+    {
+        let UnnamedBoard {
+            cells,
+            mut seat,
+            workers,
+        } = unnamed;
+        let mut seats = Vec::new(alloc);
+        let mut cell = 0;
+        while cell < workers {
+            let theirs = cells.shared.split_seat::<Deal>(&mut seat);
+            seats.push(WorkerSeat {
+                cell,
+                ask: None,
+                seat: theirs,
+                room: PhantomData,
+            })?;
+            cell += 1;
+        }
+        let board = Board {
+            cells,
+            room: PhantomData,
+        };
+        let holder = HolderSeat {
+            seat,
+            room: PhantomData,
+        };
+        Ok((board, seats, holder))
+    }
+
+    /// The number of workers.
+    pub fn workers(&self, holder: &HolderSeat<B>) -> u32
+        ensures { result ≡ length holder.now }
+    {
+        let _ = &holder.seat;
+        self.cells.word_count() as u32
+    }
+}

@@ -1,0 +1,53 @@
+//! The rule of the counter, and what its one kind of step tells.
+//! The rule is defined in `specs/Drawn.antt`; `proofs/Drawing.antt` shows that each step keeps it.
+use crate::hand::{Batch, Hand};
+use atomic_table::{Join, Play, Split, TableRule};
+
+/// The rule of a counter: over all seats, the numbers below it stand each once.
+pub struct Counts;
+
+impl TableRule<(), Hand, Batch> for Counts {
+    ghost use Rattle.proposals.specs.Drawn.{Given, whole};
+
+    ghost holds = { Given };
+
+    ghost first = { whole };
+}
+
+pub(crate) struct Draw;
+
+impl Play<(), Hand> for Draw {
+    ghost use Rattle.proposals.specs.Drawn.{Drew};
+
+    ghost then = { Drew };
+}
+
+// A seat that stands for none comes in, to gather the others.
+pub(crate) struct Sit;
+
+impl Play<(), Hand> for Sit {
+    ghost use Rattle.proposals.specs.Drawn.{sat};
+
+    ghost then = { sat };
+}
+
+// The first seat gives one seat away.
+pub(crate) struct Deal;
+
+impl Split<Hand> for Deal {
+    ghost use Rattle.proposals.specs.Drawn.{cut, one_seat};
+
+    ghost left = { cut };
+
+    ghost right = { one_seat };
+}
+
+pub(crate) struct Gather;
+
+impl Join<Hand> for Gather {
+    ghost use Rattle.proposals.specs.Drawn.{gathered, nobody};
+
+    ghost both = { gathered };
+
+    ghost spent = { nobody };
+}

@@ -1,0 +1,138 @@
+//! The counter of chunks: a table of one word, from which each seat draws numbers, each number once.
+//! It has one kind of step. Workers draw the chunks that they go over, and whoever has all seats again closes it.
+ghost use Rattle.std.specs.Prelude.{◌≡◌, ◌<◌, ◌≤◌, [], length, IfOk, IfErr, MatchOption};
+ghost use Rattle.proposals.specs.Drawn.{batch, whole, new_seats, Gets, GetsNone, all_drawn, IsEachBelowOnce};
+ghost use Rattle.proposals.specs.Refused.{no_memory, no_seat};
+
+use crate::draw_seats::{DrawSeat, Lot};
+use crate::draw_steps::{Counts, Deal, Draw, Gather, Sit};
+use crate::hand::{Batch, Hand};
+use crate::refused::no_table;
+use atomic_table::{Seat, Table};
+use minelib_reader::Fault;
+use std::alloc::Global;
+use std::marker::PhantomData;
+
+type Counter = Table<(), Hand, Batch, Counts, Global>;
+
+/// A counter from which seats draw the numbers of chunks, from 0.
+#[derive(Drop)]
+pub struct Draws<L: Lot> {
+    counter: Counter,
+    seats: u32,
+    lot: PhantomData<L>,
+    ghost named: { counter.shared.table_id ≡ L.draws },
+    ghost wide: { counter.shared.table_id.words ≡ 1 },
+    ghost slotless: { counter.shared.table_id.slots ≡ 0 },
+    ghost keyed: { counter.shared.key.seats ≡ seats },
+}
+
+/// A counter that no type names yet.
+#[derive(Drop)]
+pub struct UnnamedDraws {
+    counter: Counter,
+    seat: Seat<(), Hand>,
+    chunks: u32,
+    seats: u32,
+    ghost seated: { seat.table_id ≡ counter.shared.table_id },
+    ghost first: { seat.me ≡ (whole (batch chunks seats), []) },
+    ghost keyed: { counter.shared.key ≡ batch chunks seats },
+    ghost wide: { counter.shared.table_id.words ≡ 1 },
+    ghost slotless: { counter.shared.table_id.slots ≡ 0 },
+}
+
+impl UnnamedDraws {
+    /// Takes the memory of a counter that stands at 0, for so many chunks and seats.
+    /// Errors: `NoSeat` where the table was refused.
+    pub fn new(alloc: Global, chunks: u32, seats: u32) -> Result<UnnamedDraws, Fault>
+        ensures made { IfOk result (λ draws. (draws.chunks ≡ chunks) × (draws.seats ≡ seats)) }
+        ensures refused { IfErr result (λ fault. fault ≡ no_seat) }
+    {
+        let key = Batch {
+            chunks: chunks as u64,
+            seats: seats as u64,
+        };
+        match Table::of_words(alloc, &[0], &key) {
+            Ok((counter, seat)) => Ok(UnnamedDraws {
+                counter,
+                seat,
+                chunks,
+                seats,
+            }),
+            Err(_) => Err(no_table()),
+        }
+    }
+}
+
+impl<L: Lot> Draws<L> {
+    /// The counter under the name `L`, with its seats, which have drawn nothing.
+    /// Errors: `NoMemory` where memory for the seats was refused.
+    pub fn new(alloc: Global, unnamed: UnnamedDraws) -> Result<(Draws<L>, Vec<DrawSeat<L>>), Fault>
+        requires { unnamed.counter.shared.table_id ≡ L.draws }
+        ensures counter { IfOk result (λ made. made.0.seats ≡ unnamed.seats) }
+        ensures seats { IfOk result (λ made. made.1.items ≡ new_seats unnamed.chunks unnamed.seats) }
+        ensures refused { IfErr result (λ fault. fault ≡ no_memory) }
+    {
+        let UnnamedDraws {
+            counter,
+            mut seat,
+            chunks,
+            seats,
+        } = unnamed;
+        let mut dealt = Vec::new(alloc);
+        let mut done = 0;
+        while done < seats {
+            let theirs = counter.shared.split_seat::<Deal>(&mut seat);
+            dealt.push(DrawSeat {
+                chunks,
+                ended: false,
+                seat: theirs,
+                lot: PhantomData,
+            })?;
+            done += 1;
+        }
+        let draws = Draws {
+            counter,
+            seats,
+            lot: PhantomData,
+        };
+        Ok((draws, dealt))
+    }
+
+    /// Draws the next number. Some where it is below the number of chunks; None once the seat has drawn a number that is not.
+    /// After None a seat makes no more steps.
+    pub fn draw(&self, seat: &mut DrawSeat<L>) -> Option<u32>
+        ensures { MatchOption result (GetsNone seat.old seat.new) (λ k. Gets k seat.old seat.new) }
+    {
+        if seat.ended {
+            return None;
+        }
+        let found = self.counter.shared.fetch_add::<Draw>(&mut seat.seat, 0, 1);
+        if found < u64::from(seat.chunks) {
+            return Some(found as u32);
+        }
+        seat.ended = true;
+        None
+    }
+
+    /// Ends the counter, with all its seats, and answers where it stands.
+    /// Among what the seats have drawn, each number below it stands once, and no other number does.
+    pub fn close(self, mut seats: Vec<DrawSeat<L>>) -> u64
+        requires every { length seats.items ≡ self.seats }
+        ensures { IsEachBelowOnce result (all_drawn seats.items) }
+    {
+        let Draws {
+            counter,
+            seats: _,
+            lot: _,
+        } = self;
+        let mut all = counter.shared.load_new_seat::<Sit>(0).1;
+        while let Some(seat) = seats.pop() {
+            counter.shared.join_seat::<Gather>(&mut all, seat.seat);
+        }
+        let closed = counter.close_with(all);
+        let stands_at = closed.word(0);
+        closed.free();
+        stands_at
+    }
+}

@@ -1,0 +1,29 @@
+//! What the seats at a board know: the ledger of each worker, as plain data.
+//! No value of these types is made; contracts and the rule in `specs/Ledger.antt` speak of them.
+use crate::verdict::Reply;
+use std::collections::LinkedList;
+
+/// What a worker knows: its cell, from 0, the arcs that it asked, and the replies that it collected.
+pub struct Desk {
+    pub cell: u64,
+    pub asked: LinkedList<u32>,
+    pub collected: LinkedList<Reply>,
+}
+
+/// What the holder knows of one worker: the replies that it gave, and the arc that is claimed from it.
+pub struct Served {
+    pub answered: LinkedList<Reply>,
+    pub claimed: Option<u32>,
+}
+
+/// What the holder knows: how many workers have a seat, and what it did for each.
+pub struct Rack {
+    pub dealt: u64,
+    pub served: LinkedList<Served>,
+}
+
+/// What a seat knows. Each part is there or not, so that a worker's seat and the holder's can be one for a while.
+pub struct Knows {
+    pub worker: Option<Desk>,
+    pub holder: Option<Rack>,
+}

@@ -1,0 +1,38 @@
+//! Where workers propose and one holder answers: a board of asks with one word for each worker, and a counter from which seats draw chunks.
+//! Nothing here waits, and only what makes a board or a counter takes memory.
+#![tactic(auto)]
+
+mod ask;
+mod board;
+mod draw_seats;
+mod draw_steps;
+mod draws;
+mod hand;
+mod knows;
+mod law;
+mod refused;
+mod room;
+mod seats;
+mod serve;
+mod settle;
+mod steps;
+mod verdict;
+
+pub use board::{Board, UnnamedBoard};
+pub use draw_seats::{DrawSeat, Lot};
+pub use draw_steps::Counts;
+pub use draws::{Draws, UnnamedDraws};
+pub use hand::{Batch, Hand};
+pub use knows::{Desk, Knows, Rack, Served};
+pub use law::ledger_law;
+pub use room::Room;
+pub use seats::{HolderSeat, WorkerSeat};
+pub use steps::Asks;
+pub use verdict::{Reply, Verdict};
+
+#[cfg(test)]
+mod tests;
+#[cfg(test)]
+mod thread_tests;
+#[cfg(test)]
+mod walk_tests;

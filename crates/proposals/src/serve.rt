@@ -1,0 +1,58 @@
+//! The holder's calls: it claims a worker's ask, and answers it or gives it back.
+//! None of them has a loop, and none asks for memory.
+ghost use Rattle.std.specs.Prelude.{◌≡◌, ℕ, ◌-◌, ◌<◌, ◌≤◌, Some, None, length, MatchOption};
+ghost use Rattle.proposals.specs.Ledger.{reply, claimed_from, claiming, answering, unclaiming};
+
+use crate::board::{ASKED, Board};
+use crate::room::Room;
+use crate::seats::HolderSeat;
+use crate::steps::{Answer, Claim, Read, Unclaim};
+use crate::verdict::{Verdict, word_of};
+
+impl<B: Room> Board<B> {
+    /// Claims the ask of a worker and answers its arc. None where no ask stood, or where it was withdrawn between the two steps.
+    pub fn claim_ask(&self, holder: &mut HolderSeat<B>, worker: u32) -> Option<u32>
+        requires { (0 < worker) × (worker ≤ length holder.old) }
+        ensures { MatchOption result (holder.new ≡ holder.old) (λ a. (claimed_from holder.old (worker - 1) ≡ None) × (holder.new ≡ claiming holder.old (worker - 1) a)) }
+    {
+        let _ = &holder.seat;
+        let cell = worker as usize - 1;
+        let word = self.cells.shared.peek(cell);
+        if word < ASKED || word >= 2 * ASKED {
+            return None;
+        }
+        let found = self
+            .cells
+            .shared
+            .compare_exchange::<Claim>(&mut holder.seat, cell, word, word + ASKED);
+        if found != word {
+            return None;
+        }
+        Some((word - ASKED) as u32)
+    }
+
+    /// Answers the ask that is claimed from a worker.
+    pub fn answer(&self, holder: &mut HolderSeat<B>, worker: u32, verdict: Verdict)
+        requires worker { (0 < worker) × (worker ≤ length holder.old) }
+        requires claimed { (a : ℕ) × (claimed_from holder.old (worker - 1) ≡ Some a) }
+        ensures { (a : ℕ) → claimed_from holder.old (worker - 1) ≡ Some a → holder.new ≡ answering holder.old (worker - 1) (reply a verdict) }
+    {
+        let cell = worker as usize - 1;
+        self.cells
+            .shared
+            .store::<Answer>(&mut holder.seat, cell, word_of(verdict));
+    }
+
+    /// Gives the ask that is claimed from a worker back as it stood.
+    pub fn unclaim(&self, holder: &mut HolderSeat<B>, worker: u32)
+        requires worker { (0 < worker) × (worker ≤ length holder.old) }
+        requires claimed { (a : ℕ) × (claimed_from holder.old (worker - 1) ≡ Some a) }
+        ensures { holder.new ≡ unclaiming holder.old (worker - 1) }
+    {
+        let cell = worker as usize - 1;
+        let found = self.cells.shared.load::<Read>(&mut holder.seat, cell);
+        self.cells
+            .shared
+            .store::<Unclaim>(&mut holder.seat, cell, found - ASKED);
+    }
+}

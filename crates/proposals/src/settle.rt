@@ -1,0 +1,28 @@
+//! The meeting of a worker's seat and the holder's: one load of the worker's word by the two seats as one.
+//! The holder's seat goes into the worker's and comes out again; no word changes and nothing is collected.
+ghost use Rattle.std.specs.Prelude.{◌≡◌, slice_index_or};
+ghost use Rattle.proposals.specs.Ledger.{nothing, Meets};
+
+use crate::board::Board;
+use crate::room::Room;
+use crate::seats::{HolderSeat, WorkerSeat};
+use crate::steps::{Agree, Meet, Sit};
+use std::mem;
+
+impl<B: Room> Board<B> {
+    /// Lets two seats meet. What each knows stays as it was, and the two then agree:
+    /// the answered arcs are the asked ones, or those without a last one that is unanswered,
+    /// and the collected replies are the answered ones, or those without a last one that is still open.
+    pub fn settle(&self, worker: &mut WorkerSeat<B>, holder: &mut HolderSeat<B>)
+        ensures same { (worker.new ≡ worker.old) × (holder.new ≡ holder.old) }
+        ensures meets { Meets worker.old (slice_index_or holder.old worker.old.cell nothing) }
+    {
+        let shared = &self.cells.shared;
+        let cell = worker.cell as usize;
+        let idle = shared.load_new_seat::<Sit>(0).1;
+        let theirs = mem::replace(&mut holder.seat, idle);
+        shared.join_seat::<Meet>(&mut worker.seat, theirs);
+        shared.load::<Agree>(&mut worker.seat, cell);
+        holder.seat = shared.split_seat::<Meet>(&mut worker.seat);
+    }
+}
