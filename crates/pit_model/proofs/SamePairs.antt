@@ -1,8 +1,8 @@
 -- The pit of an instance does not depend on the order in which its pairs stand: the closed sets are the same.
-use Rattle.std.proofs.Common.{◌≡◌, ℕ, ◌<◌, Bool, refl, sym, ap, ◌∙◌, subst, List, get_or, length}
-use Rattle.std.specs.Prelude.{ℤ, ◌≤ℤ◌, IsTrue}
+use Rattle.std.proofs.Common.{◌≡◌, ℕ, Bool, sym, ap, subst, List, get_or}
+use Rattle.std.specs.Prelude.{ℤ, IsTrue}
 use Rattle.pit_model.specs.Graph.{AreSamePairs}
-use Rattle.pit_model.specs.Mine.{Instance, arcs, source, target, IsClosed, worth, IsPit, instance_of, PitKnowsNoOrder}
+use Rattle.pit_model.specs.Mine.{IsClosed, instance_of, PitKnowsNoOrder}
 
 pub turned : (ps qs : List (ℕ × ℕ)) → AreSamePairs ps qs → AreSamePairs qs ps
 turned ps qs same = record { count = sym same.count; forth = same.back; back = same.forth }
