@@ -1,6 +1,6 @@
 //! Texts with answers that were worked out by hand, read whole, byte by byte and with a failure at each read;
 //! and writers that take few bytes or fail.
-ghost use Rattle.std.specs.Prelude.{◌≡◌, ◌≤◌, ◌<◌, ◌-◌, length, take, IfOk};
+ghost use Rattle.std.specs.Prelude.{◌≡◌, ◌≤◌, ◌<◌, ◌-◌, ◌^◌, length, take, IfOk};
 ghost use Rattle.minelib_reader.specs.Device.{Progress};
 
 use super::*;
@@ -102,7 +102,9 @@ fn table_told(alloc: Global, read: Result<BlockTable, Fault>) -> Result<String, 
 }
 
 /// One column of the table that a text spells, or the words of the fault.
-fn column_told(alloc: Global, text: &[u8], k: u32) -> Result<String, AllocError> {
+fn column_told(alloc: Global, text: &[u8], k: u32) -> Result<String, AllocError>
+    requires { length text.now ≤ 2 ^ 40 }
+{
     match read_blocks(alloc, &mut MemoryReader::new(text)) {
         Ok(table) => match column(alloc, &table, k) {
             Ok(values) => format!(in alloc; "{values:?}"),
@@ -227,13 +229,26 @@ fn pairs_whole_and_by_bytes(rt: HostRuntime) -> Result<(), Fail> {
     Ok(())
 }
 
-const BLOCKS: [(&str, &str); 19] = [
+const TABLES: [(&str, &str); 10] = [
     ("", "0 of 0"),
     ("0 0 0 -2147483648\n", "1 of 0; 0 at (0, 0, -2147483648):"),
     (
         "\n0 1 -2 2147483647 4 +0.5\r\n\t1\t0 0 -0  -1.25 7",
         "2 of 2; 0 at (1, -2, 2147483647): 4000000 500000; 1 at (0, 0, 0): -1250000 7000000",
     ),
+    ("1 0 0 0\n", "id out of place in blocks line 1"),
+    ("0 0 0 0\n0 0 0 0\n", "id out of place in blocks line 2"),
+    (
+        "0 0 0 0\n1 0 0 0 x\n",
+        "wrong number of fields in blocks line 2",
+    ),
+    ("x 0 0 0\n", "not a whole number in blocks line 1"),
+    ("0 0 0 0 1.0000001\n", "not a decimal in blocks line 1"),
+    ("0 0 0 2147483648 x\n", "over the limit in blocks line 1"),
+    ("0 0 0 0 1 x\n1\n", "not a decimal in blocks line 1"),
+];
+
+const TABLE_FAULTS: [(&str, &str); 8] = [
     ("0 0 0 2147483648\n", "over the limit in blocks line 1"),
     ("0 0 -2147483649 0\n", "over the limit in blocks line 1"),
     ("0 0 0 +1\n", "not a whole number in blocks line 1"),
@@ -248,25 +263,23 @@ const BLOCKS: [(&str, &str); 19] = [
         "0 0 0 0\n1 0 0\n",
         "wrong number of fields in blocks line 2",
     ),
-    (
-        "0 0 0 0\n1 0 0 0 x\n",
-        "wrong number of fields in blocks line 2",
-    ),
-    ("x 0 0 0\n", "not a whole number in blocks line 1"),
-    ("1 0 0 0\n", "id out of place in blocks line 1"),
-    ("0 0 0 0\n0 0 0 0\n", "id out of place in blocks line 2"),
-    ("0 0 0 0 1.0000001\n", "not a decimal in blocks line 1"),
-    ("0 0 0 2147483648 x\n", "over the limit in blocks line 1"),
-    ("0 0 0 0 1 x\n1\n", "not a decimal in blocks line 1"),
-    (
-        "x 0 0 0 1 1 1 1 1 1 1 1 1 1 1 1 1 1 1 1 1 1 1 1 1 1 1 1 1 1 1 1 1 1 1 1 1 1 1 1 1 1 1 1 1 1 1 1 1 1 1 1 1 1 1 1 1 1 1 1 1 1 1 1 1 1 1 1 1\n",
-        "over the limit in blocks line 1",
-    ),
 ];
 
 #[test]
 fn tables_whole_and_by_bytes(rt: HostRuntime) -> Result<(), Fail> {
-    for (text, told) in BLOCKS {
+    for (text, told) in TABLES {
+        let text = text.as_bytes();
+        let whole = read_blocks(rt.alloc(), &mut MemoryReader::new(text));
+        assert_eq!(rt; table_told(rt.alloc(), whole)?.as_str(), told);
+        let slow = read_blocks(rt.alloc(), &mut SlowReader::new(text, text.len() + 1));
+        assert_eq!(rt; table_told(rt.alloc(), slow)?.as_str(), told);
+    }
+    Ok(())
+}
+
+#[test]
+fn faults_of_tables_whole_and_by_bytes(rt: HostRuntime) -> Result<(), Fail> {
+    for (text, told) in TABLE_FAULTS {
         let text = text.as_bytes();
         let whole = read_blocks(rt.alloc(), &mut MemoryReader::new(text));
         assert_eq!(rt; table_told(rt.alloc(), whole)?.as_str(), told);
