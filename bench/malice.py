@@ -3,7 +3,7 @@
 
     bench/malice.py [--bin build/pitshell] [--megabytes 10]
 
-Each text must end in the refusal that is named here, in time linear in its length. The table goes to standard output and
+The best of three runs each. Each text must end in the refusal that is named here, in time linear in its length. The table goes to standard output and
 to bench/results/; a row whose refusal is another, or whose ratio is above 2, is marked.
 """
 
@@ -63,9 +63,12 @@ def timed(program, folder, model, prec):
     for name, text in (("m", model), ("p", prec)):
         (folder / name).write_bytes(text if isinstance(text, bytes) else text.encode())
     size = sum((folder / name).stat().st_size for name in "mp") / 1e6
-    start = time.perf_counter()
-    done = subprocess.run([program, "solve", "--model", "m", "--prec", "p"], cwd=folder, capture_output=True, timeout=600)
-    return size, time.perf_counter() - start, done.stderr.decode(errors="replace").strip()
+    best = float("inf")
+    for _ in range(3):
+        start = time.perf_counter()
+        done = subprocess.run([program, "solve", "--model", "m", "--prec", "p"], cwd=folder, capture_output=True, timeout=600)
+        best = min(best, time.perf_counter() - start)
+    return size, best, done.stderr.decode(errors="replace").strip()
 
 
 def main():
