@@ -12,7 +12,7 @@ use Rattle.pit_model.specs.Flow.{excess}
 use Rattle.pit_model.specs.Tree.{Tree, flow, IsNormalised}
 use Rattle.pit_model.specs.Limits.{IsInstance, most_worth}
 use Rattle.pit_model.specs.Rank.{positive_part, positive_excess, positive_worth, rank}
-use Rattle.norm_tree.specs.Kept.{AreExcesses}
+use Rattle.norm_tree.specs.Excesses.{AreExcesses}
 use Rattle.pit_model.proofs.Sums.{total-same}
 use Rattle.pit_model.proofs.Simple.{instance_is_simple}
 use Rattle.pit_model.proofs.Bound.{flows_stay_within_limits}

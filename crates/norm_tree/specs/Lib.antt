@@ -1,2 +1,9 @@
-pub mod Passes
-pub mod Kept
+pub mod Along
+pub mod Route
+pub mod Shows
+pub mod Bare
+pub mod Heap
+pub mod Labelled
+pub mod Walk
+pub mod Renewal
+pub mod Excesses

@@ -1,16 +1,23 @@
 //! The normalised tree of the pseudoflow method (Hochbaum 2008), changed by mergers alone.
 #![tactic(auto)]
 
-mod climb;
-mod find;
-mod path;
+mod bare;
+mod flow;
+mod gather;
+mod labels;
+mod marks;
+mod merge;
 mod pit;
 mod rank;
-mod send;
+mod renew;
 mod start;
 mod tree;
+mod walk;
 
+pub use bare::BareTree;
 pub use tree::NormTree;
 
+#[cfg(test)]
+mod label_tests;
 #[cfg(test)]
 mod tests;
