@@ -1,3 +1,5 @@
 pub mod Exit
 pub mod Solve
 pub mod Mine
+pub mod Modes
+pub mod Run

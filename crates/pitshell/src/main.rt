@@ -9,6 +9,7 @@ ghost use Rattle.minelib_reader.specs.Device.{unread};
 
 mod command_line;
 mod mine;
+mod mode_words;
 mod options;
 mod solve;
 mod status;
@@ -25,6 +26,8 @@ use status::{Status, exit_code};
 use std::alloc::AllocError;
 use std::fs::File;
 use std::process::ExitCode;
+use std::sync::Wait;
+use std::thread::Threads;
 use std::{env, io};
 
 /// Opens an input; one that cannot be opened is a read that failed.
@@ -42,12 +45,23 @@ fn open(rt: &HostRuntime, path: &str, source: Source) -> Result<FileReader, Faul
     }
 }
 
-/// Solves the mine of two files, and writes its pit to standard output.
-fn solve_files(rt: &HostRuntime, options: &SolveOptions<'_>) -> Result<Status, Fault> {
+/// Solves the mine of two files, and writes its pit to standard output. `threads` starts the workers.
+fn solve_files<R: Threads + Wait + Sync>(
+    rt: &HostRuntime,
+    threads: &R,
+    options: &SolveOptions<'_>,
+) -> Result<Status, Fault> {
     let mut model = open(rt, options.model, Source::Model)?;
     let mut prec = open(rt, options.prec, Source::Precedence)?;
     let mut out = StreamWriter::new(io::writer(rt));
-    run_solve(rt.alloc(), &mut model, &mut prec, &mut out)
+    run_solve(
+        threads,
+        rt.alloc(),
+        &mut model,
+        &mut prec,
+        &mut out,
+        options.mode,
+    )
 }
 
 /// Tells how a run ended: a fault goes to standard error, and the exit status is answered.
@@ -67,6 +81,12 @@ fn explain(rt: &HostRuntime, error: &clap::Error) -> ExitCode {
     ExitCode::from(error.exit_code() as u8)
 }
 
+/// Tells what does not go together on the command line.
+fn not_understood(rt: &HostRuntime, line: &str) -> ExitCode {
+    let _ = rt.eprintln(line);
+    ExitCode::from(2)
+}
+
 /// The words of the command line.
 fn words_of(rt: &HostRuntime) -> Result<Vec<String>, Fault> {
     match env::args(rt) {
@@ -76,12 +96,17 @@ fn words_of(rt: &HostRuntime) -> Result<Vec<String>, Fault> {
 }
 
 /// Does what the words of the command line ask for.
-fn run(rt: &HostRuntime, words: &[String]) -> Result<ExitCode, Fault> {
+fn run<R: Threads + Wait + Sync>(
+    rt: &HostRuntime,
+    threads: &R,
+    words: &[String],
+) -> Result<ExitCode, Fault> {
     match command(rt.alloc())?.try_get_matches_from(words) {
         Err(error) => Ok(explain(rt, &error)),
         Ok(matches) => match Options::of(&matches) {
             None => Ok(ExitCode::from(2)),
-            Some(Options::Solve(options)) => Ok(ended(rt, solve_files(rt, &options))),
+            Some(Options::Wrong(line)) => Ok(not_understood(rt, line)),
+            Some(Options::Solve(options)) => Ok(ended(rt, solve_files(rt, threads, &options))),
         },
     }
 }
@@ -89,7 +114,7 @@ fn run(rt: &HostRuntime, words: &[String]) -> Result<ExitCode, Fault> {
 fn main(rt: HostRuntime) -> ExitCode {
     match words_of(&rt) {
         Err(fault) => ended(&rt, Err(fault)),
-        Ok(words) => match run(&rt, &words) {
+        Ok(words) => match run(&rt, &rt, &words) {
             Err(fault) => ended(&rt, Err(fault)),
             Ok(code) => code,
         },
