@@ -1,3 +1,4 @@
-pub mod Sweeping
+pub mod Falling
 pub mod FirstMergers
 pub mod Sharing
+pub mod Ordering

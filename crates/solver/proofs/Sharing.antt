@@ -10,7 +10,7 @@ use Rattle.pit_model.specs.Journal.{is_used_up, applied_count}
 use Rattle.pit_model.proofs.Simple.{instance_is_simple}
 use Rattle.pit_model.proofs.RankFalls.{merger_lowers_rank}
 use Rattle.tree_lock.specs.Held.{Held, DecidesFirst, with_entry, driven}
-use Rattle.solver.proofs.Sweeping.{rank_falls}
+use Rattle.solver.proofs.Falling.{rank_falls}
 
 applied_else_spent : (merger used_up : Bool) (v : Verdict) → merger ≡ true → v ≡ (if merger then (if used_up then Spent else Applied) else Stale) → (v ≡ Spent → ⊥) → v ≡ Applied
 applied_else_spent true true v is lawful not_spent = absurd (not_spent lawful)

@@ -1,5 +1,5 @@
 //! The first run: the merger over the arc with the least number, again and again, as often as the budget allows.
-//! `sweep` merges in another order, where no budget says which mergers are made.
+//! `lowest_label` merges in another order, where no budget says which mergers are made.
 ghost use Rattle.std.specs.Prelude.{◌≡◌};
 ghost use Rattle.pit_model.specs.Tree.{opening};
 ghost use Rattle.pit_model.specs.FirstRun.{first_run};

@@ -2,12 +2,14 @@
 //! of mergers is used up.
 #![tactic(auto)]
 
+mod closing;
 mod first_mergers;
+mod lowest_label;
 mod mode;
 mod outcome;
 mod shared;
 mod single;
-mod sweep;
+mod waiting;
 
 pub use mode::Mode;
 pub use outcome::Outcome;

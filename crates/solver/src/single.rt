@@ -3,13 +3,14 @@ ghost use Rattle.std.specs.Prelude.{◌≡◌, Some, None, IfOk, IfErr};
 ghost use Rattle.minelib_reader.specs.Refused.{no_memory};
 ghost use Rattle.solver.specs.Solved.{IsSolvedAlone};
 
+use crate::closing::merge_rest;
 use crate::first_mergers::make_first_mergers;
+use crate::lowest_label::merge_by_lowest_label;
 use crate::outcome::Outcome;
-use crate::sweep::merge_all;
 use certificate::of_tree;
 use mine_graph::Instance;
 use minelib_reader::Fault;
-use norm_tree::NormTree;
+use norm_tree::{BareTree, NormTree};
 use std::alloc::Global;
 
 // The pit, by mergers in whatever order.
@@ -17,8 +18,10 @@ fn solve_freely(alloc: Global, instance: &Instance) -> Result<Outcome, Fault>
     ensures solved { IfOk result (IsSolvedAlone instance.now None) }
     ensures refused { IfErr result (λ e. e ≡ no_memory) }
 {
-    let mut tree = NormTree::start(alloc, instance)?;
-    merge_all(&mut tree);
+    let mut bare = BareTree::start(alloc, instance)?;
+    merge_by_lowest_label(alloc, &mut bare)?;
+    let mut tree = NormTree::from_bare(bare)?;
+    merge_rest(&mut tree);
     match of_tree(&tree)? {
         Some(certificate) => Ok(Outcome::Pit(certificate)),
         None => unreachable!(),

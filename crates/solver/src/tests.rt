@@ -1,8 +1,10 @@
 //! Small mines whose pits, and whose mergers one by one, were worked out by hand.
 
 use super::*;
+use crate::lowest_label::merge_by_lowest_label;
 use mine_graph::{Graph, Instance};
 use minelib_reader::Fault;
+use norm_tree::{BareTree, NormTree};
 use std::alloc::Global;
 use std::sync::{Arc, Wait};
 use std::test::*;
@@ -119,5 +121,15 @@ fn workers_stop_at_the_budget(rt: HostRuntime) -> Result<(), Fail> {
         let good = workers_answer(&rt, rt.alloc(), &mine, workers, Some(2), None, &decided)?;
         assert!(rt; good);
     }
+    Ok(())
+}
+
+#[test]
+fn the_order_leaves_no_merger_arc(rt: HostRuntime) -> Result<(), Fail> {
+    let mut tree = BareTree::start(rt.alloc(), &cut_once(rt.alloc())?)?;
+    merge_by_lowest_label(rt.alloc(), &mut tree)?;
+    let tree = NormTree::from_bare(tree)?;
+    assert_eq!(rt; tree.find_merger(), None);
+    assert_eq!(rt; tree.pit()?.as_slice(), [1, 2].as_slice());
     Ok(())
 }
