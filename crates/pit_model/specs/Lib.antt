@@ -10,3 +10,4 @@ pub mod Path
 pub mod Rank
 pub mod Limits
 pub mod PitText
+pub mod Part
