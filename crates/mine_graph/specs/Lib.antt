@@ -4,3 +4,4 @@ pub mod Left
 pub mod Users
 pub mod Kept
 pub mod Faults
+pub mod Renumbered

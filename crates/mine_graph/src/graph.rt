@@ -78,6 +78,18 @@ impl Graph {
         let _ = &self.pairs;
     }
 
+    /// All pairs, in their order.
+    pub(crate) fn pairs(&self) -> &[(u32, u32)]
+        ensures { result.now ≡ self.now.pairs }
+    {
+        &self.pairs
+    }
+
+    /// Where the graph takes its memory from.
+    pub(crate) fn alloc(&self) -> Global {
+        *self.pairs.allocator()
+    }
+
     /// How many blocks there are.
     pub fn n(&self) -> u32
         ensures { result ≡ self.now.blocks }

@@ -5,11 +5,15 @@ mod count_down;
 mod cycle;
 mod graph;
 mod instance;
+mod part;
 mod sort;
 
 pub use cycle::acyclic_has_no_needy;
 pub use graph::Graph;
 pub use instance::Instance;
+pub use part::Part;
 
+#[cfg(test)]
+mod part_tests;
 #[cfg(test)]
 mod tests;

@@ -1,13 +1,13 @@
 -- The reading of a block model file fails by the fault of the least line that breaks a check, and only where one does.
 -- Its idea: each line is checked by its place and the width alone, and the width is known where the first line passes.
-use Rattle.std.proofs.Common.{◌≡◌, ℕ, zero, suc, ◌+◌, ◌-◌, ◌<◌, leb, List, [], ◌∷◌, ◌++◌, length, Option, Some, None, Result, Ok, Err, refl, sym, ap, subst, ◌∙◌, arith, inl, inr, ℤ, ◌⊎◌}
+use Rattle.std.proofs.Common.{◌≡◌, ℕ, zero, suc, ◌+◌, ◌-◌, ◌<◌, leb, List, [], ◌∷◌, ◌++◌, length, Option, Some, None, Result, Ok, Err, refl, ap, ◌∙◌, arith, inl, inr, ℤ}
 use Rattle.std.specs.List.{slice_get}
 use Rattle.minelib_reader.specs.declared.fault.Fault.{Fault}
 use Rattle.minelib_reader.specs.declared.fault.Refusal.TheVariants.{OverLimit, WrongFieldCount}
 use Rattle.minelib_reader.specs.Steps.{◌>>=◌, check, fault_of, IsFirstFault}
 use Rattle.minelib_reader.specs.Text.{Row}
 use Rattle.minelib_reader.specs.Table.{Place, Table, table}
-use Rattle.minelib_reader.specs.Blocks.{most_columns, in_blocks, width_line, width_of, block_line, blocks_from, as_table, table_of_rows}
+use Rattle.minelib_reader.specs.Blocks.{most_columns, in_blocks, width_line, block_line, blocks_from, as_table, table_of_rows}
 use Rattle.minelib_reader.specs.BlocksFault.{line_fault, fault_in_rows}
 use Rattle.minelib_reader.proofs.StepLemmas.{bind_ok, bind_err, done, ok_is, no_fault, that_fault}
 

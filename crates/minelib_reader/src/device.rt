@@ -7,6 +7,9 @@ ghost use Rattle.minelib_reader.specs.Device.{Progress, ReadGives, WriteTakes};
 #[derive(Clone, Copy, Debug, PartialEq, Eq)]
 pub struct DeviceFailed;
 
+/// How often a call of the system that a signal interrupts is made before it counts as failed.
+pub(crate) const MOST_TRIES: u32 = 1000;
+
 /// A source of bytes. It gives at most its allowance, so reading ends.
 pub trait InBytes {
     /// The bytes read so far, the failures so far, and how many bytes may still be read.

@@ -4,12 +4,13 @@ ghost use Rattle.std.specs.Prelude.{◌≡◌, ◌≤◌, ◌<◌, ◌^◌, ◌-
 ghost use Rattle.minelib_reader.specs.Device.{Progress, unread};
 ghost use Rattle.minelib_reader.specs.Answer.{IsRead, Refuses};
 
-use crate::device::{DeviceFailed, InBytes};
+use crate::device::{DeviceFailed, InBytes, MOST_TRIES};
 use crate::fault::{Fault, Refusal, Source};
 use crate::history::History;
 use std::alloc::Global;
 use std::fs::File;
-use std::io::Read;
+use std::io;
+use std::io::{ErrorKind, Read};
 
 /// Reads a text that lies in memory. It never fails.
 #[derive(Drop)]
@@ -48,7 +49,7 @@ impl InBytes for MemoryReader<'_> {
 const MOST_BYTES: u64 = 1 << 40;
 
 /// Reads a file, at most 2^40 bytes of it. A call that would give more counts as failed, and so does one
-/// that a signal interrupts.
+/// that signals interrupt again and again.
 #[derive(Drop)]
 pub struct FileReader {
     file: File,
@@ -73,13 +74,26 @@ impl FileReader {
     }
 }
 
+/// One read; a call that a signal interrupts is made again.
+fn read_again(file: &mut File, buf: &mut [u8]) -> io::Result<usize>
+    ensures { IfOk result (λ n. n ≤ length buf.new) }
+{
+    for _try in 1..MOST_TRIES {
+        match file.read(buf) {
+            Err(error) if error.kind() == ErrorKind::Interrupted => {}
+            answer => return answer,
+        }
+    }
+    file.read(buf)
+}
+
 impl InBytes for FileReader {
     ghost progress = { λ r. record { bytes = r.read.bytes; failures = r.failures; allowance = r.left } };
 
     ghost IsAtEnd = { λ r. IsTrue r.ended };
 
     fn read(&mut self, buf: &mut [u8]) -> Result<usize, DeviceFailed> {
-        match self.file.read(buf) {
+        match read_again(&mut self.file, buf) {
             Ok(n) if n as u64 <= self.left => {
                 self.left -= n as u64;
                 self.ended = n == 0;

@@ -1,12 +1,13 @@
 //! A writer into memory and one into a stream, which meet `OutBytes`,
 //! and `write_all`, by which the program writes its texts.
-ghost use Rattle.std.specs.Prelude.{◌≡◌, ◌<◌, ◌^◌, []};
+ghost use Rattle.std.specs.Prelude.{◌≡◌, ◌<◌, ◌≤◌, ◌^◌, [], length, IfOk};
 ghost use Rattle.minelib_reader.specs.Device.{Progress, unread, Writes};
 
-use crate::device::{DeviceFailed, OutBytes};
+use crate::device::{DeviceFailed, OutBytes, MOST_TRIES};
 use crate::history::History;
 use std::alloc::Global;
-use std::io::Write;
+use std::io;
+use std::io::{ErrorKind, Write};
 
 /// Keeps what is written, up to so many bytes in all. A write past that, and one for which no memory is left,
 /// counts as failed.
@@ -46,7 +47,7 @@ impl OutBytes for MemoryWriter {
 }
 
 /// Writes a file or another stream of the system, such as standard output. A stream that takes no byte counts as failed,
-/// and so does a call that a signal interrupts.
+/// and so does a call that signals interrupt again and again.
 #[derive(Drop)]
 pub struct StreamWriter<S> {
     stream: S,
@@ -67,11 +68,24 @@ impl<S: Write + Drop> StreamWriter<S> {
     }
 }
 
+/// One write; a call that a signal interrupts is made again.
+fn write_again<S: Write>(stream: &mut S, text: &[u8]) -> io::Result<usize>
+    ensures { IfOk result (λ n. n ≤ length text.now) }
+{
+    for _try in 1..MOST_TRIES {
+        match stream.write(text) {
+            Err(error) if error.kind() == ErrorKind::Interrupted => {}
+            answer => return answer,
+        }
+    }
+    stream.write(text)
+}
+
 impl<S: Write + Drop> OutBytes for StreamWriter<S> {
     ghost progress = { λ w. record { bytes = w.written.bytes; failures = w.failures; allowance = 0 } };
 
     fn write(&mut self, text: &[u8]) -> Result<usize, DeviceFailed> {
-        match self.stream.write(text) {
+        match write_again(&mut self.stream, text) {
             Ok(n) if n > 0 || text.is_empty() => {
                 self.written.note(&text[..n]);
                 Ok(n)

@@ -12,3 +12,4 @@ pub mod Limits
 pub mod PitText
 pub mod Journal
 pub mod FirstRun
+pub mod Part

@@ -1,8 +1,8 @@
 -- Each block adds its number, or is the least with a negative one.
-use Rattle.std.proofs.Common.{◌≡◌, ◌+◌, ◌<◌, ℤ, pos, ◌≤ℤ◌, ◌<ℤ◌, List, [], ◌∷◌, ◌++◌, length, ap, subst, sym, ◌∙◌, arith, rules, refl}
+use Rattle.std.proofs.Common.{◌≡◌, ◌+◌, ℤ, pos, ◌≤ℤ◌, ◌<ℤ◌, List, [], ◌∷◌, ◌++◌, ap, subst, sym, ◌∙◌, arith, rules, refl}
 use mir.Val.{SFits}
 use Rattle.std.specs.Int.{w128}
-use Rattle.std.proofs.lemmas.Int.{ints, to_z-of_z}
+use Rattle.std.proofs.lemmas.Int.{to_z-of_z}
 use Rattle.minelib_reader.proofs.ColumnLemmas.{IsColumnBelow, starts, goes_on, is_whole}
 use Rattle.minelib_reader.proofs.columns.column.Goals as goal
 

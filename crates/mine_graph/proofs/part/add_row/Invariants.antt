@@ -1,0 +1,9 @@
+-- The pairs of the row so far are added.
+use Rattle.std.proofs.Common.{◌≡◌, length, map}
+use Rattle.pit_model.specs.Mine.{members}
+use Rattle.mine_graph.specs.Renumbered.{placed_pair}
+use Rattle.mine_graph.proofs.Renumbering.{inside_so_far}
+use Rattle.mine_graph.proofs.part.add_row.Given as goal
+
+abbrev pub invariant-loop-k : goal.invariant-loop-k
+invariant-loop-k l = l.pairs.items ≡ map (placed_pair l.graph.pairs l.places) (members (length l.graph.pairs) (inside_so_far l.graph.pairs l.labels l.label l.block l.k))

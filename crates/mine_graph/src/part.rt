@@ -1,0 +1,142 @@
+//! A part of a graph: some of its blocks, renumbered in rising order, with the pairs among them as a graph of its own.
+//! The blocks of a part are those with one label; `without` labels the blocks of a set, and takes the others.
+ghost use Rattle.std.specs.Prelude.{◌≡◌, ◌<◌, ◌≤◌, ◌^◌, ◌==◌, ◌+◌, ℕ, true, false, not, map, length, get_or, IfOk, IfErr};
+ghost use Rattle.minelib_reader.specs.Refused.{no_memory};
+ghost use Rattle.pit_model.specs.Graph.{first_of, second_of, AreInRange};
+ghost use Rattle.pit_model.specs.Mine.{members};
+ghost use Rattle.pit_model.specs.Part.{IsPart};
+ghost use Rattle.mine_graph.specs.Renumbered.{has_label, placed_pair, is_inside, is_inside_before, IsPlaced};
+
+use crate::graph::Graph;
+use minelib_reader::Fault;
+use std::alloc::{AllocError, Global};
+
+/// Some blocks of a graph, rising, and the graph of the pairs among them, in which block i is `blocks[i]`.
+#[derive(Drop)]
+pub struct Part {
+    pub blocks: Vec<u32>,
+    pub graph: Graph,
+}
+
+/// Adds the pairs by which a block needs blocks with that label, renumbered.
+fn add_row(
+    graph: &Graph,
+    block: u32,
+    labels: &[u32],
+    label: u32,
+    places: &[u32],
+    pairs: &mut Vec<(u32, u32)>,
+) -> Result<(), AllocError>
+    requires inside { block < graph.now.blocks }
+    requires labelled { length labels.now ≡ graph.now.blocks }
+    requires placed { length places.now ≡ graph.now.blocks }
+    requires own { get_or labels.now block 0 ≡ label }
+    requires before { pairs.old.items ≡ map (placed_pair graph.now.pairs places.now) (members (length graph.now.pairs) (is_inside_before graph.now.pairs labels.now label block)) }
+    ensures after { IfOk result (λ _. pairs.new.items ≡ map (placed_pair graph.now.pairs places.now) (members (length graph.now.pairs) (is_inside_before graph.now.pairs labels.now label (block + 1)))) }
+{
+    graph.law();
+    let arcs = graph.arcs_of(block);
+    for k in arcs.start..arcs.end {
+        let needed = graph.arc(k).1;
+        if labels[needed as usize] == label {
+            pairs.push((places[block as usize], places[needed as usize]))?;
+        }
+    }
+    Ok(())
+}
+
+/// The pairs among the blocks with that label, renumbered.
+fn pairs_within(
+    alloc: Global,
+    graph: &Graph,
+    blocks: &[u32],
+    labels: &[u32],
+    label: u32,
+    places: &[u32],
+) -> Result<Vec<(u32, u32)>, AllocError>
+    requires labelled { length labels.now ≡ graph.now.blocks }
+    requires placed { length places.now ≡ graph.now.blocks }
+    requires blocks { blocks.now ≡ members graph.now.blocks (has_label labels.now label) }
+    ensures { IfOk result (λ v. v.items ≡ map (placed_pair graph.now.pairs places.now) (members (length graph.now.pairs) (is_inside graph.now.pairs labels.now label))) }
+{
+    graph.law();
+    let mut pairs = Vec::new(alloc);
+    for i in 0..blocks.len() {
+        add_row(graph, blocks[i], labels, label, places, &mut pairs)?;
+    }
+    Ok(pairs)
+}
+
+/// The part of the blocks with that label, where each block of it knows its place.
+pub(crate) fn part_of(
+    alloc: Global,
+    graph: &Graph,
+    blocks: Vec<u32>,
+    labels: &[u32],
+    label: u32,
+    places: &[u32],
+) -> Result<Part, Fault>
+    requires labelled { length labels.now ≡ graph.now.blocks }
+    requires placed { length places.now ≡ graph.now.blocks }
+    requires blocks { blocks.items ≡ members graph.now.blocks (has_label labels.now label) }
+    requires places { IsPlaced blocks.items (length blocks.items) places.now }
+    ensures part { IfOk result (λ p. IsPart graph.now (has_label labels.now label) p.blocks.items p.graph) }
+    ensures no_memory { IfErr result (λ e. e ≡ no_memory) }
+{
+    graph.law();
+    let pairs = pairs_within(alloc, graph, &blocks, labels, label, places)?;
+    let graph = Graph::new(alloc, blocks.len() as u32, pairs)?;
+    Ok(Part { blocks, graph })
+}
+
+/// Writes for each block of a list its place there.
+pub(crate) fn place_blocks(blocks: &[u32], places: &mut [u32])
+    requires few { length blocks.now < 2 ^ 32 }
+    requires rising { (i j : ℕ) → i < j → j < length blocks.now → get_or blocks.now i 0 < get_or blocks.now j 0 }
+    requires inside { (i : ℕ) → i < length blocks.now → get_or blocks.now i 0 < length places.old }
+    ensures placed { IsPlaced blocks.now (length blocks.now) places.new }
+    ensures rest { (u : ℕ) → ((i : ℕ) → i < length blocks.now → get_or blocks.now i 0 ≡ u → ⊥) → get_or places.new u 0 ≡ get_or places.old u 0 }
+{
+    for i in 0..blocks.len() {
+        places[blocks[i] as usize] = i as u32;
+    }
+}
+
+/// Label 1 for each marked block, and 0 for each other one.
+fn labels_of(alloc: Global, taken: &[bool]) -> Result<Vec<u32>, AllocError>
+    ensures count { IfOk result (λ v. length v.items ≡ length taken.now) }
+    ensures labels { IfOk result (λ v. (u : ℕ) → u < length taken.now → has_label v.items 0 u ≡ not (get_or taken.now u false)) }
+{
+    Ok(taken.iter().map(|&mark| u32::from(mark)).collect(alloc)?)
+}
+
+/// The blocks with that label, rising.
+fn blocks_with(alloc: Global, labels: &[u32], label: u32) -> Result<Vec<u32>, AllocError>
+    requires { length labels.now ≤ 2 ^ 22 }
+    ensures { IfOk result (λ v. v.items ≡ members (length labels.now) (has_label labels.now label)) }
+{
+    let n = labels.len() as u32;
+    Ok(
+        (0..n)
+            .filter(|&u| labels[u as usize] == label)
+            .collect(alloc)?,
+    )
+}
+
+impl Graph {
+    /// The blocks that are not marked, with the pairs among them, in time linear in blocks and pairs. Refused for want of
+    /// memory alone.
+    pub fn without(&self, taken: &[bool]) -> Result<Part, Fault>
+        requires { length taken.now ≡ self.now.blocks }
+        ensures part { IfOk result (λ p. IsPart self.now (λ u. not (get_or taken.now u false)) p.blocks.items p.graph) }
+        ensures no_memory { IfErr result (λ e. e ≡ no_memory) }
+    {
+        self.law();
+        let alloc = self.alloc();
+        let labels = labels_of(alloc, taken)?;
+        let blocks = blocks_with(alloc, &labels, 0)?;
+        let mut places = vec![in alloc; 0; self.n() as usize]?;
+        place_blocks(&blocks, &mut places);
+        part_of(alloc, self, blocks, &labels, 0, &places)
+    }
+}

@@ -1,0 +1,91 @@
+/* Loaded before the C library (LD_PRELOAD), so that single calls of a run go wrong on purpose:
+   FAIL_ALLOC=N   the Nth request for memory is refused          FAIL_READ=N  FAIL_WRITE=N   the Nth read or write fails
+   SHORT_READ=1   each read gives one byte at most               SHORT_WRITE=1               each write takes one byte at most
+   INTERRUPT=N    each read and write is interrupted N times before it is made (0: never; -1: always)
+   Only reads of files opened by the program and writes of its two outputs count. COUNT_CALLS=FILE appends how often
+   memory was asked for, and how many reads and writes were made. */
+#define _GNU_SOURCE
+#include <dlfcn.h>
+#include <errno.h>
+#include <stdio.h>
+#include <stdlib.h>
+#include <unistd.h>
+
+static long allocs, reads, writes, interrupted;
+
+static long wanted(const char *name) {
+    const char *text = getenv(name);
+    return text ? atol(text) : 0;
+}
+
+static int refused(void) {
+    allocs++;
+    return allocs == wanted("FAIL_ALLOC");
+}
+
+void *malloc(size_t size) {
+    static void *(*real)(size_t);
+    if (!real) real = (void *(*)(size_t))dlsym(RTLD_NEXT, "malloc");
+    return refused() ? NULL : real(size);
+}
+
+void *realloc(void *old, size_t size) {
+    static void *(*real)(void *, size_t);
+    if (!real) real = (void *(*)(void *, size_t))dlsym(RTLD_NEXT, "realloc");
+    return refused() ? NULL : real(old, size);
+}
+
+int posix_memalign(void **out, size_t align, size_t size) {
+    static int (*real)(void **, size_t, size_t);
+    if (!real) real = (int (*)(void **, size_t, size_t))dlsym(RTLD_NEXT, "posix_memalign");
+    return refused() ? ENOMEM : real(out, align, size);
+}
+
+void *aligned_alloc(size_t align, size_t size) {
+    static void *(*real)(size_t, size_t);
+    if (!real) real = (void *(*)(size_t, size_t))dlsym(RTLD_NEXT, "aligned_alloc");
+    return refused() ? NULL : real(align, size);
+}
+
+/* 1 where this turn of a call is to be interrupted */
+static int interrupts(void) {
+    long times = wanted("INTERRUPT");
+    if (times < 0 || interrupted < times) {
+        interrupted++;
+        errno = EINTR;
+        return 1;
+    }
+    interrupted = 0;
+    return 0;
+}
+
+ssize_t read(int fd, void *buf, size_t size) {
+    static ssize_t (*real)(int, void *, size_t);
+    if (!real) real = (ssize_t (*)(int, void *, size_t))dlsym(RTLD_NEXT, "read");
+    if (interrupts()) return -1;
+    if (++reads == wanted("FAIL_READ")) {
+        errno = EIO;
+        return -1;
+    }
+    return real(fd, buf, wanted("SHORT_READ") && size > 1 ? 1 : size);
+}
+
+ssize_t write(int fd, const void *buf, size_t size) {
+    static ssize_t (*real)(int, const void *, size_t);
+    if (!real) real = (ssize_t (*)(int, const void *, size_t))dlsym(RTLD_NEXT, "write");
+    if (interrupts()) return -1;
+    if (++writes == wanted("FAIL_WRITE")) {
+        errno = EIO;
+        return -1;
+    }
+    return real(fd, buf, wanted("SHORT_WRITE") && size > 1 ? 1 : size);
+}
+
+__attribute__((destructor)) static void tell(void) {
+    const char *name = getenv("COUNT_CALLS");
+    FILE *file = name ? fopen(name, "a") : NULL;
+    if (file) {
+        fprintf(file, "%ld %ld %ld\n", allocs, reads, writes);
+        fclose(file);
+    }
+}
