@@ -18,6 +18,8 @@ pub use bare::BareTree;
 pub use tree::NormTree;
 
 #[cfg(test)]
+mod bare_tests;
+#[cfg(test)]
 mod label_tests;
 #[cfg(test)]
 mod tests;

@@ -176,3 +176,43 @@ fn keeps_a_link_that_is_used_up_exactly(rt: HostRuntime) -> Result<(), Fail> {
     assert!(rt; ends(&tree, &[0, 1, 2, 3])?);
     Ok(())
 }
+
+/// The merger is made, and the labels are then these.
+fn flips(tree: &mut NormTree, arc: u32, labels: [bool; 4]) -> bool {
+    tree.try_merge(arc) && tree.labels() == labels.as_slice()
+}
+
+#[test]
+fn labels_flip_beside_the_path(rt: HostRuntime) -> Result<(), Fail> {
+    let values = vec![in rt.alloc(); 1_000_000, -2_000_000, 5_000_000, -2_000_000]?;
+    let mut tree = opening(rt.alloc(), values)?;
+    assert_eq!(rt; tree.labels(), [true, false, true, false].as_slice());
+    assert!(rt; flips(&mut tree, 0, [false, false, true, false]));
+    // Block 0 is not on the path 2, 1.
+    assert!(rt; flips(&mut tree, 2, [true, true, true, false]));
+    // Block 2 is not on the path 1, 0, 3, which is cut below 1.
+    assert!(rt; flips(&mut tree, 1, [false, true, true, false]));
+    Ok(())
+}
+
+/// Two mergers are made, then the tree is copied and a third one made on it; the copy stands as before.
+fn copies(tree: &mut NormTree) -> Result<bool, Fault> {
+    if !tree.try_merge(0) || !tree.try_merge(2) {
+        return Ok(false);
+    }
+    let copy = tree.copy()?;
+    Ok(
+        tree.try_merge(1)
+            && stands(tree, &[Some(3), None, Some(1), None], &[3, 1, 1, 3])
+            && stands(&copy, &[Some(1), None, Some(1), None], &[1, 1, 1, 3])
+            && copy.labels() == [true, true, true, false].as_slice(),
+    )
+}
+
+#[test]
+fn a_copy_stays(rt: HostRuntime) -> Result<(), Fail> {
+    let values = vec![in rt.alloc(); 1_000_000, -2_000_000, 5_000_000, -2_000_000]?;
+    let mut tree = opening(rt.alloc(), values)?;
+    assert!(rt; copies(&mut tree)?);
+    Ok(())
+}
