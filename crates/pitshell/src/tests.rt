@@ -355,11 +355,7 @@ fn statuses(rt: HostRuntime) -> Result<(), Fail> {
     assert_eq!(rt; exit_code(&Ok(Status::Done)), 0);
     assert_eq!(rt; exit_code(&Ok(Status::No)), 4);
     assert_eq!(rt; exit_code(&Err(Fault::write_failed())), 1);
-    let exhausted = Fault {
-        refusal: Refusal::Exhausted(2),
-        source: Source::None,
-        line: 0,
-    };
-    assert_eq!(rt; exit_code(&Err(exhausted)), 3);
+    assert_eq!(rt; exit_code(&Err(Fault::no_seat())), 1);
+    assert_eq!(rt; exit_code(&Err(Fault::exhausted(2))), 3);
     Ok(())
 }
