@@ -10,55 +10,6 @@ use Rattle.mine_graph.proofs.Counts.{count-yes, count-no, count-same, count-fewe
 use Rattle.mine_graph.proofs.Members.{members-in, members-out, members_each}
 use Rattle.norm_tree.specs.Labelled.{Labelled, IsIndexed, label, is_open, needs_weak, AreCounted, AreMarked}
 
--- each member has its place
-pub members_place : (n : ℕ) (test : ℕ → Bool) (k : ℕ) → k < n → test k ≡ true → (j : ℕ) × (j < length (members n test)) × (get_or (members n test) j 0 ≡ k)
-members_place zero test k l e = absurd (omega arith)
-members_place (suc n) test k l e = ⊎_elim
-    (λ (is : k ≡ n).
-    let grown = members-in n test (ap test (sym is) ∙ e) in
-    let size = ap (λ (xs : List ℕ). length xs) grown ∙ length_push (members n test) n in
-    (length (members n test), omega arith, ap (λ xs. get_or xs (length (members n test)) 0) grown ∙ get_or_at (members n test) n [] 0 (length (members n test)) refl ∙ sym is))
-    (λ (ne : k ≡ n → ⊥).
-    let r = members_place n test k (omega arith) e in
-    let inside = r.1 in
-    ⊎_elim
-    (λ (on : test n ≡ true).
-    let grown = members-in n test on in
-    let size = ap (λ (xs : List ℕ). length xs) grown ∙ length_push (members n test) n in
-    (r.0, omega arith, ap (λ xs. get_or xs r.0 0) grown ∙ get_or_append_left (members n test) (n ∷ []) 0 r.0 inside ∙ r.2))
-    (λ (off : test n ≡ false).
-    let same = members-out n test off in
-    (r.0, subst (λ xs. r.0 < length xs) (sym same) inside, ap (λ xs. get_or xs r.0 0) same ∙ r.2))
-    (cases_Bool (test n)))
-    (cases_eq k n)
-
--- members rise
-pub members_rise : (n : ℕ) (test : ℕ → Bool) (i j : ℕ) → i < j → j < length (members n test) → get_or (members n test) i 0 < get_or (members n test) j 0
-members_rise zero test i j l m = absurd (omega arith)
-members_rise (suc n) test i j l m = ⊎_elim
-    (λ (on : test n ≡ true).
-    let grown = members-in n test on in
-    let size = ap (λ (xs : List ℕ). length xs) grown ∙ length_push (members n test) n in
-    let here : i < length (members n test) = omega arith in
-    let low : get_or (members (suc n) test) i 0 ≡ get_or (members n test) i 0 = ap (λ xs. get_or xs i 0) grown ∙ get_or_append_left (members n test) (n ∷ []) 0 i here in
-    ⊎_elim
-    (λ (is : j ≡ length (members n test)).
-    let high : get_or (members (suc n) test) j 0 ≡ n = ap (λ xs. get_or xs j 0) grown ∙ get_or_at (members n test) n [] 0 j (sym is) in
-    let below = (members_each n test i here).0 in
-    omega arith)
-    (λ (ne : j ≡ length (members n test) → ⊥).
-    let there : j < length (members n test) = omega arith in
-    let high : get_or (members (suc n) test) j 0 ≡ get_or (members n test) j 0 = ap (λ xs. get_or xs j 0) grown ∙ get_or_append_left (members n test) (n ∷ []) 0 j there in
-    let up = members_rise n test i j l there in
-    omega arith)
-    (cases_eq j (length (members n test))))
-    (λ (off : test n ≡ false).
-    let same = members-out n test off in
-    let inside : j < length (members n test) = subst (λ xs. j < length xs) same m in
-    let up = members_rise n test i j l inside in
-    subst (λ xs. get_or xs i 0 < get_or xs j 0) (sym same) up)
-    (cases_Bool (test n))
-
 -- whether the needed block of a pair counts as weak: the changed label of a block holds for the pairs below the bound alone
 abbrev pub weak_so_far : List (ℕ × ℕ) → List Bool → ℕ → ℕ → ℕ → Bool
 weak_so_far pairs strong block bound k =
@@ -107,13 +58,7 @@ telling_at_first : (pairs : List (ℕ × ℕ)) (strong : List Bool) (block u k :
     → needs_weak pairs (set strong block (not (label strong block))) u k ≡ needs_so_far pairs strong block (bound_of pairs block 0) u k
 telling_at_first pairs strong block u k inside l = ap (λ b. first_of pairs k == u && b) (⊎_elim
     (λ (e : second_of pairs k ≡ block).
-    let r = members_place (length pairs) (λ i. second_of pairs i == block) k l (eq-eqb (second_of pairs k) block e) in
-    let there = r.1 in
-    let first : bound_of pairs block 0 ≡ get_or (users_of pairs block) 0 0 = get_or_default (users_of pairs block) 0 (length pairs) 0 (omega arith) in
-    let low : bound_of pairs block 0 ≤ k = ⊎_elim
-    (λ (z : r.0 ≡ 0). let at : get_or (users_of pairs block) 0 0 ≡ k = ap (λ i. get_or (users_of pairs block) i 0) (sym z) ∙ r.2 in omega arith)
-    (λ (nz : r.0 ≡ 0 → ⊥). let up = members_rise (length pairs) (λ i. second_of pairs i == block) 0 r.0 (omega arith) there in let at = r.2 in omega arith)
-    (cases_eq r.0 0) in
+    let low : bound_of pairs block 0 ≤ k = first_bound (length pairs) (λ i. second_of pairs i == block) k l (eq-eqb (second_of pairs k) block e) in
     ap (λ i. not (label (set strong block (not (label strong block))) i)) e
     ∙ ap not (get_or-set_same strong block (not (label strong block)) false inside) ∙ twice_not (label strong block)
     ∙ sym (untold pairs strong block (bound_of pairs block 0) k e low))
@@ -146,37 +91,14 @@ pub record IsUser (pairs : List (ℕ × ℕ)) (block place k : ℕ) : Type 0 whe
 
 pub user_at : (pairs : List (ℕ × ℕ)) (block place : ℕ) → place < length (users_of pairs block) → IsUser pairs block place (get_or (users_of pairs block) place 0)
 user_at pairs block place l =
-    let test : ℕ → Bool = λ i. second_of pairs i == block in
-    let us : List ℕ = users_of pairs block in
-    let each = members_each (length pairs) test place l in
-    let below = each.0 in
+    let k : ℕ = get_or (users_of pairs block) place 0 in
+    let at = member_at (length pairs) (λ i. second_of pairs i == block) place l in
     record {
-      inside = each.0;
-      leads = eqb-true (second_of pairs (get_or us place 0)) block each.1;
-      here = get_or_default us place (length pairs) 0 l;
-      next = ⊎_elim
-          (λ (m : suc place < length us).
-          let is : bound_of pairs block (suc place) ≡ get_or us (suc place) 0 = get_or_default us (suc place) (length pairs) 0 m in
-          let up = members_rise (length pairs) test place (suc place) (omega arith) m in omega arith)
-          (λ (m : length us ≤ suc place). let is = get_or_past us (suc place) (length pairs) m in omega arith)
-          (cases_lt (suc place) (length us));
-      only = λ i h e up.
-          let r = members_place (length pairs) test i h (eq-eqb (second_of pairs i) block e) in
-          let there = r.1 in
-          let at = r.2 in
-          let later : place < r.0 = ⊎_elim
-          (λ (m : place < r.0). m)
-          (λ (m : r.0 ≤ place). ⊎_elim
-          (λ (z : r.0 ≡ place). let same : get_or us place 0 ≡ i = ap (λ j. get_or us j 0) (sym z) ∙ at in absurd (omega arith))
-          (λ (nz : r.0 ≡ place → ⊥). let down = members_rise (length pairs) test r.0 place (omega arith) l in absurd (omega arith))
-          (cases_eq r.0 place))
-          (cases_lt place r.0) in
-          let m : suc place < length us = omega arith in
-          let is : bound_of pairs block (suc place) ≡ get_or us (suc place) 0 = get_or_default us (suc place) (length pairs) 0 m in
-          ⊎_elim
-          (λ (z : r.0 ≡ suc place). let same : get_or us (suc place) 0 ≡ i = ap (λ j. get_or us j 0) (sym z) ∙ at in omega arith)
-          (λ (nz : r.0 ≡ suc place → ⊥). let more = members_rise (length pairs) test (suc place) r.0 (omega arith) there in omega arith)
-          (cases_eq r.0 (suc place));
+      inside = at.inside;
+      leads = eqb-true (second_of pairs k) block at.passes;
+      here = at.here;
+      next = at.next;
+      only = λ i h e up. at.only i h (eq-eqb (second_of pairs i) block e) up;
     }
 
 -- the other pairs count as before
