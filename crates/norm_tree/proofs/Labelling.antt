@@ -1,13 +1,13 @@
 -- Counts of weak needs and marks, while a changed label goes to the users of its block one after another.
-use Rattle.std.proofs.Common.{◌≡◌, ℕ, zero, suc, ◌+◌, ◌<◌, ◌≤◌, ◌==◌, nat_lt, Bool, true, false, not, ◌&&◌, refl, sym, ap, ◌∙◌, arith, subst, ⊎_elim, List, [], ◌∷◌, set, length, get_or, Option, Some, None, IfSome, if◌then◌else◌}
+use Rattle.std.proofs.Common.{◌≡◌, ℕ, suc, ◌+◌, ◌<◌, ◌≤◌, ◌==◌, nat_lt, Bool, true, false, not, ◌&&◌, refl, sym, ap, ◌∙◌, arith, subst, ⊎_elim, List, set, length, get_or, Option, Some, None, IfSome, if◌then◌else◌}
 use Rattle.std.specs.Bool.{beq}
 use Rattle.std.proofs.lemmas.Bool.{cases_eq, cases_lt, cases_Bool, true≢false, eq-eqb, ne_eqb, eqb-true, lt-ltb, le-ltb, ltb-true, and_parts, not-true}
-use Rattle.std.proofs.lemmas.List.{get_or-set_same, get_or-set_other, length-set, get_or_append_left, get_or_at, length_push, get_or_past, get_or_default, set-set, set-get_or}
+use Rattle.std.proofs.lemmas.List.{get_or-set_same, get_or-set_other, length-set, get_or_past, set-set, set-get_or}
 use Rattle.pit_model.specs.Graph.{first_of, second_of, AreRising, IsGraph}
 use Rattle.pit_model.specs.Mine.{members}
 use Rattle.mine_graph.specs.Queue.{count}
 use Rattle.mine_graph.proofs.Counts.{count-yes, count-no, count-same, count-fewer, count-none, count-some}
-use Rattle.mine_graph.proofs.Members.{members-in, members-out, members_each}
+use Rattle.mine_graph.proofs.Members.{first_bound, member_at}
 use Rattle.norm_tree.specs.Labelled.{Labelled, IsIndexed, label, is_open, needs_weak, AreCounted, AreMarked}
 
 -- whether the needed block of a pair counts as weak: the changed label of a block holds for the pairs below the bound alone

@@ -8,6 +8,7 @@ mod Starting
 mod Merging
 mod Heaping
 mod Labelling
+mod Underway
 mod Walking
 mod Renewing
 mod Strength

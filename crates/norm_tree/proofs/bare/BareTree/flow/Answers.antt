@@ -1,5 +1,5 @@
 -- The flows one by one are the list of flows.
-use Rattle.std.proofs.Common.{◌≡◌, ◌∙◌, subst, List}
+use Rattle.std.proofs.Common.{◌≡◌, subst, List}
 use Rattle.std.specs.Prelude.{IfOk, ℤ}
 use Rattle.norm_tree.proofs.Showing.{flows_again}
 use Rattle.norm_tree.proofs.bare.BareTree.flow.Goals as goal
