@@ -16,3 +16,4 @@ pub mod Readings
 pub mod SamePairs
 pub mod Journals
 pub mod FirstRuns
+pub mod FirstJournals

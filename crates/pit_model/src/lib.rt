@@ -9,7 +9,7 @@ ghost use Rattle.pit_model.specs.Merger.{MergerKeepsNormalised, ResidualReadings
 ghost use Rattle.pit_model.specs.Limits.{FlowsStayWithinLimits};
 ghost use Rattle.pit_model.specs.Rank.{MergerLowersRank, RankIsBounded};
 ghost use Rattle.pit_model.specs.Journal.{JournalIsBounded, JournalKeepsBudget, JournalKeepsNormalised};
-ghost use Rattle.pit_model.specs.FirstRun.{FirstMergerIsLeast, FirstRunIsNormalised};
+ghost use Rattle.pit_model.specs.FirstRun.{FirstMergerIsLeast, FirstRunIsLawful, FirstRunIsNormalised};
 
 mod journal;
 
@@ -83,4 +83,9 @@ pub fn first_merger_is_least()
 /// The trees of the first run are normalised.
 pub fn first_run_is_normalised()
     ensures { FirstRunIsNormalised }
+{}
+
+/// The first run is that of a lawful journal, as long as the budget allows its mergers.
+pub fn first_run_is_lawful()
+    ensures { FirstRunIsLawful }
 {}
