@@ -3,7 +3,7 @@
 ghost use Rattle.std.specs.Prelude.{◌≡◌, ◌<◌, ◌≤◌, ◌^◌, [], length, IfOk};
 ghost use Rattle.minelib_reader.specs.Device.{Progress, unread, Writes};
 
-use crate::device::{DeviceFailed, OutBytes, MOST_TRIES};
+use crate::device::{DeviceFailed, MOST_TRIES, OutBytes};
 use crate::history::History;
 use std::alloc::Global;
 use std::io;
