@@ -2,7 +2,6 @@
 ghost use Rattle.std.specs.Prelude.{◌≡◌, ◌<◌, ◌≤◌, ◌^◌, IfOk, IfErr};
 ghost use Rattle.minelib_reader.specs.Refused.{write_failed};
 ghost use Rattle.pit_model.specs.Certificate.{IsCertificate};
-ghost use Rattle.solver.specs.Solved.{Shows};
 ghost use Rattle.pitshell.specs.Modes.{EndsIn, EndsWithin, RefusesSolve};
 ghost use Rattle.pitshell.specs.Run.{HoldsOfMine, RefusesRun};
 ghost use Rattle.pitshell.specs.Solve.{reading, IsDone, WritesPit};
@@ -45,7 +44,7 @@ fn pit_of<R: Threads + Wait + Sync>(
     mine: &Instance,
     mode: Mode,
 ) -> Result<Certificate, Fault>
-    ensures shown { IfOk result (Shows mine.now) }
+    ensures shown { IfOk result (λ c. IsCertificate mine.now c.pit.items c.flow.items) }
     ensures within { IfOk result (λ _. EndsWithin mode mine.now) }
     ensures refused { IfErr result (λ e. RefusesSolve mode mine.now e.refusal e) }
 {
