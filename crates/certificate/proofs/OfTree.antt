@@ -1,7 +1,7 @@
 -- The strong blocks and the flow of a normalised tree without merger arc are a certificate.
 use Rattle.std.proofs.Common.{◌≡◌, ℕ, false, sym, ap, ◌∙◌, subst, List, get_or, length}
 use Rattle.std.specs.Prelude.{ℤ, pos}
-use Rattle.pit_model.specs.Mine.{arcs, members}
+use Rattle.pit_model.specs.Mine.{members}
 use Rattle.pit_model.specs.Limits.{IsInstance}
 use Rattle.pit_model.specs.Tree.{MineTree, is_strong, is_merger, IsNormalised}
 use Rattle.pit_model.specs.Certificate.{Certifies, IsCertificate}

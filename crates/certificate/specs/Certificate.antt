@@ -3,7 +3,7 @@ use Rattle.std.specs.Prelude.{◌≡◌, ℕ, false, IsTrue, Option, Some, None}
 use Rattle.pit_model.specs.Mine.{members}
 use Rattle.pit_model.specs.Tree.{MineTree, is_strong, is_merger}
 use Rattle.pit_model.specs.Certificate.{IsCertificate}
-use Rattle.certificate.specs.declared.make.Certificate.{Certificate}
+use Rattle.certificate.specs.declared.pit_with_flow.Certificate.{Certificate}
 
 -- the strong blocks and the flow, which meet the conditions of a certificate
 pub record IsOfTree (t : MineTree) (c : Certificate) : Type 0 where

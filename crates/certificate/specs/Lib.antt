@@ -1,1 +1,3 @@
 pub mod Certificate
+pub mod Check
+pub mod Queue
