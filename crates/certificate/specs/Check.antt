@@ -1,6 +1,7 @@
 -- What may be checked as a certificate, what a yes shows, and what the passes of the check test.
-use Rattle.std.specs.Prelude.{◌≡◌, ℕ, ◌^◌, ◌<◌, ℤ, pos, ◌≤ℤ◌, Bool, true, false, ◌↔◌, IsTrue, List, length, get_or}
+use Rattle.std.specs.Prelude.{◌≡◌, ℕ, ◌^◌, ◌<◌, ℤ, pos, ◌≤ℤ◌, Bool, false, ◌↔◌, IsTrue, List, length, get_or}
 use Rattle.std.specs.List.{All}
+use Rattle.pit_model.specs.Graph.{first_of, second_of}
 use Rattle.pit_model.specs.Mine.{Instance, value, members, IsPit}
 use Rattle.pit_model.specs.Flow.{excess}
 use Rattle.pit_model.specs.Certificate.{IsReached}
@@ -48,18 +49,19 @@ abbrev pub AreReached : Instance → List ℤ → List Bool → List Bool → Ty
 AreReached mine flow inside marks =
     (u : ℕ) → u < mine.blocks → IsTrue (has marks u) ↔ ((steps : ℕ) × IsReached mine (has inside) (amount flow) u steps)
 
--- what is tested of one pair with the amount on it: it doesn't lead out of the set, and no flow comes in over it
-pub record PairAllows (pair : ℕ × ℕ) (x : ℤ) (inside : List Bool) : Type 0 where
-  pub closed : has inside pair.0 ≡ true → has inside pair.1 ≡ true
-  pub none_enters : has inside pair.1 ≡ true → has inside pair.0 ≡ false → x ≡ pos 0
+-- what is tested of one pair, by the marks of its ends and the amount on it: it doesn't lead out of the set, and no flow
+-- comes in over it
+pub record PairAllows (from to : Bool) (x : ℤ) : Type 0 where
+  pub closed : IsTrue from → IsTrue to
+  pub none_enters : IsTrue to → from ≡ false → x ≡ pos 0
 
 abbrev pub PairsAllow : List (ℕ × ℕ) → List ℤ → List Bool → ℕ → Type 0
-PairsAllow pairs flow inside m = (k : ℕ) → k < m → PairAllows (get_or pairs k (0, 0)) (amount flow k) inside
+PairsAllow pairs flow inside m = (k : ℕ) → k < m → PairAllows (has inside (first_of pairs k)) (has inside (second_of pairs k)) (amount flow k)
 
 -- what is tested of one block: inside it is reached and has no deficit, and outside it has nothing to send
-pub record BlockAllows (excesses : List ℤ) (inside reached : List Bool) (u : ℕ) : Type 0 where
-  pub within : has inside u ≡ true → (has reached u ≡ true) × (pos 0 ≤ℤ get_or excesses u (pos 0))
-  pub outside : has inside u ≡ false → get_or excesses u (pos 0) ≤ℤ pos 0
+pub record BlockAllows (inside reached : Bool) (x : ℤ) : Type 0 where
+  pub within : IsTrue inside → IsTrue reached × (pos 0 ≤ℤ x)
+  pub outside : inside ≡ false → x ≤ℤ pos 0
 
 abbrev pub BlocksAllow : List ℤ → List Bool → List Bool → ℕ → Type 0
-BlocksAllow excesses inside reached n = (u : ℕ) → u < n → BlockAllows excesses inside reached u
+BlocksAllow excesses inside reached n = (u : ℕ) → u < n → BlockAllows (has inside u) (has reached u) (get_or excesses u (pos 0))

@@ -1,11 +1,11 @@
 //! The check of a certificate, from whatever solver it comes: by the graph, the values and plain sums, one pass over the
 //! pairs and one over the blocks once the excesses and the reached blocks are known. It knows nothing of the tree.
-ghost use Rattle.std.specs.Prelude.{◌≡◌, ◌<◌, ◌↔◌, ℕ, IsTrue, length, IfOk, IfErr};
+ghost use Rattle.std.specs.Prelude.{◌≡◌, ◌<◌, ◌↔◌, ℕ, pos, ◌≤ℤ◌, IsTrue, length, IfOk, IfErr};
 ghost use Rattle.std.specs.List.{All};
 ghost use Rattle.minelib_reader.specs.Refused.{no_memory};
 ghost use Rattle.pit_model.specs.Mine.{arcs, members};
 ghost use Rattle.pit_model.specs.Certificate.{Certifies, IsCertificate};
-ghost use Rattle.certificate.specs.Check.{amount, has, AreAmounts, AreExcesses, AreReached, AreRising, BlocksAllow, IsCandidate, PairsAllow, ShowsPit};
+ghost use Rattle.certificate.specs.Check.{amount, has, AreAmounts, AreExcesses, AreReached, AreRising, BlockAllows, BlocksAllow, IsCandidate, PairAllows, PairsAllow, ShowsPit};
 
 use crate::excess::excesses_of;
 use crate::pit_with_flow::Certificate;
@@ -28,6 +28,14 @@ fn marks_of(alloc: Global, n: u32, pit: &[u32]) -> Result<Vec<bool>, AllocError>
     Ok(marks)
 }
 
+/// Whether a pair doesn't lead out of the set, and no flow comes in over it.
+fn pair_allows(from: bool, to: bool, amount: i128) -> bool
+    requires { pos 0 ≤ℤ amount }
+    ensures { IsTrue result ↔ PairAllows from to amount }
+{
+    if from { to } else { !to || amount == 0 }
+}
+
 /// Whether the set is closed, and no flow comes into it from outside.
 fn pairs_allow(graph: &Graph, flow: &[i128], inside: &[bool]) -> bool
     requires counted { length flow.now ≡ length graph.now.pairs }
@@ -38,21 +46,22 @@ fn pairs_allow(graph: &Graph, flow: &[i128], inside: &[bool]) -> bool
     graph.law();
     for k in 0..graph.arcs() {
         let (u, p) = graph.arc(k);
-        let from = inside[u as usize];
-        let to = inside[p as usize];
-        if from {
-            if !to {
-                return false;
-            }
-        } else {
-            if to {
-                if flow[k as usize] > 0 {
-                    return false;
-                }
-            }
+        if !pair_allows(inside[u as usize], inside[p as usize], flow[k as usize]) {
+            return false;
         }
     }
     true
+}
+
+/// Whether a block inside is reached and has no deficit, and one outside has nothing to send.
+fn block_allows(inside: bool, reached: bool, excess: i128) -> bool
+    ensures { IsTrue result ↔ BlockAllows inside reached excess }
+{
+    if inside {
+        reached && excess >= 0
+    } else {
+        excess <= 0
+    }
 }
 
 /// Whether no block inside has a deficit, none outside more than nothing, and each inside is reached.
@@ -62,17 +71,8 @@ fn blocks_allow(excesses: &[i128], inside: &[bool], reached: &[bool]) -> bool
     ensures { IsTrue result ↔ BlocksAllow excesses.now inside.now reached.now (length inside.now) }
 {
     for u in 0..inside.len() {
-        if inside[u] {
-            if !reached[u] {
-                return false;
-            }
-            if excesses[u] < 0 {
-                return false;
-            }
-        } else {
-            if excesses[u] > 0 {
-                return false;
-            }
+        if !block_allows(inside[u], reached[u], excesses[u]) {
+            return false;
         }
     }
     true
