@@ -5,3 +5,4 @@ pub mod Trail
 pub mod Spreading
 pub mod SameSet
 pub mod Checked
+pub mod Carrying

@@ -1,3 +1,4 @@
 pub mod Certificate
 pub mod Check
 pub mod Queue
+pub mod CertificateText

@@ -6,10 +6,12 @@ mod excess;
 mod make;
 mod pit_with_flow;
 mod reach;
+mod writer;
 
 pub use conditions::check;
 pub use make::of_tree;
 pub use pit_with_flow::Certificate;
+pub use writer::write;
 
 #[cfg(test)]
 mod tests;

@@ -7,7 +7,9 @@ mod out;
 mod pit;
 
 pub use fault::write_fault;
-pub use pit::write_pit;
+pub use number::put_number;
+pub use out::{Out, end_line, finish, put};
+pub use pit::{put_line, write_pit};
 
 #[cfg(test)]
 mod tests;
