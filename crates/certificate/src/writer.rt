@@ -1,12 +1,12 @@
 //! The text of a certificate: its head, a line for each block of the pit, and a line for each arc that carries something.
 //! Pieces go through the buffer of `report`, so that nothing is written behind a write that failed.
-ghost use Rattle.std.specs.Prelude.{◌≡◌, ◌<◌, ◌^◌, length, IfErr};
+ghost use Rattle.std.specs.Prelude.{◌≡◌, ◌<◌, ◌^◌, pos, int_lt, length, IfErr};
 ghost use Rattle.std.specs.List.{flat_map};
 ghost use Rattle.minelib_reader.specs.Device.{Writes};
 ghost use Rattle.minelib_reader.specs.Refused.{write_failed};
 ghost use Rattle.pit_model.specs.PitText.{line_of};
 ghost use Rattle.report.specs.Puts.{IsReady, Puts};
-ghost use Rattle.certificate.specs.Check.{IsCandidate};
+ghost use Rattle.certificate.specs.Check.{amount, IsCandidate};
 ghost use Rattle.certificate.specs.CertificateText.{carrying, certificate_head, certificate_text, flow_head, flow_line};
 
 use crate::pit_with_flow::Certificate;
@@ -40,14 +40,22 @@ fn put_pit<W: OutBytes>(writer: &mut W, out: &mut Out, pit: &[u32])
     }
 }
 
-/// How many of the first arcs carry something.
+/// Whether an arc carries something.
+fn carries(flow: &[i128], k: u32) -> bool
+    requires { k < length flow.now }
+    ensures { result ≡ int_lt (pos 0) (amount flow.now k) }
+{
+    flow[k as usize] > 0
+}
+
+/// How many arcs carry something.
 fn count_carrying(flow: &[i128], m: u32) -> u32
     requires { m ≡ length flow.now }
     ensures { result ≡ length (carrying flow.now m) }
 {
     let mut count = 0;
     for k in 0..m {
-        if flow[k as usize] > 0 {
+        if carries(flow, k) {
             count += 1;
         }
     }
@@ -90,7 +98,7 @@ fn put_flow<W: OutBytes>(writer: &mut W, out: &mut Out, graph: &Graph, flow: &[i
     ensures ready { IsReady (W.progress writer.new) out.new }
 {
     for k in 0..graph.arcs() {
-        if flow[k as usize] > 0 {
+        if carries(flow, k) {
             put_arc(writer, out, graph, flow, k);
         }
     }
