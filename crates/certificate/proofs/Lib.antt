@@ -6,3 +6,11 @@ pub mod Spreading
 pub mod SameSet
 pub mod Checked
 pub mod Carrying
+pub mod ArcOf
+pub mod Steps
+pub mod ReadingOn
+pub mod FirstFault
+pub mod LinesRead
+pub mod TextRead
+pub mod TextFound
+pub mod Lawful

@@ -1,5 +1,5 @@
 -- An arc more, which carries something or doesn't.
-use Rattle.std.proofs.Common.{◌≡◌, ◌+◌, ◌<◌, ℕ, List, ◌∷◌, [], arith, rules, ap, sym, ◌∙◌, length, get_or}
+use Rattle.std.proofs.Common.{arith, ap, sym, ◌∙◌, length}
 use Rattle.std.specs.Prelude.{pos, int_lt}
 use Rattle.std.proofs.lemmas.List.{length_push}
 use Rattle.mine_graph.proofs.Members.{members_few}

@@ -1,6 +1,5 @@
 -- An arc more, which has a line where it carries something.
-use Rattle.std.proofs.Common.{◌≡◌, ◌+◌, ◌<◌, ℕ, List, ◌∷◌, [], ◌++◌, arith, rules, ap, sym, ◌∙◌, length, get_or}
-use Rattle.std.specs.Prelude.{pos, int_lt}
+use Rattle.std.proofs.Common.{◌≡◌, ◌+◌, ℕ, List, [], ◌++◌, ap, sym, ◌∙◌}
 use Rattle.std.specs.List.{flat_map}
 use Rattle.std.proofs.lemmas.List.{flat_map_more}
 use Rattle.report.proofs.PutLemmas.{puts_then, puts_as}

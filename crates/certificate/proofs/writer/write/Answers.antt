@@ -1,11 +1,11 @@
 -- The parts of the text, one after the other, and nothing waits behind them.
-use Rattle.std.proofs.Common.{◌≡◌, ◌∙◌, ℕ, List, [], ◌++◌, ap, refl, length}
+use Rattle.std.proofs.Common.{◌≡◌, ◌∙◌, ℕ, List, ◌++◌, ap, length}
 use Rattle.std.specs.Prelude.{ℤ}
 use Rattle.std.specs.List.{flat_map}
 use Rattle.std.proofs.lemmas.List.{append-nil}
 use Rattle.pit_model.specs.PitText.{line_of}
 use Rattle.report.proofs.PutLemmas.{puts_then, puts_as, puts_end}
-use Rattle.certificate.specs.CertificateText.{carrying, certificate_head, certificate_text, flow_head, flow_line}
+use Rattle.certificate.specs.CertificateText.{carrying, certificate_head, flow_head, flow_line}
 use Rattle.certificate.proofs.writer.write.Goals as goal
 
 -- the text by its parts
