@@ -20,3 +20,5 @@ pub use writer::write;
 
 #[cfg(test)]
 mod tests;
+#[cfg(test)]
+mod text_tests;
