@@ -9,10 +9,10 @@ use Rattle.minelib_reader.specs.UpitFault.{IsFirstUpitFault}
 use Rattle.minelib_reader.specs.PrecFault.{IsFirstPrecFault}
 use Rattle.minelib_reader.specs.declared.fault.Fault.{Fault}
 use Rattle.minelib_reader.specs.declared.fault.Refusal.{Refusal}
-use Rattle.minelib_reader.specs.declared.fault.Refusal.TheVariants.{NoMemory, ReadFailed, WriteFailed, Cycle}
+use Rattle.minelib_reader.specs.declared.fault.Refusal.TheVariants.{NoMemory, ReadFailed, WriteFailed}
 use Rattle.minelib_reader.specs.declared.fault.Source.TheVariants as sources
 use Rattle.mine_graph.specs.Faults.{RefusesPairs, IsGraphFault}
-use Rattle.pitshell.specs.Solve.{Reading, Gave, NeverFailed, GaveMine, FirstFault, in_model, in_prec, in_pairs, RefusesMine, RefusesRun, IsCutShort}
+use Rattle.pitshell.specs.Solve.{Reading, Gave, NeverFailed, GaveMine, in_model, in_prec, in_pairs, RefusesMine, RefusesRun, IsCutShort}
 
 pub model_refused :
     (r : Refusal) (e : Fault) (model prec : Reading) → NeverFailed prec

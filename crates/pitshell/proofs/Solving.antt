@@ -1,14 +1,12 @@
 -- A certificate of the mine that was read gives the text of its pit: the certificate shows the pit of the instance, whose
 -- pairs stand in another order than in the file, and that order does not matter.
 use Rattle.std.proofs.Common.{◌≡◌, ℕ, refl, sym, ap, ◌∙◌, subst, Bool, List, get_or, length, ◌≤◌, ◌<◌}
-use Rattle.std.specs.Prelude.{ℤ, pos, Result, Ok, Err}
+use Rattle.std.specs.Prelude.{ℤ, pos, Ok, Err}
 use Rattle.std.specs.List.{All}
 use Rattle.minelib_reader.specs.Device.{Progress, Writes}
-use Rattle.minelib_reader.specs.Refused.{write_failed}
 use Rattle.minelib_reader.specs.declared.fault.Fault.{Fault}
-use Rattle.minelib_reader.specs.Upit.{Upit}
 use Rattle.pit_model.specs.Graph.{AreSamePairs}
-use Rattle.pit_model.specs.Mine.{Instance, instance_of, members, worth, IsPit}
+use Rattle.pit_model.specs.Mine.{Instance, instance_of, members, worth}
 use Rattle.pit_model.specs.Limits.{IsInstance}
 use Rattle.pit_model.specs.Certificate.{IsCertificate}
 use Rattle.pit_model.specs.PitText.{pit_text}
@@ -16,7 +14,7 @@ use Rattle.pit_model.proofs.Simple.{instance_is_simple}
 use Rattle.pit_model.proofs.Duality.{certificate_gives_pit}
 use Rattle.pit_model.proofs.SamePairs.{turned, pit_knows_no_order}
 use Rattle.mine_graph.proofs.Members.{members_few, members_below}
-use Rattle.pitshell.specs.Solve.{Reading, mine_of, IsPitText, Solves, WritesPit, IsDone, IsCutShort, NeverFailed}
+use Rattle.pitshell.specs.Solve.{Reading, IsPitText, Solves, IsDone, IsCutShort}
 use Rattle.pitshell.specs.Mine.{HoldsMine}
 use Rattle.pitshell.specs.declared.status.Status.TheVariants.{Done}
 

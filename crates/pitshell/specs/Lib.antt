@@ -1,3 +1,4 @@
 pub mod Exit
 pub mod Solve
 pub mod Mine
+pub mod Check

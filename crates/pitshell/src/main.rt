@@ -1,5 +1,5 @@
 //! `pitshell`: the ultimate pit of a mine, from the bytes of its files to the bytes that are written.
-//! `solve` does the work over readers and writers; `main` opens files, calls it and gives the exit status.
+//! `solve` and `check` do the work over readers and writers; `main` opens files, calls it and gives the exit status.
 #![tactic(auto)]
 
 ghost use Rattle.std.specs.Prelude.{◌≡◌, ◌^◌, IfOk, IfErr};
@@ -7,6 +7,9 @@ ghost use Rattle.minelib_reader.specs.Steps.{at_line};
 ghost use Rattle.minelib_reader.specs.declared.fault.Refusal.TheVariants.{ReadFailed};
 ghost use Rattle.minelib_reader.specs.Device.{unread};
 
+mod check;
+#[cfg(test)]
+mod check_tests;
 mod command_line;
 mod mine;
 mod options;
@@ -15,10 +18,11 @@ mod status;
 #[cfg(test)]
 mod tests;
 
+use check::run_check;
 use clap::error::ErrorKind;
 use command_line::command;
 use minelib_reader::{Fault, FileReader, InBytes, Refusal, Source, StreamWriter};
-use options::{Options, SolveOptions};
+use options::{CheckOptions, Options, SolveOptions};
 use report::write_fault;
 use solve::run_solve;
 use status::{Status, exit_code};
@@ -48,6 +52,21 @@ fn solve_files(rt: &HostRuntime, options: &SolveOptions<'_>) -> Result<Status, F
     let mut prec = open(rt, options.prec, Source::Precedence)?;
     let mut out = StreamWriter::new(io::writer(rt));
     run_solve(rt.alloc(), &mut model, &mut prec, &mut out)
+}
+
+/// Checks the certificate of a file for the mine of two others, and writes the answer to standard output.
+fn check_files(rt: &HostRuntime, options: &CheckOptions<'_>) -> Result<Status, Fault> {
+    let mut model = open(rt, options.model, Source::Model)?;
+    let mut prec = open(rt, options.prec, Source::Precedence)?;
+    let mut certificate = open(rt, options.certificate, Source::Certificate)?;
+    let mut out = StreamWriter::new(io::writer(rt));
+    run_check(
+        rt.alloc(),
+        &mut model,
+        &mut prec,
+        &mut certificate,
+        &mut out,
+    )
 }
 
 /// Tells how a run ended: a fault goes to standard error, and the exit status is answered.
@@ -82,6 +101,7 @@ fn run(rt: &HostRuntime, words: &[String]) -> Result<ExitCode, Fault> {
         Ok(matches) => match Options::of(&matches) {
             None => Ok(ExitCode::from(2)),
             Some(Options::Solve(options)) => Ok(ended(rt, solve_files(rt, &options))),
+            Some(Options::Check(options)) => Ok(ended(rt, check_files(rt, &options))),
         },
     }
 }

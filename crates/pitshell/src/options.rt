@@ -9,10 +9,19 @@ pub struct SolveOptions<'a> {
     pub prec: &'a str,
 }
 
+/// The files of `check`.
+#[derive(Clone, Copy)]
+pub struct CheckOptions<'a> {
+    pub model: &'a str,
+    pub prec: &'a str,
+    pub certificate: &'a str,
+}
+
 /// One subcommand with its options.
 #[derive(Clone, Copy)]
 pub enum Options<'a> {
     Solve(SolveOptions<'a>),
+    Check(CheckOptions<'a>),
 }
 
 impl<'a> Options<'a> {
@@ -23,6 +32,11 @@ impl<'a> Options<'a> {
             "solve" => Some(Options::Solve(SolveOptions {
                 model: found.get_str("model")?,
                 prec: found.get_str("prec")?,
+            })),
+            "check" => Some(Options::Check(CheckOptions {
+                model: found.get_str("model")?,
+                prec: found.get_str("prec")?,
+                certificate: found.get_str("certificate")?,
             })),
             _ => None,
         }
