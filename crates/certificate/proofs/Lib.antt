@@ -14,3 +14,5 @@ pub mod LinesRead
 pub mod TextRead
 pub mod TextFound
 pub mod Lawful
+pub mod PlainLines
+pub mod Written

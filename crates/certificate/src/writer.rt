@@ -7,6 +7,8 @@ ghost use Rattle.minelib_reader.specs.Refused.{write_failed};
 ghost use Rattle.pit_model.specs.PitText.{line_of};
 ghost use Rattle.report.specs.Puts.{IsReady, Puts};
 ghost use Rattle.certificate.specs.Check.{amount, IsCandidate};
+ghost use Rattle.certificate.specs.CertificateGrammar.{SpellsCertificate};
+ghost use Rattle.certificate.specs.CertificateLines.{pit_and_flow};
 ghost use Rattle.certificate.specs.CertificateText.{carrying, certificate_head, certificate_text, flow_head, flow_line};
 
 use crate::pit_with_flow::Certificate;
@@ -115,7 +117,11 @@ pub fn write<W: OutBytes>(
     requires candidate { IsCandidate graph.now.blocks (length graph.now.pairs) certificate.now.pit.items certificate.now.flow.items }
     ensures text { Writes (W.progress writer.old) (W.progress writer.new) (certificate_text graph.now certificate.now.pit.items certificate.now.flow.items) result }
     ensures refused { IfErr result (λ fault. fault ≡ write_failed) }
+
+    // Reading the text gives the certificate back.
+    ensures spelled { SpellsCertificate graph.now (certificate_text graph.now certificate.now.pit.items certificate.now.flow.items) (pit_and_flow certificate.now.pit.items certificate.now.flow.items) }
 {
+    graph.law();
     let pit = certificate.pit.as_slice();
     let flow = certificate.flow.as_slice();
     let mut out = Out::new();

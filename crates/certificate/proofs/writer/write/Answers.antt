@@ -6,6 +6,7 @@ use Rattle.std.proofs.lemmas.List.{append-nil}
 use Rattle.pit_model.specs.PitText.{line_of}
 use Rattle.report.proofs.PutLemmas.{puts_then, puts_as, puts_end}
 use Rattle.certificate.specs.CertificateText.{carrying, certificate_head, flow_head, flow_line}
+use Rattle.certificate.proofs.Written.{written_spells}
 use Rattle.certificate.proofs.writer.write.Goals as goal
 
 -- the text by its parts
@@ -33,3 +34,7 @@ returns-clause-text g c =
     ∙ ap (λ ids. parts pairs n all ids (length (carrying flow all)) flow all) c.as_slice-pit.ensures.value
     ∙ ap (λ amounts. parts pairs n all c.args.certificate.now.pit.items (length (carrying amounts all)) amounts all) c.as_slice-flow.ensures.value in
     puts_end _ _ _ _ _ c.finish.result (puts_as whole five) c.new-out.ensures.bytes c.new-out.ensures.failed c.finish.ensures.none c.finish.ensures.answers
+
+pub returns-clause-spelled : goal.returns-clause-spelled
+returns-clause-spelled g c =
+    written_spells c.args.graph.now c.args.certificate.now.pit.items c.args.certificate.now.flow.items c.law.ensures.graph c.law.ensures.few_blocks c.law.ensures.few_arcs c.requires.candidate
