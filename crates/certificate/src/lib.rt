@@ -19,6 +19,8 @@ pub use reader::{certificate_law, parse_certificate, read};
 pub use writer::write;
 
 #[cfg(test)]
+mod made_tests;
+#[cfg(test)]
 mod tests;
 #[cfg(test)]
 mod text_tests;
