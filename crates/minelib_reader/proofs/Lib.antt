@@ -15,3 +15,4 @@ mod BlocksLineLemmas
 mod BlocksFaultLemmas
 mod BlocksGrammarLemmas
 mod ColumnLemmas
+pub mod TextFaults

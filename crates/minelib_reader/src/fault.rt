@@ -1,7 +1,7 @@
 //! Why a text or a run was refused: one type for all crates.
 //! The printed texts are those of `report::write_fault`; the derive only makes these error types.
 ghost use Rattle.std.specs.Prelude.{◌≡◌};
-ghost use Rattle.minelib_reader.specs.Refused.{no_memory, write_failed};
+ghost use Rattle.minelib_reader.specs.Refused.{exhausted, no_memory, no_seat, write_failed};
 
 use std::alloc::{AllocError, AllocFailed};
 use thiserror::Error;
@@ -91,6 +91,28 @@ impl Fault {
     {
         Fault {
             refusal: Refusal::WriteFailed,
+            source: Source::None,
+            line: 0,
+        }
+    }
+
+    /// What is answered where a table, a place in one or a thread was refused.
+    pub fn no_seat() -> Fault
+        ensures { result ≡ no_seat }
+    {
+        Fault {
+            refusal: Refusal::NoSeat,
+            source: Source::None,
+            line: 0,
+        }
+    }
+
+    /// What is answered where the budget of so many mergers is used up.
+    pub fn exhausted(count: u64) -> Fault
+        ensures { result ≡ exhausted count }
+    {
+        Fault {
+            refusal: Refusal::Exhausted(count),
             source: Source::None,
             line: 0,
         }

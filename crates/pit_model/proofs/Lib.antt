@@ -14,3 +14,5 @@ pub mod Opening
 pub mod RankBound
 pub mod Readings
 pub mod SamePairs
+pub mod Journals
+pub mod FirstRuns

@@ -10,3 +10,5 @@ pub mod Path
 pub mod Rank
 pub mod Limits
 pub mod PitText
+pub mod Journal
+pub mod FirstRun

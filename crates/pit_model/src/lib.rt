@@ -8,6 +8,12 @@ ghost use Rattle.pit_model.specs.Tree.{NoMergerGivesCertificate, OpeningIsNormal
 ghost use Rattle.pit_model.specs.Merger.{MergerKeepsNormalised, ResidualReadingsAgree};
 ghost use Rattle.pit_model.specs.Limits.{FlowsStayWithinLimits};
 ghost use Rattle.pit_model.specs.Rank.{MergerLowersRank, RankIsBounded};
+ghost use Rattle.pit_model.specs.Journal.{JournalIsBounded, JournalKeepsBudget, JournalKeepsNormalised};
+ghost use Rattle.pit_model.specs.FirstRun.{FirstMergerIsLeast, FirstRunIsNormalised};
+
+mod journal;
+
+pub use journal::{Entry, Verdict};
 
 /// What meets the conditions of a certificate is the pit (Picard 1976).
 pub fn certificate_gives_pit()
@@ -52,4 +58,29 @@ pub fn residual_readings_agree()
 /// A pit does not depend on the order in which the pairs stand.
 pub fn pit_knows_no_order()
     ensures { PitKnowsNoOrder }
+{}
+
+/// A lawful journal leads to a normalised tree.
+pub fn journal_keeps_normalised()
+    ensures { JournalKeepsNormalised }
+{}
+
+/// A lawful journal makes at most P * (n + 1) + n mergers, P the sum of the positive values.
+pub fn journal_is_bounded()
+    ensures { JournalIsBounded }
+{}
+
+/// A lawful journal makes at most as many mergers as its budget allows.
+pub fn journal_keeps_budget()
+    ensures { JournalKeepsBudget }
+{}
+
+/// The first merger arc is a merger arc, and none has a lesser number; where there is no first one, none is left.
+pub fn first_merger_is_least()
+    ensures { FirstMergerIsLeast }
+{}
+
+/// The trees of the first run are normalised.
+pub fn first_run_is_normalised()
+    ensures { FirstRunIsNormalised }
 {}

@@ -9,28 +9,38 @@ use Rattle.minelib_reader.specs.UpitFault.{IsFirstUpitFault}
 use Rattle.minelib_reader.specs.PrecFault.{IsFirstPrecFault}
 use Rattle.minelib_reader.specs.declared.fault.Fault.{Fault}
 use Rattle.minelib_reader.specs.declared.fault.Refusal.{Refusal}
-use Rattle.minelib_reader.specs.declared.fault.Refusal.TheVariants.{NoMemory, ReadFailed, WriteFailed}
+use Rattle.minelib_reader.specs.declared.fault.Refusal.TheVariants.{NoMemory, ReadFailed, WriteFailed, NoSeat, Exhausted}
 use Rattle.minelib_reader.specs.declared.fault.Source.TheVariants as sources
 use Rattle.mine_graph.specs.Faults.{RefusesPairs, IsGraphFault}
-use Rattle.pitshell.specs.Solve.{Reading, Gave, NeverFailed, GaveMine, in_model, in_prec, in_pairs, RefusesMine, RefusesRun, IsCutShort}
+use Rattle.pitshell.specs.Solve.{Reading, Gave, NeverFailed, GaveMine, in_model, in_prec, in_pairs, RefusesMine, IsCutShort}
+use Rattle.pitshell.specs.Mine.{HoldsMine}
+use Rattle.pitshell.specs.Modes.{RefusesSolve}
+use Rattle.pitshell.specs.Run.{RefusesRun}
+use Rattle.solver.specs.declared.mode.Mode.{Mode}
+use Rattle.pit_model.specs.Mine.{Instance}
+use Rattle.minelib_reader.proofs.TextFaults.{IsOfText, upit_fault_of_text, prec_fault_of_text}
 
 pub model_refused :
-    (r : Refusal) (e : Fault) (model prec : Reading) → NeverFailed prec
+    (r : Refusal) (e : Fault) (model prec : Reading) → e.refusal ≡ r → NeverFailed prec
     → Refuses r sources.Model e model.before model.after (ReadsText model.before model.after model.ended (λ text. IsFirstUpitFault text e))
     → RefusesMine r e model prec
-model_refused NoMemory e model prec still h = (h.1, h.0, still)
-model_refused ReadFailed e model prec still h = inl h
-model_refused WriteFailed e model prec still h = h
-model_refused _ e model prec still h = in_model h.0 h.1 h.2
+model_refused NoMemory e model prec is still h = (h.1, h.0, still)
+model_refused ReadFailed e model prec is still h = inl h
+model_refused WriteFailed e model prec is still h = h
+model_refused NoSeat e model prec is still h = subst IsOfText is (upit_fault_of_text h.0 e h.2)
+model_refused (Exhausted count) e model prec is still h = subst IsOfText is (upit_fault_of_text h.0 e h.2)
+model_refused _ e model prec is still h = in_model h.0 h.1 h.2
 
 pub prec_refused :
-    (r : Refusal) (e : Fault) (model prec : Reading) (upit : Upit) (text : List ℕ) → Gave model text → SpellsUpit text upit
+    (r : Refusal) (e : Fault) (model prec : Reading) (upit : Upit) (text : List ℕ) → e.refusal ≡ r → Gave model text → SpellsUpit text upit
     → Refuses r sources.Precedence e prec.before prec.after (ReadsText prec.before prec.after prec.ended (λ behind. IsFirstPrecFault upit.n behind e))
     → RefusesMine r e model prec
-prec_refused NoMemory e model prec upit text given spelled h = (h.1, given.failures, h.0)
-prec_refused ReadFailed e model prec upit text given spelled h = inr h
-prec_refused WriteFailed e model prec upit text given spelled h = h
-prec_refused _ e model prec upit text given spelled h = in_prec text h.0 upit given spelled h.1 h.2
+prec_refused NoMemory e model prec upit text is given spelled h = (h.1, given.failures, h.0)
+prec_refused ReadFailed e model prec upit text is given spelled h = inr h
+prec_refused WriteFailed e model prec upit text is given spelled h = h
+prec_refused NoSeat e model prec upit text is given spelled h = subst IsOfText is (prec_fault_of_text upit.n h.0 e h.2)
+prec_refused (Exhausted count) e model prec upit text is given spelled h = subst IsOfText is (prec_fault_of_text upit.n h.0 e h.2)
+prec_refused _ e model prec upit text is given spelled h = in_prec text h.0 upit given spelled h.1 h.2
 
 pub pairs_refused :
     (r : Refusal) (e : Fault) (model prec : Reading) (upit : Upit) (pairs : List (ℕ × ℕ)) → GaveMine model prec upit pairs
@@ -38,13 +48,26 @@ pub pairs_refused :
 pairs_refused NoMemory e model prec upit pairs given is h = (h, given.model_given.failures, given.prec_given.failures)
 pairs_refused ReadFailed e model prec upit pairs given is h = absurd h
 pairs_refused WriteFailed e model prec upit pairs given is h = h
+pairs_refused NoSeat e model prec upit pairs given is h = h
+pairs_refused (Exhausted count) e model prec upit pairs given is h = h
 pairs_refused _ e model prec upit pairs given is h = in_pairs upit pairs given is
 
--- a refusal before anything is written is one of the run
-pub run_refused : (r : Refusal) (e : Fault) (model prec : Reading) (out : Progress) → RefusesMine r e model prec → RefusesRun r e model prec out out
-run_refused WriteFailed e model prec out h = absurd h
-run_refused _ e model prec out h = (h, refl)
+-- a refusal of the files is one of the run
+pub read_refused : (mode : Mode) (r : Refusal) (e : Fault) (model prec : Reading) (out : Progress) → RefusesMine r e model prec → RefusesRun mode r e model prec out out
+read_refused mode WriteFailed e model prec out h = absurd h
+read_refused mode NoSeat e model prec out h = absurd h
+read_refused mode (Exhausted count) e model prec out h = absurd h
+read_refused mode _ e model prec out h = (h, refl)
 
-pub write_refused : (e : Fault) (model prec : Reading) (before after : Progress) → e ≡ write_failed → IsCutShort model prec before after → RefusesRun e.refusal e model prec before after
-write_refused e model prec before after is cut =
-    subst (λ f. RefusesRun f.refusal f model prec before after) (sym is) (refl, cut)
+-- and so is a refusal of the solve
+pub solve_refused :
+    (mode : Mode) (r : Refusal) (e : Fault) (model prec : Reading) (mine : Instance) (out : Progress) → HoldsMine model prec mine
+    → RefusesSolve mode mine r e → RefusesRun mode r e model prec out out
+solve_refused mode NoMemory e model prec mine out holds h = ((h, holds.given.model_given.failures, holds.given.prec_given.failures), refl)
+solve_refused mode NoSeat e model prec mine out holds h = ((mine, holds, h), refl)
+solve_refused mode (Exhausted count) e model prec mine out holds h = ((mine, holds, h), refl)
+solve_refused mode _ e model prec mine out holds h = absurd h
+
+pub write_refused : (mode : Mode) (e : Fault) (model prec : Reading) (before after : Progress) → e ≡ write_failed → IsCutShort model prec before after → RefusesRun mode e.refusal e model prec before after
+write_refused mode e model prec before after is cut =
+    subst (λ f. RefusesRun mode f.refusal f model prec before after) (sym is) (refl, cut)

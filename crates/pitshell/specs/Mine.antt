@@ -3,9 +3,10 @@ use Rattle.std.specs.Prelude.{◌≡◌, ℕ, List}
 use Rattle.minelib_reader.specs.Upit.{Upit}
 use Rattle.pit_model.specs.Graph.{AreSamePairs, IsAcyclic}
 use Rattle.pit_model.specs.Mine.{Instance}
+use Rattle.pit_model.specs.Limits.{IsInstance}
 use Rattle.pitshell.specs.Solve.{Reading, GaveMine}
 
--- the mine that the readers gave, with its pairs in another order
+-- the mine that the readers gave, with its pairs in the order of (block, needed block)
 pub record HoldsMine (model prec : Reading) (mine : Instance) : Type 0 where
   pub upit : Upit
   pub pairs : List (ℕ × ℕ)
@@ -14,3 +15,4 @@ pub record HoldsMine (model prec : Reading) (mine : Instance) : Type 0 where
   pub values : mine.values ≡ upit.values
   pub same : AreSamePairs pairs mine.pairs
   pub acyclic : IsAcyclic pairs
+  pub instance : IsInstance mine

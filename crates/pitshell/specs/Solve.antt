@@ -2,7 +2,7 @@
 use Rattle.std.specs.Prelude.{◌≡◌, ℕ, ◌+◌, ◌++◌, ◌⊎◌, Bool, List, Result}
 use Rattle.minelib_reader.specs.Device.{Progress, Begins, Writes}
 use Rattle.minelib_reader.specs.Answer.{IsRead}
-use Rattle.minelib_reader.specs.Refused.{no_memory, write_failed}
+use Rattle.minelib_reader.specs.Refused.{no_memory}
 use Rattle.minelib_reader.specs.Steps.{at_line}
 use Rattle.minelib_reader.specs.Upit.{Upit}
 use Rattle.minelib_reader.specs.UpitGrammar.{SpellsUpit}
@@ -11,7 +11,7 @@ use Rattle.minelib_reader.specs.PrecGrammar.{SpellsPrec}
 use Rattle.minelib_reader.specs.PrecFault.{IsFirstPrecFault}
 use Rattle.minelib_reader.specs.declared.fault.Fault.{Fault}
 use Rattle.minelib_reader.specs.declared.fault.Refusal.{Refusal}
-use Rattle.minelib_reader.specs.declared.fault.Refusal.TheVariants.{NoMemory, ReadFailed, WriteFailed}
+use Rattle.minelib_reader.specs.declared.fault.Refusal.TheVariants.{NoMemory, ReadFailed, WriteFailed, NoSeat, Exhausted}
 use Rattle.minelib_reader.specs.declared.fault.Source.{Source}
 use Rattle.minelib_reader.specs.declared.fault.Source.TheVariants as sources
 use Rattle.mine_graph.specs.Faults.{IsGraphFault}
@@ -100,9 +100,6 @@ abbrev pub RefusesMine : Refusal → Fault → Reading → Reading → Type 0
 RefusesMine NoMemory fault model prec = (fault ≡ no_memory) × NeverFailed model × NeverFailed prec
 RefusesMine ReadFailed fault model prec = FailedOnce sources.Model fault model ⊎ FailedOnce sources.Precedence fault prec
 RefusesMine WriteFailed fault model prec = ⊥
+RefusesMine NoSeat fault model prec = ⊥
+RefusesMine (Exhausted count) fault model prec = ⊥
 RefusesMine _ fault model prec = FirstFault fault model prec
-
--- why a run ended without a pit: nothing was written, but where a write failed
-abbrev pub RefusesRun : Refusal → Fault → Reading → Reading → Progress → Progress → Type 0
-RefusesRun WriteFailed fault model prec before after = (fault ≡ write_failed) × IsCutShort model prec before after
-RefusesRun refusal fault model prec before after = RefusesMine refusal fault model prec × (after ≡ before)

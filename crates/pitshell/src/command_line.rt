@@ -1,6 +1,6 @@
 //! The command line, as `clap` sees it. `options` turns what was found into the program's own types.
 
-use clap::{Arg, ArgAction, Command};
+use clap::{Arg, ArgAction, Command, value_parser};
 use std::alloc::{AllocError, Global};
 
 const STATUSES: &str = "Exit status:\n  \
@@ -42,6 +42,30 @@ fn check_command<'a>(alloc: Global) -> Result<Command<'a>, AllocError> {
         ))
 }
 
+/// How to solve: the mode's word, which `mode_words` checks, the number of workers and the budget of mergers.
+fn with_mode<'a>(alloc: Global, command: Command<'a>) -> Result<Command<'a>, AllocError> {
+    let mode = Arg::new(alloc, "mode")
+        .long("mode")
+        .value_name("MODE")
+        .help("single, parts or shared; the answer is the same in each")
+        .default_value("single")
+        .action(ArgAction::Set);
+    let workers = Arg::new(alloc, "workers")
+        .long("workers")
+        .value_name("NUMBER")
+        .help("Workers in mode shared, 1 to 64")
+        .value_parser(value_parser!(u64).range(1..=64))
+        .default_value("4")
+        .action(ArgAction::Set);
+    let budget = Arg::new(alloc, "budget")
+        .long("budget")
+        .value_name("MERGERS")
+        .help("The most mergers that may be made; not in mode parts")
+        .value_parser(value_parser!(u64))
+        .action(ArgAction::Set);
+    command.arg(mode)?.arg(workers)?.arg(budget)
+}
+
 /// `pitshell` with its subcommands.
 pub fn command<'a>(alloc: Global) -> Result<Command<'a>, AllocError> {
     let model = file(
@@ -59,6 +83,7 @@ pub fn command<'a>(alloc: Global) -> Result<Command<'a>, AllocError> {
         .after_help(STATUSES)
         .arg(model)?
         .arg(prec)?;
+    let solve = with_mode(alloc, solve)?;
     Command::new(alloc, "pitshell")
         .version("0.1.0")
         .about("Finds the ultimate pit of a mine, and proves it")

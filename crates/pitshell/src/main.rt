@@ -12,6 +12,7 @@ mod check;
 mod check_tests;
 mod command_line;
 mod mine;
+mod mode_words;
 mod options;
 mod solve;
 mod status;
@@ -29,6 +30,8 @@ use status::{Status, exit_code};
 use std::alloc::AllocError;
 use std::fs::File;
 use std::process::ExitCode;
+use std::sync::Wait;
+use std::thread::Threads;
 use std::{env, io};
 
 /// Opens an input; one that cannot be opened is a read that failed.
@@ -46,12 +49,23 @@ fn open(rt: &HostRuntime, path: &str, source: Source) -> Result<FileReader, Faul
     }
 }
 
-/// Solves the mine of two files, and writes its pit to standard output.
-fn solve_files(rt: &HostRuntime, options: &SolveOptions<'_>) -> Result<Status, Fault> {
+/// Solves the mine of two files, and writes its pit to standard output. `threads` starts the workers.
+fn solve_files<R: Threads + Wait + Sync>(
+    rt: &HostRuntime,
+    threads: &R,
+    options: &SolveOptions<'_>,
+) -> Result<Status, Fault> {
     let mut model = open(rt, options.model, Source::Model)?;
     let mut prec = open(rt, options.prec, Source::Precedence)?;
     let mut out = StreamWriter::new(io::writer(rt));
-    run_solve(rt.alloc(), &mut model, &mut prec, &mut out)
+    run_solve(
+        threads,
+        rt.alloc(),
+        &mut model,
+        &mut prec,
+        &mut out,
+        options.mode,
+    )
 }
 
 /// Checks the certificate of a file for the mine of two others, and writes the answer to standard output.
@@ -86,6 +100,12 @@ fn explain(rt: &HostRuntime, error: &clap::Error) -> ExitCode {
     ExitCode::from(error.exit_code() as u8)
 }
 
+/// Tells what does not go together on the command line.
+fn not_understood(rt: &HostRuntime, line: &str) -> ExitCode {
+    let _ = rt.eprintln(line);
+    ExitCode::from(2)
+}
+
 /// The words of the command line.
 fn words_of(rt: &HostRuntime) -> Result<Vec<String>, Fault> {
     match env::args(rt) {
@@ -95,12 +115,17 @@ fn words_of(rt: &HostRuntime) -> Result<Vec<String>, Fault> {
 }
 
 /// Does what the words of the command line ask for.
-fn run(rt: &HostRuntime, words: &[String]) -> Result<ExitCode, Fault> {
+fn run<R: Threads + Wait + Sync>(
+    rt: &HostRuntime,
+    threads: &R,
+    words: &[String],
+) -> Result<ExitCode, Fault> {
     match command(rt.alloc())?.try_get_matches_from(words) {
         Err(error) => Ok(explain(rt, &error)),
         Ok(matches) => match Options::of(&matches) {
             None => Ok(ExitCode::from(2)),
-            Some(Options::Solve(options)) => Ok(ended(rt, solve_files(rt, &options))),
+            Some(Options::Wrong(line)) => Ok(not_understood(rt, line)),
+            Some(Options::Solve(options)) => Ok(ended(rt, solve_files(rt, threads, &options))),
             Some(Options::Check(options)) => Ok(ended(rt, check_files(rt, &options))),
         },
     }
@@ -109,7 +134,7 @@ fn run(rt: &HostRuntime, words: &[String]) -> Result<ExitCode, Fault> {
 fn main(rt: HostRuntime) -> ExitCode {
     match words_of(&rt) {
         Err(fault) => ended(&rt, Err(fault)),
-        Ok(words) => match run(&rt, &words) {
+        Ok(words) => match run(&rt, &rt, &words) {
             Err(fault) => ended(&rt, Err(fault)),
             Ok(code) => code,
         },

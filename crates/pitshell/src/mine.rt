@@ -28,5 +28,7 @@ pub fn read_mine<M: InBytes, P: InBytes>(
     let mine = read_upit(alloc, model)?;
     let pairs = read_prec(alloc, prec, mine.n)?;
     let graph = Graph::new(alloc, mine.n, pairs)?;
-    Ok(Instance::new(Arc::new(alloc, graph)?, mine.values))
+    let instance = Instance::new(Arc::new(alloc, graph)?, mine.values);
+    instance.law();
+    Ok(instance)
 }

@@ -1,12 +1,15 @@
 //! What the command line asks for, as types of the program's own.
 
+use crate::mode_words::{mode_fault, mode_of};
 use clap::ArgMatches;
+use solver::Mode;
 
-/// The files of `solve`.
+/// The files of `solve`, and how to solve.
 #[derive(Clone, Copy)]
 pub struct SolveOptions<'a> {
     pub model: &'a str,
     pub prec: &'a str,
+    pub mode: Mode,
 }
 
 /// The files of `check`.
@@ -22,6 +25,31 @@ pub struct CheckOptions<'a> {
 pub enum Options<'a> {
     Solve(SolveOptions<'a>),
     Check(CheckOptions<'a>),
+    /// What is asked for does not go together: the line that says so.
+    Wrong(&'static str),
+}
+
+/// The mode of a subcommand, or what is wrong with it. None where the parse has let through what it refuses.
+fn mode_in(found: &ArgMatches<'_>) -> Option<Result<Mode, &'static str>> {
+    let word = found.get_str("mode")?;
+    let workers = u32::try_from(found.get_one::<u64>("workers")?).ok()?;
+    let budget = found.get_one::<u64>("budget");
+    match mode_fault(word, budget.is_some(), false) {
+        Some(line) => Some(Err(line)),
+        None => Some(Ok(mode_of(word, workers, budget))),
+    }
+}
+
+/// The options of `solve`.
+fn solve_of<'a>(found: &ArgMatches<'a>) -> Option<Options<'a>> {
+    match mode_in(found)? {
+        Err(line) => Some(Options::Wrong(line)),
+        Ok(mode) => Some(Options::Solve(SolveOptions {
+            model: found.get_str("model")?,
+            prec: found.get_str("prec")?,
+            mode,
+        })),
+    }
 }
 
 impl<'a> Options<'a> {
@@ -29,10 +57,7 @@ impl<'a> Options<'a> {
     pub fn of(matches: &ArgMatches<'a>) -> Option<Options<'a>> {
         let (name, found) = matches.subcommand()?;
         match name {
-            "solve" => Some(Options::Solve(SolveOptions {
-                model: found.get_str("model")?,
-                prec: found.get_str("prec")?,
-            })),
+            "solve" => solve_of(found),
             "check" => Some(Options::Check(CheckOptions {
                 model: found.get_str("model")?,
                 prec: found.get_str("prec")?,

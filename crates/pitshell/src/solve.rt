@@ -1,8 +1,11 @@
 //! `solve`: from the bytes of a model and a precedence file to the bytes of the pit.
 ghost use Rattle.std.specs.Prelude.{◌≡◌, ◌<◌, ◌≤◌, ◌^◌, IfOk, IfErr};
-ghost use Rattle.minelib_reader.specs.Refused.{no_memory, write_failed};
+ghost use Rattle.minelib_reader.specs.Refused.{write_failed};
 ghost use Rattle.pit_model.specs.Certificate.{IsCertificate};
-ghost use Rattle.pitshell.specs.Solve.{reading, IsDone, RefusesRun, WritesPit};
+ghost use Rattle.solver.specs.Solved.{Shows};
+ghost use Rattle.pitshell.specs.Modes.{EndsIn, EndsWithin, RefusesSolve};
+ghost use Rattle.pitshell.specs.Run.{HoldsOfMine, RefusesRun};
+ghost use Rattle.pitshell.specs.Solve.{reading, IsDone, WritesPit};
 
 use crate::mine::read_mine;
 use crate::status::Status;
@@ -10,16 +13,45 @@ use certificate::Certificate;
 use mine_graph::Instance;
 use minelib_reader::{Fault, InBytes, OutBytes};
 use report::write_pit;
-use solver::{Outcome, solve_single};
+use solver::{Mode, Outcome, solve_shared, solve_single};
 use std::alloc::Global;
+use std::sync::Wait;
+use std::thread::Threads;
 
-/// The pit of a mine with its certificate.
-fn pit_of(alloc: Global, mine: &Instance) -> Result<Certificate, Fault>
-    ensures shown { IfOk result (λ c. IsCertificate mine.now c.pit.items c.flow.items) }
-    ensures refused { IfErr result (λ e. e ≡ no_memory) }
+/// How the mode's solve of a mine ended. Parts go the way of one thread, without a budget.
+fn outcome_in<R: Threads + Wait + Sync>(
+    rt: &R,
+    alloc: Global,
+    mine: &Instance,
+    mode: Mode,
+) -> Result<Outcome, Fault>
+    ensures ended { IfOk result (EndsIn mode mine.now) }
+    ensures refused { IfErr result (λ e. RefusesSolve mode mine.now e.refusal e) }
 {
-    match solve_single(alloc, mine)? {
+    match mode {
+        Mode::Single { budget } => solve_single(alloc, mine, budget),
+        Mode::Parts => solve_single(alloc, mine, None),
+        Mode::Shared { workers, budget } => {
+            let (outcome, _) = solve_shared(rt, alloc, mine, workers, budget)?;
+            Ok(outcome)
+        }
+    }
+}
+
+/// The pit of a mine with its certificate, unless the budget is used up.
+fn pit_of<R: Threads + Wait + Sync>(
+    rt: &R,
+    alloc: Global,
+    mine: &Instance,
+    mode: Mode,
+) -> Result<Certificate, Fault>
+    ensures shown { IfOk result (Shows mine.now) }
+    ensures within { IfOk result (λ _. EndsWithin mode mine.now) }
+    ensures refused { IfErr result (λ e. RefusesSolve mode mine.now e.refusal e) }
+{
+    match outcome_in(rt, alloc, mine, mode)? {
         Outcome::Pit(certificate) => Ok(certificate),
+        Outcome::Exhausted(count) => Err(Fault::exhausted(count)),
     }
 }
 
@@ -39,15 +71,19 @@ fn put_pit<W: OutBytes>(
     write_pit(out, mine.graph().n(), &certificate.pit, worth)
 }
 
-/// Reads a model and then a precedence file, and writes the text of the pit: of the smallest closed set of greatest worth.
+/// Reads a model and then a precedence file, and writes the text of the pit: of the smallest closed set of greatest worth,
+/// whatever the mode.
 ///
-/// Refused by the first fault of the files (3 to 14), for want of memory (1), where a read failed (2), all with nothing
-/// written; and where a write failed (18), with a beginning of the text written.
-pub fn run_solve<M: InBytes, P: InBytes, W: OutBytes>(
+/// Refused by the first fault of the files (3 to 14), for want of memory (1), where a read failed (2), where the budget is
+/// used up (20) and where a worker could not be started (22), all with nothing written; and where a write failed (18), with
+/// a beginning of the text written.
+pub fn run_solve<R: Threads + Wait + Sync, M: InBytes, P: InBytes, W: OutBytes>(
+    rt: &R,
     alloc: Global,
     model: &mut M,
     prec: &mut P,
     out: &mut W,
+    mode: Mode,
 ) -> Result<Status, Fault>
     requires model_countable { (M.progress model.old).failures < 2 ^ 63 }
     requires model_bounded { (M.progress model.old).allowance ≤ 2 ^ 40 }
@@ -58,13 +94,17 @@ pub fn run_solve<M: InBytes, P: InBytes, W: OutBytes>(
         (reading (M.progress model.old) (M.progress model.new) (M.IsAtEnd model.new))
         (reading (P.progress prec.old) (P.progress prec.new) (P.IsAtEnd prec.new))
         (W.progress out.old) (W.progress out.new)) }
-    ensures refused { IfErr result (λ e. RefusesRun e.refusal e
+    ensures within { IfOk result (λ _. HoldsOfMine
+        (reading (M.progress model.old) (M.progress model.new) (M.IsAtEnd model.new))
+        (reading (P.progress prec.old) (P.progress prec.new) (P.IsAtEnd prec.new))
+        (EndsWithin mode)) }
+    ensures refused { IfErr result (λ e. RefusesRun mode e.refusal e
         (reading (M.progress model.old) (M.progress model.new) (M.IsAtEnd model.new))
         (reading (P.progress prec.old) (P.progress prec.new) (P.IsAtEnd prec.new))
         (W.progress out.old) (W.progress out.new)) }
 {
     let mine = read_mine(alloc, model, prec)?;
-    let certificate = pit_of(alloc, &mine)?;
+    let certificate = pit_of(rt, alloc, &mine, mode)?;
     put_pit(out, &mine, &certificate)?;
     Ok(Status::Done)
 }

@@ -7,8 +7,8 @@ use lib.ListN.{get_elem?}
 use prog.Atomic.{either}
 use Rattle.atomic_table.specs.Table.{Me, Act, Valid, step, keeps, stepped, Allows, carried_after}
 use Rattle.atomic_table.proofs.Lists.{at_map}
-use Rattle.proposals.specs.declared.verdict.Verdict.{Verdict}
-use Rattle.proposals.specs.declared.verdict.Verdict.TheVariants.{Applied, Stale, Spent}
+use Rattle.pit_model.specs.declared.journal.Verdict.{Verdict}
+use Rattle.pit_model.specs.declared.journal.Verdict.TheVariants.{Applied, Stale, Spent}
 use Rattle.proposals.specs.declared.verdict.Reply.{Reply}
 use Rattle.proposals.specs.declared.knows.Desk.{Desk}
 use Rattle.proposals.specs.declared.knows.Served.{Served}

@@ -5,7 +5,7 @@ use prog.Atomic.{either}
 use Rattle.atomic_table.specs.Table.{step, Allows}
 use Rattle.atomic_table.specs.Seated.{TableId}
 use Rattle.atomic_table.specs.declared.shared.Seat.{Seat}
-use Rattle.proposals.specs.declared.verdict.Verdict.{Verdict}
+use Rattle.pit_model.specs.declared.journal.Verdict.{Verdict}
 use Rattle.proposals.specs.declared.knows.Desk.{Desk}
 use Rattle.proposals.specs.declared.knows.Served.{Served}
 use Rattle.proposals.specs.declared.knows.Rack.{Rack}

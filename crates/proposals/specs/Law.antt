@@ -3,7 +3,7 @@ use Rattle.std.specs.Prelude.{◌≡◌, ◌⊎◌, ℕ, ◌+◌, ◌^◌, ◌<�
 use mathlib.Core.Option.{some}
 use lib.ListN.{get_elem?}
 use Rattle.atomic_table.specs.Table.{State}
-use Rattle.proposals.specs.declared.verdict.Verdict.{Verdict}
+use Rattle.pit_model.specs.declared.journal.Verdict.{Verdict}
 use Rattle.proposals.specs.declared.verdict.Reply.{Reply}
 use Rattle.proposals.specs.declared.knows.Desk.{Desk}
 use Rattle.proposals.specs.declared.knows.Rack.{Rack}

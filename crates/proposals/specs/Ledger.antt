@@ -3,8 +3,8 @@ use Rattle.std.specs.Prelude.{◌≡◌, ◌≢◌, ◌⊎◌, ℕ, zero, suc, �
 use mathlib.Core.Option.{some}
 use lib.ListN.{get_elem?}
 use Rattle.atomic_table.specs.Table.{State, Me, Step}
-use Rattle.proposals.specs.declared.verdict.Verdict.{Verdict}
-use Rattle.proposals.specs.declared.verdict.Verdict.TheVariants.{Applied, Stale, Spent}
+use Rattle.pit_model.specs.declared.journal.Verdict.{Verdict}
+use Rattle.pit_model.specs.declared.journal.Verdict.TheVariants.{Applied, Stale, Spent}
 use Rattle.proposals.specs.declared.verdict.Reply.{Reply}
 use Rattle.proposals.specs.declared.knows.Desk.{Desk}
 use Rattle.proposals.specs.declared.knows.Served.{Served}

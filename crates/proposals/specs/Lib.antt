@@ -2,6 +2,5 @@ pub mod DrawSeats
 pub mod Drawn
 pub mod Law
 pub mod Ledger
-pub mod Refused
 pub mod Rooms
 pub mod Seats

@@ -2,10 +2,9 @@
 //! It is made without a name, and named by a type; its calls stand in `ask`, `serve` and `settle`.
 ghost use Rattle.std.specs.Prelude.{◌≡◌, ◌<◌, [], length, IfOk, IfErr, replicate};
 ghost use Rattle.proposals.specs.Ledger.{opener, nothing, desks};
-ghost use Rattle.proposals.specs.Refused.{no_memory, IsNoRoom};
+ghost use Rattle.minelib_reader.specs.Refused.{no_memory, IsNoRoom};
 
 use crate::knows::Knows;
-use crate::refused::no_table;
 use crate::room::Room;
 use crate::seats::{HolderSeat, WorkerSeat};
 use crate::steps::{Asks, Deal};
@@ -56,7 +55,7 @@ impl UnnamedBoard {
                 seat,
                 workers,
             }),
-            Err(_) => Err(no_table()),
+            Err(_) => Err(Fault::no_seat()),
         }
     }
 }

@@ -10,7 +10,6 @@ mod draws;
 mod hand;
 mod knows;
 mod law;
-mod refused;
 mod room;
 mod seats;
 mod serve;
@@ -25,10 +24,11 @@ pub use draws::{Draws, UnnamedDraws};
 pub use hand::{Batch, Hand};
 pub use knows::{Desk, Knows, Rack, Served};
 pub use law::ledger_law;
+pub use pit_model::Verdict;
 pub use room::Room;
 pub use seats::{HolderSeat, WorkerSeat};
 pub use steps::Asks;
-pub use verdict::{Reply, Verdict};
+pub use verdict::Reply;
 
 #[cfg(test)]
 mod tests;

@@ -7,7 +7,8 @@ use crate::board::{ASKED, Board};
 use crate::room::Room;
 use crate::seats::HolderSeat;
 use crate::steps::{Answer, Claim, Read, Unclaim};
-use crate::verdict::{Verdict, word_of};
+use crate::verdict::word_of;
+use pit_model::Verdict;
 
 impl<B: Room> Board<B> {
     /// Claims the ask of a worker and answers its arc. None where no ask stood, or where it was withdrawn between the two steps.

@@ -1,19 +1,10 @@
 //! What the holder decides of an ask, and how it stands in a word of the board.
 //! `serve` writes the word of a verdict, `ask` reads it.
 ghost use Rattle.std.specs.Prelude.{◌≡◌};
-ghost use Rattle.proposals.specs.declared.verdict.Verdict.{Verdict as AnyVerdict};
+ghost use Rattle.pit_model.specs.declared.journal.Verdict.{Verdict as AnyVerdict};
 ghost use Rattle.proposals.specs.Ledger.{code};
 
-/// What was decided of a proposed arc.
-#[derive(Clone, Copy, Debug, PartialEq, Eq)]
-pub enum Verdict {
-    /// It was a merger arc, and was merged.
-    Applied,
-    /// It was no merger arc.
-    Stale,
-    /// It was a merger arc, and the budget of mergers was used up.
-    Spent,
-}
+use pit_model::Verdict;
 
 /// The arc that was asked, with what was decided of it.
 #[derive(Clone, Copy, Debug, PartialEq, Eq)]

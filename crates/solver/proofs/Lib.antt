@@ -1,1 +1,3 @@
 pub mod Sweeping
+pub mod FirstMergers
+pub mod Sharing

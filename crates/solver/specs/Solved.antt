@@ -1,16 +1,44 @@
 -- What a solve gives.
-use Rattle.std.specs.Prelude.{◌<ℤ◌}
+use Rattle.std.specs.Prelude.{◌≡◌, ◌⊎◌, ℕ, List, Option, Some, None, IsTrue, ◌<ℤ◌}
+use Rattle.pit_model.specs.declared.journal.Entry.{Entry}
 use Rattle.pit_model.specs.Mine.{Instance}
 use Rattle.pit_model.specs.Tree.{MineTree}
 use Rattle.pit_model.specs.Rank.{rank}
 use Rattle.pit_model.specs.Certificate.{IsCertificate}
+use Rattle.pit_model.specs.Journal.{is_used_up, applied_count, IsLawful, AreSeated, replay}
+use Rattle.pit_model.specs.FirstRun.{HasMerger, HasNoMerger, first_run}
+use Rattle.tree_lock.specs.Held.{Held}
+use Rattle.certificate.specs.declared.pit_with_flow.Certificate.{Certificate}
 use Rattle.solver.specs.declared.outcome.Outcome.{Outcome}
-use Rattle.solver.specs.declared.outcome.Outcome.TheVariants.{Pit}
+use Rattle.solver.specs.declared.outcome.Outcome.TheVariants.{Pit, Exhausted}
 
 -- a tree of lower rank than another
 abbrev pub IsLower : MineTree → MineTree → Type 0
 IsLower new old = rank new.mine new.tree <ℤ rank old.mine old.tree
 
--- a pit with its certificate
-abbrev pub IsSolved : Instance → Outcome → Type 0
-IsSolved mine (Pit certificate) = IsCertificate mine certificate.pit.items certificate.flow.items
+-- the pit of the instance, with the flow that shows it
+abbrev pub Shows : Instance → Certificate → Type 0
+Shows mine certificate = IsCertificate mine certificate.pit.items certificate.flow.items
+
+-- one thread: without a budget the pit; with one the pit, where the first run has no merger arc left after as many mergers,
+-- and else that the budget is used up
+abbrev pub IsSolvedAlone : Instance → Option ℕ → Outcome → Type 0
+IsSolvedAlone mine None (Pit certificate) = Shows mine certificate
+IsSolvedAlone mine None (Exhausted count) = ⊥
+IsSolvedAlone mine (Some budget) (Pit certificate) = Shows mine certificate × HasNoMerger mine (first_run mine budget)
+IsSolvedAlone mine (Some budget) (Exhausted count) = (count ≡ budget) × HasMerger mine (first_run mine budget)
+
+-- the replay of a journal has no merger arc left, and this is the pit; or exactly the budget's mergers were made, and one is left
+abbrev pub EndsBy : Instance → Option ℕ → List Entry → Outcome → Type 0
+EndsBy mine budget journal (Pit certificate) = Shows mine certificate × HasNoMerger mine (replay mine journal)
+EndsBy mine budget journal (Exhausted count) = (budget ≡ Some count) × (applied_count journal ≡ count) × HasMerger mine (replay mine journal)
+
+-- workers at one tree: the journal is lawful, under their seats and the driver's, and the solve ends by it
+pub record IsSolvedTogether (mine : Instance) (workers : ℕ) (budget : Option ℕ) (outcome : Outcome) (journal : List Entry) : Type 0 where
+  pub lawful : IsLawful mine budget journal
+  pub seated : AreSeated mine workers journal
+  pub ends : EndsBy mine budget journal outcome
+
+-- nothing more is to be done: no merger arc is left, or the budget is used up
+abbrev pub IsEnded : Held → Type 0
+IsEnded held = HasNoMerger held.mine held.tree ⊎ IsTrue (is_used_up held.budget (applied_count held.journal))

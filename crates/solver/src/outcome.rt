@@ -7,4 +7,6 @@ use certificate::Certificate;
 pub enum Outcome {
     /// The pit, with the flow that shows it.
     Pit(Certificate),
+    /// The budget of so many mergers is used up, and a merger arc is left.
+    Exhausted(u64),
 }

@@ -1,8 +1,9 @@
 //! One thread solves the whole instance.
-ghost use Rattle.std.specs.Prelude.{◌≡◌, IfOk, IfErr};
+ghost use Rattle.std.specs.Prelude.{◌≡◌, Some, None, IfOk, IfErr};
 ghost use Rattle.minelib_reader.specs.Refused.{no_memory};
-ghost use Rattle.solver.specs.Solved.{IsSolved};
+ghost use Rattle.solver.specs.Solved.{IsSolvedAlone};
 
+use crate::first_mergers::make_first_mergers;
 use crate::outcome::Outcome;
 use crate::sweep::merge_all;
 use certificate::of_tree;
@@ -11,9 +12,9 @@ use minelib_reader::Fault;
 use norm_tree::NormTree;
 use std::alloc::Global;
 
-/// The smallest closed set of greatest worth, with its certificate. Refused for want of memory alone.
-pub fn solve_single(alloc: Global, instance: &Instance) -> Result<Outcome, Fault>
-    ensures solved { IfOk result (IsSolved instance.now) }
+// The pit, by mergers in whatever order.
+fn solve_freely(alloc: Global, instance: &Instance) -> Result<Outcome, Fault>
+    ensures solved { IfOk result (IsSolvedAlone instance.now None) }
     ensures refused { IfErr result (λ e. e ≡ no_memory) }
 {
     let mut tree = NormTree::start(alloc, instance)?;
@@ -21,5 +22,35 @@ pub fn solve_single(alloc: Global, instance: &Instance) -> Result<Outcome, Fault
     match of_tree(&tree)? {
         Some(certificate) => Ok(Outcome::Pit(certificate)),
         None => unreachable!(),
+    }
+}
+
+// The pit, where the mergers of the first run end within the budget.
+fn solve_within(alloc: Global, instance: &Instance, budget: u64) -> Result<Outcome, Fault>
+    ensures solved { IfOk result (IsSolvedAlone instance.now (Some budget)) }
+    ensures refused { IfErr result (λ e. e ≡ no_memory) }
+{
+    let mut tree = NormTree::start(alloc, instance)?;
+    make_first_mergers(&mut tree, budget);
+    match of_tree(&tree)? {
+        Some(certificate) => Ok(Outcome::Pit(certificate)),
+        None => Ok(Outcome::Exhausted(budget)),
+    }
+}
+
+/// The smallest closed set of greatest worth, with its certificate. With a budget the mergers are those of the first run,
+/// each over the merger arc with the least number, and `Exhausted` comes exactly where a merger arc is left after as many
+/// as the budget. Refused for want of memory alone.
+pub fn solve_single(
+    alloc: Global,
+    instance: &Instance,
+    budget: Option<u64>,
+) -> Result<Outcome, Fault>
+    ensures solved { IfOk result (IsSolvedAlone instance.now budget) }
+    ensures refused { IfErr result (λ e. e ≡ no_memory) }
+{
+    match budget {
+        None => solve_freely(alloc, instance),
+        Some(budget) => solve_within(alloc, instance, budget),
     }
 }

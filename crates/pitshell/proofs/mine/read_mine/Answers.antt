@@ -12,7 +12,7 @@ returns-in_err-mine-clause-refused g c =
     let e = c.in_err-mine.field-0.0 in
     let model = reading (g.M.InBytes.progress c.args.model.now) (g.M.InBytes.progress c.read_upit.new.reader) (g.M.InBytes.IsAtEnd c.read_upit.new.reader) in
     let prec = reading (g.P.InBytes.progress c.args.prec.now) (g.P.InBytes.progress c.args.prec.now) (g.P.InBytes.IsAtEnd c.args.prec.now) in
-    rw (p.1, p.2) (model_refused e.refusal e model prec refl c.in_err-mine.ensures.answers)
+    rw (p.1, p.2) (model_refused e.refusal e model prec refl refl c.in_err-mine.ensures.answers)
 
 pub returns-in_err-pairs-clause-refused : goal.returns-in_err-pairs-clause-refused
 returns-in_err-pairs-clause-refused g c =
@@ -21,7 +21,7 @@ returns-in_err-pairs-clause-refused g c =
     let model = reading (g.M.InBytes.progress c.args.model.now) (g.M.InBytes.progress c.read_upit.new.reader) (g.M.InBytes.IsAtEnd c.read_upit.new.reader) in
     let prec = reading (g.P.InBytes.progress c.args.prec.now) (g.P.InBytes.progress c.read_prec.new.reader) (g.P.InBytes.IsAtEnd c.read_prec.new.reader) in
     let given = c.in_ok-mine.ensures.answers in
-    rw (p.1, p.2) (prec_refused e.refusal e model prec (upit c.in_ok-mine.mine.n c.in_ok-mine.mine.values.items) given.0 given.1 given.2 c.in_err-pairs.ensures.answers)
+    rw (p.1, p.2) (prec_refused e.refusal e model prec (upit c.in_ok-mine.mine.n c.in_ok-mine.mine.values.items) given.0 refl given.1 given.2 c.in_err-pairs.ensures.answers)
 
 pub returns-in_err-graph-clause-refused : goal.returns-in_err-graph-clause-refused
 returns-in_err-graph-clause-refused g c =

@@ -1,7 +1,7 @@
 -- Each exit: what the step said of its refusal is said of the run; and at the end the pit of the mine was written.
 use Rattle.std.proofs.lemmas.Result.{err_from_is_err_and}
 use Rattle.pitshell.specs.Solve.{reading}
-use Rattle.pitshell.proofs.Refusing.{run_refused, write_refused}
+use Rattle.pitshell.proofs.Refusing.{read_refused, write_refused}
 use Rattle.pitshell.proofs.Solving.{done, cut_short}
 use Rattle.pitshell.proofs.solve.run_solve.Goals as goal
 
@@ -11,7 +11,7 @@ returns-in_err-mine-clause-refused g c =
     let e = c.in_err-mine.field-0.0 in
     let model = reading (g.M.InBytes.progress c.args.model.now) (g.M.InBytes.progress c.read_mine.new.model) (g.M.InBytes.IsAtEnd c.read_mine.new.model) in
     let prec = reading (g.P.InBytes.progress c.args.prec.now) (g.P.InBytes.progress c.read_mine.new.prec) (g.P.InBytes.IsAtEnd c.read_mine.new.prec) in
-    rw (p.1, p.2) (run_refused e.refusal e model prec (g.W.OutBytes.progress c.args.out.now) c.in_err-mine.ensures.refused)
+    rw (p.1, p.2) (read_refused c.args.mode e.refusal e model prec (g.W.OutBytes.progress c.args.out.now) c.in_err-mine.ensures.refused)
 
 pub returns-in_err-put_pit-clause-refused : goal.returns-in_err-put_pit-clause-refused
 returns-in_err-put_pit-clause-refused g c =
@@ -22,7 +22,7 @@ returns-in_err-put_pit-clause-refused g c =
     let old = g.W.OutBytes.progress c.args.out.now in
     let new = g.W.OutBytes.progress c.put_pit.new.out in
     let wrote = c.in_err-put_pit.ensures.written in
-    rw (p.1, p.2) (write_refused e model prec old new c.in_err-put_pit.ensures.refused (cut_short model prec c.in_ok-mine.mine old new e c.in_ok-mine.ensures.mine wrote.0 wrote.1 wrote.2))
+    rw (p.1, p.2) (write_refused c.args.mode e model prec old new c.in_err-put_pit.ensures.refused (cut_short model prec c.in_ok-mine.mine old new e c.in_ok-mine.ensures.mine wrote.0 wrote.1 wrote.2))
 
 pub returns-clause-done : goal.returns-clause-done
 returns-clause-done g c =

@@ -1,4 +1,4 @@
-use Rattle.std.proofs.Common.{◌≡◌, Bool, true, false, refl, sym, ◌∙◌, ap, subst, ⊎_elim, ◌+◌}
+use Rattle.std.proofs.Common.{Bool, sym, ◌∙◌, subst, ⊎_elim, ◌+◌}
 use Rattle.std.proofs.lemmas.Bool.{false≢true}
 use Rattle.solver.proofs.Sweeping.{IsSwept, swept_none, swept_merged, swept_passed}
 use Rattle.solver.proofs.sweep.sweep_once.Goals.{then-try_merge, else-try_merge}

@@ -1,0 +1,64 @@
+-- The modes of a run: what the command line may not ask for, how a budget ends a solve, and why a solve is refused.
+use Rattle.std.specs.Prelude.{◌≡◌, ℕ, Bool, ◌&&◌, ◌||◌, not, List, Option, Some, None, if◌then◌else◌, codes}
+use Rattle.std.specs.Str.{bytes_eq}
+use Rattle.minelib_reader.specs.Refused.{no_memory, no_seat, exhausted}
+use Rattle.minelib_reader.specs.declared.fault.Fault.{Fault}
+use Rattle.minelib_reader.specs.declared.fault.Refusal.{Refusal}
+use Rattle.minelib_reader.specs.declared.fault.Refusal.TheVariants as refusals
+use Rattle.pit_model.specs.declared.journal.Entry.{Entry}
+use Rattle.pit_model.specs.Mine.{Instance}
+use Rattle.pit_model.specs.Journal.{applied_count, IsLawful, replay}
+use Rattle.pit_model.specs.FirstRun.{HasMerger, HasNoMerger, first_run}
+use Rattle.solver.specs.Solved.{Shows}
+use Rattle.solver.specs.declared.outcome.Outcome.{Outcome}
+use Rattle.solver.specs.declared.outcome.Outcome.TheVariants.{Pit, Exhausted}
+use Rattle.solver.specs.declared.mode.Mode.{Mode}
+use Rattle.solver.specs.declared.mode.Mode.TheVariants.{Single, Parts, Shared}
+
+-- a word of the command line is one of the three modes
+abbrev pub is_mode : List ℕ → Bool
+is_mode word = bytes_eq word (codes "single") || bytes_eq word (codes "parts") || bytes_eq word (codes "shared")
+
+-- what is wrong with the word of a mode, given whether there is a budget and whether a journal is wanted: the first that applies
+abbrev pub mode_fault_of : List ℕ → Bool → Bool → Option (List ℕ)
+mode_fault_of word budget journal =
+    if not (is_mode word) then Some (codes "pitshell: mode is single, parts or shared")
+    else (if bytes_eq word (codes "parts") && budget then Some (codes "pitshell: parts takes no budget")
+    else (if journal && not (bytes_eq word (codes "shared")) then Some (codes "pitshell: journal needs shared")
+    else None))
+
+-- the mode of a word in which nothing is wrong
+abbrev pub mode_named : List ℕ → ℕ → Option ℕ → Mode
+mode_named word workers budget =
+    if bytes_eq word (codes "parts") then Parts
+    else (if bytes_eq word (codes "shared") then Shared workers budget
+    else Single budget)
+
+-- the budget does not end the solve: with one thread, the first run has no merger arc left after as many mergers
+abbrev pub EndsWithin : Mode → Instance → Type 0
+EndsWithin (Single (Some budget)) mine = HasNoMerger mine (first_run mine budget)
+EndsWithin _ mine = Unit {0}
+
+-- the budget is used up with a merger arc left: in the first run; or after some lawful journal of exactly so many mergers; never in parts
+abbrev pub RunsOut : Mode → Instance → ℕ → Type 0
+RunsOut (Single budget) mine count = (budget ≡ Some count) × HasMerger mine (first_run mine count)
+RunsOut Parts mine count = ⊥
+RunsOut (Shared workers budget) mine count =
+    (budget ≡ Some count)
+    × ((journal : List Entry) × IsLawful mine budget journal × (applied_count journal ≡ count) × HasMerger mine (replay mine journal))
+
+-- how a solve in a mode ends
+abbrev pub EndsIn : Mode → Instance → Outcome → Type 0
+EndsIn mode mine (Pit certificate) = Shows mine certificate × EndsWithin mode mine
+EndsIn mode mine (Exhausted count) = RunsOut mode mine count
+
+abbrev pub IsShared : Mode → Type 0
+IsShared (Shared workers budget) = Unit {0}
+IsShared _ = ⊥
+
+-- why a mine is not solved: no memory; no worker could be started; or the budget is used up
+abbrev pub RefusesSolve : Mode → Instance → Refusal → Fault → Type 0
+RefusesSolve mode mine refusals.NoMemory fault = fault ≡ no_memory
+RefusesSolve mode mine refusals.NoSeat fault = (fault ≡ no_seat) × IsShared mode
+RefusesSolve mode mine (refusals.Exhausted count) fault = (fault ≡ exhausted count) × RunsOut mode mine count
+RefusesSolve mode mine _ fault = ⊥

@@ -1,0 +1,15 @@
+//! The tree under its lock: each proposal is decided by whoever holds it, with an entry in the journal.
+#![tactic(auto)]
+
+mod book;
+mod holder;
+mod shared;
+mod site;
+
+pub use holder::Holder;
+pub use pit_model::{Entry, Verdict};
+pub use shared::SharedTree;
+pub use site::Site;
+
+#[cfg(test)]
+mod tests;
