@@ -1,9 +1,26 @@
 //! A pit with the flow that shows that it is the smallest closed set of greatest worth.
 #![tactic(auto)]
 
+mod amount;
+mod conditions;
+mod due;
+mod excess;
+mod lines;
 mod make;
+mod pit_with_flow;
+mod reach;
+mod reader;
+mod writer;
 
-pub use make::{Certificate, of_tree};
+pub use conditions::check;
+pub use make::of_tree;
+pub use pit_with_flow::Certificate;
+pub use reader::{certificate_law, parse_certificate, read};
+pub use writer::write;
 
 #[cfg(test)]
+mod made_tests;
+#[cfg(test)]
 mod tests;
+#[cfg(test)]
+mod text_tests;

@@ -3,15 +3,9 @@ ghost use Rattle.std.specs.Prelude.{◌≡◌, IfOk, IfErr};
 ghost use Rattle.minelib_reader.specs.Refused.{no_memory};
 ghost use Rattle.certificate.specs.Certificate.{AnswersTree};
 
+use crate::pit_with_flow::Certificate;
 use minelib_reader::Fault;
 use norm_tree::NormTree;
-
-/// The blocks of a pit, rising, and the flow on each arc by its number, in the unit of the values.
-#[derive(Debug, Drop)]
-pub struct Certificate {
-    pub pit: Vec<u32>,
-    pub flow: Vec<i128>,
-}
 
 /// The strong blocks of a tree and its flow, where no merger arc is left; None exactly where one is.
 /// Refused for want of memory alone. (Hochbaum 2008; Picard 1976)

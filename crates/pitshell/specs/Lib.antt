@@ -1,5 +1,6 @@
 pub mod Exit
 pub mod Solve
 pub mod Mine
+pub mod Check
 pub mod Modes
 pub mod Run

@@ -20,6 +20,28 @@ fn file<'a>(alloc: Global, name: &'a str, help: &'a str) -> Arg<'a> {
         .action(ArgAction::Set)
 }
 
+/// `check` with its files.
+fn check_command<'a>(alloc: Global) -> Result<Command<'a>, AllocError> {
+    Command::new(alloc, "check")
+        .about("Writes yes where a certificate shows the ultimate pit of the mine, and else no")
+        .after_help(STATUSES)
+        .arg(file(
+            alloc,
+            "model",
+            "Optimisation model (.upit): the value of each block",
+        ))?
+        .arg(file(
+            alloc,
+            "prec",
+            "Precedence (.prec): the blocks that each block needs",
+        ))?
+        .arg(file(
+            alloc,
+            "certificate",
+            "Certificate: the blocks of a pit, and the flow that shows it",
+        ))
+}
+
 /// How to solve: the mode's word, which `mode_words` checks, the number of workers and the budget of mergers.
 fn with_mode<'a>(alloc: Global, command: Command<'a>) -> Result<Command<'a>, AllocError> {
     let mode = Arg::new(alloc, "mode")
@@ -68,5 +90,6 @@ pub fn command<'a>(alloc: Global) -> Result<Command<'a>, AllocError> {
         .after_help(STATUSES)
         .subcommand_required(true)
         .arg_required_else_help(false)
-        .subcommand(solve)
+        .subcommand(solve)?
+        .subcommand(check_command(alloc)?)
 }

@@ -1,5 +1,5 @@
 //! `pitshell`: the ultimate pit of a mine, from the bytes of its files to the bytes that are written.
-//! `solve` does the work over readers and writers; `main` opens files, calls it and gives the exit status.
+//! `solve` and `check` do the work over readers and writers; `main` opens files, calls it and gives the exit status.
 #![tactic(auto)]
 
 ghost use Rattle.std.specs.Prelude.{◌≡◌, ◌^◌, IfOk, IfErr};
@@ -7,6 +7,9 @@ ghost use Rattle.minelib_reader.specs.Steps.{at_line};
 ghost use Rattle.minelib_reader.specs.declared.fault.Refusal.TheVariants.{ReadFailed};
 ghost use Rattle.minelib_reader.specs.Device.{unread};
 
+mod check;
+#[cfg(test)]
+mod check_tests;
 mod command_line;
 mod mine;
 mod mode_words;
@@ -16,10 +19,11 @@ mod status;
 #[cfg(test)]
 mod tests;
 
+use check::run_check;
 use clap::error::ErrorKind;
 use command_line::command;
 use minelib_reader::{Fault, FileReader, InBytes, Refusal, Source, StreamWriter};
-use options::{Options, SolveOptions};
+use options::{CheckOptions, Options, SolveOptions};
 use report::write_fault;
 use solve::run_solve;
 use status::{Status, exit_code};
@@ -61,6 +65,21 @@ fn solve_files<R: Threads + Wait + Sync>(
         &mut prec,
         &mut out,
         options.mode,
+    )
+}
+
+/// Checks the certificate of a file for the mine of two others, and writes the answer to standard output.
+fn check_files(rt: &HostRuntime, options: &CheckOptions<'_>) -> Result<Status, Fault> {
+    let mut model = open(rt, options.model, Source::Model)?;
+    let mut prec = open(rt, options.prec, Source::Precedence)?;
+    let mut certificate = open(rt, options.certificate, Source::Certificate)?;
+    let mut out = StreamWriter::new(io::writer(rt));
+    run_check(
+        rt.alloc(),
+        &mut model,
+        &mut prec,
+        &mut certificate,
+        &mut out,
     )
 }
 
@@ -107,6 +126,7 @@ fn run<R: Threads + Wait + Sync>(
             None => Ok(ExitCode::from(2)),
             Some(Options::Wrong(line)) => Ok(not_understood(rt, line)),
             Some(Options::Solve(options)) => Ok(ended(rt, solve_files(rt, threads, &options))),
+            Some(Options::Check(options)) => Ok(ended(rt, check_files(rt, &options))),
         },
     }
 }

@@ -12,10 +12,19 @@ pub struct SolveOptions<'a> {
     pub mode: Mode,
 }
 
+/// The files of `check`.
+#[derive(Clone, Copy)]
+pub struct CheckOptions<'a> {
+    pub model: &'a str,
+    pub prec: &'a str,
+    pub certificate: &'a str,
+}
+
 /// One subcommand with its options.
 #[derive(Clone, Copy)]
 pub enum Options<'a> {
     Solve(SolveOptions<'a>),
+    Check(CheckOptions<'a>),
     /// What is asked for does not go together: the line that says so.
     Wrong(&'static str),
 }
@@ -49,6 +58,11 @@ impl<'a> Options<'a> {
         let (name, found) = matches.subcommand()?;
         match name {
             "solve" => solve_of(found),
+            "check" => Some(Options::Check(CheckOptions {
+                model: found.get_str("model")?,
+                prec: found.get_str("prec")?,
+                certificate: found.get_str("certificate")?,
+            })),
             _ => None,
         }
     }

@@ -1,2 +1,3 @@
 pub mod Puts
 pub mod FaultText
+pub mod AnswerText

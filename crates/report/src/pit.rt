@@ -25,7 +25,7 @@ fn put_head<W: OutBytes>(writer: &mut W, out: &mut Out, n: u32, count: usize, wo
 }
 
 /// Writes the line of a block.
-fn put_line<W: OutBytes>(writer: &mut W, out: &mut Out, id: u32)
+pub fn put_line<W: OutBytes>(writer: &mut W, out: &mut Out, id: u32)
     requires { IsReady (W.progress writer.old) out.old }
     ensures puts { Puts (W.progress writer.old) out.old (W.progress writer.new) out.new (line_of id) }
     ensures ready { IsReady (W.progress writer.new) out.new }

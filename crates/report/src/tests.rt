@@ -239,3 +239,14 @@ fn faults_of_a_run(rt: HostRuntime) -> Result<(), Fail> {
     }
     Ok(())
 }
+
+#[test]
+fn answers(rt: HostRuntime) -> Result<(), Fail> {
+    let mut affirmed = MemoryWriter::new(rt.alloc(), 100);
+    write_answer(&mut affirmed, true)?;
+    assert_eq!(rt; affirmed.text.as_slice(), b"yes\n".as_slice());
+    let mut denied = MemoryWriter::new(rt.alloc(), 100);
+    write_answer(&mut denied, false)?;
+    assert_eq!(rt; denied.text.as_slice(), b"no\n".as_slice());
+    Ok(())
+}

@@ -1,6 +1,6 @@
 use Rattle.std.proofs.Common.{rules}
 use Rattle.std.specs.Prelude.{IsNone}
-use Rattle.certificate.proofs.OfTree.{is_certificate}
+use Rattle.certificate.proofs.OfTree.{is_candidate, is_certificate}
 use Rattle.certificate.proofs.make.of_tree.Goals as goal
 
 pub returns-clause-answer : goal.returns-clause-answer
@@ -12,4 +12,5 @@ returns-clause-answer c =
       strong = c.in_ok-pit.ensures.strong;
       flow = c.in_ok-flow.ensures.ok;
       certifies = is_certificate c.args.tree.now c.in_ok-pit.pit.items c.in_ok-flow.flow.items c.law.ensures.instance c.law.ensures.normalised no_merger c.in_ok-pit.ensures.strong c.in_ok-flow.ensures.ok;
+      candidate = is_candidate c.args.tree.now c.in_ok-pit.pit.items c.in_ok-flow.flow.items c.law.ensures.instance c.law.ensures.normalised c.in_ok-pit.ensures.strong c.in_ok-flow.ensures.ok;
     }

@@ -1,0 +1,349 @@
+-- What is written of a certificate spells it: the text line by line, and each line field by field.
+use Rattle.std.proofs.Common.{◌≡◌, ℕ, zero, suc, ◌+◌, ◌^◌, ◌<◌, ◌≤◌, ◌&&◌, leb, Bool, true, false, cond, List, [], ◌∷◌, ◌++◌, length, get_or, map, filter, Some, refl, sym, ap, subst, ◌∙◌, arith, ⊎_elim, append_assoc}
+use Rattle.std.specs.Prelude.{ℤ, pos, negsuc, int_lt, unsigned_abs, ◌≤ℤ◌, codes, decimal}
+use Rattle.std.specs.List.{All, flat_map, range_with_len}
+use Rattle.std.proofs.lemmas.Int.{ints}
+use Rattle.std.proofs.lemmas.Bool.{and_parts, cases_Bool, cases_eq, leb-true}
+use Rattle.std.proofs.lemmas.List.{get_or_past}
+use Rattle.std.proofs.lemmas.List.Elements.{All-append, All-cons, All-nil}
+use Rattle.minelib_reader.specs.Number.{whole_of}
+use Rattle.minelib_reader.specs.Text.{Row, row, rows_from, rows_of, fields_of}
+use Rattle.minelib_reader.proofs.LineLemmas.{row_yes, no_rows}
+use Rattle.pit_model.specs.Graph.{Graph, IsGraph, first_of, second_of}
+use Rattle.pit_model.specs.Limits.{Between}
+use Rattle.pit_model.specs.PitText.{line_of}
+use Rattle.mine_graph.proofs.Counts.{pigeon}
+use Rattle.mine_graph.proofs.Members.{members_few, members_below}
+use Rattle.certificate.specs.Check.{amount, AreRising, IsCandidate}
+use Rattle.certificate.specs.CertificateText.{carrying, certificate_head, certificate_text, flow_head, flow_line}
+use Rattle.certificate.specs.CertificateLines.{pit_and_flow}
+use Rattle.certificate.specs.CertificateGrammar.{SpellsNumber, SpellsBlock, SpellsBlocks, SpellsArc, SpellsFlow, SpellsCertificate}
+use Rattle.certificate.proofs.PlainLines.{IsLine, IsWord, AreLines, IsNumeral, word_line, text_of, lines_text, one_word, next_word, numeral, digits_read}
+
+whole_read : (n : ℕ) → n ≤ 2 ^ 26 → whole_of (decimal n) ≡ Some n
+whole_read n small = digits_read 10 n (omega arith) (omega arith) (omega arith)
+
+written : (n : ℕ) → n ≤ 10 ^ 30 → IsNumeral n (decimal n)
+written n small = numeral n (omega arith)
+
+-- ---- a line of a word and a number
+
+abbrev number_words : List ℕ → ℕ → List ℕ
+number_words word n = word ++ 32 ∷ decimal n
+
+names : (k : ℕ) (word : List ℕ) (n : ℕ) → IsWord word → 0 < length word → n ≤ 2 ^ 26 → SpellsNumber word n (row k (fields_of (number_words word n)))
+names k word n is some small =
+    let d = written n (omega arith) in
+    record { field = decimal n; fields = next_word word (decimal n) is some ∙ ap (λ (fs : List (List ℕ)). word ∷ fs) (one_word (decimal n) d.word d.some); is_number = whole_read n small }
+
+number_line_plain : (word : List ℕ) (n : ℕ) → IsWord word → n ≤ 2 ^ 26 → IsLine (number_words word n)
+number_line_plain word n is small =
+    let d = written n (omega arith) in
+    All-append (λ b. 32 ≤ b) word (32 ∷ decimal n) (word_line word is) (All-cons (λ b. 32 ≤ b) 32 (decimal n) (omega arith) (word_line (decimal n) d.word))
+
+-- ---- the lines of blocks
+
+abbrev BlocksRead : ℕ → ℕ → ℕ → List ℕ → List (List ℕ) → Type 0
+BlocksRead n from k ids rest =
+    (rows : List Row) × (rows_from k (map decimal ids ++ rest) ≡ rows ++ rows_from (k + length ids) rest) × SpellsBlocks n from rows ids
+
+blocks_read : (n from k : ℕ) (ids : List ℕ) (rest : List (List ℕ)) → n ≤ 2 ^ 22 → All (λ u. u < n) ids → AreRising ids → ((i : ℕ) → i < length ids → from ≤ get_or ids i 0) → BlocksRead n from k ids rest
+blocks_read n from k [] rest few below rising low =
+    let same : k ≡ k + 0 = omega arith in ([], ap (λ i. rows_from i rest) same, tt)
+blocks_read n from k (id ∷ ids) rest few below rising low =
+    let known = below 0 0 (omega arith) in
+    let d = written id (omega arith) in
+    let fields = one_word (decimal id) d.word d.some in
+    let others = blocks_read n (id + 1) (k + 1) ids rest few
+    (λ i e l. below (suc i) e (omega arith))
+    (λ i j lt l. rising (suc i) (suc j) (omega arith) (omega arith))
+    (λ i l. let up = rising 0 (suc i) (omega arith) (omega arith) in omega arith) in
+    let places : k + 1 + length ids ≡ k + suc (length ids) = omega arith in
+    let block : SpellsBlock n from (row k (fields_of (decimal id))) id = record { field = decimal id; fields = fields; is_id = whole_read id (omega arith); known = known; rising = low 0 (omega arith) } in (
+      row k (fields_of (decimal id)) ∷ others.0,
+      row_yes k (decimal id) (decimal id) [] (map decimal ids ++ rest) fields
+          ∙ ap (λ (rs : List Row). row k (fields_of (decimal id)) ∷ rs) (others.1 ∙ ap (λ i. others.0 ++ rows_from i rest) places),
+      (block, others.2),
+    )
+
+blocks_plain : (n : ℕ) (ids : List ℕ) (rest : List (List ℕ)) → n ≤ 2 ^ 22 → All (λ u. u < n) ids → AreLines rest → AreLines (map decimal ids ++ rest)
+blocks_plain n [] rest few below r = r
+blocks_plain n (id ∷ ids) rest few below r =
+    let known = below 0 0 (omega arith) in
+    (word_line (decimal id) (written id (omega arith)).word, blocks_plain n ids rest few (λ i e l. below (suc i) e (omega arith)) r)
+
+blocks_text : (ids : List ℕ) (rest : List (List ℕ)) → text_of (map decimal ids ++ rest) ≡ flat_map line_of ids ++ text_of rest
+blocks_text [] rest = refl
+blocks_text (id ∷ ids) rest =
+    ap (λ (xs : List ℕ). decimal id ++ 10 ∷ xs) (blocks_text ids rest)
+    ∙ sym (append_assoc (decimal id) (10 ∷ []) (flat_map line_of ids ++ text_of rest))
+    ∙ sym (append_assoc (line_of id) (flat_map line_of ids) (text_of rest))
+
+-- ---- the lines of arcs
+
+abbrev arc_words : List (ℕ × ℕ) → List ℤ → ℕ → List ℕ
+arc_words pairs flow k = decimal (first_of pairs k) ++ 32 ∷ (decimal (second_of pairs k) ++ 32 ∷ decimal (unsigned_abs (amount flow k)))
+
+pos_abs : (x : ℤ) → pos 0 ≤ℤ x → x ≡ pos (unsigned_abs x)
+pos_abs (pos n) h = refl
+pos_abs (negsuc n) h = absurd (omega (arith, ints))
+
+above : (x : ℤ) (n : ℕ) → x ≡ pos n → int_lt (pos 0) x ≡ true → 0 < n
+above x n e h = grind (arith, ints)
+
+zero_of : (x : ℤ) → pos 0 ≤ℤ x → int_lt (pos 0) x ≡ false → x ≡ pos 0
+zero_of x l h = grind (arith, ints)
+
+small_of : (x : ℤ) (n : ℕ) → x ≡ pos n → x ≤ℤ pos (10 ^ 30) → n ≤ 10 ^ 30
+small_of x n e h = omega (arith, ints)
+
+-- ---- the head
+
+-- a test of each byte of a word that is given
+abbrev all_from : ℕ → List ℕ → Bool
+all_from low [] = true
+all_from low (b ∷ bs) = leb low b && all_from low bs
+
+tested : (low : ℕ) (bs : List ℕ) → all_from low bs ≡ true → All (λ b. low ≤ b) bs
+tested low [] e = All-nil (λ b. low ≤ b)
+tested low (b ∷ bs) e =
+    let parts = and_parts (leb low b) (all_from low bs) e in
+    All-cons (λ c. low ≤ c) b bs (leb-true low b parts.0) (tested low bs parts.1)
+
+title_word : IsWord (codes "PITCERT")
+title_word = tested 48 (codes "PITCERT") refl
+
+blocks_word : IsWord (codes "BLOCKS:")
+blocks_word = tested 48 (codes "BLOCKS:") refl
+
+arcs_word : IsWord (codes "ARCS:")
+arcs_word = tested 48 (codes "ARCS:") refl
+
+in_word : IsWord (codes "IN:")
+in_word = tested 48 (codes "IN:") refl
+
+flow_word : IsWord (codes "FLOW:")
+flow_word = tested 48 (codes "FLOW:") refl
+
+one_byte : IsWord (codes "1")
+one_byte = tested 48 (codes "1") refl
+
+plain_title : IsLine (codes "PITCERT" ++ 32 ∷ codes "1")
+plain_title = tested 32 (codes "PITCERT 1") refl
+
+title_fields : fields_of (codes "PITCERT" ++ 32 ∷ codes "1") ≡ codes "PITCERT" ∷ codes "1" ∷ []
+title_fields = next_word (codes "PITCERT") (codes "1") title_word (omega arith) ∙ ap (λ (fs : List (List ℕ)). codes "PITCERT" ∷ fs) (one_word (codes "1") one_byte (omega arith))
+
+abbrev head_before : List ℕ → List ℕ → List ℕ → List ℕ → List ℕ
+head_before n m c rest =
+    (codes "PITCERT" ++ 32 ∷ codes "1") ++ 10 ∷ ((codes "BLOCKS:" ++ 32 ∷ n) ++ 10 ∷ ((codes "ARCS:" ++ 32 ∷ m) ++ 10 ∷ ((codes "IN:" ++ 32 ∷ c) ++ 10 ∷ rest)))
+
+head_is : (n m c rest : List ℕ) → (codes "PITCERT 1\nBLOCKS: " ++ n ++ codes "\nARCS: " ++ m ++ codes "\nIN: " ++ c ++ codes "\n") ++ rest ≡ head_before n m c rest
+head_is n m c rest = simp append_assoc
+
+head_text : (n m c : ℕ) (rest : List ℕ) → certificate_head n m c ++ rest ≡ head_before (decimal n) (decimal m) (decimal c) rest
+unfolding certificate_head
+head_text n m c rest = head_is (decimal n) (decimal m) (decimal c) rest
+
+module _ (graph : Graph) (flow : List ℤ) (is : IsGraph graph.blocks graph.pairs) (few : graph.blocks ≤ 2 ^ 22)
+    (counted : length flow ≡ length graph.pairs)
+    (amounts : (k : ℕ) → k < length flow → Between (pos 0) (amount flow k) (pos (10 ^ 30))) where
+  abbrev carries : ℕ → Bool
+  carries k = int_lt (pos 0) (amount flow k)
+
+  arc_spelled : (place k : ℕ) → k < length graph.pairs → carries k ≡ true → (from : ℕ) → from ≤ k → SpellsArc graph.pairs from (row place (fields_of (arc_words graph.pairs flow k))) k (amount flow k)
+  arc_spelled place k l on from low =
+      let within = is.in_range k l in
+      let a = within.0 in let b = within.1 in
+      let x = amounts k (omega arith) in
+      let same = pos_abs (amount flow k) x.0 in
+      let size = small_of (amount flow k) (unsigned_abs (amount flow k)) same x.1 in
+      let du = written (first_of graph.pairs k) (omega arith) in
+      let dp = written (second_of graph.pairs k) (omega arith) in
+      let dx = written (unsigned_abs (amount flow k)) size in
+      record {
+        needs = decimal (first_of graph.pairs k);
+        needed = decimal (second_of graph.pairs k);
+        number = decimal (unsigned_abs (amount flow k));
+        fields = next_word (decimal (first_of graph.pairs k)) (decimal (second_of graph.pairs k) ++ 32 ∷ decimal (unsigned_abs (amount flow k))) du.word du.some
+            ∙ ap (λ (fs : List (List ℕ)). decimal (first_of graph.pairs k) ∷ fs) (next_word (decimal (second_of graph.pairs k)) (decimal (unsigned_abs (amount flow k))) dp.word dp.some
+            ∙ ap (λ (fs : List (List ℕ)). decimal (second_of graph.pairs k) ∷ fs) (one_word (decimal (unsigned_abs (amount flow k))) dx.word dx.some));
+        known = l;
+        needs_is = whole_read (first_of graph.pairs k) (omega arith);
+        needed_is = whole_read (second_of graph.pairs k) (omega arith);
+        rising = low;
+        size = unsigned_abs (amount flow k);
+        is_size = digits_read 31 (unsigned_abs (amount flow k)) (omega arith) (omega arith) (omega arith);
+        some = above (amount flow k) (unsigned_abs (amount flow k)) same on;
+        within = size;
+        is_amount = same;
+      }
+
+  -- an arc below that carries nothing
+  lower : (from : ℕ) (rows : List Row) → amount flow from ≡ pos 0 → SpellsFlow graph.pairs (from + 1) rows flow → SpellsFlow graph.pairs from rows flow
+  lower from [] none s = λ k l. ⊎_elim (λ (e : k ≡ from). ap (amount flow) e ∙ none) (λ (ne : k ≡ from → ⊥). s k (omega arith)) (cases_eq k from)
+  lower from (r ∷ rows) none s =
+      let up = s.1.rising in (
+        s.0,
+        record {
+          needs = s.1.needs;
+          needed = s.1.needed;
+          number = s.1.number;
+          fields = s.1.fields;
+          known = s.1.known;
+          needs_is = s.1.needs_is;
+          needed_is = s.1.needed_is;
+          rising = omega arith;
+          size = s.1.size;
+          is_size = s.1.is_size;
+          some = s.1.some;
+          within = s.1.within;
+          is_amount = s.1.is_amount;
+        },
+        λ k l h. ⊎_elim (λ (e : k ≡ from). ap (amount flow) e ∙ none) (λ (ne : k ≡ from → ⊥). s.2 k (omega arith) h) (cases_eq k from),
+        s.3,
+      )
+
+  abbrev FlowRead : ℕ → ℕ → List ℕ → Type 0
+  FlowRead from place arcs = (rows : List Row) × (rows_from place (map (arc_words graph.pairs flow) arcs) ≡ rows) × (length rows ≡ length arcs) × SpellsFlow graph.pairs from rows flow
+
+  flow_read : (n from place : ℕ) → from + n ≡ length graph.pairs → FlowRead from place (filter carries (range_with_len from n))
+  flow_read zero from place size = ([], no_rows place, refl, λ k l. get_or_past flow k (pos 0) (omega arith))
+  flow_read (suc n) from place size = ⊎_elim
+      (λ (on : carries from ≡ true).
+      let others = flow_read n (from + 1) (place + 1) (omega arith) in
+      let words = arc_words graph.pairs flow from in
+      let arc = arc_spelled place from (omega arith) on from (omega arith) in
+      let all : FlowRead from place (from ∷ filter carries (range_with_len (from + 1) n)) = (
+        row place (fields_of (arc_words graph.pairs flow from)) ∷ others.0,
+        row_yes place (arc_words graph.pairs flow from) arc.needs (arc.needed ∷ arc.number ∷ []) (map (arc_words graph.pairs flow) (filter carries (range_with_len (from + 1) n))) arc.fields
+            ∙ ap (λ (rs : List Row). row place (fields_of (arc_words graph.pairs flow from)) ∷ rs) others.1,
+        ap suc others.2,
+        (from, arc, λ k l h. absurd (omega arith), others.3),
+      ) in
+      subst (FlowRead from place) (ap (λ (b : Bool). cond b (from ∷ filter carries (range_with_len (from + 1) n)) (filter carries (range_with_len (from + 1) n))) (sym on)) all)
+      (λ (off : carries from ≡ false).
+      let others = flow_read n (from + 1) place (omega arith) in
+      let x = amounts from (omega arith) in
+      let all : FlowRead from place (filter carries (range_with_len (from + 1) n)) = (others.0, others.1, others.2, lower from others.0 (zero_of (amount flow from) x.0 off) others.3) in
+      subst (FlowRead from place) (ap (λ (b : Bool). cond b (from ∷ filter carries (range_with_len (from + 1) n)) (filter carries (range_with_len (from + 1) n))) (sym off)) all)
+      (cases_Bool (carries from))
+
+  arc_plain : (k : ℕ) → k < length graph.pairs → IsLine (arc_words graph.pairs flow k)
+  arc_plain k l =
+      let within = is.in_range k l in
+      let a = within.0 in let b = within.1 in
+      let x = amounts k (omega arith) in
+      let size = small_of (amount flow k) (unsigned_abs (amount flow k)) (pos_abs (amount flow k) x.0) x.1 in
+      let u = decimal (first_of graph.pairs k) in
+      let p = decimal (second_of graph.pairs k) in
+      let s = decimal (unsigned_abs (amount flow k)) in
+      let du = word_line u (written (first_of graph.pairs k) (omega arith)).word in
+      let dp = word_line p (written (second_of graph.pairs k) (omega arith)).word in
+      let dx = word_line s (written (unsigned_abs (amount flow k)) size).word in
+      All-append (λ b. 32 ≤ b) u (32 ∷ (p ++ 32 ∷ s)) du (All-cons (λ b. 32 ≤ b) 32 (p ++ 32 ∷ s) (omega arith) (All-append (λ b. 32 ≤ b) p (32 ∷ s) dp (All-cons (λ b. 32 ≤ b) 32 s (omega arith) dx)))
+
+  arcs_plain : (ks : List ℕ) → All (λ k. k < length graph.pairs) ks → AreLines (map (arc_words graph.pairs flow) ks)
+  arcs_plain [] h = tt
+  arcs_plain (k ∷ ks) h = (arc_plain k (h 0 0 (omega arith)), arcs_plain ks (λ i e l. h (suc i) e (omega arith)))
+
+  arc_text : (k : ℕ) (rest : List ℕ) → arc_words graph.pairs flow k ++ 10 ∷ rest ≡ flow_line graph.pairs flow k ++ rest
+  unfolding flow_line
+  arc_text k rest = simp append_assoc
+
+  arcs_text : (ks : List ℕ) → text_of (map (arc_words graph.pairs flow) ks) ≡ flat_map (flow_line graph.pairs flow) ks
+  arcs_text [] = refl
+  arcs_text (k ∷ ks) = ap (λ (xs : List ℕ). arc_words graph.pairs flow k ++ 10 ∷ xs) (arcs_text ks) ∙ arc_text k (flat_map (flow_line graph.pairs flow) ks)
+
+  -- ---- the whole text
+
+  module _ (pit : List ℕ) (few_pairs : length graph.pairs ≤ 2 ^ 26) (below : All (λ u. u < graph.blocks) pit) (rising : AreRising pit) (short : length pit ≤ graph.blocks) where
+    abbrev arcs : List ℕ
+    arcs = carrying flow (length graph.pairs)
+
+    abbrev title : List ℕ
+    title = codes "PITCERT" ++ 32 ∷ codes "1"
+
+    abbrev behind : List (List ℕ)
+    behind = number_words (codes "FLOW:") (length arcs) ∷ map (arc_words graph.pairs flow) arcs
+
+    abbrev all_lines : List (List ℕ)
+    all_lines = title ∷ number_words (codes "BLOCKS:") graph.blocks ∷ number_words (codes "ARCS:") (length graph.pairs) ∷ number_words (codes "IN:") (length pit) ∷ (map decimal pit ++ behind)
+
+    few_arcs : length arcs ≤ length graph.pairs
+    few_arcs = members_few (length graph.pairs) carries
+
+    behind_text : text_of behind ≡ flow_head (length arcs) ++ flat_map (flow_line graph.pairs flow) arcs
+    unfolding flow_head
+    behind_text = ap (λ (xs : List ℕ). number_words (codes "FLOW:") (length arcs) ++ 10 ∷ xs) (arcs_text arcs) ∙ simp append_assoc
+
+    is_text : certificate_text graph pit flow ≡ text_of all_lines
+    is_text =
+        let head : List ℕ = certificate_head graph.blocks (length graph.pairs) (length pit) in
+        let ids : List ℕ = flat_map line_of pit in
+        let middle : List ℕ = flow_head (length arcs) in
+        let last : List ℕ = flat_map (flow_line graph.pairs flow) arcs in
+        append_assoc (head ++ ids) middle last ∙ append_assoc head ids (middle ++ last)
+        ∙ head_text graph.blocks (length graph.pairs) (length pit) (ids ++ (middle ++ last))
+        ∙ ap (head_before (decimal graph.blocks) (decimal (length graph.pairs)) (decimal (length pit))) (sym (blocks_text pit behind ∙ ap (λ (xs : List ℕ). flat_map line_of pit ++ xs) behind_text))
+
+    all_plain : AreLines all_lines
+    all_plain =
+        let last : AreLines behind = (number_line_plain (codes "FLOW:") (length arcs) flow_word (let l = few_arcs in omega arith), arcs_plain arcs (members_below (length graph.pairs) carries)) in
+        let fourth : AreLines (number_words (codes "IN:") (length pit) ∷ (map decimal pit ++ behind)) = (number_line_plain (codes "IN:") (length pit) in_word (omega arith), blocks_plain graph.blocks pit behind few below last) in
+        let third : AreLines (number_words (codes "ARCS:") (length graph.pairs) ∷ number_words (codes "IN:") (length pit) ∷ (map decimal pit ++ behind)) = (number_line_plain (codes "ARCS:") (length graph.pairs) arcs_word few_pairs, fourth) in
+        (plain_title, (number_line_plain (codes "BLOCKS:") graph.blocks blocks_word (omega arith), third))
+
+    pub spells : SpellsCertificate graph (certificate_text graph pit flow) (pit_and_flow pit flow)
+    spells =
+        let ids = blocks_read graph.blocks 0 5 pit behind few below rising (λ i l. omega arith) in
+        let place : ℕ = 5 + length pit in
+        let amounts = flow_read (length graph.pairs) 0 (place + 1) (omega arith) in
+        let fit : length arcs ≤ 2 ^ 26 = (let l = few_arcs in omega arith) in
+        let named = names place (codes "FLOW:") (length arcs) flow_word (omega arith) fit in
+        let n1 = names 2 (codes "BLOCKS:") graph.blocks blocks_word (omega arith) (omega arith) in
+        let n2 = names 3 (codes "ARCS:") (length graph.pairs) arcs_word (omega arith) few_pairs in
+        let n3 = names 4 (codes "IN:") (length pit) in_word (omega arith) (omega arith) in
+        let line1 = title in
+        let line2 = number_words (codes "BLOCKS:") graph.blocks in
+        let line3 = number_words (codes "ARCS:") (length graph.pairs) in
+        let line4 = number_words (codes "IN:") (length pit) in
+        let line5 = number_words (codes "FLOW:") (length arcs) in
+        let arc_lines = map (arc_words graph.pairs flow) arcs in
+        let rest : List (List ℕ) = map decimal pit ++ behind in
+        let one = row_yes 1 line1 (codes "PITCERT") (codes "1" ∷ []) (line2 ∷ line3 ∷ line4 ∷ rest) title_fields in
+        let two = row_yes 2 line2 (codes "BLOCKS:") (n1.field ∷ []) (line3 ∷ line4 ∷ rest) n1.fields in
+        let three = row_yes 3 line3 (codes "ARCS:") (n2.field ∷ []) (line4 ∷ rest) n2.fields in
+        let four = row_yes 4 line4 (codes "IN:") (n3.field ∷ []) rest n3.fields in
+        let last = row_yes place line5 (codes "FLOW:") (named.field ∷ []) arc_lines named.fields ∙ ap (λ (rs : List Row). row place (fields_of line5) ∷ rs) amounts.1 in
+        record {
+          title = row 1 (fields_of line1);
+          blocks = row 2 (fields_of line2);
+          arcs = row 3 (fields_of line3);
+          inside = row 4 (fields_of line4);
+          ids = ids.0;
+          carrying = row place (fields_of line5);
+          amounts = amounts.0;
+          are = ap rows_of is_text ∙ ap (rows_from 1) (lines_text all_lines all_plain) ∙ one
+              ∙ ap (λ (rs : List Row). row 1 (fields_of line1) ∷ rs) (two
+              ∙ ap (λ (rs : List Row). row 2 (fields_of line2) ∷ rs) (three
+              ∙ ap (λ (rs : List Row). row 3 (fields_of line3) ∷ rs) (four
+              ∙ ap (λ (rs : List Row). row 4 (fields_of line4) ∷ rs) (ids.1 ∙ ap (λ (rs : List Row). ids.0 ++ rs) last))));
+          is_title = title_fields;
+          names_blocks = n1;
+          names_arcs = n2;
+          names_inside = n3;
+          few_inside = short;
+          pit = ids.2;
+          names_carrying = subst (λ (n : ℕ). SpellsNumber (codes "FLOW:") n (row place (fields_of line5))) (sym amounts.2) named;
+          few_carrying = subst (λ (n : ℕ). n ≤ length graph.pairs) (sym amounts.2) few_arcs;
+          flow = amounts.3;
+          counted = counted;
+        }
+
+-- what is written of what may be checked spells it
+pub written_spells : (graph : Graph) (pit : List ℕ) (flow : List ℤ) → IsGraph graph.blocks graph.pairs → graph.blocks ≤ 2 ^ 22 → length graph.pairs ≤ 2 ^ 26
+    → IsCandidate graph.blocks (length graph.pairs) pit flow → SpellsCertificate graph (certificate_text graph pit flow) (pit_and_flow pit flow)
+written_spells graph pit flow is few few_pairs given =
+    let short : length pit ≤ graph.blocks = pigeon pit graph.blocks (λ i j lt l e. let up = given.rising i j lt l in omega arith) (λ k l. given.below k 0 l) in
+    spells graph flow is few given.counted given.amounts pit few_pairs given.below given.rising short

@@ -1,0 +1,76 @@
+-- The grammar of a certificate's text, by its lines with fields.
+use Rattle.std.specs.Prelude.{◌≡◌, ℕ, ℤ, pos, ◌+◌, ◌^◌, ◌<◌, ◌≤◌, List, [], ◌∷◌, ◌++◌, length, Some, codes}
+use Rattle.minelib_reader.specs.Text.{Row, rows_of}
+use Rattle.minelib_reader.specs.Number.{whole_of, digits_of}
+use Rattle.pit_model.specs.Graph.{Graph, first_of, second_of}
+use Rattle.certificate.specs.Check.{amount}
+use Rattle.certificate.specs.CertificateLines.{PitAndFlow}
+
+-- a line of this word and this number
+pub record SpellsNumber (word : List ℕ) (number : ℕ) (r : Row) : Type 0 where
+  pub field : List ℕ
+  pub fields : r.fields ≡ word ∷ field ∷ []
+  pub is_number : whole_of field ≡ Some number
+
+-- the line of a block of n, which is at least from
+pub record SpellsBlock (n from : ℕ) (r : Row) (id : ℕ) : Type 0 where
+  pub field : List ℕ
+  pub fields : r.fields ≡ field ∷ []
+  pub is_id : whole_of field ≡ Some id
+  pub known : id < n
+  pub rising : from ≤ id
+
+-- the lines of blocks, rising
+abbrev pub SpellsBlocks : ℕ → ℕ → List Row → List ℕ → Type 0
+SpellsBlocks n from [] [] = Unit {0}
+SpellsBlocks n from [] (id ∷ ids) = ⊥
+SpellsBlocks n from (r ∷ rows) [] = ⊥
+SpellsBlocks n from (r ∷ rows) (id ∷ ids) = SpellsBlock n from r id × SpellsBlocks n (id + 1) rows ids
+
+-- the line of an arc with its amount: the arc is at least from
+pub record SpellsArc (pairs : List (ℕ × ℕ)) (from : ℕ) (r : Row) (arc : ℕ) (x : ℤ) : Type 0 where
+  pub needs : List ℕ
+  pub needed : List ℕ
+  pub number : List ℕ
+  pub fields : r.fields ≡ needs ∷ needed ∷ number ∷ []
+  pub known : arc < length pairs
+  pub needs_is : whole_of needs ≡ Some (first_of pairs arc)
+  pub needed_is : whole_of needed ≡ Some (second_of pairs arc)
+  pub rising : from ≤ arc
+  pub size : ℕ
+  pub is_size : digits_of 31 number ≡ Some size
+  pub some : 0 < size
+  pub within : size ≤ 10 ^ 30
+  pub is_amount : x ≡ pos size
+
+-- the lines of arcs, rising; an arc without a line carries nothing
+abbrev pub SpellsFlow : List (ℕ × ℕ) → ℕ → List Row → List ℤ → Type 0
+SpellsFlow pairs from [] flow = (k : ℕ) → from ≤ k → amount flow k ≡ pos 0
+SpellsFlow pairs from (r ∷ rows) flow =
+    (arc : ℕ) × SpellsArc pairs from r arc (amount flow arc) × ((k : ℕ) → from ≤ k → k < arc → amount flow k ≡ pos 0)
+    × SpellsFlow pairs (arc + 1) rows flow
+
+-- the lines of a certificate of the graph
+pub record SpellsRows (graph : Graph) (rows : List Row) (c : PitAndFlow) : Type 0 where
+  pub title : Row
+  pub blocks : Row
+  pub arcs : Row
+  pub inside : Row
+  pub ids : List Row
+  pub carrying : Row
+  pub amounts : List Row
+  pub are : rows ≡ title ∷ blocks ∷ arcs ∷ inside ∷ (ids ++ carrying ∷ amounts)
+  pub is_title : title.fields ≡ codes "PITCERT" ∷ codes "1" ∷ []
+  pub names_blocks : SpellsNumber (codes "BLOCKS:") graph.blocks blocks
+  pub names_arcs : SpellsNumber (codes "ARCS:") (length graph.pairs) arcs
+  pub names_inside : SpellsNumber (codes "IN:") (length c.pit) inside
+  pub few_inside : length c.pit ≤ graph.blocks
+  pub pit : SpellsBlocks graph.blocks 0 ids c.pit
+  pub names_carrying : SpellsNumber (codes "FLOW:") (length amounts) carrying
+  pub few_carrying : length amounts ≤ length graph.pairs
+  pub flow : SpellsFlow graph.pairs 0 amounts c.flow
+  pub counted : length c.flow ≡ length graph.pairs
+
+-- the text spells this certificate of the graph
+abbrev pub SpellsCertificate : Graph → List ℕ → PitAndFlow → Type 0
+SpellsCertificate graph text c = SpellsRows graph (rows_of text) c

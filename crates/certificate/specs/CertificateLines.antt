@@ -1,0 +1,148 @@
+-- The text of a certificate: the checks of each line in their order, and the reading of all lines by them.
+use Rattle.std.specs.Prelude.{ℕ, zero, suc, ℤ, pos, ◌+◌, ◌^◌, nat_lt, nat_le, ◌==◌, ◌&&◌, List, [], ◌∷◌, ◌++◌, length, set, Option, Some, None, Result, Ok, Err, codes, replicate, if◌then◌else◌}
+use Rattle.std.specs.Str.{bytes_eq}
+use Rattle.minelib_reader.specs.declared.fault.Fault.{Fault}
+use Rattle.minelib_reader.specs.declared.fault.Refusal.{Refusal}
+use Rattle.minelib_reader.specs.declared.fault.Refusal.TheVariants.{WrongHeader, OverLimit, NotWhole, IdOutOfPlace, WrongFieldCount, EndsEarly, AfterEnd, CountsDiffer}
+use Rattle.minelib_reader.specs.declared.fault.Source.TheVariants.{Certificate}
+use Rattle.minelib_reader.specs.Steps.{◌>>=◌, at_line, or_fault, check}
+use Rattle.minelib_reader.specs.Text.{Row, rows_of, count_of_lines, two_of}
+use Rattle.minelib_reader.specs.Number.{whole_of, digits_of}
+use Rattle.minelib_reader.specs.Upit.{is_pair}
+use Rattle.pit_model.specs.Graph.{Graph}
+use Rattle.certificate.specs.declared.due.Due.{Due}
+use Rattle.certificate.specs.declared.due.Due.TheVariants.{Title, Blocks, Arcs, Count, Block, Arc}
+
+abbrev pub in_certificate : Refusal → ℕ → Fault
+in_certificate refusal line = at_line Certificate refusal line
+
+-- the one field of a line that has one, and the three of a line that has three
+abbrev pub one_of : List (List ℕ) → Option (List ℕ)
+one_of (a ∷ []) = Some a
+one_of fs = None
+
+abbrev pub three_of : List (List ℕ) → Option (List ℕ × List ℕ × List ℕ)
+three_of (a ∷ b ∷ c ∷ []) = Some (a, b, c)
+three_of fs = None
+
+-- the number, counted from k on, of the first of the pairs that is (u, p)
+unfoldable pub arc_from : ℕ → List (ℕ × ℕ) → ℕ → ℕ → Option ℕ
+arc_from k [] u p = None
+arc_from k (q ∷ qs) u p = if (q.0 == u) && (q.1 == p) then Some k else arc_from (k + 1) qs u p
+
+abbrev pub arc_of : List (ℕ × ℕ) → ℕ → ℕ → Option ℕ
+arc_of pairs u p = arc_from 0 pairs u p
+
+unfoldable pub title_line : Row → Result (Unit {0}) Fault
+title_line r = check (in_certificate WrongHeader r.line) (is_pair (codes "PITCERT") (codes "1") (two_of r.fields))
+
+-- this word, and a whole number
+unfoldable pub number_line : List ℕ → Row → Result ℕ Fault
+number_line word r = do
+  pair ← or_fault (in_certificate WrongHeader r.line) (two_of r.fields)
+  header ← check (in_certificate WrongHeader r.line) (bytes_eq pair.0 word)
+  or_fault (in_certificate NotWhole r.line) (whole_of pair.1)
+
+-- a count that is the graph's
+unfoldable pub same_line : List ℕ → ℕ → Row → Result (Unit {0}) Fault
+same_line word count r = do
+  n ← number_line word r
+  check (in_certificate CountsDiffer r.line) (n == count)
+
+-- how many lines of a kind follow
+unfoldable pub count_line : List ℕ → ℕ → Row → Result ℕ Fault
+count_line word most r = do
+  n ← number_line word r
+  few ← check (in_certificate OverLimit r.line) (nat_le n most)
+  Ok n
+
+-- a block of n, which is at least from
+unfoldable pub id_line : ℕ → ℕ → Row → Result ℕ Fault
+id_line n from r = do
+  field ← or_fault (in_certificate WrongFieldCount r.line) (one_of r.fields)
+  id ← or_fault (in_certificate NotWhole r.line) (whole_of field)
+  place ← check (in_certificate IdOutOfPlace r.line) (nat_lt id n && nat_le from id)
+  Ok id
+
+-- the arc of a pair of the graph, which is at least from (so the pair is greater than the ones before, since arcs are
+-- numbered in the order of pairs), and the amount on it
+unfoldable pub arc_line : List (ℕ × ℕ) → ℕ → Row → Result (ℕ × ℕ) Fault
+arc_line pairs from r = do
+  parts ← or_fault (in_certificate WrongFieldCount r.line) (three_of r.fields)
+  u ← or_fault (in_certificate NotWhole r.line) (whole_of parts.0)
+  p ← or_fault (in_certificate NotWhole r.line) (whole_of parts.1)
+  arc ← or_fault (in_certificate IdOutOfPlace r.line) (arc_of pairs u p)
+  place ← check (in_certificate IdOutOfPlace r.line) (nat_le from arc)
+  amount ← or_fault (in_certificate NotWhole r.line) (digits_of 31 parts.2)
+  limit ← check (in_certificate OverLimit r.line) (nat_lt 0 amount && nat_le amount (10 ^ 30))
+  Ok (arc, amount)
+
+-- what the lines so far give, and which line is due
+pub record State : Type 0 where
+  pub due : Due
+  pub pit : List ℕ
+  pub flow : List ℤ
+
+abbrev pub state : Due → List ℕ → List ℤ → State
+state due pit flow = record { due = due; pit = pit; flow = flow }
+
+-- a block, while some are left, and then how many arcs follow
+unfoldable pub block_step : Graph → ℕ → ℕ → List ℕ → List ℤ → Row → Result State Fault
+block_step graph zero from pit flow r = do
+  count ← count_line (codes "FLOW:") (length graph.pairs) r
+  Ok (state (Arc count 0) pit flow)
+block_step graph (suc left) from pit flow r = do
+  id ← id_line graph.blocks from r
+  Ok (state (Block left (id + 1)) (pit ++ id ∷ []) flow)
+
+-- an arc, while some are left
+unfoldable pub arc_step : Graph → ℕ → ℕ → List ℕ → List ℤ → Row → Result State Fault
+arc_step graph zero from pit flow r = Err (in_certificate AfterEnd r.line)
+arc_step graph (suc left) from pit flow r = do
+  arc ← arc_line graph.pairs from r
+  Ok (state (Arc left (arc.0 + 1)) pit (set flow arc.0 (pos arc.1)))
+
+-- what a line gives where it is the one that is due
+unfoldable pub step_at : Graph → Due → List ℕ → List ℤ → Row → Result State Fault
+step_at graph Title pit flow r = do
+  title ← title_line r
+  Ok (state Blocks pit flow)
+step_at graph Blocks pit flow r = do
+  same ← same_line (codes "BLOCKS:") graph.blocks r
+  Ok (state Arcs pit flow)
+step_at graph Arcs pit flow r = do
+  same ← same_line (codes "ARCS:") (length graph.pairs) r
+  Ok (state Count pit flow)
+step_at graph Count pit flow r = do
+  count ← count_line (codes "IN:") graph.blocks r
+  Ok (state (Block count 0) pit flow)
+step_at graph (Block left from) pit flow r = block_step graph left from pit flow r
+step_at graph (Arc left from) pit flow r = arc_step graph left from pit flow r
+
+-- a certificate without where it lies in memory
+pub record PitAndFlow : Type 0 where
+  pub pit : List ℕ
+  pub flow : List ℤ
+
+abbrev pub pit_and_flow : List ℕ → List ℤ → PitAndFlow
+pit_and_flow pit flow = record { pit = pit; flow = flow }
+
+-- the text ends here: nothing may be left; count is the number of its lines
+unfoldable pub end_at : ℕ → Due → List ℕ → List ℤ → Result PitAndFlow Fault
+end_at count (Arc zero from) pit flow = Ok (pit_and_flow pit flow)
+end_at count _ pit flow = Err (in_certificate EndsEarly (count + 1))
+
+-- all lines, one after the other
+unfoldable pub certificate_from : Graph → ℕ → State → List Row → Result PitAndFlow Fault
+certificate_from graph count s [] = end_at count s.due s.pit s.flow
+certificate_from graph count s (r ∷ rows) = do
+  t ← step_at graph s.due s.pit s.flow r
+  certificate_from graph count t rows
+
+-- at the start no block is listed, and no arc carries anything
+abbrev pub first_state : Graph → State
+first_state graph = state Title [] (replicate (length graph.pairs) (pos 0))
+
+-- the certificate of the graph that a text spells, or its first fault
+abbrev pub certificate_of : Graph → List ℕ → Result PitAndFlow Fault
+certificate_of graph text = certificate_from graph (count_of_lines text) (first_state graph) (rows_of text)

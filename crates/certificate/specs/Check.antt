@@ -1,0 +1,67 @@
+-- What may be checked as a certificate, what a yes shows, and what the passes of the check test.
+use Rattle.std.specs.Prelude.{◌≡◌, ℕ, ◌^◌, ◌<◌, ℤ, pos, ◌≤ℤ◌, Bool, false, ◌↔◌, IsTrue, List, length, get_or}
+use Rattle.std.specs.List.{All}
+use Rattle.pit_model.specs.Graph.{first_of, second_of}
+use Rattle.pit_model.specs.Mine.{Instance, value, members, IsPit}
+use Rattle.pit_model.specs.Flow.{excess}
+use Rattle.pit_model.specs.Certificate.{IsReached}
+use Rattle.pit_model.specs.Limits.{Between}
+
+-- each number is greater than all that stand before it
+abbrev pub AreRising : List ℕ → Type 0
+AreRising xs = (i j : ℕ) → i < j → j < length xs → get_or xs i 0 < get_or xs j 0
+
+-- the mark of a block, and the amount on an arc
+abbrev pub has : List Bool → ℕ → Bool
+has marks u = get_or marks u false
+
+abbrev pub amount : List ℤ → ℕ → ℤ
+amount flow k = get_or flow k (pos 0)
+
+-- the greatest amount on an arc
+abbrev pub most_amount : ℤ
+most_amount = pos (10 ^ 30)
+
+abbrev pub AreAmounts : List ℤ → Type 0
+AreAmounts flow = (k : ℕ) → k < length flow → Between (pos 0) (amount flow k) most_amount
+
+-- what may be checked for n blocks and m arcs: a rising list of blocks, and an amount for each arc
+pub record IsCandidate (n m : ℕ) (pit : List ℕ) (flow : List ℤ) : Type 0 where
+  pub below : All (λ u. u < n) pit
+  pub rising : AreRising pit
+  pub counted : length flow ≡ m
+  pub amounts : AreAmounts flow
+
+-- the list is that of the pit: of the smallest closed set of greatest worth
+pub record ShowsPit (mine : Instance) (pit : List ℕ) : Type 0 where
+  pub set : ℕ → Bool
+  pub listed : pit ≡ members mine.blocks set
+  pub is_pit : IsPit mine set
+
+abbrev pub AreValues : Instance → List ℤ → Type 0
+AreValues mine numbers = (u : ℕ) → u < mine.blocks → get_or numbers u (pos 0) ≡ value mine u
+
+abbrev pub AreExcesses : Instance → List ℤ → List ℤ → Type 0
+AreExcesses mine flow numbers = (u : ℕ) → u < mine.blocks → get_or numbers u (pos 0) ≡ excess mine (amount flow) u
+
+-- marked are exactly the blocks that are reached inside the set
+abbrev pub AreReached : Instance → List ℤ → List Bool → List Bool → Type 0
+AreReached mine flow inside marks =
+    (u : ℕ) → u < mine.blocks → IsTrue (has marks u) ↔ ((steps : ℕ) × IsReached mine (has inside) (amount flow) u steps)
+
+-- what is tested of one pair, by the marks of its ends and the amount on it: it doesn't lead out of the set, and no flow
+-- comes in over it
+pub record PairAllows (from to : Bool) (x : ℤ) : Type 0 where
+  pub closed : IsTrue from → IsTrue to
+  pub none_enters : IsTrue to → from ≡ false → x ≡ pos 0
+
+abbrev pub PairsAllow : List (ℕ × ℕ) → List ℤ → List Bool → ℕ → Type 0
+PairsAllow pairs flow inside m = (k : ℕ) → k < m → PairAllows (has inside (first_of pairs k)) (has inside (second_of pairs k)) (amount flow k)
+
+-- what is tested of one block: inside it is reached and has no deficit, and outside it has nothing to send
+pub record BlockAllows (inside reached : Bool) (x : ℤ) : Type 0 where
+  pub within : IsTrue inside → IsTrue reached × (pos 0 ≤ℤ x)
+  pub outside : inside ≡ false → x ≤ℤ pos 0
+
+abbrev pub BlocksAllow : List ℤ → List Bool → List Bool → ℕ → Type 0
+BlocksAllow excesses inside reached n = (u : ℕ) → u < n → BlockAllows (has inside u) (has reached u) (get_or excesses u (pos 0))

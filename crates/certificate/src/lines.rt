@@ -1,0 +1,162 @@
+//! The lines of a certificate's text, each checked by a function of its own, in the order of
+//! `specs/CertificateLines.antt`. `reader` says which line is due.
+ghost use Rattle.std.specs.Prelude.{◌≡◌, ◌+◌, ◌<◌, ◌≤◌, ◌^◌, [], ◌∷◌, length, IfOk, IfSome};
+ghost use Rattle.std.specs.Option.{option_map};
+ghost use Rattle.minelib_reader.specs.Answer.{Gives};
+ghost use Rattle.minelib_reader.specs.Text.{row, fields_of};
+ghost use Rattle.certificate.specs.CertificateLines.{in_certificate, one_of, three_of, arc_of, title_line, number_line, same_line, count_line, id_line, arc_line};
+
+use crate::amount::amount_digits;
+use mine_graph::Graph;
+use minelib_reader::{Fault, Refusal, Row, Source, digits, next_field, two_fields};
+
+const MOST_AMOUNT: u128 = 1_000_000_000_000_000_000_000_000_000_000;
+
+pub fn in_certificate(refusal: Refusal, line: u64) -> Fault
+    ensures { result ≡ in_certificate refusal line }
+{
+    Fault {
+        refusal,
+        source: Source::Certificate,
+        line,
+    }
+}
+
+/// The field of a line of one.
+fn one_field(text: &[u8]) -> Option<&[u8]>
+    ensures { option_map (λ f. f.now) result ≡ one_of (fields_of text.now) }
+{
+    let (first, rest) = next_field(text)?;
+    match next_field(rest) {
+        None => Some(first),
+        Some(_) => None,
+    }
+}
+
+/// The fields of a line of three.
+fn three_fields(text: &[u8]) -> Option<(&[u8], &[u8], &[u8])>
+    ensures { option_map (λ p. (p.0.now, p.1.now, p.2.now)) result ≡ three_of (fields_of text.now) }
+{
+    let (first, rest) = next_field(text)?;
+    let (second, rest) = next_field(rest)?;
+    let (third, rest) = next_field(rest)?;
+    match next_field(rest) {
+        None => Some((first, second, third)),
+        Some(_) => None,
+    }
+}
+
+#[tactic(auto, unfolding(crate::specs::CertificateLines::title_line))]
+pub fn check_title(r: Row) -> Result<(), Fault>
+    ensures { Gives (λ _. tt) result (title_line (row r.entry.line (fields_of r.entry.text.now))) }
+{
+    match two_fields(r.text) {
+        Some((word, version)) if word == b"PITCERT".as_slice() && version == b"1".as_slice() => {
+            Ok(())
+        }
+        _ => Err(in_certificate(Refusal::WrongHeader, r.line)),
+    }
+}
+
+/// The number behind a word.
+#[tactic(auto, unfolding(crate::specs::CertificateLines::number_line))]
+fn read_number(word: &[u8], r: Row) -> Result<u64, Fault>
+    ensures { Gives (λ n. n) result (number_line word.now (row r.entry.line (fields_of r.entry.text.now))) }
+{
+    let Some((first, second)) = two_fields(r.text) else {
+        return Err(in_certificate(Refusal::WrongHeader, r.line));
+    };
+    if first != word {
+        return Err(in_certificate(Refusal::WrongHeader, r.line));
+    }
+    match digits(second, 10) {
+        Some(number) => Ok(number),
+        None => Err(in_certificate(Refusal::NotWhole, r.line)),
+    }
+}
+
+/// A count, which must be this one.
+#[tactic(auto, unfolding(crate::specs::CertificateLines::same_line))]
+pub fn check_count(word: &[u8], count: u32, r: Row) -> Result<(), Fault>
+    ensures { Gives (λ _. tt) result (same_line word.now count (row r.entry.line (fields_of r.entry.text.now))) }
+{
+    let number = read_number(word, r)?;
+    if number != u64::from(count) {
+        return Err(in_certificate(Refusal::CountsDiffer, r.line));
+    }
+    Ok(())
+}
+
+/// How many lines follow, of which there are at most so many.
+#[tactic(auto, unfolding(crate::specs::CertificateLines::count_line))]
+pub fn read_count(word: &[u8], most: u32, r: Row) -> Result<u32, Fault>
+    ensures gives { Gives (λ n. n) result (count_line word.now most (row r.entry.line (fields_of r.entry.text.now))) }
+{
+    let number = read_number(word, r)?;
+    if number > u64::from(most) {
+        return Err(in_certificate(Refusal::OverLimit, r.line));
+    }
+    Ok(number as u32)
+}
+
+/// A block of n, which is at least `from`.
+#[tactic(auto, unfolding(crate::specs::CertificateLines::id_line))]
+pub fn read_id(n: u32, from: u32, r: Row) -> Result<u32, Fault>
+    ensures gives { Gives (λ id. id) result (id_line n from (row r.entry.line (fields_of r.entry.text.now))) }
+    ensures below { IfOk result (λ id. id < n) }
+{
+    let Some(field) = one_field(r.text) else {
+        return Err(in_certificate(Refusal::WrongFieldCount, r.line));
+    };
+    let Some(id) = digits(field, 10) else {
+        return Err(in_certificate(Refusal::NotWhole, r.line));
+    };
+    if id >= u64::from(n) || id < u64::from(from) {
+        return Err(in_certificate(Refusal::IdOutOfPlace, r.line));
+    }
+    Ok(id as u32)
+}
+
+/// The number of a pair of the graph.
+fn arc_of(graph: &Graph, u: u64, p: u64) -> Option<u32>
+    ensures arc { result ≡ arc_of graph.now.pairs u p }
+    ensures below { IfSome result (λ k. k < length graph.now.pairs) }
+{
+    graph.law();
+    let n = u64::from(graph.n());
+    if u >= n || p >= n {
+        return None;
+    }
+    graph.arc_of(u as u32, p as u32)
+}
+
+/// An arc of at least the number `from`, with its amount.
+#[tactic(auto, unfolding(crate::specs::CertificateLines::arc_line))]
+pub fn read_arc(graph: &Graph, from: u32, r: Row) -> Result<(u32, u128), Fault>
+    ensures gives { Gives (λ a. a) result (arc_line graph.now.pairs from (row r.entry.line (fields_of r.entry.text.now))) }
+    ensures below { IfOk result (λ a. a.0 < length graph.now.pairs) }
+    ensures small { IfOk result (λ a. a.1 ≤ 10 ^ 30) }
+{
+    let Some((first, second, third)) = three_fields(r.text) else {
+        return Err(in_certificate(Refusal::WrongFieldCount, r.line));
+    };
+    let Some(u) = digits(first, 10) else {
+        return Err(in_certificate(Refusal::NotWhole, r.line));
+    };
+    let Some(p) = digits(second, 10) else {
+        return Err(in_certificate(Refusal::NotWhole, r.line));
+    };
+    let Some(arc) = arc_of(graph, u, p) else {
+        return Err(in_certificate(Refusal::IdOutOfPlace, r.line));
+    };
+    if arc < from {
+        return Err(in_certificate(Refusal::IdOutOfPlace, r.line));
+    }
+    let Some(amount) = amount_digits(third) else {
+        return Err(in_certificate(Refusal::NotWhole, r.line));
+    };
+    if amount == 0 || amount > MOST_AMOUNT {
+        return Err(in_certificate(Refusal::OverLimit, r.line));
+    }
+    Ok((arc, amount))
+}

@@ -1,0 +1,161 @@
+//! The text of a certificate: a head of four lines, the blocks of the pit, how many arcs carry something, and these.
+//! Each line is the one that is `Due`, checked by a function of `lines`; the first fault ends the reading.
+ghost use Rattle.std.specs.Prelude.{◌≡◌, ◌↔◌, ℕ, ℤ, List, Ok, Err, ◌≤◌, ◌<◌, ◌^◌, length, IfOk, IfErr};
+ghost use Rattle.minelib_reader.specs.declared.fault.Fault.{Fault as AnyFault};
+ghost use Rattle.minelib_reader.specs.declared.fault.Source.TheVariants as sources;
+ghost use Rattle.minelib_reader.specs.Answer.{Gives, Answers, AnswersBy, FailsBy, FailsAt};
+ghost use Rattle.minelib_reader.specs.Text.{row, fields_of};
+ghost use Rattle.pit_model.specs.Graph.{AreRising, Graph as AnyGraph};
+ghost use Rattle.certificate.specs.Check.{IsCandidate};
+ghost use Rattle.certificate.specs.CertificateLines.{arc_step, block_step, certificate_of, end_at, pit_and_flow, state, step_at, PitAndFlow};
+ghost use Rattle.certificate.specs.CertificateFault.{IsFirstCertificateFault};
+ghost use Rattle.certificate.specs.CertificateGrammar.{SpellsCertificate};
+
+use crate::due::Due;
+use crate::lines::{check_count, check_title, in_certificate, read_arc, read_count, read_id};
+use crate::pit_with_flow::Certificate;
+use mine_graph::Graph;
+use minelib_reader::{Fault, InBytes, Refusal, Row, Rows, Source, read_all};
+use std::alloc::Global;
+
+/// The line of a block, while some are left; then how many arcs follow.
+fn take_block(graph: &Graph, left: u32, from: u32, r: Row, pit: &mut Vec<u32>) -> Result<Due, Fault>
+    ensures ok { IfOk result (λ due. (flow : List ℤ) → block_step graph.now left from pit.old.items flow (row r.entry.line (fields_of r.entry.text.now)) ≡ Ok (state due pit.new.items flow)) }
+    ensures err { IfErr result (λ e. (flow : List ℤ) → FailsBy e.refusal e (block_step graph.now left from pit.old.items flow (row r.entry.line (fields_of r.entry.text.now)))) }
+{
+    graph.law();
+    if left == 0 {
+        let count = read_count(b"FLOW:", graph.arcs(), r)?;
+        return Ok(Due::Arc {
+            left: count,
+            from: 0,
+        });
+    }
+    let id = read_id(graph.n(), from, r)?;
+    pit.push(id)?;
+    Ok(Due::Block {
+        left: left - 1,
+        from: id + 1,
+    })
+}
+
+/// The line of an arc, while some are left.
+fn take_arc(graph: &Graph, left: u32, from: u32, r: Row, flow: &mut Vec<i128>) -> Result<Due, Fault>
+    requires { length flow.old.items ≡ length graph.now.pairs }
+    ensures ok { IfOk result (λ due. (pit : List ℕ) → arc_step graph.now left from pit flow.old.items (row r.entry.line (fields_of r.entry.text.now)) ≡ Ok (state due pit flow.new.items)) }
+    ensures err { IfErr result (λ e. (pit : List ℕ) → FailsBy e.refusal e (arc_step graph.now left from pit flow.old.items (row r.entry.line (fields_of r.entry.text.now)))) }
+    ensures counted { length flow.new.items ≡ length graph.now.pairs }
+{
+    graph.law();
+    if left == 0 {
+        return Err(in_certificate(Refusal::AfterEnd, r.line));
+    }
+    let (arc, amount) = read_arc(graph, from, r)?;
+    flow[arc as usize] = amount as i128;
+    Ok(Due::Arc {
+        left: left - 1,
+        from: arc + 1,
+    })
+}
+
+/// The line that is due; it answers which one is due next.
+#[tactic(auto, unfolding(crate::specs::CertificateLines::step_at))]
+fn take_line(
+    graph: &Graph,
+    due: Due,
+    r: Row,
+    pit: &mut Vec<u32>,
+    flow: &mut Vec<i128>,
+) -> Result<Due, Fault>
+    requires { length flow.old.items ≡ length graph.now.pairs }
+    ensures ok { IfOk result (λ next. step_at graph.now due pit.old.items flow.old.items (row r.entry.line (fields_of r.entry.text.now)) ≡ Ok (state next pit.new.items flow.new.items)) }
+    ensures err { IfErr result (λ e. FailsBy e.refusal e (step_at graph.now due pit.old.items flow.old.items (row r.entry.line (fields_of r.entry.text.now)))) }
+    ensures counted { length flow.new.items ≡ length graph.now.pairs }
+{
+    match due {
+        Due::Title => {
+            check_title(r)?;
+            Ok(Due::Blocks)
+        }
+        Due::Blocks => {
+            check_count(b"BLOCKS:", graph.n(), r)?;
+            Ok(Due::Arcs)
+        }
+        Due::Arcs => {
+            check_count(b"ARCS:", graph.arcs(), r)?;
+            Ok(Due::Count)
+        }
+        Due::Count => {
+            let left = read_count(b"IN:", graph.n(), r)?;
+            Ok(Due::Block { left, from: 0 })
+        }
+        Due::Block { left, from } => take_block(graph, left, from, r, pit),
+        Due::Arc { left, from } => take_arc(graph, left, from, r, flow),
+    }
+}
+
+/// Nothing is due any more, in a text of so many lines.
+#[tactic(auto, unfolding(crate::specs::CertificateLines::end_at))]
+fn check_end(due: Due, count: u64) -> Result<(), Fault>
+    requires { count < 2 ^ 63 }
+    ensures { (pit : List ℕ) (flow : List ℤ) → Gives (λ _. pit_and_flow pit flow) result (end_at count due pit flow) }
+{
+    match due {
+        Due::Arc { left: 0, .. } => Ok(()),
+        _ => Err(in_certificate(Refusal::EndsEarly, count + 1)),
+    }
+}
+
+/// All lines, one after the other.
+fn parse_lines(alloc: Global, text: &[u8], graph: &Graph) -> Result<Certificate, Fault>
+    requires { length text.now ≤ 2 ^ 40 }
+    ensures exact { Gives (λ c. pit_and_flow c.pit.items c.flow.items) result (certificate_of graph.now text.now) }
+{
+    let mut rows = Rows::new(text);
+    let mut pit = Vec::new(alloc);
+    let mut flow = vec![in alloc; 0i128; graph.arcs() as usize]?;
+    let mut due = Due::Title;
+    while let Some(row) = rows.next_row() {
+        due = take_line(graph, due, row, &mut pit, &mut flow)?;
+    }
+    check_end(due, rows.number)?;
+    Ok(Certificate { pit, flow })
+}
+
+/// Each text spells one certificate of a graph or has one first fault, and not both: what is read of it says which.
+/// The pairs of a graph are in order, so each of them has one number.
+pub fn certificate_law()
+    ensures spelled { (graph : AnyGraph) (text : List ℕ) (c : PitAndFlow) → AreRising graph.pairs → (certificate_of graph text ≡ Ok c) ↔ SpellsCertificate graph text c }
+    ensures faulty { (graph : AnyGraph) (text : List ℕ) (fault : AnyFault) → (certificate_of graph text ≡ Err fault) ↔ IsFirstCertificateFault graph text fault }
+{}
+
+/// The certificate of the graph that a text spells, else the first fault of the text, or `NoMemory`.
+pub fn parse_certificate(alloc: Global, text: &[u8], graph: &Graph) -> Result<Certificate, Fault>
+    requires { length text.now ≤ 2 ^ 40 }
+    // Which certificate or which fault it is.
+    ensures exact { Gives (λ c. pit_and_flow c.pit.items c.flow.items) result (certificate_of graph.now text.now) }
+    // What is read is spelled so, and what is spelled so is read, unless memory runs out.
+    ensures spelled { IfOk result (λ c. SpellsCertificate graph.now text.now (pit_and_flow c.pit.items c.flow.items)) }
+    ensures read { (c : PitAndFlow) → SpellsCertificate graph.now text.now c → Gives (λ c. pit_and_flow c.pit.items c.flow.items) result (Ok c) }
+    ensures first_fault { IfErr result (λ e. FailsAt e.refusal e (IsFirstCertificateFault graph.now text.now)) }
+    ensures candidate { IfOk result (λ c. IsCandidate graph.now.blocks (length graph.now.pairs) c.pit.items c.flow.items) }
+{
+    graph.law();
+    parse_lines(alloc, text, graph)
+}
+
+/// The certificate of the graph that all spells which the reader has left, else the first fault of that text. Refused by
+/// `ReadFailed` exactly where the reader counted a failure in this call, and by `NoMemory`.
+pub fn read<R: InBytes>(alloc: Global, reader: &mut R, graph: &Graph) -> Result<Certificate, Fault>
+    requires countable { (R.progress reader.old).failures < 2 ^ 63 }
+    requires bounded { (R.progress reader.old).allowance ≤ 2 ^ 40 }
+    ensures answers { AnswersBy (λ c. pit_and_flow c.pit.items c.flow.items) (SpellsCertificate graph.now) (IsFirstCertificateFault graph.now) sources.Certificate (R.progress reader.old) (R.progress reader.new) (R.IsAtEnd reader.new) result }
+    ensures candidate { IfOk result (λ c. IsCandidate graph.now.blocks (length graph.now.pairs) c.pit.items c.flow.items) }
+    ensures same { R.known_text reader.new ≡ R.known_text reader.old }
+
+    // The same by what is read of a text.
+    ensures exact { Answers (λ c. pit_and_flow c.pit.items c.flow.items) (certificate_of graph.now) sources.Certificate (R.progress reader.old) (R.progress reader.new) (R.IsAtEnd reader.new) result }
+{
+    let text = read_all(alloc, reader, Source::Certificate)?;
+    parse_certificate(alloc, &text, graph)
+}

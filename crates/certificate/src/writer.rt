@@ -1,0 +1,133 @@
+//! The text of a certificate: its head, a line for each block of the pit, and a line for each arc that carries something.
+//! Pieces go through the buffer of `report`, so that nothing is written behind a write that failed.
+ghost use Rattle.std.specs.Prelude.{◌≡◌, ◌<◌, ◌^◌, pos, int_lt, length, IfErr};
+ghost use Rattle.std.specs.List.{flat_map};
+ghost use Rattle.minelib_reader.specs.Device.{Writes};
+ghost use Rattle.minelib_reader.specs.Refused.{write_failed};
+ghost use Rattle.pit_model.specs.PitText.{line_of};
+ghost use Rattle.report.specs.Puts.{IsReady, Puts};
+ghost use Rattle.certificate.specs.Check.{amount, IsCandidate};
+ghost use Rattle.certificate.specs.CertificateGrammar.{SpellsCertificate};
+ghost use Rattle.certificate.specs.CertificateLines.{pit_and_flow};
+ghost use Rattle.certificate.specs.CertificateText.{carrying, certificate_head, certificate_text, flow_head, flow_line};
+
+use crate::pit_with_flow::Certificate;
+use mine_graph::Graph;
+use minelib_reader::{Fault, OutBytes};
+use report::{Out, end_line, finish, put, put_line, put_number};
+
+/// Writes the lines before the first block: how many blocks and arcs the graph has, and how many blocks are in the pit.
+fn put_head<W: OutBytes>(writer: &mut W, out: &mut Out, n: u32, m: u32, count: usize)
+    requires { IsReady (W.progress writer.old) out.old }
+    ensures puts { Puts (W.progress writer.old) out.old (W.progress writer.new) out.new (certificate_head n m count) }
+    ensures ready { IsReady (W.progress writer.new) out.new }
+{
+    put(writer, out, b"PITCERT 1\nBLOCKS: ");
+    put_number(writer, out, n);
+    put(writer, out, b"\nARCS: ");
+    put_number(writer, out, m);
+    put(writer, out, b"\nIN: ");
+    put_number(writer, out, count);
+    end_line(writer, out);
+}
+
+/// Writes a line for each block of the pit.
+fn put_pit<W: OutBytes>(writer: &mut W, out: &mut Out, pit: &[u32])
+    requires { IsReady (W.progress writer.old) out.old }
+    ensures puts { Puts (W.progress writer.old) out.old (W.progress writer.new) out.new (flat_map line_of pit.now) }
+    ensures ready { IsReady (W.progress writer.new) out.new }
+{
+    for &id in pit {
+        put_line(writer, out, id);
+    }
+}
+
+/// Whether an arc carries something.
+fn carries(flow: &[i128], k: u32) -> bool
+    requires { k < length flow.now }
+    ensures { result ≡ int_lt (pos 0) (amount flow.now k) }
+{
+    flow[k as usize] > 0
+}
+
+/// How many arcs carry something.
+fn count_carrying(flow: &[i128], m: u32) -> u32
+    requires { m ≡ length flow.now }
+    ensures { result ≡ length (carrying flow.now m) }
+{
+    let mut count = 0;
+    for k in 0..m {
+        if carries(flow, k) {
+            count += 1;
+        }
+    }
+    count
+}
+
+/// Writes the line before the first arc: how many arcs carry something.
+fn put_flow_head<W: OutBytes>(writer: &mut W, out: &mut Out, count: u32)
+    requires { IsReady (W.progress writer.old) out.old }
+    ensures puts { Puts (W.progress writer.old) out.old (W.progress writer.new) out.new (flow_head count) }
+    ensures ready { IsReady (W.progress writer.new) out.new }
+{
+    put(writer, out, b"FLOW: ");
+    put_number(writer, out, count);
+    end_line(writer, out);
+}
+
+/// Writes the line of an arc.
+fn put_arc<W: OutBytes>(writer: &mut W, out: &mut Out, graph: &Graph, flow: &[i128], k: u32)
+    requires ready { IsReady (W.progress writer.old) out.old }
+    requires arc { k < length graph.now.pairs }
+    requires counted { length flow.now ≡ length graph.now.pairs }
+    ensures puts { Puts (W.progress writer.old) out.old (W.progress writer.new) out.new (flow_line graph.now.pairs flow.now k) }
+    ensures ready { IsReady (W.progress writer.new) out.new }
+{
+    let (u, p) = graph.arc(k);
+    put_number(writer, out, u);
+    put(writer, out, b" ");
+    put_number(writer, out, p);
+    put(writer, out, b" ");
+    put_number(writer, out, flow[k as usize].unsigned_abs());
+    end_line(writer, out);
+}
+
+/// Writes a line for each arc that carries something.
+fn put_flow<W: OutBytes>(writer: &mut W, out: &mut Out, graph: &Graph, flow: &[i128])
+    requires ready { IsReady (W.progress writer.old) out.old }
+    requires counted { length flow.now ≡ length graph.now.pairs }
+    ensures puts { Puts (W.progress writer.old) out.old (W.progress writer.new) out.new (flat_map (flow_line graph.now.pairs flow.now) (carrying flow.now (length graph.now.pairs))) }
+    ensures ready { IsReady (W.progress writer.new) out.new }
+{
+    for k in 0..graph.arcs() {
+        if carries(flow, k) {
+            put_arc(writer, out, graph, flow, k);
+        }
+    }
+}
+
+/// Writes the text of a certificate of the graph. Refused where a write failed: a beginning of the text was written then.
+/// It takes no memory.
+pub fn write<W: OutBytes>(
+    writer: &mut W,
+    graph: &Graph,
+    certificate: &Certificate,
+) -> Result<(), Fault>
+    requires countable { (W.progress writer.old).failures < 2 ^ 63 }
+    requires candidate { IsCandidate graph.now.blocks (length graph.now.pairs) certificate.now.pit.items certificate.now.flow.items }
+    ensures text { Writes (W.progress writer.old) (W.progress writer.new) (certificate_text graph.now certificate.now.pit.items certificate.now.flow.items) result }
+    ensures refused { IfErr result (λ fault. fault ≡ write_failed) }
+
+    // Reading the text gives the certificate back.
+    ensures spelled { SpellsCertificate graph.now (certificate_text graph.now certificate.now.pit.items certificate.now.flow.items) (pit_and_flow certificate.now.pit.items certificate.now.flow.items) }
+{
+    graph.law();
+    let pit = certificate.pit.as_slice();
+    let flow = certificate.flow.as_slice();
+    let mut out = Out::new();
+    put_head(writer, &mut out, graph.n(), graph.arcs(), pit.len());
+    put_pit(writer, &mut out, pit);
+    put_flow_head(writer, &mut out, count_carrying(flow, graph.arcs()));
+    put_flow(writer, &mut out, graph, flow);
+    finish(writer, &mut out)
+}
