@@ -5,3 +5,5 @@ mod Assembled
 mod Sending
 mod Keeping
 mod Ranking
+mod Heaping
+mod Labelling

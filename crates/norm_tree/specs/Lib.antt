@@ -1,2 +1,4 @@
 pub mod Passes
 pub mod Kept
+pub mod Heap
+pub mod Labelled

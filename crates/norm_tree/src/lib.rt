@@ -3,6 +3,8 @@
 
 mod climb;
 mod find;
+mod labels;
+mod marks;
 mod path;
 mod pit;
 mod rank;
@@ -12,5 +14,7 @@ mod tree;
 
 pub use tree::NormTree;
 
+#[cfg(test)]
+mod label_tests;
 #[cfg(test)]
 mod tests;

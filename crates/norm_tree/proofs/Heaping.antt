@@ -1,0 +1,136 @@
+-- A heap of marks while one mark is put: all nodes agree with the two below them, but for the one above where the climb is.
+use Rattle.std.proofs.Common.{◌≡◌, ℕ, zero, suc, ◌+◌, ◌*◌, ◌^◌, ◌/◌, ◌<◌, ◌≤◌, Bool, true, false, ◌||◌, refl, sym, ap, ◌∙◌, arith, ⊎_elim, List, set, length, get_or}
+use Rattle.std.proofs.lemmas.Bool.{cases_eq, cases_lt, true≢false}
+use Rattle.std.proofs.lemmas.List.{get_or-set_same, get_or-set_other, get_or_past, length-set}
+use Rattle.std.proofs.Math.Nat.{two-pow-succ}
+use Rattle.std.proofs.lemmas.Nat.{pow_pos}
+use Rattle.norm_tree.specs.Heap.{AreEither}
+
+pub half_of : (n i : ℕ) → (i ≡ n / 2 → ⊥) → (2 * i ≡ n → ⊥) × (2 * i + 1 ≡ n → ⊥)
+half_of n i ne = (λ e. ne (omega arith), λ e. ne (omega arith))
+
+-- one node above the climb may differ
+pub record IsClimbing (start : List Bool) (size : ℕ) (nodes : List Bool) (node : ℕ) : Type 0 where
+  pub count : length nodes ≡ length start
+  pub low : 1 ≤ node
+  pub high : node < length start
+  pub either : (i : ℕ) → 1 ≤ i → i < size → (i ≡ node / 2 → ⊥) → get_or nodes i false ≡ (get_or nodes (2 * i) false || get_or nodes (2 * i + 1) false)
+  pub last : (i : ℕ) → size ≤ i → get_or nodes i false ≡ get_or start i false
+
+pub climbing_begins : (before : List Bool) (size place : ℕ) (marked : Bool) → 1 ≤ size → size ≤ place → place < length before → AreEither before size
+    → IsClimbing (set before place marked) size (set before place marked) place
+climbing_begins before size place marked some low high either = record {
+  count = refl;
+  low = omega arith;
+  high = omega (arith, length-set before place marked);
+  either = λ i l m ne.
+      let off = half_of place i ne in
+      let here : get_or (set before place marked) i false ≡ get_or before i false = get_or-set_other before place i marked false (λ e. omega arith) in
+      let left : get_or (set before place marked) (2 * i) false ≡ get_or before (2 * i) false = get_or-set_other before place (2 * i) marked false off.0 in
+      let right : get_or (set before place marked) (2 * i + 1) false ≡ get_or before (2 * i + 1) false = get_or-set_other before place (2 * i + 1) marked false off.1 in
+      rw (here, left, right) (either i l m);
+  last = λ i l. refl;
+}
+
+-- the node above takes its mark from the two below it
+pub climbing_on : (start : List Bool) (size : ℕ) (nodes : List Bool) (node : ℕ) → 1 < node → length start ≡ size + size → IsClimbing start size nodes node
+    → IsClimbing start size (set nodes (node / 2) (get_or nodes (2 * (node / 2)) false || get_or nodes (2 * (node / 2) + 1) false)) (node / 2)
+climbing_on start size nodes node more room c =
+    let up : ℕ = node / 2 in
+    let mark : Bool = get_or nodes (2 * up) false || get_or nodes (2 * up + 1) false in
+    let after : List Bool = set nodes up mark in
+    let at : up < length nodes = omega (arith, c.high, c.count) in
+    let high = c.high in
+    record {
+      count = length-set nodes up mark ∙ c.count;
+      low = omega arith;
+      high = omega arith;
+      either = λ i l m ne.
+          let off = half_of up i ne in
+          let left : get_or after (2 * i) false ≡ get_or nodes (2 * i) false = get_or-set_other nodes up (2 * i) mark false off.0 in
+          let right : get_or after (2 * i + 1) false ≡ get_or nodes (2 * i + 1) false = get_or-set_other nodes up (2 * i + 1) mark false off.1 in
+          ⊎_elim
+          (λ (e : i ≡ up).
+          ap (λ k. get_or after k false) e ∙ get_or-set_same nodes up mark false at
+          ∙ ap (λ k. get_or nodes (2 * k) false || get_or nodes (2 * k + 1) false) (sym e)
+          ∙ ap (λ b. b || get_or nodes (2 * i + 1) false) (sym left) ∙ ap (λ b. get_or after (2 * i) false || b) (sym right))
+          (λ (other : i ≡ up → ⊥).
+          let here : get_or after i false ≡ get_or nodes i false = get_or-set_other nodes up i mark false other in
+          rw (here, left, right) (c.either i l m other))
+          (cases_eq i up);
+      last = λ i l. get_or-set_other nodes up i mark false (λ e. omega arith) ∙ c.last i l;
+    }
+
+-- the climb is over where a node has its mark already, and at the top
+pub climbed : (start : List Bool) (size : ℕ) (nodes : List Bool) (node : ℕ) → IsClimbing start size nodes node
+    → (1 < node → get_or nodes (node / 2) false ≡ (get_or nodes (2 * (node / 2)) false || get_or nodes (2 * (node / 2) + 1) false)) → AreEither nodes size
+climbed start size nodes node c here i l m = ⊎_elim
+    (λ (e : i ≡ node / 2). let more : 1 < node = omega arith in ap (λ k. get_or nodes k false) e ∙ here more ∙ ap (λ k. get_or nodes (2 * k) false || get_or nodes (2 * k + 1) false) (sym e))
+    (λ (ne : i ≡ node / 2 → ⊥). c.either i l m ne)
+    (cases_eq i (node / 2))
+
+-- a marked node of a level, the first of it
+pub record IsDescending (nodes : List Bool) (level node : ℕ) : Type 0 where
+  pub low : 2 ^ level ≤ node
+  pub high : node < 2 ^ level + 2 ^ level
+  pub marked : get_or nodes node false ≡ true
+  pub first : (i : ℕ) → 2 ^ level ≤ i → i < node → get_or nodes i false ≡ false
+
+or_false : (a b : Bool) → (a || b) ≡ false → (a ≡ false) × (b ≡ false)
+or_false true b e = absurd (true≢false e)
+or_false false b e = (refl, e)
+
+or_true : (a b : Bool) → (a || b) ≡ true → a ≡ false → b ≡ true
+or_true true b e f = absurd (true≢false f)
+or_true false b e f = e
+
+-- below an unmarked node nothing is marked
+unmarked_below : (nodes : List Bool) (size i : ℕ) → AreEither nodes size → 1 ≤ i / 2 → i / 2 < size → get_or nodes (i / 2) false ≡ false → get_or nodes i false ≡ false
+unmarked_below nodes size i either low high off =
+    let both = or_false (get_or nodes (2 * (i / 2)) false) (get_or nodes (2 * (i / 2) + 1) false) (sym (either (i / 2) low high) ∙ off) in
+    ⊎_elim
+    (λ (e : i ≡ 2 * (i / 2)). ap (λ k. get_or nodes k false) e ∙ both.0)
+    (λ (ne : i ≡ 2 * (i / 2) → ⊥). let e : i ≡ 2 * (i / 2) + 1 = omega arith in ap (λ k. get_or nodes k false) e ∙ both.1)
+    (cases_eq i (2 * (i / 2)))
+
+pub descending_left : (nodes : List Bool) (size level node : ℕ) → AreEither nodes size → 2 ^ suc level ≤ size → IsDescending nodes level node
+    → get_or nodes (2 * node) false ≡ true → IsDescending nodes (suc level) (2 * node)
+descending_left nodes size level node either room d on =
+    let twice : 2 ^ suc level ≡ 2 ^ level + 2 ^ level = two-pow-succ level in
+    let some : 0 < 2 ^ level = pow_pos level in
+    let low = d.low in
+    let high = d.high in
+    record {
+      low = omega arith;
+      high = omega arith;
+      marked = on;
+      first = λ i l m. unmarked_below nodes size i either (omega arith) (omega arith) (d.first (i / 2) (omega arith) (omega arith));
+    }
+
+pub descending_right : (nodes : List Bool) (size level node : ℕ) → AreEither nodes size → 2 ^ suc level ≤ size → IsDescending nodes level node
+    → get_or nodes (2 * node) false ≡ false → IsDescending nodes (suc level) (2 * node + 1)
+descending_right nodes size level node either room d off =
+    let twice : 2 ^ suc level ≡ 2 ^ level + 2 ^ level = two-pow-succ level in
+    let some : 0 < 2 ^ level = pow_pos level in
+    let low = d.low in
+    let high = d.high in
+    record {
+      low = omega arith;
+      high = omega arith;
+      marked = or_true (get_or nodes (2 * node) false) (get_or nodes (2 * node + 1) false) (sym (either node (omega arith) (omega arith)) ∙ d.marked) off;
+      first = λ i l m. ⊎_elim
+          (λ (e : i ≡ 2 * node). ap (λ k. get_or nodes k false) e ∙ off)
+          (λ (ne : i ≡ 2 * node → ⊥). unmarked_below nodes size i either (omega arith) (omega arith) (d.first (i / 2) (omega arith) (omega arith)))
+          (cases_eq i (2 * node));
+    }
+
+-- where the top is unmarked, nothing is marked
+pub none_marked : (nodes : List Bool) (size fuel i : ℕ) → AreEither nodes size → get_or nodes 1 false ≡ false → length nodes ≡ size + size → 1 ≤ i → i ≤ fuel → get_or nodes i false ≡ false
+none_marked nodes size zero i either top room low some = absurd (omega arith)
+none_marked nodes size (suc fuel) i either top room low some = ⊎_elim
+    (λ (e : i ≡ 1). ap (λ k. get_or nodes k false) e ∙ top)
+    (λ (ne : i ≡ 1 → ⊥). ⊎_elim
+    (λ (inside : i < length nodes). unmarked_below nodes size i either (omega arith) (omega arith) (none_marked nodes size fuel (i / 2) either top room (omega arith) (omega arith)))
+    (λ (past : length nodes ≤ i). get_or_past nodes i false past)
+    (cases_lt i (length nodes)))
+    (cases_eq i 1)
