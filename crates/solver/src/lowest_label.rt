@@ -90,7 +90,7 @@ fn add_children(
     forest.law();
     let mut found = found;
     let mut next = forest.first_child(block);
-    for _child in 0..forest.len() {
+    for _child in 0..forest.blocks() {
         match next {
             Some(child) if found < branch.len() => {
                 if labels[child as usize] == label {
@@ -224,7 +224,7 @@ impl LowestLabel {
     {
         tree.law();
         self.begin(root);
-        for place in 0..tree.forest().len() as usize {
+        for place in 0..tree.forest().blocks() as usize {
             let block = self.found_at(place)?;
             let arc = self.scan(tree.instance().graph(), block, label - 1);
             if arc.is_some() {
