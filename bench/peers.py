@@ -111,7 +111,7 @@ def main():
     head = f"# Beside Boost and LEMON, {now:%Y-%m-%d %H:%M}\n\n`{command}`, {os.cpu_count()} cores, {platform.machine()}; all pits of a mine are the same bytes.\n\n"
     text = head + "\n".join(lines) + "\n"
     print(text)
-    target = ROOT / "bench" / "results" / f"{now:%Y-%m-%d}-peers.md"
+    target = ROOT / "bench" / "results" / f"{now:%Y-%m-%d}-peers-{min(given.blocks)}-{max(given.blocks)}.md"
     target.write_text(text)
 
 
