@@ -2,11 +2,11 @@
    FAIL_ALLOC=N   the Nth request for memory is refused          FAIL_READ=N  FAIL_WRITE=N   the Nth read or write fails
    SHORT_READ=1   each read gives one byte at most               SHORT_WRITE=1               each write takes one byte at most
    INTERRUPT=N    each read and write is interrupted N times before it is made (0: never; -1: always)
-   Only reads of files opened by the program and writes of its two outputs count. COUNT_CALLS=FILE appends how often
-   memory was asked for, and how many reads and writes were made. */
+   COUNT_CALLS=FILE tells how often memory was asked for, and how many reads and writes were made. */
 #define _GNU_SOURCE
 #include <dlfcn.h>
 #include <errno.h>
+#include <fcntl.h>
 #include <stdio.h>
 #include <stdlib.h>
 #include <unistd.h>
@@ -18,9 +18,24 @@ static long wanted(const char *name) {
     return text ? atol(text) : 0;
 }
 
+/* The program may end without the library's last rites, so the counts are told as they grow. */
+static long one_more(long *count) {
+    long now = __atomic_add_fetch(count, 1, __ATOMIC_RELAXED);
+    const char *name = getenv("COUNT_CALLS");
+    if (name) {
+        char text[80];
+        int length = snprintf(text, sizeof text, "%020ld %020ld %020ld\n", allocs, reads, writes);
+        int file = open(name, O_WRONLY | O_CREAT, 0600);
+        if (file >= 0) {
+            (void)!pwrite(file, text, (size_t)length, 0);
+            close(file);
+        }
+    }
+    return now;
+}
+
 static int refused(void) {
-    allocs++;
-    return allocs == wanted("FAIL_ALLOC");
+    return one_more(&allocs) == wanted("FAIL_ALLOC");
 }
 
 void *malloc(size_t size) {
@@ -63,7 +78,7 @@ ssize_t read(int fd, void *buf, size_t size) {
     static ssize_t (*real)(int, void *, size_t);
     if (!real) real = (ssize_t (*)(int, void *, size_t))dlsym(RTLD_NEXT, "read");
     if (interrupts()) return -1;
-    if (++reads == wanted("FAIL_READ")) {
+    if (one_more(&reads) == wanted("FAIL_READ")) {
         errno = EIO;
         return -1;
     }
@@ -74,18 +89,9 @@ ssize_t write(int fd, const void *buf, size_t size) {
     static ssize_t (*real)(int, const void *, size_t);
     if (!real) real = (ssize_t (*)(int, const void *, size_t))dlsym(RTLD_NEXT, "write");
     if (interrupts()) return -1;
-    if (++writes == wanted("FAIL_WRITE")) {
+    if (one_more(&writes) == wanted("FAIL_WRITE")) {
         errno = EIO;
         return -1;
     }
     return real(fd, buf, wanted("SHORT_WRITE") && size > 1 ? 1 : size);
-}
-
-__attribute__((destructor)) static void tell(void) {
-    const char *name = getenv("COUNT_CALLS");
-    FILE *file = name ? fopen(name, "a") : NULL;
-    if (file) {
-        fprintf(file, "%ld %ld %ld\n", allocs, reads, writes);
-        fclose(file);
-    }
 }

@@ -4,8 +4,8 @@
     tools/sweep.py [--bin build/pitshell] [--run "solve --model .. --prec .."]...
 
 The Nth request for memory is refused, the Nth read or write fails, each read and write moves one byte, or is interrupted by a signal once, often, or
-always. Due are error 1 (memory), 2 (a read) and 18 (a write, with a beginning of the text on standard output), each with status 1, and no output at 1
-and 2. The shim is `fail_calls.c`, built by `cc`. It ends with status 1 where any answer was another one.
+always. Due are error 1 (memory; in mode shared also 22, where a worker could not be started), 2 (a read) and 18 (a write, with a beginning of the text on
+standard output), each with status 1, and no output but at 18. The shim is `fail_calls.c`, built by `cc`. It ends with status 1 where any answer was another one.
 """
 
 import argparse
@@ -27,8 +27,10 @@ def run(command, shim, **settings):
     return done.returncode, done.stdout, done.stderr
 
 
-def is_refusal(answer, right, number):
+def is_refusal(answer, right, number, shared):
     status, out, err = answer
+    if number == 1 and shared and err == b"error 22: no seat\n":
+        return status == 1 and out == b""
     starts = err.startswith(f"error {number}: ".encode()) or err == b""  # the error stream itself may be what failed
     return status == 1 and starts and (right[1].startswith(out) if number == 18 else out == b"")
 
@@ -36,6 +38,7 @@ def is_refusal(answer, right, number):
 def sweep(command, shim, folder):
     counts = folder / "counts"
     right = run(command, shim, COUNT_CALLS=counts)
+    shared = "shared" in command
     allocs, reads, writes = map(int, counts.read_text().split())
     cases = [({"FAIL_ALLOC": n}, 1) for n in range(1, allocs + 1)]
     cases += [({"FAIL_READ": n}, 2) for n in range(1, reads + 1)]
@@ -46,7 +49,7 @@ def sweep(command, shim, folder):
     wrong = 0
     for settings, number in cases:
         answer = run(command, shim, **settings)
-        if answer != right and not (number and is_refusal(answer, right, number)):
+        if answer != right and not (number and is_refusal(answer, right, number, shared)):
             wrong += 1
             print(f"WRONG {settings}: status {answer[0]}, out {answer[1][:60]!r}, err {answer[2][:60]!r}")
     print(f"{' '.join(command[1:])}: {allocs} requests for memory, {reads} reads, {writes} writes; {len(cases)} runs, {wrong} wrong")
