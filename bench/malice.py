@@ -4,12 +4,14 @@
     bench/malice.py [--bin build/pitshell] [--megabytes 10]
 
 The best of three runs each. Each text must end in the refusal that is named here, in time linear in its length. The table goes to standard output and
-to bench/results/; a row whose refusal is another, or whose ratio is above 2, is marked.
+to bench/results/; a row whose refusal is another, or whose ratio is above 2, is marked. Last, the texts of two blocks are cut at every byte:
+each must end in a pit or in a fault of the format.
 """
 
 import argparse
 import datetime
 import pathlib
+import re
 import subprocess
 import tempfile
 import time
@@ -71,6 +73,41 @@ def timed(program, folder, model, prec):
     return size, best, done.stderr.decode(errors="replace").strip()
 
 
+MODEL = HEAD.format(2) + "0 -3\n1 5\n"
+PREC = "1 1 0\n"
+# What must come where the text of the two blocks ends so; worked out by hand.
+KNOWN_CUTS = {
+    "TYPE: UPI": "error 3: wrong header in model line 2",
+    "NBLOCKS: ": "error 3: wrong header in model line 3",
+    "0 -": "error 6: not a decimal in model line 5",
+    "0 -3\n": "error 12: ends early in model line 6",
+    "\n1 ": "error 11: wrong number of fields in model line 6",
+}
+FAULT = re.compile(r"error ([3-9]|1[0-3]): [a-z ]+ in (model|precedence) line [1-9][0-9]*")
+
+
+def cut_texts(program, folder):
+    """Cuts the texts of two blocks at every byte: how many runs, and those that end neither in a pit nor in a fault of the format, or in another
+    than the one known."""
+    runs, wrong = 0, []
+    for text, other, is_model in ((MODEL, PREC, True), (PREC, MODEL, False)):
+        for size in range(len(text) + 1):
+            model, prec = (text[:size], other) if is_model else (other, text[:size])
+            (folder / "m").write_text(model)
+            (folder / "p").write_text(prec)
+            done = subprocess.run([program, "solve", "--model", "m", "--prec", "p"], cwd=folder, capture_output=True, text=True, timeout=60)
+            fault = done.stderr.strip()
+            due = next((answer for end, answer in KNOWN_CUTS.items() if is_model and model.endswith(end)), None)
+            if due is None and not is_model and prec == "1 1":
+                due = "error 11: wrong number of fields in precedence line 1"
+            lawful = done.returncode == 0 and done.stdout.startswith("PIT\n") and not fault
+            refused = done.returncode == 1 and FAULT.fullmatch(fault) and not done.stdout
+            runs += 1
+            if not (lawful or refused) or (due and fault != due):
+                wrong.append(f"{text[:size]!r}: {fault or done.stdout!r}")
+    return runs, wrong
+
+
 def main():
     parser = argparse.ArgumentParser(description="Feeds the program texts that mean harm.")
     parser.add_argument("--bin", default=str(ROOT / "build" / "pitshell"))
@@ -88,6 +125,10 @@ def main():
             slow = " SLOW" if pace > 2 * lawful else ""
             lines.append(f"| {what} | {size:.1f} | {seconds:.3f} | {pace:.4f} | {pace / lawful:.2f}{slow} | {fault or 'a pit'}{wrong} |")
             print(lines[-1], flush=True)
+        runs, wrong = cut_texts(str(pathlib.Path(options.bin).resolve()), pathlib.Path(name))
+    lines.append(f"\nThe texts of two blocks cut at every byte: {runs} runs, {len(wrong)} wrong.")
+    lines += [f"- {row}" for row in wrong]
+    print("\n".join(lines[-1 - len(wrong):]))
     results = ROOT / "bench" / "results"
     results.mkdir(exist_ok=True)
     now = datetime.datetime.now().strftime("%Y-%m-%d")
