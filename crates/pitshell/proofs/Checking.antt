@@ -40,8 +40,8 @@ checks model prec certificate mine answer holds is a = record {
   mine = mine;
   given = record { holds = holds; ordered = is.graph };
   answered = a;
-  shows_pit = λ e. shown_moves mine.blocks holds.upit.n mine.values holds.upit.values mine.pairs holds.pairs a.shown.pit holds.blocks holds.values (turned holds.pairs mine.pairs holds.same)
-      (shows mine a.shown.pit a.shown.flow (instance_is_simple mine is).in_range (a.exact.0 e));
+  shows_pit = λ e. shown_moves mine.blocks holds.upit.n mine.values holds.upit.values mine.pairs holds.pairs a.answers.shown.pit holds.blocks holds.values (turned holds.pairs mine.pairs holds.same)
+      (shows mine a.answers.shown.pit a.answers.shown.flow (instance_is_simple mine is).in_range (a.answers.exact.0 e));
 }
 
 pub checked :
@@ -105,5 +105,5 @@ same_graph g mine blocks pairs =
 
 pub is_answered : (mine : Instance) (certificate : Reading) (answer : Result Bool Fault) (text : List ℕ) (shown : PitAndFlow) → Gave certificate text → SpellsCertificate (graph_of mine) text shown
     → IfOk answer (λ b. IsTrue b ↔ IsCertificate mine shown.pit shown.flow) → IfOk answer (IsAnswered mine certificate)
-is_answered mine certificate (Ok b) text shown given spelled exact = record { text = text; given = given; shown = shown; spelled = spelled; exact = exact }
+is_answered mine certificate (Ok b) text shown given spelled exact = record { text = text; given = given; answers = record { shown = shown; spelled = spelled; exact = exact } }
 is_answered mine certificate (Err e) text shown given spelled exact = tt

@@ -1,3 +1,4 @@
 pub mod Refusing
 pub mod Solving
+pub mod Certifying
 pub mod Checking

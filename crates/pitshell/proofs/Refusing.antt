@@ -12,10 +12,11 @@ use Rattle.minelib_reader.specs.declared.fault.Refusal.{Refusal}
 use Rattle.minelib_reader.specs.declared.fault.Refusal.TheVariants.{NoMemory, ReadFailed, WriteFailed, NoSeat, Exhausted}
 use Rattle.minelib_reader.specs.declared.fault.Source.TheVariants as sources
 use Rattle.mine_graph.specs.Faults.{RefusesPairs, IsGraphFault}
-use Rattle.pitshell.specs.Solve.{Reading, Gave, NeverFailed, GaveMine, in_model, in_prec, in_pairs, RefusesMine, IsCutShort}
+use Rattle.pitshell.specs.Solve.{Reading, Gave, NeverFailed, GaveMine, in_model, in_prec, in_pairs, RefusesMine}
 use Rattle.pitshell.specs.Mine.{HoldsMine}
 use Rattle.pitshell.specs.Modes.{RefusesSolve}
-use Rattle.pitshell.specs.Run.{RefusesRun}
+use Rattle.pitshell.specs.Chosen.{Chosen, IsLeft}
+use Rattle.pitshell.specs.Run.{RefusesRun, WasCutShort}
 use Rattle.solver.specs.declared.mode.Mode.{Mode}
 use Rattle.pit_model.specs.Mine.{Instance}
 use Rattle.minelib_reader.proofs.TextFaults.{IsOfText, upit_fault_of_text, prec_fault_of_text}
@@ -53,21 +54,23 @@ pairs_refused (Exhausted count) e model prec upit pairs given is h = h
 pairs_refused _ e model prec upit pairs given is h = in_pairs upit pairs given is
 
 -- a refusal of the files is one of the run
-pub read_refused : (mode : Mode) (r : Refusal) (e : Fault) (model prec : Reading) (out : Progress) → RefusesMine r e model prec → RefusesRun mode r e model prec out out
-read_refused mode WriteFailed e model prec out h = absurd h
-read_refused mode NoSeat e model prec out h = absurd h
-read_refused mode (Exhausted count) e model prec out h = absurd h
-read_refused mode _ e model prec out h = (h, refl)
+pub read_refused : (mode : Mode) (r : Refusal) (e : Fault) (model prec : Reading) (left : Chosen) (out : Progress) → IsLeft left → RefusesMine r e model prec → RefusesRun mode r e model prec left out out
+read_refused mode WriteFailed e model prec left out is h = absurd h
+read_refused mode NoSeat e model prec left out is h = absurd h
+read_refused mode (Exhausted count) e model prec left out is h = absurd h
+read_refused mode _ e model prec left out is h = (h, (is, refl))
 
 -- and so is a refusal of the solve
 pub solve_refused :
-    (mode : Mode) (r : Refusal) (e : Fault) (model prec : Reading) (mine : Instance) (out : Progress) → HoldsMine model prec mine
-    → RefusesSolve mode mine r e → RefusesRun mode r e model prec out out
-solve_refused mode NoMemory e model prec mine out holds h = ((h, holds.given.model_given.failures, holds.given.prec_given.failures), refl)
-solve_refused mode NoSeat e model prec mine out holds h = ((mine, holds, h), refl)
-solve_refused mode (Exhausted count) e model prec mine out holds h = ((mine, holds, h), refl)
-solve_refused mode _ e model prec mine out holds h = absurd h
+    (mode : Mode) (r : Refusal) (e : Fault) (model prec : Reading) (mine : Instance) (left : Chosen) (out : Progress) → IsLeft left → HoldsMine model prec mine
+    → RefusesSolve mode mine r e → RefusesRun mode r e model prec left out out
+solve_refused mode NoMemory e model prec mine left out is holds h = ((h, holds.given.model_given.failures, holds.given.prec_given.failures), (is, refl))
+solve_refused mode NoSeat e model prec mine left out is holds h = ((mine, holds, h), (is, refl))
+solve_refused mode (Exhausted count) e model prec mine left out is holds h = ((mine, holds, h), (is, refl))
+solve_refused mode _ e model prec mine left out is holds h = absurd h
 
-pub write_refused : (mode : Mode) (e : Fault) (model prec : Reading) (before after : Progress) → e ≡ write_failed → IsCutShort model prec before after → RefusesRun mode e.refusal e model prec before after
-write_refused mode e model prec before after is cut =
-    subst (λ f. RefusesRun mode f.refusal f model prec before after) (sym is) (refl, cut)
+pub write_refused :
+    (mode : Mode) (e : Fault) (model prec : Reading) (certificate : Chosen) (before after : Progress) → e ≡ write_failed → WasCutShort model prec certificate before after
+    → RefusesRun mode e.refusal e model prec certificate before after
+write_refused mode e model prec certificate before after is cut =
+    subst (λ f. RefusesRun mode f.refusal f model prec certificate before after) (sym is) (refl, cut)

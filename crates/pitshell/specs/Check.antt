@@ -27,13 +27,17 @@ pub record GaveInOrder (model prec : Reading) (mine : Instance) : Type 0 where
   pub holds : HoldsMine model prec mine
   pub ordered : IsGraph mine.blocks mine.pairs
 
--- the reader gave a text that spells a certificate of the mine's graph, and the answer is whether that meets the conditions
-pub record IsAnswered (mine : Instance) (certificate : Reading) (answer : Bool) : Type 0 where
-  pub text : List ℕ
-  pub given : Gave certificate text
+-- the text spells a certificate of the mine's graph, and the answer is whether that meets the conditions
+pub record AnswersText (mine : Instance) (text : List ℕ) (answer : Bool) : Type 0 where
   pub shown : PitAndFlow
   pub spelled : SpellsCertificate (graph_of mine) text shown
   pub exact : IsTrue answer ↔ IsCertificate mine shown.pit shown.flow
+
+-- the reader gave such a text, and this is the answer to it
+pub record IsAnswered (mine : Instance) (certificate : Reading) (answer : Bool) : Type 0 where
+  pub text : List ℕ
+  pub given : Gave certificate text
+  pub answers : AnswersText mine text answer
 
 -- three readers gave a mine and a certificate, and this is the answer; where it is yes, the certificate's blocks are the pit
 -- of the mine as the files spell it
@@ -41,7 +45,7 @@ pub record Checks (model prec certificate : Reading) (answer : Bool) : Type 0 wh
   pub mine : Instance
   pub given : GaveInOrder model prec mine
   pub answered : IsAnswered mine certificate answer
-  pub shows_pit : IsTrue answer → ShowsPit (mine_of given.holds.upit given.holds.pairs) answered.shown.pit
+  pub shows_pit : IsTrue answer → ShowsPit (mine_of given.holds.upit given.holds.pairs) answered.answers.shown.pit
 
 abbrev pub status_of_answer : Bool → Status
 status_of_answer true = Done

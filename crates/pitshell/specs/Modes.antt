@@ -9,7 +9,7 @@ use Rattle.pit_model.specs.declared.journal.Entry.{Entry}
 use Rattle.pit_model.specs.Mine.{Instance}
 use Rattle.pit_model.specs.Journal.{applied_count, IsLawful, replay}
 use Rattle.pit_model.specs.FirstRun.{HasMerger, HasNoMerger, first_run}
-use Rattle.pit_model.specs.Certificate.{IsCertificate}
+use Rattle.certificate.specs.Certificate.{IsCertificateOf}
 use Rattle.solver.specs.declared.outcome.Outcome.{Outcome}
 use Rattle.solver.specs.declared.outcome.Outcome.TheVariants.{Pit, Exhausted}
 use Rattle.solver.specs.declared.mode.Mode.{Mode}
@@ -49,7 +49,7 @@ RunsOut (Shared workers budget) mine count =
 
 -- how a solve in a mode ends
 abbrev pub EndsIn : Mode → Instance → Outcome → Type 0
-EndsIn mode mine (Pit certificate) = IsCertificate mine certificate.pit.items certificate.flow.items × EndsWithin mode mine
+EndsIn mode mine (Pit certificate) = IsCertificateOf mine certificate × EndsWithin mode mine
 EndsIn mode mine (Exhausted count) = RunsOut mode mine count
 
 abbrev pub IsShared : Mode → Type 0

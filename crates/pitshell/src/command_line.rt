@@ -66,30 +66,37 @@ fn with_mode<'a>(alloc: Global, command: Command<'a>) -> Result<Command<'a>, All
     command.arg(mode)?.arg(workers)?.arg(budget)
 }
 
-/// `pitshell` with its subcommands.
-pub fn command<'a>(alloc: Global) -> Result<Command<'a>, AllocError> {
-    let model = file(
-        alloc,
-        "model",
-        "Optimisation model (.upit): the value of each block",
-    );
-    let prec = file(
-        alloc,
-        "prec",
-        "Precedence (.prec): the blocks that each block needs",
-    );
+/// `solve` with its files and its mode.
+fn solve_command<'a>(alloc: Global) -> Result<Command<'a>, AllocError> {
     let solve = Command::new(alloc, "solve")
         .about("Writes the smallest closed set of greatest worth: the ultimate pit")
         .after_help(STATUSES)
-        .arg(model)?
-        .arg(prec)?;
-    let solve = with_mode(alloc, solve)?;
+        .arg(file(
+            alloc,
+            "model",
+            "Optimisation model (.upit): the value of each block",
+        ))?
+        .arg(file(
+            alloc,
+            "prec",
+            "Precedence (.prec): the blocks that each block needs",
+        ))?;
+    with_mode(alloc, solve)?.arg(file(
+        alloc,
+        "certificate",
+        "Where to write the certificate that shows the pit",
+    )
+    .required(false))
+}
+
+/// `pitshell` with its subcommands.
+pub fn command<'a>(alloc: Global) -> Result<Command<'a>, AllocError> {
     Command::new(alloc, "pitshell")
         .version("0.1.0")
         .about("Finds the ultimate pit of a mine, and proves it")
         .after_help(STATUSES)
         .subcommand_required(true)
         .arg_required_else_help(false)
-        .subcommand(solve)?
+        .subcommand(solve_command(alloc)?)?
         .subcommand(check_command(alloc)?)
 }

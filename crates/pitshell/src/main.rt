@@ -6,7 +6,11 @@ ghost use Rattle.std.specs.Prelude.{◌≡◌, ◌^◌, IfOk, IfErr};
 ghost use Rattle.minelib_reader.specs.Steps.{at_line};
 ghost use Rattle.minelib_reader.specs.declared.fault.Refusal.TheVariants.{ReadFailed};
 ghost use Rattle.minelib_reader.specs.Device.{unread};
+ghost use Rattle.minelib_reader.specs.Refused.{write_failed};
+ghost use Rattle.pitshell.specs.Chosen.{progress_of, IsCountable};
 
+#[cfg(test)]
+mod certificate_tests;
 mod check;
 #[cfg(test)]
 mod check_tests;
@@ -22,7 +26,7 @@ mod tests;
 use check::run_check;
 use clap::error::ErrorKind;
 use command_line::command;
-use minelib_reader::{Fault, FileReader, InBytes, Refusal, Source, StreamWriter};
+use minelib_reader::{Fault, FileReader, InBytes, OutBytes, Refusal, Source, StreamWriter};
 use options::{CheckOptions, Options, SolveOptions};
 use report::write_fault;
 use solve::run_solve;
@@ -49,7 +53,25 @@ fn open(rt: &HostRuntime, path: &str, source: Source) -> Result<FileReader, Faul
     }
 }
 
-/// Solves the mine of two files, and writes its pit to standard output. `threads` starts the workers.
+/// Makes an output file, where one is wanted, in place of what stood there; one that cannot be made is a write that failed.
+fn create_if_wanted(
+    rt: &HostRuntime,
+    path: Option<&str>,
+) -> Result<Option<StreamWriter<File>>, Fault>
+    ensures unwritten { IfOk result (λ w. IsCountable (progress_of (⟦<StreamWriter<File> as OutBytes>⟧.progress) w)) }
+    ensures refused { IfErr result (λ e. e ≡ write_failed) }
+{
+    match path {
+        None => Ok(None),
+        Some(path) => match File::create(rt, path) {
+            Ok(file) => Ok(Some(StreamWriter::new(file))),
+            Err(_) => Err(Fault::write_failed()),
+        },
+    }
+}
+
+/// Solves the mine of two files, and writes its pit to standard output, and its certificate to a file where that is wanted.
+/// `threads` starts the workers.
 fn solve_files<R: Threads + Wait + Sync>(
     rt: &HostRuntime,
     threads: &R,
@@ -57,12 +79,14 @@ fn solve_files<R: Threads + Wait + Sync>(
 ) -> Result<Status, Fault> {
     let mut model = open(rt, options.model, Source::Model)?;
     let mut prec = open(rt, options.prec, Source::Precedence)?;
+    let mut certificate = create_if_wanted(rt, options.certificate)?;
     let mut out = StreamWriter::new(io::writer(rt));
     run_solve(
         threads,
         rt.alloc(),
         &mut model,
         &mut prec,
+        &mut certificate,
         &mut out,
         options.mode,
     )

@@ -4,11 +4,12 @@ use crate::mode_words::{mode_fault, mode_of};
 use clap::ArgMatches;
 use solver::Mode;
 
-/// The files of `solve`, and how to solve.
+/// The files of `solve`, and how to solve. The certificate's is there where one is wanted.
 #[derive(Clone, Copy)]
 pub struct SolveOptions<'a> {
     pub model: &'a str,
     pub prec: &'a str,
+    pub certificate: Option<&'a str>,
     pub mode: Mode,
 }
 
@@ -47,6 +48,7 @@ fn solve_of<'a>(found: &ArgMatches<'a>) -> Option<Options<'a>> {
         Ok(mode) => Some(Options::Solve(SolveOptions {
             model: found.get_str("model")?,
             prec: found.get_str("prec")?,
+            certificate: found.get_str("certificate"),
             mode,
         })),
     }

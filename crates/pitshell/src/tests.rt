@@ -52,7 +52,16 @@ fn holds<R: AllocGlobal + Threads + Wait + Sync>(
     let mut prec = MemoryReader::new(row.prec.as_bytes());
     let mut out = MemoryWriter::new(rt.alloc(), 1000);
     let mut err = MemoryWriter::new(rt.alloc(), 1000);
-    let result = run_solve(rt, rt.alloc(), &mut model, &mut prec, &mut out, mode);
+    let mut unwanted: Option<MemoryWriter> = None;
+    let result = run_solve(
+        rt,
+        rt.alloc(),
+        &mut model,
+        &mut prec,
+        &mut unwanted,
+        &mut out,
+        mode,
+    );
     if let Err(fault) = &result {
         write_fault(&mut err, fault)?;
     }
@@ -289,7 +298,16 @@ fn is_cut<R: AllocGlobal + Threads + Wait + Sync>(
     );
     let mut prec = MemoryReader::new(b"1 1 0\n");
     let mut out = MemoryWriter::new(rt.alloc(), room);
-    let result = run_solve(rt, rt.alloc(), &mut model, &mut prec, &mut out, mode);
+    let mut unwanted: Option<MemoryWriter> = None;
+    let result = run_solve(
+        rt,
+        rt.alloc(),
+        &mut model,
+        &mut prec,
+        &mut unwanted,
+        &mut out,
+        mode,
+    );
     let Some(front) = text.as_bytes().get(..room) else {
         return Ok(false);
     };

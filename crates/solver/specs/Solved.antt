@@ -4,9 +4,9 @@ use Rattle.pit_model.specs.declared.journal.Entry.{Entry}
 use Rattle.pit_model.specs.Mine.{Instance}
 use Rattle.pit_model.specs.Tree.{MineTree}
 use Rattle.pit_model.specs.Rank.{rank}
-use Rattle.pit_model.specs.Certificate.{IsCertificate}
 use Rattle.pit_model.specs.Journal.{is_used_up, applied_count, IsLawful, AreSeated, replay}
 use Rattle.pit_model.specs.FirstRun.{HasMerger, HasNoMerger, first_run}
+use Rattle.certificate.specs.Certificate.{IsCertificateOf}
 use Rattle.tree_lock.specs.Held.{Held}
 use Rattle.solver.specs.declared.outcome.Outcome.{Outcome}
 use Rattle.solver.specs.declared.outcome.Outcome.TheVariants.{Pit, Exhausted}
@@ -18,14 +18,14 @@ IsLower new old = rank new.mine new.tree <ℤ rank old.mine old.tree
 -- one thread: without a budget the pit; with one the pit, where the first run has no merger arc left after as many mergers,
 -- and else that the budget is used up
 abbrev pub IsSolvedAlone : Instance → Option ℕ → Outcome → Type 0
-IsSolvedAlone mine None (Pit certificate) = IsCertificate mine certificate.pit.items certificate.flow.items
+IsSolvedAlone mine None (Pit certificate) = IsCertificateOf mine certificate
 IsSolvedAlone mine None (Exhausted count) = ⊥
-IsSolvedAlone mine (Some budget) (Pit certificate) = IsCertificate mine certificate.pit.items certificate.flow.items × HasNoMerger mine (first_run mine budget)
+IsSolvedAlone mine (Some budget) (Pit certificate) = IsCertificateOf mine certificate × HasNoMerger mine (first_run mine budget)
 IsSolvedAlone mine (Some budget) (Exhausted count) = (count ≡ budget) × HasMerger mine (first_run mine budget)
 
 -- the replay of a journal has no merger arc left, and this is the pit; or exactly the budget's mergers were made, and one is left
 abbrev pub EndsBy : Instance → Option ℕ → List Entry → Outcome → Type 0
-EndsBy mine budget journal (Pit certificate) = IsCertificate mine certificate.pit.items certificate.flow.items × HasNoMerger mine (replay mine journal)
+EndsBy mine budget journal (Pit certificate) = IsCertificateOf mine certificate × HasNoMerger mine (replay mine journal)
 EndsBy mine budget journal (Exhausted count) = (budget ≡ Some count) × (applied_count journal ≡ count) × HasMerger mine (replay mine journal)
 
 -- workers at one tree: the journal is lawful, under their seats and the driver's, and the solve ends by it

@@ -11,6 +11,8 @@ returns-clause-answer c =
       no_merger = no_merger;
       strong = c.in_ok-pit.ensures.strong;
       flow = c.in_ok-flow.ensures.ok;
-      certifies = is_certificate c.args.tree.now c.in_ok-pit.pit.items c.in_ok-flow.flow.items c.law.ensures.instance c.law.ensures.normalised no_merger c.in_ok-pit.ensures.strong c.in_ok-flow.ensures.ok;
-      candidate = is_candidate c.args.tree.now c.in_ok-pit.pit.items c.in_ok-flow.flow.items c.law.ensures.instance c.law.ensures.normalised c.in_ok-pit.ensures.strong c.in_ok-flow.ensures.ok;
+      of_mine = record {
+        certifies = is_certificate c.args.tree.now c.in_ok-pit.pit.items c.in_ok-flow.flow.items c.law.ensures.instance c.law.ensures.normalised no_merger c.in_ok-pit.ensures.strong c.in_ok-flow.ensures.ok;
+        candidate = is_candidate c.args.tree.now c.in_ok-pit.pit.items c.in_ok-flow.flow.items c.law.ensures.instance c.law.ensures.normalised c.in_ok-pit.ensures.strong c.in_ok-flow.ensures.ok;
+      };
     }
