@@ -1,4 +1,5 @@
 pub mod Falling
 pub mod FirstMergers
 pub mod Sharing
+pub mod Known
 pub mod Ordering

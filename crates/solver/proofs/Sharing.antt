@@ -9,7 +9,7 @@ use Rattle.pit_model.specs.Limits.{IsInstance}
 use Rattle.pit_model.specs.Journal.{is_used_up, applied_count}
 use Rattle.pit_model.proofs.Simple.{instance_is_simple}
 use Rattle.pit_model.proofs.RankFalls.{merger_lowers_rank}
-use Rattle.tree_lock.specs.Held.{Held, DecidesFirst, with_entry, driven}
+use Rattle.tree_lock.specs.Held.{Held, DecidesFirst, with_entry, entry_of}
 use Rattle.solver.proofs.Falling.{rank_falls}
 
 applied_else_spent : (merger used_up : Bool) (v : Verdict) → merger ≡ true → v ≡ (if merger then (if used_up then Spent else Applied) else Stale) → (v ≡ Spent → ⊥) → v ≡ Applied
@@ -27,6 +27,6 @@ pub driver_falls :
 driver_falls old new v is good is2 good2 decided not_spent =
     let k = decided.0 in
     let applied : v ≡ Applied = applied_else_spent (is_merger old.mine old.tree k) (is_used_up old.budget (applied_count old.journal)) v decided.1.0 decided.2.0 not_spent in
-    let step : new ≡ with_entry old (driven k Applied) = decided.2.1 ∙ ap (λ u. with_entry old (driven k u)) applied in
+    let step : new ≡ with_entry old (entry_of 0 k Applied) = decided.2.1 ∙ ap (λ u. with_entry old (entry_of 0 k u)) applied in
     rank_falls (record { mine = new.mine; tree = new.tree }) (record { mine = old.mine; tree = old.tree }) is2 good2
     (rw step (merger_lowers_rank old.mine old.tree k (instance_is_simple old.mine is) good decided.1.0))

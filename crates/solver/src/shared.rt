@@ -1,5 +1,6 @@
-//! Many workers solve one instance at one tree: each decides one merger arc, and the driver goes on alone.
-ghost use Rattle.std.specs.Prelude.{◌≡◌, IfOk, IfErr};
+//! Many workers solve one instance at one tree: each asks for merger arcs on the board, and whoever holds the lock decides what
+//! stands there (flat combining: Hendler, Incze, Shavit and Tzafrir 2010). The driver makes what they left over.
+ghost use Rattle.std.specs.Prelude.{◌≡◌, filter, nat_lt, IfOk, IfErr};
 ghost use Rattle.minelib_reader.specs.Refused.{no_memory, no_seat, IsNoRoom};
 ghost use Rattle.pit_model.specs.Tree.{opening};
 ghost use Rattle.solver.specs.Solved.{EndsBy, IsEnded, IsSolvedTogether};
@@ -9,6 +10,7 @@ use certificate::of_tree;
 use mine_graph::Instance;
 use minelib_reader::Fault;
 use norm_tree::NormTree;
+use proposals::{Board, UnnamedBoard, WorkerSeat};
 use std::alloc::Global;
 use std::marker::Brand;
 use std::sync::Wait;
@@ -16,19 +18,44 @@ use std::thread;
 use std::thread::Threads;
 use tree_lock::{Entry, Holder, SharedTree, Site, Verdict};
 
-// Each worker, in a thread of its own, decides the first merger arc that it finds under the lock. All have ended afterwards.
-// A worker that is refused memory has changed nothing, and the driver does its work.
+// One worker: again and again it looks for a merger arc, asks for it, serves the board, and collects. It leaves where it sees
+// none, where the budget is used up, or where memory was refused: then it takes its ask back, and the driver does its work.
+fn work<S: Site, R: Wait>(
+    rt: &R,
+    board: &Board<S>,
+    shared: &SharedTree<S>,
+    seat: &mut WorkerSeat<S>,
+) {
+    for _turn in 0..u32::MAX {
+        let Some(arc) = shared.find_merger(rt) else {
+            return;
+        };
+        board.ask(seat, arc);
+        let served = shared.serve(rt, board);
+        match board.collect(seat) {
+            Some(reply) if reply.verdict != Verdict::Spent && served.is_ok() => {}
+            Some(_) => return,
+            None => {
+                board.withdraw(seat);
+                return;
+            }
+        }
+    }
+}
+
+// The workers, each in a thread of its own with its seat. All have ended afterwards.
 fn run_workers<S: Site + Send + Sync, R: Threads + Wait + Sync>(
     rt: &R,
+    board: &Board<S>,
     shared: &SharedTree<S>,
-    workers: u32,
+    seats: &mut [WorkerSeat<S>],
 ) -> Result<(), Fault>
     ensures { IfErr result (λ e. e ≡ no_seat) }
 {
     let started = thread::scope(thread::scope_env(), rt, |scope| {
         let mut started = true;
-        for _ in 0..workers {
-            if started && scope.spawn(move || shared.apply_first(rt)).is_err() {
+        for seat in seats.iter_mut() {
+            if started && scope.spawn(move || work(rt, board, shared, seat)).is_err() {
                 started = false;
             }
         }
@@ -73,33 +100,63 @@ fn outcome_of<S: Site>(holder: &Holder<S>) -> Result<Outcome, Fault>
     }
 }
 
+// Leaves out the entries of arcs that the mine does not have. Workers ask for none, and each would be stale; but a seat's
+// type does not say so.
+fn keep_known(journal: &mut Vec<Entry>, arcs: u32)
+    ensures { journal.new.items ≡ filter (λ entry. nat_lt entry.arc arcs) journal.old.items }
+{
+    let mut kept = 0;
+    for i in 0..journal.len() {
+        if journal[i].arc < arcs {
+            journal.swap(kept, i);
+            kept += 1;
+        }
+    }
+    journal.truncate(kept);
+}
+
+// The outcome of the holder's tree, and its journal.
+fn end_of<S: Site>(holder: Holder<S>) -> Result<(Outcome, Vec<Entry>), Fault>
+    requires { IsEnded holder }
+    ensures solved { IfOk result (λ r. IsSolvedTogether S.mine S.workers S.budget r.0 r.1.items) }
+    ensures refused { IfErr result (λ e. e ≡ no_memory) }
+{
+    holder.law();
+    let outcome = outcome_of(&holder)?;
+    let arcs = holder.tree().instance().graph().arcs();
+    let (_, mut journal) = holder.into_parts();
+    keep_known(&mut journal, arcs);
+    Ok((outcome, journal))
+}
+
 fn solve_at<S: Site + Send + Sync, R: Threads + Wait + Sync>(
     rt: &R,
     alloc: Global,
     tree: NormTree,
-    workers: u32,
+    unnamed: UnnamedBoard,
     budget: Option<u64>,
 ) -> Result<(Outcome, Vec<Entry>), Fault>
     requires opening { tree.tree ≡ opening tree.mine }
     requires mine { tree.mine ≡ S.mine }
     requires budget { budget ≡ S.budget }
-    ensures solved { IfOk result (λ r. IsSolvedTogether tree.mine workers budget r.0 r.1.items) }
+    requires board { unnamed.cells.shared.table_id ≡ S.board }
+    requires workers { unnamed.workers ≡ S.workers }
+    ensures solved { IfOk result (λ r. IsSolvedTogether S.mine S.workers S.budget r.0 r.1.items) }
     ensures refused { IfErr result IsNoRoom }
 {
-    let shared = SharedTree::<S>::new(alloc, tree, budget);
-    run_workers(rt, &shared, workers)?;
+    let (board, mut seats, holder_seat) = Board::<S>::new(alloc, unnamed)?;
+    let shared = SharedTree::<S>::new(alloc, tree, budget, holder_seat);
+    run_workers(rt, &board, &shared, &mut seats)?;
     let mut holder = shared.into_holder();
     finish(&mut holder)?;
-    holder.law();
-    let outcome = outcome_of(&holder)?;
-    let (_, journal) = holder.into_parts();
-    Ok((outcome, journal))
+    end_of(holder)
 }
 
 /// Solves with so many workers, 1 to 64, at one tree, and gives the journal of what was decided: it is lawful for the
 /// instance and the budget, whatever the schedule. `Exhausted` comes where the budget is used up and a merger arc is left.
 ///
-/// Refused for want of memory (1), and where a worker could not be started (22); those that were have then ended.
+/// Refused for want of memory (1), and where a seat was refused or a worker could not be started (22); those that were have
+/// then ended.
 pub fn solve_shared<R: Threads + Wait + Sync>(
     rt: &R,
     alloc: Global,
@@ -111,5 +168,6 @@ pub fn solve_shared<R: Threads + Wait + Sync>(
     ensures refused { IfErr result IsNoRoom }
 {
     let tree = NormTree::start(alloc, instance)?;
-    solve_at::<Brand, R>(rt, alloc, tree, workers, budget)
+    let unnamed = UnnamedBoard::new(alloc, workers)?;
+    solve_at::<Brand, R>(rt, alloc, tree, unnamed, budget)
 }

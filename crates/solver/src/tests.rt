@@ -6,9 +6,8 @@ use mine_graph::{Graph, Instance};
 use minelib_reader::Fault;
 use norm_tree::{BareTree, NormTree};
 use std::alloc::Global;
-use std::sync::{Arc, Wait};
+use std::sync::Arc;
 use std::test::*;
-use std::thread::Threads;
 
 // Block 0 needs 1 and 3, and block 2 needs 1. The first run merges over arc 0, arc 2 and arc 1, and leaves 1 and 2.
 fn cut_once(alloc: Global) -> Result<Instance, Fault> {
@@ -67,44 +66,30 @@ fn one_thread_stops_at_the_budget(rt: HostRuntime) -> Result<(), Fail> {
     Ok(())
 }
 
-// Whether workers give this answer, with the driver's entries of these arcs and verdicts.
-fn workers_answer<R: Threads + Wait + Sync>(
-    rt: &R,
-    alloc: Global,
-    mine: &Instance,
-    workers: u32,
-    budget: Option<u64>,
-    pit: Option<&[u32]>,
-    decided: &[(u32, Verdict)],
-) -> Result<bool, Fault> {
-    let (outcome, journal) = solve_shared(rt, alloc, mine, workers, budget)?;
-    let mut good = is_answer(&outcome, pit, budget.unwrap_or(0));
-    good = journal.len() == decided.len() && good;
-    for (entry, (arc, verdict)) in journal.iter().zip(decided) {
-        good = entry.seat == 0 && entry.arc == *arc && entry.verdict == *verdict && good;
+// Whether the mergers of the journal are over these arcs, all under seats of workers, or of the driver.
+fn merges_over(journal: &[Entry], workers: u32, arcs: &[u32]) -> bool {
+    let mut made = 0;
+    for entry in journal {
+        if entry.seat > workers {
+            return false;
+        }
+        if entry.verdict == Verdict::Applied {
+            if arcs.get(made) != Some(&entry.arc) {
+                return false;
+            }
+            made += 1;
+        }
     }
-    Ok(good)
+    made == arcs.len()
 }
 
 #[test]
 fn workers_find_the_pit(rt: HostRuntime) -> Result<(), Fail> {
     let mine = cut_once(rt.alloc())?;
-    let decided = [
-        (0, Verdict::Applied),
-        (2, Verdict::Applied),
-        (1, Verdict::Applied),
-    ];
     for workers in 1..5 {
-        let good = workers_answer(
-            &rt,
-            rt.alloc(),
-            &mine,
-            workers,
-            None,
-            Some(&[1, 2]),
-            &decided,
-        )?;
-        assert!(rt; good);
+        let (outcome, journal) = solve_shared(&rt, rt.alloc(), &mine, workers, None)?;
+        assert!(rt; is_answer(&outcome, Some(&[1, 2]), 0));
+        assert!(rt; merges_over(&journal, workers, &[0, 2, 1]));
     }
     Ok(())
 }
@@ -112,15 +97,20 @@ fn workers_find_the_pit(rt: HostRuntime) -> Result<(), Fail> {
 #[test]
 fn workers_stop_at_the_budget(rt: HostRuntime) -> Result<(), Fail> {
     let mine = dug_whole(rt.alloc())?;
-    let decided = [
-        (0, Verdict::Applied),
-        (1, Verdict::Applied),
-        (2, Verdict::Spent),
-    ];
     for workers in 1..3 {
-        let good = workers_answer(&rt, rt.alloc(), &mine, workers, Some(2), None, &decided)?;
-        assert!(rt; good);
+        let (outcome, journal) = solve_shared(&rt, rt.alloc(), &mine, workers, Some(2))?;
+        assert!(rt; is_answer(&outcome, None, 2));
+        assert!(rt; merges_over(&journal, workers, &[0, 1]));
     }
+    Ok(())
+}
+
+#[test]
+fn one_worker_does_all_the_work(rt: HostRuntime) -> Result<(), Fail> {
+    let mine = cut_once(rt.alloc())?;
+    let (_, journal) = solve_shared(&rt, rt.alloc(), &mine, 1, None)?;
+    assert_eq!(rt; journal.len(), 3);
+    assert!(rt; journal.iter().all(|entry| entry.seat == 1 && entry.verdict == Verdict::Applied));
     Ok(())
 }
 

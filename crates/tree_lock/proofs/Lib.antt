@@ -1,1 +1,3 @@
 pub mod Deciding
+pub mod Serving
+pub mod Passes

@@ -5,7 +5,7 @@ use Rattle.pit_model.specs.declared.journal.Entry.{Entry}
 use Rattle.pit_model.specs.Mine.{Instance}
 use Rattle.pit_model.specs.Tree.{Tree, opening}
 use Rattle.pit_model.specs.FirstRun.{HasNoMerger, IsFirstMerger}
-use Rattle.pit_model.specs.Journal.{lawful_verdict, tree_after, applied_count, IsLawful, replay, AreSeated}
+use Rattle.pit_model.specs.Journal.{lawful_verdict, tree_after, applied_count, IsLawful, replay}
 
 pub record Held : Type 0 where
   pub mine : Instance
@@ -24,29 +24,32 @@ opened mine budget = held mine (opening mine) [] budget
 abbrev pub verdict_on : Held → ℕ → Verdict
 verdict_on now arc = lawful_verdict now.mine now.budget now.tree (applied_count now.journal) arc
 
--- an entry of the driver, which has seat 0
-abbrev pub driven : ℕ → Verdict → Entry
-driven arc verdict = record { seat = 0; arc = arc; verdict = verdict }
+-- the entry of an arc that was decided for a seat
+abbrev pub entry_of : ℕ → ℕ → Verdict → Entry
+entry_of seat arc verdict = record { seat = seat; arc = arc; verdict = verdict }
 
 -- after one more entry
 abbrev pub with_entry : Held → Entry → Held
 with_entry before entry = held before.mine (tree_after before.mine before.tree entry) (before.journal ++ entry ∷ []) before.budget
 
--- an arc was decided, as is lawful
+-- an arc was decided for a seat, as is lawful
+abbrev pub DecidesFor : ℕ → ℕ → Held → Held → Verdict → Type 0
+DecidesFor seat arc old new verdict = (verdict ≡ verdict_on old arc) × (new ≡ with_entry old (entry_of seat arc verdict))
+
+-- and for the driver, which has seat 0
 abbrev pub Decides : ℕ → Held → Held → Verdict → Type 0
-Decides arc old new verdict = (verdict ≡ verdict_on old arc) × (new ≡ with_entry old (driven arc verdict))
+Decides arc old new verdict = DecidesFor 0 arc old new verdict
 
 -- the first merger arc was decided; or there was none, and nothing changed
 abbrev pub DecidesFirst : Held → Held → Option Verdict → Type 0
 DecidesFirst old new None = HasNoMerger old.mine old.tree × (new ≡ old)
 DecidesFirst old new (Some verdict) = (arc : ℕ) × IsFirstMerger old.mine old.tree (Some arc) × Decides arc old new verdict
 
--- the law of the lock: the journal is lawful and all of it the driver's, the tree is its replay, and its mergers are counted
+-- the journal is lawful, the tree is its replay, and its mergers are counted
 pub record IsBook (mine : Instance) (tree : Tree) (journal : List Entry) (budget : Option ℕ) (applied : ℕ) : Type 0 where
   pub lawful : IsLawful mine budget journal
   pub replayed : tree ≡ replay mine journal
   pub counted : applied ≡ applied_count journal
-  pub seated : AreSeated mine 0 journal
 
 -- a mine of no blocks
 abbrev pub no_mine : Instance

@@ -2,19 +2,15 @@
 //! `holder` says which instance and budget it is of.
 ghost use Rattle.std.specs.Prelude.{◌≡◌, [], true, ◌<◌, ◌^◌, IfOk, IfErr, IsTrue};
 ghost use Rattle.minelib_reader.specs.Refused.{no_memory};
-ghost use Rattle.pit_model.specs.Mine.{arcs};
 ghost use Rattle.pit_model.specs.Tree.{is_merger, opening};
-ghost use Rattle.pit_model.specs.Journal.{applied_count, count_after, is_applied, tree_after, AreSeated, IsLawful, replay};
-ghost use Rattle.tree_lock.specs.Held.{Decides, opened, verdict_on};
+ghost use Rattle.pit_model.specs.Journal.{applied_count, count_after, is_applied, tree_after, IsLawful, replay};
+ghost use Rattle.tree_lock.specs.Held.{DecidesFor, opened, verdict_on};
 
 use minelib_reader::Fault;
 use norm_tree::NormTree;
 use pit_model::{Entry, Verdict};
 use std::alloc::Global;
 use std::marker::Model;
-
-// The seat under which the driver's entries stand.
-const DRIVER: u32 = 0;
 
 /// To a contract it is its tree, its journal and its budget.
 #[derive(Drop)]
@@ -54,7 +50,6 @@ impl Book {
     pub fn law(&self)
         ensures lawful { IsLawful self.now.mine self.now.budget self.now.journal }
         ensures replayed { self.now.tree ≡ replay self.now.mine self.now.journal }
-        ensures seated { AreSeated self.now.mine 0 self.now.journal }
     {
         let _ = &self.journal;
     }
@@ -103,19 +98,14 @@ impl Book {
         }
     }
 
-    /// Decides one proposal of the driver, with an entry. Where memory for it was refused, nothing changed.
-    pub fn decide(&mut self, arc: u32) -> Result<Verdict, Fault>
-        requires { arc < arcs self.old.mine }
-        ensures decided { IfOk result (Decides arc self.old self.new) }
+    /// Decides one proposal for a seat, with an entry. Where memory for it was refused, nothing changed.
+    pub fn decide(&mut self, seat: u32, arc: u32) -> Result<Verdict, Fault>
+        ensures decided { IfOk result (DecidesFor seat arc self.old self.new) }
         ensures refused { IfErr result (λ e. (e ≡ no_memory) × (self.new ≡ self.old)) }
     {
         self.journal.reserve(1)?;
         let verdict = self.verdict_on(arc);
-        let entry = Entry {
-            seat: DRIVER,
-            arc,
-            verdict,
-        };
+        let entry = Entry { seat, arc, verdict };
         self.journal.push_reserved(entry);
         carry_out(&mut self.tree, &mut self.applied, entry);
         Ok(verdict)

@@ -1,62 +1,75 @@
-//! The holder of the lock: a book of the instance and the budget that the site names.
-//! `shared` puts it under a mutex.
+//! The holder of the lock: a book of the instance and the budget that the site names, and the seat that answers its board.
+//! `serve` has the pass over the board (flat combining: Hendler, Incze, Shavit and Tzafrir 2010); `shared` puts the holder
+//! under a mutex.
 ghost use Rattle.std.specs.Prelude.{◌≡◌, ◌<◌, suc, IfOk, IfErr, pos, ◌+ℤ◌, ◌*ℤ◌, ◌≤ℤ◌};
 ghost use Rattle.minelib_reader.specs.Refused.{no_memory};
 ghost use Rattle.pit_model.specs.Mine.{arcs};
 ghost use Rattle.pit_model.specs.Tree.{opening, IsNormalised};
 ghost use Rattle.pit_model.specs.Rank.{positive_worth};
 ghost use Rattle.pit_model.specs.Limits.{IsInstance};
-ghost use Rattle.pit_model.specs.Journal.{applied_count, AreSeated, IsLawful, IsWithin, replay};
+ghost use Rattle.pit_model.specs.Journal.{applied_count, IsLawful, IsWithin, replay};
 ghost use Rattle.tree_lock.specs.Held.{Decides, DecidesFirst, opened};
+ghost use Rattle.tree_lock.specs.Served.{AreUnderSeats, IsFresh, MeetsJournal};
 
 use crate::book::Book;
 use crate::site::Site;
 use minelib_reader::Fault;
 use norm_tree::NormTree;
 use pit_model::{Entry, Verdict};
+use proposals::{Board, HolderSeat, WorkerSeat};
 use std::alloc::Global;
-use std::marker::{Model, PhantomData};
+use std::marker::Model;
+
+// The seat under which the driver's entries stand.
+const DRIVER: u32 = 0;
 
 /// To a contract it is its tree, its journal and its budget, which are of the site's instance and budget.
 #[derive(Drop)]
 pub struct Holder<S: Site> {
-    book: Book,
-    site: PhantomData<S>,
+    pub(crate) book: Book,
+    pub(crate) seat: HolderSeat<S>,
 }
 
 impl<S: Site> Model for Holder<S> {
     ghost use Rattle.std.specs.Prelude.{◌≡◌};
     ghost use Rattle.tree_lock.specs.Held.{Held};
+    ghost use Rattle.tree_lock.specs.Served.{IsServed};
 
     ghost Value = { Held };
 
     ghost view = { λ h. h.book };
 
-    ghost invariant = { λ h. (h.book.mine ≡ S.mine) × (h.book.budget ≡ S.budget) };
+    ghost invariant = { λ h. IsServed h.book.mine h.book.journal S.workers h.seat × (h.book.mine ≡ S.mine) × (h.book.budget ≡ S.budget) };
 }
 
 impl<S: Site> Holder<S> {
     // The opening tree, with nothing decided.
-    pub(crate) fn new(alloc: Global, tree: NormTree, budget: Option<u64>) -> Holder<S>
+    pub(crate) fn new(
+        alloc: Global,
+        tree: NormTree,
+        budget: Option<u64>,
+        seat: HolderSeat<S>,
+    ) -> Holder<S>
         requires opening { tree.tree ≡ opening tree.mine }
         requires mine { tree.mine ≡ S.mine }
         requires budget { budget ≡ S.budget }
+        requires fresh { IsFresh S.workers seat }
         ensures { result ≡ opened tree.mine budget }
     {
         Holder {
             book: Book::new(alloc, tree, budget),
-            site: PhantomData,
+            seat,
         }
     }
 
-    /// What is true of each holder: it is of the site's instance and budget; the journal is lawful, under seat 0 and with
-    /// arcs of the instance; the tree is its replay by one thread, and normalised; the mergers are at most the budget's,
-    /// and at most P * (n + 1) + n, P the sum of the positive values.
+    /// What is true of each holder: it is of the site's instance and budget; the journal is lawful, under the seats of the
+    /// workers and of the driver, whose arcs are the instance's; the tree is its replay by one thread, and normalised; the
+    /// mergers are at most the budget's, and at most P * (n + 1) + n, P the sum of the positive values.
     pub fn law(&self)
         ensures mine { self.now.mine ≡ S.mine }
         ensures budget { self.now.budget ≡ S.budget }
         ensures lawful { IsLawful self.now.mine self.now.budget self.now.journal }
-        ensures seated { AreSeated self.now.mine 0 self.now.journal }
+        ensures seated { AreUnderSeats self.now.mine S.workers self.now.journal }
         ensures replayed { self.now.tree ≡ replay self.now.mine self.now.journal }
         ensures instance { IsInstance self.now.mine }
         ensures normalised { IsNormalised self.now.mine self.now.tree }
@@ -93,7 +106,7 @@ impl<S: Site> Holder<S> {
         ensures tree { result.0 ≡ record { mine = self.mine; tree = self.tree } }
         ensures journal { result.1.items ≡ self.journal }
     {
-        let Holder { book, site: _ } = self;
+        let Holder { book, seat: _ } = self;
         book.into_parts()
     }
 
@@ -104,7 +117,7 @@ impl<S: Site> Holder<S> {
         ensures decided { IfOk result (Decides arc self.old self.new) }
         ensures refused { IfErr result (λ e. (e ≡ no_memory) × (self.new ≡ self.old)) }
     {
-        self.book.decide(arc)
+        self.book.decide(DRIVER, arc)
     }
 
     /// Decides the merger arc with the least number; None where no merger arc is left.
@@ -117,5 +130,14 @@ impl<S: Site> Holder<S> {
             None => Ok(None),
             Some(arc) => Ok(Some(self.apply(arc)?)),
         }
+    }
+
+    /// Lets a worker's seat meet the holder's. What each knows stays as it was, and the entries under the worker's seat and
+    /// what it asked and collected then agree.
+    pub fn settle(&mut self, board: &Board<S>, worker: &mut WorkerSeat<S>)
+        ensures same { (worker.new ≡ worker.old) × (self.new ≡ self.old) }
+        ensures meets { MeetsJournal worker.old self.old.journal }
+    {
+        board.settle(worker, &mut self.seat);
     }
 }

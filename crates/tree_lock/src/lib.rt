@@ -3,6 +3,7 @@
 
 mod book;
 mod holder;
+mod serve;
 mod shared;
 mod site;
 
@@ -11,5 +12,7 @@ pub use pit_model::{Entry, Verdict};
 pub use shared::SharedTree;
 pub use site::Site;
 
+#[cfg(test)]
+mod serve_tests;
 #[cfg(test)]
 mod tests;

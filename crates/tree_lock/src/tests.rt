@@ -1,5 +1,4 @@
 //! Four blocks, of which block 0 needs 1 and 3, and block 2 needs 1: what is decided of each arc was worked out by hand.
-//! And two pairs of blocks that have nothing to do with each other, for two threads.
 ghost use Rattle.std.specs.Prelude.{◌≡◌, IfOk};
 ghost use Rattle.pit_model.specs.Tree.{opening};
 
@@ -7,12 +6,11 @@ use super::*;
 use mine_graph::{Graph, Instance};
 use minelib_reader::Fault;
 use norm_tree::NormTree;
+use proposals::{Board, UnnamedBoard};
 use std::alloc::Global;
 use std::marker::Brand;
-use std::sync::{Arc, Wait};
+use std::sync::Arc;
 use std::test::*;
-use std::thread;
-use std::thread::Threads;
 
 // Whether the journal holds the driver's entries of these arcs with these verdicts.
 fn holds(journal: &[Entry], arcs: &[u32], verdicts: &[Verdict]) -> bool {
@@ -31,6 +29,7 @@ fn holds(journal: &[Entry], arcs: &[u32], verdicts: &[Verdict]) -> bool {
 fn decides<S: Site>(
     alloc: Global,
     tree: NormTree,
+    unnamed: UnnamedBoard,
     budget: Option<u64>,
     arcs: &[u32],
     verdicts: &[Verdict],
@@ -38,8 +37,11 @@ fn decides<S: Site>(
     requires opening { tree.tree ≡ opening tree.mine }
     requires mine { tree.mine ≡ S.mine }
     requires budget { budget ≡ S.budget }
+    requires board { unnamed.cells.shared.table_id ≡ S.board }
+    requires workers { unnamed.workers ≡ S.workers }
 {
-    let mut holder = SharedTree::<S>::new(alloc, tree, budget).into_holder();
+    let (_, _, seat) = Board::<S>::new(alloc, unnamed)?;
+    let mut holder = SharedTree::<S>::new(alloc, tree, budget, seat).into_holder();
     let mut good = holder.budget() == budget;
     for (arc, verdict) in arcs.iter().zip(verdicts) {
         if *arc >= holder.tree().instance().graph().arcs() {
@@ -72,7 +74,14 @@ fn an_arc_is_stale_until_it_is_a_merger_arc(rt: HostRuntime) -> Result<(), Fail>
         Verdict::Applied,
         Verdict::Stale,
     ];
-    let good = decides::<Brand>(rt.alloc(), tree, None, &[0, 1, 2, 1, 0], &verdicts)?;
+    let good = decides::<Brand>(
+        rt.alloc(),
+        tree,
+        UnnamedBoard::new(rt.alloc(), 1)?,
+        None,
+        &[0, 1, 2, 1, 0],
+        &verdicts,
+    )?;
     assert!(rt; good);
     Ok(())
 }
@@ -87,43 +96,14 @@ fn a_merger_past_the_budget_is_spent(rt: HostRuntime) -> Result<(), Fail> {
         Verdict::Spent,
         Verdict::Stale,
     ];
-    let good = decides::<Brand>(rt.alloc(), tree, Some(2), &[0, 1, 2, 1, 0], &verdicts)?;
-    assert!(rt; good);
-    Ok(())
-}
-
-// Two threads each decide the first merger arc: whether both were applied, and then nothing is left.
-fn two_threads<S: Site + Send + Sync, R: Threads + Wait + Sync>(
-    rt: &R,
-    alloc: Global,
-    tree: NormTree,
-) -> Result<bool, Fault>
-    requires opening { tree.tree ≡ opening tree.mine }
-    requires mine { tree.mine ≡ S.mine }
-    requires budget { None ≡ S.budget }
-{
-    let shared = SharedTree::<S>::new(alloc, tree, None);
-    let (one, two) = thread::join(rt, || shared.apply_first(rt), || shared.apply_first(rt));
-    let good = one? == Some(Verdict::Applied) && two? == Some(Verdict::Applied);
-    let mut holder = shared.into_holder();
-    let none = holder.apply_first()?.is_none();
-    Ok(
-        good && none
-            && holds(
-                holder.journal(),
-                &[0, 1],
-                &[Verdict::Applied, Verdict::Applied],
-            ),
-    )
-}
-
-#[test]
-fn threads_take_turns(rt: HostRuntime) -> Result<(), Fail> {
-    let pairs = vec![in rt.alloc(); (1, 0), (3, 2)]?;
-    let graph = Arc::new(rt.alloc(), Graph::new(rt.alloc(), 4, pairs)?)?;
-    let values = vec![in rt.alloc(); -3, 5, -3, 5]?;
-    let tree = NormTree::start(rt.alloc(), &Instance::new(graph, values))?;
-    let good = two_threads::<Brand, HostRuntime>(&rt, rt.alloc(), tree)?;
+    let good = decides::<Brand>(
+        rt.alloc(),
+        tree,
+        UnnamedBoard::new(rt.alloc(), 1)?,
+        Some(2),
+        &[0, 1, 2, 1, 0],
+        &verdicts,
+    )?;
     assert!(rt; good);
     Ok(())
 }

@@ -1,5 +1,8 @@
--- The lock works on this instance and this budget.
+-- The lock works on this instance, this budget and the board that was just made.
 use Rattle.solver.proofs.shared.solve_shared.Given as goal
 
-abbrev pub ghosts-solve_at : goal.ghosts-solve_at
-ghosts-solve_at g a = record { mine = a.tree.mine; budget = a.budget }
+abbrev pub ghosts-solve_at-S-Room : goal.ghosts-solve_at-S-Room
+ghosts-solve_at-S-Room g a = record { board = a.unnamed.cells.shared.table_id }
+
+abbrev pub ghosts-solve_at-S-Site : goal.ghosts-solve_at-S-Site
+ghosts-solve_at-S-Site g a = record { mine = a.tree.mine; budget = a.budget; workers = a.unnamed.workers }

@@ -1,0 +1,57 @@
+//! The pass of the holder over the board: each ask that stands there is decided, with an entry under its worker's seat,
+//! and answered (flat combining: Hendler, Incze, Shavit and Tzafrir 2010).
+ghost use Rattle.std.specs.Prelude.{◌≡◌, ℕ, ◌<◌, IfOk, IfErr};
+ghost use Rattle.minelib_reader.specs.Refused.{no_memory};
+ghost use Rattle.tree_lock.specs.Served.{Serves, ServesOne};
+
+use crate::holder::Holder;
+use crate::site::Site;
+use minelib_reader::Fault;
+use proposals::Board;
+
+impl<S: Site> Holder<S> {
+    // Serves one worker, and tells whether an ask of it stood there.
+    fn serve_one(&mut self, board: &Board<S>, worker: u32) -> Result<bool, Fault>
+        requires { 0 < worker }
+        ensures served { IfOk result (ServesOne worker self.old self.new) }
+        ensures refused { IfErr result (λ e. (e ≡ no_memory) × (self.new ≡ self.old)) }
+    {
+        if worker > board.workers(&self.seat) {
+            return Ok(false);
+        }
+        let Some(arc) = board.claim_ask(&mut self.seat, worker) else {
+            return Ok(false);
+        };
+        match self.book.decide(worker, arc) {
+            Ok(verdict) => {
+                board.answer(&mut self.seat, worker, verdict);
+                Ok(true)
+            }
+            Err(error) => {
+                board.unclaim(&mut self.seat, worker);
+                Err(error)
+            }
+        }
+    }
+
+    /// One pass over the board, workers rising: each ask that stands there is decided and answered, with an entry under its
+    /// worker's seat, at most one for each worker. It answers how many were. An arc that the instance does not have is stale.
+    ///
+    /// Refused for want of memory for an entry: tree and journal are then as after the asks answered before it, its ask stands
+    /// as it stood, and the pass ends.
+    pub fn serve(&mut self, board: &Board<S>) -> Result<u32, Fault>
+        ensures served { IfOk result (Serves self.old self.new) }
+        ensures refused { IfErr result (λ e. (e ≡ no_memory) × ((count : ℕ) × Serves self.old self.new count)) }
+    {
+        let workers = board.workers(&self.seat);
+        let mut count = 0;
+        let mut worker = 0;
+        while worker < workers {
+            worker += 1;
+            if self.serve_one(board, worker)? {
+                count += 1;
+            }
+        }
+        Ok(count)
+    }
+}
