@@ -2,3 +2,6 @@ pub mod Falling
 pub mod FirstMergers
 pub mod Sharing
 pub mod Ordering
+pub mod Joining
+pub mod Gathered
+pub mod SolvedPart
