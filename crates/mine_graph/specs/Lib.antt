@@ -5,3 +5,5 @@ pub mod Users
 pub mod Kept
 pub mod Faults
 pub mod Renumbered
+pub mod Classes
+pub mod Parts

@@ -9,7 +9,7 @@ use crate::count_down::{first_left, needs_left};
 use crate::cycle::cycle_of;
 use crate::sort::{number_by_second, sort_by_second};
 use minelib_reader::{Fault, Refusal, Source};
-use std::alloc::Global;
+use std::alloc::{AllocError, Global};
 use std::marker::Model;
 use std::ops::Range;
 
@@ -88,6 +88,21 @@ impl Graph {
     /// Where the graph takes its memory from.
     pub(crate) fn alloc(&self) -> Global {
         *self.pairs.allocator()
+    }
+
+    /// The same graph once more.
+    pub(crate) fn copy(&self) -> Result<Graph, AllocError>
+        ensures blocks { IfOk result (λ g. g.blocks ≡ self.now.blocks) }
+        ensures pairs { IfOk result (λ g. g.pairs ≡ self.now.pairs) }
+    {
+        let alloc = self.alloc();
+        Ok(Graph {
+            blocks: self.n(),
+            starts: Vec::from_slice(alloc, &self.starts)?,
+            pairs: Vec::from_slice(alloc, &self.pairs)?,
+            user_starts: Vec::from_slice(alloc, &self.user_starts)?,
+            users: Vec::from_slice(alloc, &self.users)?,
+        })
     }
 
     /// How many blocks there are.

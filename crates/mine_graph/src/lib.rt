@@ -1,11 +1,13 @@
 //! Blocks, the pairs of a block with a block that it needs, and their values.
 #![tactic(auto)]
 
+mod classes;
 mod count_down;
 mod cycle;
 mod graph;
 mod instance;
 mod part;
+mod parts;
 mod sort;
 
 pub use cycle::acyclic_has_no_needy;
@@ -15,5 +17,7 @@ pub use part::Part;
 
 #[cfg(test)]
 mod part_tests;
+#[cfg(test)]
+mod parts_tests;
 #[cfg(test)]
 mod tests;

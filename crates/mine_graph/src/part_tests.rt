@@ -7,7 +7,7 @@ use std::alloc::Global;
 use std::test::*;
 
 /// These are the blocks of the part, and these its pairs.
-fn has(part: &Part, blocks: &[u32], pairs: &[(u32, u32)]) -> bool {
+pub(crate) fn has(part: &Part, blocks: &[u32], pairs: &[(u32, u32)]) -> bool {
     let graph = &part.graph;
     part.blocks.as_slice() == blocks
         && graph.n() as usize == blocks.len()

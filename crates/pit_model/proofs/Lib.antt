@@ -14,6 +14,7 @@ pub mod Opening
 pub mod RankBound
 pub mod Readings
 pub mod SamePairs
+pub mod Joined
 pub mod Journals
 pub mod FirstRuns
 pub mod FirstJournals

@@ -1,5 +1,7 @@
 -- A part of a graph: some of its blocks, renumbered in rising order, with the pairs among them (an induced subgraph).
-use Rattle.std.specs.Prelude.{◌≡◌, ℕ, ◌<◌, Bool, List, length, get_or, IsTrue}
+-- And the parts that a graph falls into: its classes of blocks joined by pairs in either direction (its weakly connected
+-- components).
+use Rattle.std.specs.Prelude.{◌≡◌, ◌⊎◌, ℕ, zero, suc, ◌<◌, ◌≤◌, Bool, List, length, get_or, IsTrue}
 use Rattle.pit_model.specs.Graph.{Graph, first_of, second_of}
 use Rattle.pit_model.specs.Mine.{members}
 
@@ -15,3 +17,21 @@ pub record IsPart (whole : Graph) (set : ℕ → Bool) (blocks : List ℕ) (part
   pub inside : (k : ℕ) → k < length part.pairs → (l : ℕ) × (l < length whole.pairs) × IsRenumbered whole blocks part k l
   pub all : (l : ℕ) → l < length whole.pairs → IsTrue (set (first_of whole.pairs l)) → IsTrue (set (second_of whole.pairs l))
       → (k : ℕ) × (k < length part.pairs) × IsRenumbered whole blocks part k l
+
+-- a pair joins two blocks, in one direction or the other
+abbrev pub AreNeighbours : List (ℕ × ℕ) → ℕ → ℕ → Type 0
+AreNeighbours pairs u v =
+    (k : ℕ) × (k < length pairs) × (((first_of pairs k ≡ u) × (second_of pairs k ≡ v)) ⊎ ((first_of pairs k ≡ v) × (second_of pairs k ≡ u)))
+
+-- so many steps along pairs, each in whichever direction, lead from u to v
+abbrev pub AreConnected : List (ℕ × ℕ) → ℕ → ℕ → ℕ → Type 0
+AreConnected pairs zero u v = u ≡ v
+AreConnected pairs (suc steps) u v = (w : ℕ) × AreConnected pairs steps u w × AreNeighbours pairs w v
+
+-- a class of blocks joined by pairs in either direction, by its least block: all that is connected with that block, and no more
+pub record IsClass (graph : Graph) (set : ℕ → Bool) (root : ℕ) : Type 0 where
+  pub inside : root < graph.blocks
+  pub member : IsTrue (set root)
+  pub least : (u : ℕ) → u < graph.blocks → IsTrue (set u) → root ≤ u
+  pub connected : (u : ℕ) → u < graph.blocks → IsTrue (set u) → (steps : ℕ) × AreConnected graph.pairs steps root u
+  pub together : (k : ℕ) → k < length graph.pairs → set (first_of graph.pairs k) ≡ set (second_of graph.pairs k)

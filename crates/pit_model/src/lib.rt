@@ -3,6 +3,7 @@
 #![tactic(auto)]
 
 ghost use Rattle.pit_model.specs.Certificate.{CertificateGivesPit};
+ghost use Rattle.pit_model.specs.Joined.{CertificatesJoin};
 ghost use Rattle.pit_model.specs.Mine.{PitKnowsNoOrder};
 ghost use Rattle.pit_model.specs.Tree.{NoMergerGivesCertificate, OpeningIsNormalised};
 ghost use Rattle.pit_model.specs.Merger.{MergerKeepsNormalised, ResidualReadingsAgree};
@@ -18,6 +19,12 @@ pub use journal::{Entry, Verdict};
 /// What meets the conditions of a certificate is the pit (Picard 1976).
 pub fn certificate_gives_pit()
     ensures { CertificateGivesPit }
+{}
+
+/// The certificates of the parts of an instance are together one of the whole, since each condition speaks of one block and
+/// its pairs.
+pub fn certificates_join()
+    ensures { CertificatesJoin }
 {}
 
 /// In a normalised tree without merger arc the strong blocks and the flow meet those conditions (Hochbaum 2008).

@@ -1,21 +1,22 @@
 //! One thread solves the whole instance.
 ghost use Rattle.std.specs.Prelude.{◌≡◌, Some, None, IfOk, IfErr};
 ghost use Rattle.minelib_reader.specs.Refused.{no_memory};
+ghost use Rattle.solver.specs.Parts.{IsAnswer};
 ghost use Rattle.solver.specs.Solved.{IsSolvedAlone};
 
 use crate::closing::merge_rest;
 use crate::first_mergers::make_first_mergers;
 use crate::lowest_label::merge_by_lowest_label;
 use crate::outcome::Outcome;
-use certificate::of_tree;
+use certificate::{Certificate, of_tree};
 use mine_graph::Instance;
 use minelib_reader::Fault;
 use norm_tree::{BareTree, NormTree};
 use std::alloc::Global;
 
-// The pit, by mergers in whatever order.
-fn solve_freely(alloc: Global, instance: &Instance) -> Result<Outcome, Fault>
-    ensures solved { IfOk result (IsSolvedAlone instance.now None) }
+/// The pit with its certificate, by mergers in whatever order.
+pub(crate) fn certificate_of(alloc: Global, instance: &Instance) -> Result<Certificate, Fault>
+    ensures answer { IfOk result (IsAnswer instance.now) }
     ensures refused { IfErr result (λ e. e ≡ no_memory) }
 {
     let mut bare = BareTree::start(alloc, instance)?;
@@ -23,9 +24,17 @@ fn solve_freely(alloc: Global, instance: &Instance) -> Result<Outcome, Fault>
     let mut tree = NormTree::from_bare(bare)?;
     merge_rest(&mut tree);
     match of_tree(&tree)? {
-        Some(certificate) => Ok(Outcome::Pit(certificate)),
+        Some(certificate) => Ok(certificate),
         None => unreachable!(),
     }
+}
+
+// The pit, by mergers in whatever order.
+fn solve_freely(alloc: Global, instance: &Instance) -> Result<Outcome, Fault>
+    ensures solved { IfOk result (IsSolvedAlone instance.now None) }
+    ensures refused { IfErr result (λ e. e ≡ no_memory) }
+{
+    Ok(Outcome::Pit(certificate_of(alloc, instance)?))
 }
 
 // The pit, where the mergers of the first run end within the budget.

@@ -1,0 +1,34 @@
+-- The parts of a graph, as a list in memory.
+use Rattle.std.specs.Prelude.{◌≡◌, ℕ, ◌<◌, ◌≤◌, ◌+◌, ◌-◌, ◌==◌, List, length, get_or, map, take, drop}
+use Rattle.pit_model.specs.Graph.{Graph}
+use Rattle.pit_model.specs.Mine.{members}
+use Rattle.pit_model.specs.Part.{IsPart, IsClass}
+use Rattle.mine_graph.specs.declared.part.Part.{Part}
+use Rattle.mine_graph.specs.Renumbered.{has_label}
+
+-- the part at a place of a list
+abbrev pub IsAt : List Part → ℕ → Part → Type 0
+IsAt parts i part = (i < length parts) × (get_or parts i part ≡ part)
+
+abbrev pub least_block : Part → ℕ
+least_block part = get_or part.blocks.items 0 0
+
+-- each class of connected blocks, in the order of their least blocks, with the pairs among them; `label` tells of each block
+-- in which part it lies
+pub record AreParts (whole : Graph) (parts : List Part) : Type 0 where
+  pub label : ℕ → ℕ
+  pub labelled : (u : ℕ) → u < whole.blocks → label u < length parts
+  pub each : (i : ℕ) (part : Part) → IsAt parts i part → IsPart whole (λ u. label u == i) part.blocks.items part.graph
+  pub classes : (i : ℕ) (part : Part) → IsAt parts i part → IsClass whole (λ u. label u == i) (least_block part)
+  pub in_order : (i j : ℕ) (p q : Part) → i < j → IsAt parts i p → IsAt parts j q → least_block p < least_block q
+
+-- the label of each block, as both blocks of a pair
+abbrev pub labelled : List ℕ → List (ℕ × ℕ)
+labelled labels = map (λ (x : ℕ). (x, x)) labels
+
+-- the blocks with each label, rising, stand one row behind the other
+pub record AreRows (labels order starts : List ℕ) : Type 0 where
+  pub size : length starts ≡ length labels + 1
+  pub rises : (v : ℕ) → v < length labels → (get_or starts v 0 ≤ get_or starts (v + 1) 0) × (get_or starts (v + 1) 0 ≤ length order)
+  pub row : (v : ℕ) → v < length labels
+      → take (get_or starts (v + 1) 0 - get_or starts v 0) (drop (get_or starts v 0) order) ≡ members (length labels) (has_label labels v)
