@@ -10,7 +10,8 @@ use Rattle.certificate.specs.CertificateGrammar.{SpellsCertificate}
 use Rattle.certificate.specs.CertificateLines.{PitAndFlow}
 use Rattle.pitshell.specs.Solve.{Reading}
 use Rattle.pitshell.specs.Mine.{HoldsMine}
-use Rattle.pitshell.specs.Check.{graph_of, AnswersText}
+use Rattle.solver.specs.Parts.{graph_of}
+use Rattle.pitshell.specs.Check.{AnswersText}
 use Rattle.pitshell.specs.Chosen.{Chosen, OfStates, OfWriter, OfWriterIfAny}
 use Rattle.pitshell.specs.Certified.{IsAnsweredYes, WritesCertificate, PutsCertificate, IsCertified, IsCertificateCut}
 

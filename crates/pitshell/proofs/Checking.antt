@@ -23,7 +23,8 @@ use Rattle.certificate.proofs.Checked.{shows}
 use Rattle.report.specs.AnswerText.{answer_text}
 use Rattle.pitshell.specs.Solve.{Gave, Reading}
 use Rattle.pitshell.specs.Mine.{HoldsMine}
-use Rattle.pitshell.specs.Check.{graph_of, IsAnswered, Checks, status_of_answer, IsChecked, IsAnswerCut, RefusesCertificate, NotAnswered, no_certificate, RefusesCheck}
+use Rattle.solver.specs.Parts.{graph_of}
+use Rattle.pitshell.specs.Check.{IsAnswered, Checks, status_of_answer, IsChecked, IsAnswerCut, RefusesCertificate, NotAnswered, no_certificate, RefusesCheck}
 use Rattle.pitshell.specs.declared.status.Status.{Status}
 
 -- a pit that is shown does not depend on the order of the pairs
@@ -95,13 +96,6 @@ reading_refused _ e mine certificate h = h
 
 pub no_room : (e : Fault) (mine : Instance) (certificate : Reading) → certificate.after.failures ≡ certificate.before.failures → e ≡ no_memory → RefusesCertificate e.refusal e mine certificate
 no_room e mine certificate still is = subst (λ f. RefusesCertificate f.refusal f mine certificate) (sym is) (refl, still)
-
--- a graph of the mine's blocks and pairs
-pub same_graph : (g : Graph) (mine : Instance) → g.blocks ≡ mine.blocks → g.pairs ≡ mine.pairs → g ≡ graph_of mine
-same_graph g mine blocks pairs =
-    let with_blocks : ℕ → Graph = λ n. record { blocks = n; pairs = g.pairs } in
-    let with_pairs : List (ℕ × ℕ) → Graph = λ ps. record { blocks = mine.blocks; pairs = ps } in
-    ap with_blocks blocks ∙ ap with_pairs pairs
 
 pub is_answered : (mine : Instance) (certificate : Reading) (answer : Result Bool Fault) (text : List ℕ) (shown : PitAndFlow) → Gave certificate text → SpellsCertificate (graph_of mine) text shown
     → IfOk answer (λ b. IsTrue b ↔ IsCertificate mine shown.pit shown.flow) → IfOk answer (IsAnswered mine certificate)

@@ -6,7 +6,7 @@ use Rattle.minelib_reader.specs.declared.fault.Fault.{Fault}
 use Rattle.minelib_reader.specs.declared.fault.Refusal.{Refusal}
 use Rattle.minelib_reader.specs.declared.fault.Refusal.TheVariants.{NoMemory, ReadFailed, WriteFailed}
 use Rattle.minelib_reader.specs.declared.fault.Source.TheVariants as sources
-use Rattle.pit_model.specs.Graph.{Graph, IsGraph}
+use Rattle.pit_model.specs.Graph.{IsGraph}
 use Rattle.pit_model.specs.Mine.{Instance}
 use Rattle.pit_model.specs.Certificate.{IsCertificate}
 use Rattle.certificate.specs.Check.{ShowsPit}
@@ -14,13 +14,11 @@ use Rattle.certificate.specs.CertificateLines.{PitAndFlow}
 use Rattle.certificate.specs.CertificateFault.{IsFirstCertificateFault}
 use Rattle.certificate.specs.CertificateGrammar.{SpellsCertificate}
 use Rattle.report.specs.AnswerText.{answer_text}
+use Rattle.solver.specs.Parts.{graph_of}
 use Rattle.pitshell.specs.Solve.{Reading, Gave, NeverFailed, FailedOnce, RefusesMine, mine_of}
 use Rattle.pitshell.specs.Mine.{HoldsMine}
 use Rattle.pitshell.specs.declared.status.Status.{Status}
 use Rattle.pitshell.specs.declared.status.Status.TheVariants.{Done, No}
-
-abbrev pub graph_of : Instance → Graph
-graph_of mine = record { blocks = mine.blocks; pairs = mine.pairs }
 
 -- the mine that two readers gave, with its pairs in order, by which arcs are numbered
 pub record GaveInOrder (model prec : Reading) (mine : Instance) : Type 0 where

@@ -147,7 +147,7 @@ module _ (mine : Instance) (parts : List SolvedPart) (is : IsInstance mine) (are
     block_once u v l m e = let c = blocks_count in rises_once p.blocks.items blocks_rise u v (omega arith) (omega arith) e
 
     pit_below : (x : ℕ) → x < length p.certificate.pit.items → get_or p.certificate.pit.items x 0 < p.mine.blocks
-    pit_below x l = (are.answers i p at).1.below x 0 l
+    pit_below x l = (are.answers i p at).candidate.below x 0 l
 
   -- at the start nothing is placed
   pub nothing_placed : (marks : List Bool) (flow : List ℤ) → length marks ≡ mine.blocks → length flow ≡ arcs mine → ((v : ℕ) → has marks v ≡ false) → ArePlaced mine parts marks flow 0
@@ -244,7 +244,7 @@ module _ (mine : Instance) (parts : List SolvedPart) (is : IsInstance mine) (are
   module _ (marks : List Bool) (flow : List ℤ) (all : ArePlaced mine parts marks flow (length parts)) where
     module _ (i : ℕ) (p : SolvedPart) (at : StandsAt parts i p) where
       abbrev shown : IsCertificate p.mine p.certificate.pit.items p.certificate.flow.items
-      shown = (are.answers i p at).0
+      shown = (are.answers i p at).certifies
 
       -- where a pair of the part stands in the whole
       place_of : (k : ℕ) → (k < arcs p.mine) ⊎ (arcs p.mine ≤ k) → ℕ
@@ -344,7 +344,7 @@ module _ (mine : Instance) (parts : List SolvedPart) (is : IsInstance mine) (are
             let below = (is.graph.in_range k inside).0 in
             let s = standing parts (are.label (source mine k)) (are.labelled (source mine k) below) in
             let f = of_part (are.label (source mine k)) s.0 s.1 k inside refl in
-            let candidate = (are.answers (are.label (source mine k)) s.0 s.1).1 in
+            let candidate = (are.answers (are.label (source mine k)) s.0 s.1).candidate in
             let same : amount amounts k ≡ amount s.0.certificate.flow.items f.0 = ap (λ xs. amount xs k) flows ∙ all.placed (are.label (source mine k)) s.0 s.1.0 s.1 f.0 k f.1 inside f.2 in
             subst (λ x. Between (pos 0) x most_amount) (sym same) (candidate.amounts f.0 (let n = candidate.counted in let m = f.1 in omega arith));
       },

@@ -4,15 +4,10 @@ use Rattle.pit_model.specs.Graph.{Graph}
 use Rattle.pit_model.specs.Mine.{Instance, value, arcs, source, target}
 use Rattle.pit_model.specs.Limits.{IsInstance}
 use Rattle.pit_model.specs.Part.{IsPart, IsRenumbered}
-use Rattle.pit_model.specs.Certificate.{IsCertificate}
 use Rattle.mine_graph.specs.declared.part.Part.{Part}
-use Rattle.certificate.specs.declared.pit_with_flow.Certificate.{Certificate}
-use Rattle.certificate.specs.Check.{IsCandidate, has, amount}
+use Rattle.certificate.specs.Certificate.{IsCertificateOf}
+use Rattle.certificate.specs.Check.{has, amount}
 use Rattle.solver.specs.declared.solved_part.SolvedPart.{SolvedPart}
-
--- a certificate that shows the pit, and that may be written and checked
-abbrev pub IsAnswer : Instance → Certificate → Type 0
-IsAnswer mine c = IsCertificate mine c.pit.items c.flow.items × IsCandidate mine.blocks (arcs mine) c.pit.items c.flow.items
 
 abbrev pub graph_of : Instance → Graph
 graph_of mine = record { blocks = mine.blocks; pairs = mine.pairs }
@@ -26,7 +21,7 @@ pub record IsSolvedPart (mine : Instance) (part : Part) (solved : SolvedPart) : 
   pub graph : graph_of solved.mine ≡ part.graph
   pub values : (u : ℕ) → u < solved.mine.blocks → value solved.mine u ≡ value mine (get_or part.blocks.items u 0)
   pub instance : IsInstance solved.mine
-  pub answer : IsAnswer solved.mine solved.certificate
+  pub answer : IsCertificateOf solved.mine solved.certificate
 
 -- a solved part at its place
 abbrev pub StandsAt : List SolvedPart → ℕ → SolvedPart → Type 0
@@ -40,7 +35,7 @@ pub record AreSolved (mine : Instance) (parts : List SolvedPart) : Type 0 where
   pub each : (i : ℕ) (p : SolvedPart) → StandsAt parts i p → IsPart (graph_of mine) (λ u. label u == i) p.blocks.items (graph_of p.mine)
   pub values : (i : ℕ) (p : SolvedPart) → StandsAt parts i p → (u : ℕ) → u < p.mine.blocks → value p.mine u ≡ value mine (get_or p.blocks.items u 0)
   pub instances : (i : ℕ) (p : SolvedPart) → StandsAt parts i p → IsInstance p.mine
-  pub answers : (i : ℕ) (p : SolvedPart) → StandsAt parts i p → IsAnswer p.mine p.certificate
+  pub answers : (i : ℕ) (p : SolvedPart) → StandsAt parts i p → IsCertificateOf p.mine p.certificate
 
 -- the block of a list that a place of another list names
 abbrev pub named : List ℕ → List ℕ → ℕ → ℕ

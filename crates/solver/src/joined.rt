@@ -4,7 +4,8 @@ ghost use Rattle.minelib_reader.specs.Refused.{no_memory};
 ghost use Rattle.pit_model.specs.Mine.{arcs, members};
 ghost use Rattle.pit_model.specs.Part.{IsPart, IsRenumbered};
 ghost use Rattle.certificate.specs.Check.{has};
-ghost use Rattle.solver.specs.Parts.{graph_of, IsAnswer, AreSolved, AreMarked, AreCarried, ArePlaced};
+ghost use Rattle.certificate.specs.Certificate.{IsCertificateOf};
+ghost use Rattle.solver.specs.Parts.{graph_of, AreSolved, AreMarked, AreCarried, ArePlaced};
 
 use crate::solved_part::SolvedPart;
 use certificate::Certificate;
@@ -47,7 +48,7 @@ fn carry_flow(whole: &Graph, blocks: &[u32], part: &Graph, amounts: &[i128], flo
 // Writes the answer of one part.
 fn place_part(instance: &Instance, part: &SolvedPart, marks: &mut [bool], flow: &mut [i128])
     requires part { (set : ℕ → Bool) × IsPart (graph_of instance.now) set part.now.blocks.items (graph_of part.now.mine) }
-    requires answer { IsAnswer part.now.mine part.now.certificate }
+    requires answer { IsCertificateOf part.now.mine part.now.certificate }
     requires marks { length marks.old ≡ instance.now.blocks }
     requires flow { length flow.old ≡ arcs instance.now }
     ensures marked { AreMarked part.now.blocks.items part.now.certificate.pit.items (length part.now.certificate.pit.items) marks.old marks.new }
@@ -95,7 +96,7 @@ pub(crate) fn join_parts(
     parts: &[SolvedPart],
 ) -> Result<Certificate, Fault>
     requires { AreSolved instance.now parts.now }
-    ensures answer { IfOk result (IsAnswer instance.now) }
+    ensures answer { IfOk result (IsCertificateOf instance.now) }
     ensures refused { IfErr result (λ e. e ≡ no_memory) }
 {
     instance.law();

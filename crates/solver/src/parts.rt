@@ -6,7 +6,8 @@ ghost use Rattle.std.specs.Prelude.{◌≡◌, ◌<◌, ℕ, false, pos, length,
 ghost use Rattle.std.specs.List.{All, AllZip};
 ghost use Rattle.minelib_reader.specs.Refused.{no_memory};
 ghost use Rattle.pit_model.specs.Mine.{value};
-ghost use Rattle.solver.specs.Parts.{graph_of, IsAnswer, IsPartOf, IsSolvedPart};
+ghost use Rattle.certificate.specs.Certificate.{IsCertificateOf};
+ghost use Rattle.solver.specs.Parts.{graph_of, IsPartOf, IsSolvedPart};
 
 use crate::joined::join_parts;
 use crate::single::certificate_of;
@@ -79,7 +80,7 @@ pub fn solve_parts<R: Threads + Sync>(
     alloc: Global,
     instance: &Instance,
 ) -> Result<Certificate, Fault>
-    ensures solved { IfOk result (IsAnswer instance.now) }
+    ensures solved { IfOk result (IsCertificateOf instance.now) }
     ensures refused { IfErr result (λ e. e ≡ no_memory) }
 {
     instance.law();

@@ -1,7 +1,7 @@
 //! One thread solves the whole instance.
 ghost use Rattle.std.specs.Prelude.{◌≡◌, Some, None, IfOk, IfErr};
 ghost use Rattle.minelib_reader.specs.Refused.{no_memory};
-ghost use Rattle.solver.specs.Parts.{IsAnswer};
+ghost use Rattle.certificate.specs.Certificate.{IsCertificateOf};
 ghost use Rattle.solver.specs.Solved.{IsSolvedAlone};
 
 use crate::closing::merge_rest;
@@ -16,7 +16,7 @@ use std::alloc::Global;
 
 /// The pit with its certificate, by mergers in whatever order.
 pub(crate) fn certificate_of(alloc: Global, instance: &Instance) -> Result<Certificate, Fault>
-    ensures answer { IfOk result (IsAnswer instance.now) }
+    ensures answer { IfOk result (IsCertificateOf instance.now) }
     ensures refused { IfErr result (λ e. e ≡ no_memory) }
 {
     let mut bare = BareTree::start(alloc, instance)?;

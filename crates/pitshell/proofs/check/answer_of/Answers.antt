@@ -8,8 +8,9 @@ use Rattle.certificate.specs.CertificateFault.{IsFirstCertificateFault}
 use Rattle.certificate.specs.CertificateGrammar.{SpellsCertificate}
 use Rattle.certificate.specs.CertificateLines.{pit_and_flow}
 use Rattle.pitshell.specs.Solve.{reading}
-use Rattle.pitshell.specs.Check.{graph_of}
-use Rattle.pitshell.proofs.Checking.{reading_refused, same_graph, is_answered}
+use Rattle.solver.specs.Parts.{graph_of}
+use Rattle.solver.proofs.SolvedPart.{graph_is}
+use Rattle.pitshell.proofs.Checking.{reading_refused, is_answered}
 use Rattle.pitshell.proofs.check.answer_of.Goals as goal
 
 pub returns-in_err-shown-clause-refused : goal.returns-in_err-shown-clause-refused
@@ -19,7 +20,7 @@ returns-in_err-shown-clause-refused g c =
     let before = g.C.InBytes.progress c.args.certificate.now in
     let after = g.C.InBytes.progress c.read.new.reader in
     let ended = g.C.InBytes.IsAtEnd c.read.new.reader in
-    let same : c.deref.result.now ≡ graph_of c.args.mine.now = same_graph c.deref.result.now c.args.mine.now
+    let same : c.deref.result.now ≡ graph_of c.args.mine.now = graph_is c.deref.result.now c.args.mine.now
     (ap (λ (h : Graph). h.blocks) c.deref.ensures ∙ c.graph.ensures.blocks) (ap (λ (h : Graph). h.pairs) c.deref.ensures ∙ c.graph.ensures.pairs) in
     let refused = subst (λ (h : Graph). Refuses e.refusal sources.Certificate e before after (ReadsText before after ended (λ text. IsFirstCertificateFault h text e))) same c.in_err-shown.ensures.answers in
     rw (p.1, p.2) (reading_refused e.refusal e c.args.mine.now (reading before after ended) refused)
@@ -29,7 +30,7 @@ returns-clause-answered g c =
     let before = g.C.InBytes.progress c.args.certificate.now in
     let after = g.C.InBytes.progress c.read.new.reader in
     let ended = g.C.InBytes.IsAtEnd c.read.new.reader in
-    let same : c.deref.result.now ≡ graph_of c.args.mine.now = same_graph c.deref.result.now c.args.mine.now
+    let same : c.deref.result.now ≡ graph_of c.args.mine.now = graph_is c.deref.result.now c.args.mine.now
     (ap (λ (h : Graph). h.blocks) c.deref.ensures ∙ c.graph.ensures.blocks) (ap (λ (h : Graph). h.pairs) c.deref.ensures ∙ c.graph.ensures.pairs) in
     let read = c.in_ok-shown.ensures.answers in
     let shown = pit_and_flow c.in_ok-shown.shown.pit.items c.in_ok-shown.shown.flow.items in
