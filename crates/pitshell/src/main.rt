@@ -15,9 +15,13 @@ mod check;
 #[cfg(test)]
 mod check_tests;
 mod command_line;
+#[cfg(test)]
+mod copies_tests;
 mod mine;
 mod mode_words;
 mod options;
+#[cfg(test)]
+mod small_mines;
 mod solve;
 mod status;
 #[cfg(test)]

@@ -14,12 +14,12 @@ use certificate::{Certificate, write};
 use mine_graph::Instance;
 use minelib_reader::{Fault, InBytes, OutBytes};
 use report::write_pit;
-use solver::{Mode, Outcome, solve_shared, solve_single};
+use solver::{Mode, Outcome, solve_parts, solve_shared, solve_single};
 use std::alloc::Global;
 use std::sync::Wait;
 use std::thread::Threads;
 
-/// How the mode's solve of a mine ended. Parts go the way of one thread, without a budget.
+/// How the mode's solve of a mine ended.
 fn outcome_in<R: Threads + Wait + Sync>(
     rt: &R,
     alloc: Global,
@@ -31,7 +31,7 @@ fn outcome_in<R: Threads + Wait + Sync>(
 {
     match mode {
         Mode::Single { budget } => solve_single(alloc, mine, budget),
-        Mode::Parts => solve_single(alloc, mine, None),
+        Mode::Parts => Ok(Outcome::Pit(solve_parts(rt, alloc, mine)?)),
         Mode::Shared { workers, budget } => {
             let (outcome, _) = solve_shared(rt, alloc, mine, workers, budget)?;
             Ok(outcome)

@@ -3,13 +3,14 @@
 
 use super::*;
 use crate::mode_words::{mode_fault, mode_of};
+use crate::small_mines::{mines_of_four_blocks_and_more, mines_of_three_blocks_at_most};
 use minelib_reader::{MemoryReader, MemoryWriter};
 use solver::Mode;
 use std::test::*;
 
 /// A model, a precedence file, and what `solve` then writes.
 #[derive(Clone, Copy)]
-struct Row {
+pub(crate) struct Row {
     model: &'static str,
     prec: &'static str,
     out: &'static str,
@@ -18,7 +19,7 @@ struct Row {
 }
 
 /// A row that is solved.
-fn solved(model: &'static str, prec: &'static str, out: &'static str) -> Row {
+pub(crate) fn solved(model: &'static str, prec: &'static str, out: &'static str) -> Row {
     Row {
         model,
         prec,
@@ -86,70 +87,11 @@ const TWO_WORKERS: Mode = Mode::Shared {
 
 #[test]
 fn solves_small_mines_in_each_mode(rt: HostRuntime) -> Result<(), Fail> {
-    let rows = [
-        solved(
-            "NAME: t\nTYPE: UPIT\nNBLOCKS: 0\nOBJECTIVE_FUNCTION:\n",
-            "",
-            "PIT\nBLOCKS: 0\nIN: 0\nWORTH: 0.000000\n",
-        ),
-        solved(
-            "NAME: t\nTYPE: UPIT\nNBLOCKS: 5\nOBJECTIVE_FUNCTION:\n0 4\n1 -2\n2 2\n3 -6\n4 5\n",
-            "0 2 1 3\n2 1 1\n4 1 1\n",
-            "PIT\nBLOCKS: 5\nIN: 3\nWORTH: 5.000000\n1\n2\n4\n",
-        ),
-        solved(
-            "NAME: t\nTYPE: UPIT\nNBLOCKS: 1\nOBJECTIVE_FUNCTION:\n0 0\n",
-            "",
-            "PIT\nBLOCKS: 1\nIN: 0\nWORTH: 0.000000\n",
-        ),
-        solved(
-            "NAME: t\nTYPE: UPIT\nNBLOCKS: 2\nOBJECTIVE_FUNCTION:\n0 -3\n1 5\n",
-            "1 1 0\n",
-            "PIT\nBLOCKS: 2\nIN: 2\nWORTH: 2.000000\n0\n1\n",
-        ),
-        solved(
-            "NAME: t\nTYPE: UPIT\nNBLOCKS: 2\nOBJECTIVE_FUNCTION:\n0 -5\n1 5\n",
-            "1 1 0\n",
-            "PIT\nBLOCKS: 2\nIN: 0\nWORTH: 0.000000\n",
-        ),
-        solved(
-            "NAME: t\nTYPE: UPIT\nNBLOCKS: 3\nOBJECTIVE_FUNCTION:\n0 -8\n1 5\n2 4\n",
-            "1 1 0\n2 1 0\n",
-            "PIT\nBLOCKS: 3\nIN: 3\nWORTH: 1.000000\n0\n1\n2\n",
-        ),
-        solved(
-            "NAME: t\nTYPE: UPIT\nNBLOCKS: 4\nOBJECTIVE_FUNCTION:\n0 -3\n1 -4\n2 10\n3 2\n",
-            "2 1 0\n3 2 0 1\n",
-            "PIT\nBLOCKS: 4\nIN: 2\nWORTH: 7.000000\n0\n2\n",
-        ),
-        solved(
-            "NAME: t\nTYPE: UPIT\nNBLOCKS: 4\nOBJECTIVE_FUNCTION:\n0 1\n1 -2\n2 5\n3 -2\n",
-            "0 2 1 3\n2 1 1\n",
-            "PIT\nBLOCKS: 4\nIN: 2\nWORTH: 3.000000\n1\n2\n",
-        ),
-        solved(
-            "NAME: t\nTYPE: UPIT\nNBLOCKS: 4\nOBJECTIVE_FUNCTION:\n0 4\n1 -2\n2 5\n3 -2\n",
-            "0 2 1 3\n2 1 1\n",
-            "PIT\nBLOCKS: 4\nIN: 4\nWORTH: 5.000000\n0\n1\n2\n3\n",
-        ),
-        solved(
-            "NAME: t\nTYPE: UPIT\nNBLOCKS: 4\nOBJECTIVE_FUNCTION:\n0 4\n1 -2\n2 2\n3 -2\n",
-            "0 2 1 3\n2 1 1\n",
-            "PIT\nBLOCKS: 4\nIN: 4\nWORTH: 2.000000\n0\n1\n2\n3\n",
-        ),
-        solved(
-            "NAME: t\nTYPE: UPIT\nNBLOCKS: 1\nOBJECTIVE_FUNCTION:\n0 999999999999.999999\n",
-            "",
-            "PIT\nBLOCKS: 1\nIN: 1\nWORTH: 999999999999.999999\n0\n",
-        ),
-        solved(
-            "NAME: t\nTYPE: UPIT\nNBLOCKS: 1\nOBJECTIVE_FUNCTION:\n0\t+1.5\r\n",
-            "",
-            "PIT\nBLOCKS: 1\nIN: 1\nWORTH: 1.500000\n0\n",
-        ),
-    ];
-    for row in rows {
-        for mode in [ONE_THREAD, Mode::Parts, ONE_WORKER, TWO_WORKERS] {
+    for mode in [ONE_THREAD, Mode::Parts, ONE_WORKER, TWO_WORKERS] {
+        for row in mines_of_three_blocks_at_most() {
+            assert!(rt; holds(&rt, mode, row)?);
+        }
+        for row in mines_of_four_blocks_and_more() {
             assert!(rt; holds(&rt, mode, row)?);
         }
     }
