@@ -17,3 +17,6 @@ pub mod SamePairs
 pub mod Journals
 pub mod FirstRuns
 pub mod FirstJournals
+pub mod Members
+pub mod MemberSums
+pub mod Shells

@@ -13,3 +13,6 @@ pub mod PitText
 pub mod Journal
 pub mod FirstRun
 pub mod Part
+pub mod Deposit
+pub mod Shells
+pub mod ShellText
