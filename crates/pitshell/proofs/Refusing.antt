@@ -14,7 +14,7 @@ use Rattle.minelib_reader.specs.declared.fault.Source.TheVariants as sources
 use Rattle.mine_graph.specs.Faults.{RefusesPairs, IsGraphFault}
 use Rattle.pitshell.specs.Solve.{Reading, Gave, NeverFailed, GaveMine, in_model, in_prec, in_pairs, RefusesMine, IsCutShort}
 use Rattle.pitshell.specs.Mine.{HoldsMine}
-use Rattle.pitshell.specs.Modes.{RefusesSolve}
+use Rattle.solver.specs.Modes.{RefusesSolve}
 use Rattle.pitshell.specs.Run.{RefusesRun}
 use Rattle.solver.specs.declared.mode.Mode.{Mode}
 use Rattle.pit_model.specs.Mine.{Instance}

@@ -9,7 +9,7 @@ use Rattle.pit_model.specs.Mine.{Instance}
 use Rattle.solver.specs.declared.mode.Mode.{Mode}
 use Rattle.pitshell.specs.Solve.{Reading, RefusesMine, IsCutShort}
 use Rattle.pitshell.specs.Mine.{HoldsMine}
-use Rattle.pitshell.specs.Modes.{RefusesSolve}
+use Rattle.solver.specs.Modes.{RefusesSolve}
 
 -- this holds of the mine that the readers gave
 abbrev pub HoldsOfMine : Reading → Reading → (Instance → Type 0) → Type 0

@@ -2,7 +2,7 @@
 ghost use Rattle.std.specs.Prelude.{◌≡◌, ◌<◌, ◌≤◌, ◌^◌, IfOk, IfErr};
 ghost use Rattle.minelib_reader.specs.Refused.{write_failed};
 ghost use Rattle.pit_model.specs.Certificate.{IsCertificate};
-ghost use Rattle.pitshell.specs.Modes.{EndsIn, EndsWithin, RefusesSolve};
+ghost use Rattle.solver.specs.Modes.{EndsWithin};
 ghost use Rattle.pitshell.specs.Run.{HoldsOfMine, RefusesRun};
 ghost use Rattle.pitshell.specs.Solve.{reading, IsDone, WritesPit};
 
@@ -12,47 +12,10 @@ use certificate::Certificate;
 use mine_graph::Instance;
 use minelib_reader::{Fault, InBytes, OutBytes};
 use report::write_pit;
-use solver::{Mode, Outcome, solve_shared, solve_single};
+use solver::{Mode, find_pit};
 use std::alloc::Global;
 use std::sync::Wait;
 use std::thread::Threads;
-
-/// How the mode's solve of a mine ended. Parts go the way of one thread, without a budget.
-fn outcome_in<R: Threads + Wait + Sync>(
-    rt: &R,
-    alloc: Global,
-    mine: &Instance,
-    mode: Mode,
-) -> Result<Outcome, Fault>
-    ensures ended { IfOk result (EndsIn mode mine.now) }
-    ensures refused { IfErr result (λ e. RefusesSolve mode mine.now e.refusal e) }
-{
-    match mode {
-        Mode::Single { budget } => solve_single(alloc, mine, budget),
-        Mode::Parts => solve_single(alloc, mine, None),
-        Mode::Shared { workers, budget } => {
-            let (outcome, _) = solve_shared(rt, alloc, mine, workers, budget)?;
-            Ok(outcome)
-        }
-    }
-}
-
-/// The pit of a mine with its certificate, unless the budget is used up.
-fn pit_of<R: Threads + Wait + Sync>(
-    rt: &R,
-    alloc: Global,
-    mine: &Instance,
-    mode: Mode,
-) -> Result<Certificate, Fault>
-    ensures shown { IfOk result (λ c. IsCertificate mine.now c.pit.items c.flow.items) }
-    ensures within { IfOk result (λ _. EndsWithin mode mine.now) }
-    ensures refused { IfErr result (λ e. RefusesSolve mode mine.now e.refusal e) }
-{
-    match outcome_in(rt, alloc, mine, mode)? {
-        Outcome::Pit(certificate) => Ok(certificate),
-        Outcome::Exhausted(count) => Err(Fault::exhausted(count)),
-    }
-}
 
 /// Writes the text of the pit that a certificate shows.
 fn put_pit<W: OutBytes>(
@@ -103,7 +66,7 @@ pub fn run_solve<R: Threads + Wait + Sync, M: InBytes, P: InBytes, W: OutBytes>(
         (W.progress out.old) (W.progress out.new)) }
 {
     let mine = read_mine(alloc, model, prec)?;
-    let certificate = pit_of(rt, alloc, &mine, mode)?;
+    let certificate = find_pit(rt, alloc, &mine, &mode)?;
     put_pit(out, &mine, &certificate)?;
     Ok(Status::Done)
 }

@@ -1,2 +1,3 @@
 pub mod Solved
 pub mod Order
+pub mod Modes

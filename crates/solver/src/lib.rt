@@ -2,6 +2,7 @@
 //! of mergers is used up.
 #![tactic(auto)]
 
+mod by_mode;
 mod closing;
 mod first_mergers;
 mod lowest_label;
@@ -11,6 +12,7 @@ mod shared;
 mod single;
 mod waiting;
 
+pub use by_mode::{find_pit, solve};
 pub use mode::Mode;
 pub use outcome::Outcome;
 pub use shared::solve_shared;
