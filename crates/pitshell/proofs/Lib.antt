@@ -1,3 +1,5 @@
 pub mod Refusing
 pub mod Solving
 pub mod Checking
+pub mod Depositing
+pub mod ShellRuns

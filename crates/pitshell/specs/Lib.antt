@@ -4,3 +4,5 @@ pub mod Mine
 pub mod Check
 pub mod Modes
 pub mod Run
+pub mod Deposit
+pub mod ShellsRun
