@@ -1,7 +1,7 @@
 -- The arcs that carry something, by an arc more.
 use Rattle.std.proofs.Common.{◌≡◌, ℕ, suc, ◌+◌, List, ◌∷◌, [], ◌++◌, true, false, arith, ap, ◌∙◌}
 use Rattle.std.specs.Prelude.{ℤ, pos, int_lt}
-use Rattle.mine_graph.proofs.Members.{members-in, members-out}
+use Rattle.pit_model.proofs.Members.{members-in, members-out}
 use Rattle.certificate.specs.Check.{amount}
 use Rattle.certificate.specs.CertificateText.{carrying}
 

@@ -3,7 +3,7 @@ use Rattle.std.proofs.Common.{◌≡◌, ℕ, zero, suc, ◌<◌, Bool, true, fa
 use Rattle.std.proofs.lemmas.Bool.{cases_Bool, cases_eq}
 use Rattle.std.proofs.lemmas.List.{get_or_append_left, get_or_at, length_push}
 use Rattle.pit_model.specs.Mine.{members}
-use Rattle.mine_graph.proofs.Members.{members-in, members-out}
+use Rattle.pit_model.proofs.Members.{members-in, members-out}
 
 abbrev IsAt : List ℕ → ℕ → Type 0
 IsAt xs k = (i : ℕ) × (i < length xs) × (get_or xs i 0 ≡ k)

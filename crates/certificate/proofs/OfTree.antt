@@ -8,7 +8,7 @@ use Rattle.std.proofs.lemmas.List.{get_or_append_left, get_or_at, length_push}
 use Rattle.pit_model.specs.Mine.{arcs, members}
 use Rattle.pit_model.specs.Limits.{Between, IsInstance, most_worth}
 use Rattle.pit_model.proofs.Bound.{flows_stay_within_limits}
-use Rattle.mine_graph.proofs.Members.{members-in, members-out, members_each, members_below}
+use Rattle.pit_model.proofs.Members.{members-in, members-out, members_each, members_below}
 use Rattle.certificate.specs.Check.{amount, most_amount, AreRising, IsCandidate}
 use Rattle.pit_model.specs.Tree.{MineTree, is_strong, is_merger, IsNormalised}
 use Rattle.pit_model.specs.Certificate.{Certifies, IsCertificate}

@@ -3,7 +3,7 @@ use Rattle.std.proofs.Common.{◌≡◌, ℕ, zero, suc, ◌<◌, Bool, true, sy
 use Rattle.std.specs.Prelude.{ℤ}
 use Rattle.pit_model.specs.Mine.{Instance, PairsInRange, source, target, members}
 use Rattle.pit_model.specs.Certificate.{Certifies, IsReached}
-use Rattle.mine_graph.proofs.Members.{members_each}
+use Rattle.pit_model.proofs.Members.{members_each}
 use Rattle.certificate.proofs.Found.{members_found}
 
 pub members_agree : (n : ℕ) (s t : ℕ → Bool) → members n s ≡ members n t → (u : ℕ) → u < n → s u ≡ true → t u ≡ true

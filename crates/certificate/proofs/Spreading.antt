@@ -6,7 +6,7 @@ use Rattle.std.proofs.lemmas.Bool.{cases_eq, false≢true, eq-eqb, eqb-true}
 use Rattle.pit_model.specs.Mine.{Instance, arcs, source, target, members}
 use Rattle.pit_model.specs.Flow.{HasResidual, excess}
 use Rattle.pit_model.specs.Certificate.{IsReached}
-use Rattle.mine_graph.proofs.Members.{members_each}
+use Rattle.pit_model.proofs.Members.{members_each}
 use Rattle.certificate.specs.Check.{has, amount, AreExcesses}
 use Rattle.certificate.specs.Queue.{IsTrail, IsExtended, IsSpread}
 use Rattle.certificate.proofs.Found.{members_found}

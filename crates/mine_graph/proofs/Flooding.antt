@@ -9,7 +9,7 @@ use Rattle.pit_model.specs.Part.{AreConnected, AreNeighbours, IsClass}
 use Rattle.mine_graph.specs.Renumbered.{has_label}
 use Rattle.mine_graph.specs.Classes.{label_of, IsFree, AreQueued, AreTaken, IsFlooded, AreClasses}
 use Rattle.mine_graph.proofs.Counts.{pigeon_more}
-use Rattle.mine_graph.proofs.Members.{members_each, members_place}
+use Rattle.pit_model.proofs.Members.{members_each, members_place}
 
 -- a block more
 module _ (labels queue : List ℕ) (label tail block : ℕ) (below : block < length labels) (small : label < length labels) (fresh : IsFree labels block) (was : AreQueued labels label queue tail) where

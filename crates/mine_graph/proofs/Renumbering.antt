@@ -12,7 +12,7 @@ use Rattle.minelib_reader.specs.Refused.{no_memory}
 use Rattle.mine_graph.specs.Faults.{RefusesPairs, IsGraphFault}
 use Rattle.mine_graph.specs.Renumbered.{has_label, placed_pair, is_inside, is_inside_before, IsPlaced}
 use Rattle.mine_graph.proofs.Acyclic.{acyclic_has_no_needy}
-use Rattle.mine_graph.proofs.Members.{IsMemberAt, bound_of, first_bound, members_cut, members_each, members_ext, members_few, members_one_more, members_place, members_rise}
+use Rattle.pit_model.proofs.Members.{IsMemberAt, bound_of, first_bound, members_cut, members_each, members_ext, members_few, members_one_more, members_place, members_rise}
 
 and_false : (b : Bool) → (b && false) ≡ false
 and_false true = refl

@@ -12,7 +12,7 @@ use Rattle.pit_model.specs.Sum.{total, when}
 use Rattle.pit_model.specs.Mine.{Instance, members, value}
 use Rattle.pit_model.specs.Limits.{IsWithinLimits}
 use Rattle.pit_model.proofs.Sums.{total-same}
-use Rattle.mine_graph.proofs.Members.{members-in, members-out}
+use Rattle.pit_model.proofs.Members.{members-in, members-out}
 
 -- a sum of numbers within 10^23 of 0
 pub total-small : (n : ℕ) (f : ℕ → ℤ) → ((i : ℕ) → i < n → (neg_ℤ (pos (10 ^ 23)) ≤ℤ f i) × (f i ≤ℤ pos (10 ^ 23)))
@@ -27,17 +27,6 @@ total-small (suc n) f small =
     let high = last.1 in
     (omega (arith, ints), omega (arith, ints))
 
-abbrev summed : (ℕ → ℤ) → List ℕ → ℤ
-summed f xs = total (length xs) (λ i. f (get_or xs i 0))
-
-summed-more : (f : ℕ → ℤ) (xs : List ℕ) (x : ℕ) → summed f (xs ++ x ∷ []) ≡ summed f xs +ℤ f x
-summed-more f xs x =
-    let size : length (xs ++ x ∷ []) ≡ suc (length xs) = omega (arith, length_push xs x) in
-    let front : total (length xs) (λ i. f (get_or (xs ++ x ∷ []) i 0)) ≡ summed f xs =
-    total-same (length xs) (λ i. f (get_or (xs ++ x ∷ []) i 0)) (λ i. f (get_or xs i 0)) (λ i l. ap f (get_or_append_left xs (x ∷ []) 0 i l)) in
-    let last : f (get_or (xs ++ x ∷ []) (length xs) 0) ≡ f x = ap f (get_or_at xs x [] 0 (length xs) refl) in
-    ap (λ k. total k (λ i. f (get_or (xs ++ x ∷ []) i 0))) size ∙ ap (λ s. s +ℤ f (get_or (xs ++ x ∷ []) (length xs) 0)) front ∙ ap (λ s. summed f xs +ℤ s) last
-
 -- one block more, where the sums so far and the value are within the limits
 pub summed_fits : (mine : Instance) (xs : List ℕ) (i : ℕ) → IsWithinLimits mine → length xs ≤ mine.blocks → All (λ u. u < mine.blocks) xs → i < length xs
     → (SFits w128 (value mine (get_or xs i 0))) × (SFits w128 (total i (λ k. value mine (get_or xs k 0)) +ℤ value mine (get_or xs i 0)))
@@ -50,16 +39,3 @@ summed_fits mine xs i limits few below l =
     let high = limits.high (get_or xs i 0) (at i l) in
     let most = limits.few_blocks in
     (omega (arith, ints), omega (arith, ints))
-
--- by the numbers up to n: the last one is a member, or not
-pub summed-members : (n : ℕ) (set : ℕ → Bool) (f : ℕ → ℤ) → summed f (members n set) ≡ total n (λ u. when (set u) (f u))
-summed-members zero set f = refl
-summed-members (suc n) set f = ⊎_elim
-    (λ (e : set n ≡ true).
-    ap (summed f) (members-in n set e) ∙ summed-more f (members n set) n ∙ ap (λ s. s +ℤ f n) (summed-members n set f)
-    ∙ ap (λ b. total n (λ u. when (set u) (f u)) +ℤ when b (f n)) (sym e))
-    (λ (e : set n ≡ false).
-    ap (summed f) (members-out n set e) ∙ summed-members n set f
-    ∙ (let none : total n (λ u. when (set u) (f u)) ≡ total n (λ u. when (set u) (f u)) +ℤ pos 0 = omega (arith, ints) in none)
-    ∙ ap (λ b. total n (λ u. when (set u) (f u)) +ℤ when b (f n)) (sym e))
-    (cases_Bool (set n))

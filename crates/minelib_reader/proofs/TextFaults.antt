@@ -1,6 +1,6 @@
 -- What a text is refused for lies in the text: never a seat that was refused, nor a budget.
 use Rattle.std.proofs.Common.{◌≡◌, ℕ, zero, suc, ◌+◌, ◌++◌, length, Bool, true, false, refl, subst, List, [], ◌∷◌, Option, Some, None}
-use Rattle.std.specs.Prelude.{Result, Ok, Err, nat_lt, nat_le, ◌==◌, not, ◌&&◌, codes}
+use Rattle.std.specs.Prelude.{ℤ, ◌-◌, Result, Ok, Err, nat_lt, nat_le, ◌==◌, not, ◌&&◌, codes}
 use Rattle.std.specs.Str.{bytes_eq}
 use Rattle.minelib_reader.specs.Number.{whole_of, decimal_of}
 use Rattle.std.specs.List.{slice_get}
@@ -13,6 +13,11 @@ use Rattle.minelib_reader.specs.Text.{two_of, two_and_more, Row, rows_of, count_
 use Rattle.minelib_reader.specs.Upit.{most_blocks, name_line, type_line, blocks_line, objective_line, value_line}
 use Rattle.minelib_reader.specs.UpitFault.{line_fault, place_fault, blocks_named, IsFirstUpitFault}
 use Rattle.minelib_reader.specs.Prec.{most_pairs, is_among, need_of, needs_from, front_of, needs_line}
+use Rattle.minelib_reader.specs.Text.{four_and_more}
+use Rattle.minelib_reader.specs.Number.{signed_of}
+use Rattle.minelib_reader.specs.Table.{Place}
+use Rattle.minelib_reader.specs.Blocks.{most_columns, is_coordinate, width_line, coordinate_of, front_of as place_front, attribute_of, attributes_of, block_line}
+use Rattle.minelib_reader.specs.BlocksFault.{IsFirstTableFault, line_fault as table_line_fault, width_named}
 use Rattle.minelib_reader.specs.PrecFault.{IsFirstPrecFault, line_fault as needs_fault, from_behind, total_behind}
 
 abbrev pub IsOfText : Refusal → Type 0
@@ -135,3 +140,59 @@ pub prec_fault_of_text : (n : ℕ) (text : List ℕ) (e : Fault) → IsFirstPrec
 prec_fault_of_text n text e is =
     subst MaybeOfText is.here
     (prec_row_of_text n (from_behind 0 (take is.place (rows_of text))) (total_behind 0 (take is.place (rows_of text))) (slice_get (rows_of text) is.place))
+
+-- a line of a block model
+width_of_text : (r : Row) → FailsOfText (width_line r)
+unfolding width_line
+width_of_text r =
+    by_test (nat_le 4 (length r.fields)) (λ e. rw e tt) (λ e. rw e
+    (by_test (nat_le (length r.fields - 4) most_columns) (λ e2. rw e2 tt) (λ e2. rw e2 tt)))
+
+coordinate_of_text : (line : ℕ) (field : List ℕ) → FailsOfText (coordinate_of line field)
+unfolding coordinate_of
+coordinate_of_text line field =
+    by_option (signed_of field) (λ e. rw e tt) (λ c e. rw e
+    (by_test (is_coordinate c) (λ e2. rw e2 tt) (λ e2. rw e2 tt)))
+
+place_of_text_line : (line : ℕ) (fields : List ℕ × List ℕ × List ℕ) (others : List (List ℕ)) → FailsOfText {X = Place × List (List ℕ)} (coordinate_of line fields.0 >>= (λ x. coordinate_of line fields.1 >>= (λ y. coordinate_of line fields.2 >>= (λ z. Ok ((x, y, z), others)))))
+place_of_text_line line fields others =
+    let placed : ℤ → ℤ → ℤ → Result (Place × List (List ℕ)) Fault = λ x y z. Ok ((x, y, z), others) in
+    then_of_text (coordinate_of line fields.0) (λ x. coordinate_of line fields.1 >>= (λ y. coordinate_of line fields.2 >>= (λ z. placed x y z))) (coordinate_of_text line fields.0)
+    (λ x. then_of_text (coordinate_of line fields.1) (λ y. coordinate_of line fields.2 >>= (λ z. placed x y z)) (coordinate_of_text line fields.1)
+    (λ y. then_of_text (coordinate_of line fields.2) (λ z. placed x y z) (coordinate_of_text line fields.2) (λ z. tt)))
+
+place_front_of_text : (width i : ℕ) (r : Row) → FailsOfText (place_front width i r)
+unfolding place_front
+place_front_of_text width i r =
+    by_option (four_and_more r.fields) (λ e. rw e tt) (λ parts e. rw e
+    (by_test (length parts.4 == width) (λ e2. rw e2 tt) (λ e2. rw e2
+    (by_option (whole_of parts.0) (λ e3. rw e3 tt) (λ id e3. rw e3
+    (by_test (id == i) (λ e4. rw e4 tt) (λ e4. rw e4
+    (by_test (nat_lt id most_blocks) (λ e5. rw e5 tt) (λ e5. rw e5
+    (place_of_text_line r.line (parts.1, parts.2, parts.3) parts.4))))))))))
+
+attribute_of_text : (line : ℕ) (field : List ℕ) → FailsOfText (attribute_of line field)
+unfolding attribute_of
+attribute_of_text line field = by_option (decimal_of field) (λ e. rw e tt) (λ x e. rw e tt)
+
+attributes_of_text : (line : ℕ) (fields : List (List ℕ)) → FailsOfText (attributes_of line fields)
+unfolding attributes_of
+attributes_of_text line [] = tt
+attributes_of_text line (field ∷ fields) =
+    then_of_text (attribute_of line field) (λ value. attributes_of line fields >>= (λ others. Ok (value ∷ others))) (attribute_of_text line field)
+    (λ value. then_of_text (attributes_of line fields) (λ others. Ok (value ∷ others)) (attributes_of_text line fields) (λ others. tt))
+
+block_of_text : (width i : ℕ) (r : Row) → FailsOfText (block_line width i r)
+unfolding block_line
+block_of_text width i r =
+    then_of_text (place_front width i r) (λ front. attributes_of r.line front.1 >>= (λ attributes. Ok (front.0, attributes))) (place_front_of_text width i r)
+    (λ front. then_of_text (attributes_of r.line front.1) (λ attributes. Ok (front.0, attributes)) (attributes_of_text r.line front.1) (λ attributes. tt))
+
+table_row_of_text : (width k : ℕ) (o : Option Row) → MaybeOfText (table_line_fault width k o)
+table_row_of_text width k None = tt
+table_row_of_text width zero (Some r) = maybe_of_text (width_line r >>= (λ w. block_line w 0 r)) (then_of_text (width_line r) (λ w. block_line w 0 r) (width_of_text r) (λ w. block_of_text w 0 r))
+table_row_of_text width (suc k) (Some r) = maybe_of_text (block_line width (suc k) r) (block_of_text width (suc k) r)
+
+pub table_fault_of_text : (text : List ℕ) (e : Fault) → IsFirstTableFault text e → IsOfText e.refusal
+table_fault_of_text text e is =
+    subst MaybeOfText is.here (table_row_of_text (width_named (rows_of text)) is.place (slice_get (rows_of text) is.place))

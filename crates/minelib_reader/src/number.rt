@@ -50,7 +50,7 @@ fn place_of(text: &[u8], byte: u8) -> Option<usize>
 
 /// What stands before and after the first such byte.
 #[tactic(auto, unfolding(crate::specs::Number::cut_at))]
-pub(crate) fn cut(text: &[u8], byte: u8) -> Option<(&[u8], &[u8])>
+pub fn cut(text: &[u8], byte: u8) -> Option<(&[u8], &[u8])>
     ensures parts { option_map (λ p. (p.0.now, p.1.now)) result ≡ cut_at byte text.now }
     ensures shorter { IfSome result (λ p. length p.1.now < length text.now) }
 {

@@ -7,7 +7,7 @@ use Rattle.pit_model.specs.Graph.{first_of, second_of, AreRising, IsGraph}
 use Rattle.pit_model.specs.Mine.{members}
 use Rattle.mine_graph.specs.Queue.{count}
 use Rattle.mine_graph.proofs.Counts.{count-yes, count-no, count-same, count-fewer, count-none, count-some}
-use Rattle.mine_graph.proofs.Members.{first_bound, member_at}
+use Rattle.pit_model.proofs.Members.{first_bound, member_at}
 use Rattle.norm_tree.specs.Labelled.{Labelled, IsIndexed, label, is_open, needs_weak, AreCounted, AreMarked}
 
 -- whether the needed block of a pair counts as weak: the changed label of a block holds for the pairs below the bound alone

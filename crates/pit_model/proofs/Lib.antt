@@ -18,3 +18,6 @@ pub mod Joined
 pub mod Journals
 pub mod FirstRuns
 pub mod FirstJournals
+pub mod Members
+pub mod MemberSums
+pub mod Shells

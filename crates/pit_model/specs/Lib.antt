@@ -14,3 +14,6 @@ pub mod Journal
 pub mod FirstRun
 pub mod Part
 pub mod Joined
+pub mod Deposit
+pub mod Shells
+pub mod ShellText

@@ -11,10 +11,13 @@ ghost use Rattle.pit_model.specs.Limits.{FlowsStayWithinLimits};
 ghost use Rattle.pit_model.specs.Rank.{MergerLowersRank, RankIsBounded};
 ghost use Rattle.pit_model.specs.Journal.{JournalIsBounded, JournalKeepsBudget, JournalKeepsNormalised};
 ghost use Rattle.pit_model.specs.FirstRun.{FirstMergerIsLeast, FirstRunIsLawful, FirstRunIsNormalised};
+ghost use Rattle.pit_model.specs.Shells.{RestGivesShell, ShellsNest};
 
 mod journal;
+mod shell;
 
 pub use journal::{Entry, Verdict};
+pub use shell::{Shell, ShellList};
 
 /// What meets the conditions of a certificate is the pit (Picard 1976).
 pub fn certificate_gives_pit()
@@ -95,4 +98,14 @@ pub fn first_run_is_normalised()
 /// The first run is that of a lawful journal, as long as the budget allows its mergers.
 pub fn first_run_is_lawful()
     ensures { FirstRunIsLawful }
+{}
+
+/// The pit of a lesser factor lies within that of a greater one, where no revenue is negative.
+pub fn shells_nest()
+    ensures { ShellsNest }
+{}
+
+/// The pit of what is left outside the shell before, joined with that shell, is the pit of the factor's whole instance.
+pub fn rest_gives_shell()
+    ensures { RestGivesShell }
 {}

@@ -2,3 +2,5 @@ pub mod Refusing
 pub mod Solving
 pub mod Certifying
 pub mod Checking
+pub mod Depositing
+pub mod ShellRuns

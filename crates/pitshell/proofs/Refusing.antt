@@ -14,7 +14,7 @@ use Rattle.minelib_reader.specs.declared.fault.Source.TheVariants as sources
 use Rattle.mine_graph.specs.Faults.{RefusesPairs, IsGraphFault}
 use Rattle.pitshell.specs.Solve.{Reading, Gave, NeverFailed, GaveMine, in_model, in_prec, in_pairs, RefusesMine}
 use Rattle.pitshell.specs.Mine.{HoldsMine}
-use Rattle.pitshell.specs.Modes.{RefusesSolve}
+use Rattle.solver.specs.Modes.{RefusesSolve}
 use Rattle.pitshell.specs.Chosen.{Chosen, IsLeft}
 use Rattle.pitshell.specs.Run.{RefusesRun, WasCutShort}
 use Rattle.solver.specs.declared.mode.Mode.{Mode}

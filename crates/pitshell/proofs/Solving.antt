@@ -13,7 +13,7 @@ use Rattle.pit_model.specs.PitText.{pit_text}
 use Rattle.pit_model.proofs.Simple.{instance_is_simple}
 use Rattle.pit_model.proofs.Duality.{certificate_gives_pit}
 use Rattle.pit_model.proofs.SamePairs.{turned, pit_knows_no_order}
-use Rattle.mine_graph.proofs.Members.{members_few, members_below}
+use Rattle.pit_model.proofs.Members.{members_few, members_below}
 use Rattle.pitshell.specs.Solve.{Reading, IsPitText, Solves, IsDone, IsCutShort}
 use Rattle.pitshell.specs.Mine.{HoldsMine}
 use Rattle.pitshell.specs.declared.status.Status.TheVariants.{Done}

@@ -6,3 +6,5 @@ pub mod Chosen
 pub mod Certified
 pub mod Modes
 pub mod Run
+pub mod Deposit
+pub mod ShellsRun

@@ -11,7 +11,7 @@ use Rattle.pitshell.specs.Solve.{Reading, RefusesMine, IsCutShort}
 use Rattle.pitshell.specs.Mine.{HoldsMine}
 use Rattle.pitshell.specs.Chosen.{Chosen, IsLeft, OfWriter, OfWriterIfAny}
 use Rattle.pitshell.specs.Certified.{IsCertified, IsCertificateCut}
-use Rattle.pitshell.specs.Modes.{RefusesSolve}
+use Rattle.solver.specs.Modes.{RefusesSolve}
 
 -- this holds of the mine that the readers gave
 abbrev pub HoldsOfMine : Reading → Reading → (Instance → Type 0) → Type 0

@@ -42,6 +42,52 @@ fn check_command<'a>(alloc: Global) -> Result<Command<'a>, AllocError> {
         ))
 }
 
+/// An option that must be given and takes the number of an attribute column.
+fn attribute<'a>(alloc: Global, name: &'a str, help: &'a str) -> Arg<'a> {
+    Arg::new(alloc, name)
+        .long(name)
+        .value_name("COLUMN")
+        .help(help)
+        .value_parser(value_parser!(u64).range(0..=63))
+        .required(true)
+        .action(ArgAction::Set)
+}
+
+/// `shells` with its files, columns and factors, and how to solve.
+fn shells_command<'a>(alloc: Global) -> Result<Command<'a>, AllocError> {
+    let factors = Arg::new(alloc, "factors")
+        .long("factors")
+        .value_name("LIST")
+        .help("Price factors in per mille, rising, with commas between: 500,1000")
+        .required(true)
+        .action(ArgAction::Set);
+    let shells = Command::new(alloc, "shells")
+        .about("Writes the nested pits: the ultimate pit at each price factor")
+        .after_help(STATUSES)
+        .arg(file(
+            alloc,
+            "blocks",
+            "Block model (.blocks): the place and the attributes of each block",
+        ))?
+        .arg(file(
+            alloc,
+            "prec",
+            "Precedence (.prec): the blocks that each block needs",
+        ))?
+        .arg(attribute(
+            alloc,
+            "revenue",
+            "Attribute column of the revenue, the first being 0",
+        ))?
+        .arg(attribute(
+            alloc,
+            "cost",
+            "Attribute column of the cost, the first being 0",
+        ))?
+        .arg(factors)?;
+    with_mode(alloc, shells)
+}
+
 /// How to solve: the mode's word, which `mode_words` checks, the number of workers and the budget of mergers.
 fn with_mode<'a>(alloc: Global, command: Command<'a>) -> Result<Command<'a>, AllocError> {
     let mode = Arg::new(alloc, "mode")
@@ -98,5 +144,6 @@ pub fn command<'a>(alloc: Global) -> Result<Command<'a>, AllocError> {
         .subcommand_required(true)
         .arg_required_else_help(false)
         .subcommand(solve_command(alloc)?)?
+        .subcommand(shells_command(alloc)?)?
         .subcommand(check_command(alloc)?)
 }

@@ -57,7 +57,16 @@ fn finds_the_pit<R: AllocGlobal + Threads + Wait + Sync>(rt: &R, mode: Mode) -> 
     let mut model = MemoryReader::new(model.as_bytes());
     let mut prec = MemoryReader::new(prec.as_bytes());
     let mut out = MemoryWriter::new(rt.alloc(), 1_000_000);
-    let result = run_solve(rt, rt.alloc(), &mut model, &mut prec, &mut out, mode);
+    let mut unwanted: Option<MemoryWriter> = None;
+    let result = run_solve(
+        rt,
+        rt.alloc(),
+        &mut model,
+        &mut prec,
+        &mut unwanted,
+        &mut out,
+        mode,
+    );
     Ok(result.is_ok() && out.text.as_slice() == pit.as_bytes())
 }
 

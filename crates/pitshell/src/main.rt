@@ -1,5 +1,5 @@
 //! `pitshell`: the ultimate pit of a mine, from the bytes of its files to the bytes that are written.
-//! `solve` and `check` do the work over readers and writers; `main` opens files, calls it and gives the exit status.
+//! `solve`, `shells` and `check` do the work over readers and writers; `main` opens files, calls it and gives the exit status.
 #![tactic(auto)]
 
 ghost use Rattle.std.specs.Prelude.{◌≡◌, ◌^◌, IfOk, IfErr};
@@ -17,8 +17,12 @@ mod check_tests;
 mod command_line;
 #[cfg(test)]
 mod copies_tests;
+mod deposit;
 mod mine;
 mod mode_words;
+mod nested;
+#[cfg(test)]
+mod nested_tests;
 mod options;
 #[cfg(test)]
 mod small_mines;
@@ -31,8 +35,10 @@ use check::run_check;
 use clap::error::ErrorKind;
 use command_line::command;
 use minelib_reader::{Fault, FileReader, InBytes, OutBytes, Refusal, Source, StreamWriter};
-use options::{CheckOptions, Options, SolveOptions};
+use nested::run_shells;
+use options::{CheckOptions, Options, ShellsOptions, SolveOptions};
 use report::write_fault;
+use shells::Factors;
 use solve::run_solve;
 use status::{Status, exit_code};
 use std::alloc::AllocError;
@@ -96,6 +102,30 @@ fn solve_files<R: Threads + Wait + Sync>(
     )
 }
 
+/// Writes the nested pits of the deposit of two files to standard output. The factors are read first, before a file is
+/// opened. `threads` starts the workers.
+fn shell_files<R: Threads + Wait + Sync>(
+    rt: &HostRuntime,
+    threads: &R,
+    options: &ShellsOptions<'_>,
+) -> Result<Status, Fault> {
+    let factors = Factors::read(rt.alloc(), options.factors)?;
+    let mut blocks = open(rt, options.blocks, Source::Blocks)?;
+    let mut prec = open(rt, options.prec, Source::Precedence)?;
+    let mut out = StreamWriter::new(io::writer(rt));
+    run_shells(
+        threads,
+        rt.alloc(),
+        &mut blocks,
+        &mut prec,
+        &mut out,
+        options.revenue,
+        options.cost,
+        &factors,
+        &options.mode,
+    )
+}
+
 /// Checks the certificate of a file for the mine of two others, and writes the answer to standard output.
 fn check_files(rt: &HostRuntime, options: &CheckOptions<'_>) -> Result<Status, Fault> {
     let mut model = open(rt, options.model, Source::Model)?;
@@ -154,6 +184,7 @@ fn run<R: Threads + Wait + Sync>(
             None => Ok(ExitCode::from(2)),
             Some(Options::Wrong(line)) => Ok(not_understood(rt, line)),
             Some(Options::Solve(options)) => Ok(ended(rt, solve_files(rt, threads, &options))),
+            Some(Options::Shells(options)) => Ok(ended(rt, shell_files(rt, threads, &options))),
             Some(Options::Check(options)) => Ok(ended(rt, check_files(rt, &options))),
         },
     }

@@ -13,6 +13,17 @@ pub struct SolveOptions<'a> {
     pub mode: Mode,
 }
 
+/// The files of `shells`, the columns of revenue and cost, the text of the factors, and how to solve.
+#[derive(Clone, Copy)]
+pub struct ShellsOptions<'a> {
+    pub blocks: &'a str,
+    pub prec: &'a str,
+    pub revenue: u32,
+    pub cost: u32,
+    pub factors: &'a str,
+    pub mode: Mode,
+}
+
 /// The files of `check`.
 #[derive(Clone, Copy)]
 pub struct CheckOptions<'a> {
@@ -25,6 +36,7 @@ pub struct CheckOptions<'a> {
 #[derive(Clone, Copy)]
 pub enum Options<'a> {
     Solve(SolveOptions<'a>),
+    Shells(ShellsOptions<'a>),
     Check(CheckOptions<'a>),
     /// What is asked for does not go together: the line that says so.
     Wrong(&'static str),
@@ -54,12 +66,28 @@ fn solve_of<'a>(found: &ArgMatches<'a>) -> Option<Options<'a>> {
     }
 }
 
+/// The options of `shells`.
+fn shells_of<'a>(found: &ArgMatches<'a>) -> Option<Options<'a>> {
+    match mode_in(found)? {
+        Err(line) => Some(Options::Wrong(line)),
+        Ok(mode) => Some(Options::Shells(ShellsOptions {
+            blocks: found.get_str("blocks")?,
+            prec: found.get_str("prec")?,
+            revenue: u32::try_from(found.get_one::<u64>("revenue")?).ok()?,
+            cost: u32::try_from(found.get_one::<u64>("cost")?).ok()?,
+            factors: found.get_str("factors")?,
+            mode,
+        })),
+    }
+}
+
 impl<'a> Options<'a> {
     /// None where no subcommand was given or a file's name is missing, which the parse has refused before.
     pub fn of(matches: &ArgMatches<'a>) -> Option<Options<'a>> {
         let (name, found) = matches.subcommand()?;
         match name {
             "solve" => solve_of(found),
+            "shells" => shells_of(found),
             "check" => Some(Options::Check(CheckOptions {
                 model: found.get_str("model")?,
                 prec: found.get_str("prec")?,

@@ -4,7 +4,7 @@ ghost use Rattle.minelib_reader.specs.Refused.{write_failed};
 ghost use Rattle.certificate.specs.Certificate.{IsCertificateOf};
 ghost use Rattle.pitshell.specs.Certified.{IsCertified, PutsCertificate};
 ghost use Rattle.pitshell.specs.Chosen.{chosen, progress_of, IsCountable, OfWriterIfAny};
-ghost use Rattle.pitshell.specs.Modes.{EndsIn, EndsWithin, RefusesSolve};
+ghost use Rattle.solver.specs.Modes.{EndsWithin};
 ghost use Rattle.pitshell.specs.Run.{HoldsOfMine, RefusesRun};
 ghost use Rattle.pitshell.specs.Solve.{reading, IsDone, WritesPit};
 
@@ -14,47 +14,10 @@ use certificate::{Certificate, write};
 use mine_graph::Instance;
 use minelib_reader::{Fault, InBytes, OutBytes};
 use report::write_pit;
-use solver::{Mode, Outcome, solve_parts, solve_shared, solve_single};
+use solver::{Mode, find_pit};
 use std::alloc::Global;
 use std::sync::Wait;
 use std::thread::Threads;
-
-/// How the mode's solve of a mine ended.
-fn outcome_in<R: Threads + Wait + Sync>(
-    rt: &R,
-    alloc: Global,
-    mine: &Instance,
-    mode: Mode,
-) -> Result<Outcome, Fault>
-    ensures ended { IfOk result (EndsIn mode mine.now) }
-    ensures refused { IfErr result (λ e. RefusesSolve mode mine.now e.refusal e) }
-{
-    match mode {
-        Mode::Single { budget } => solve_single(alloc, mine, budget),
-        Mode::Parts => Ok(Outcome::Pit(solve_parts(rt, alloc, mine)?)),
-        Mode::Shared { workers, budget } => {
-            let (outcome, _) = solve_shared(rt, alloc, mine, workers, budget)?;
-            Ok(outcome)
-        }
-    }
-}
-
-/// The pit of a mine with its certificate, unless the budget is used up.
-fn pit_of<R: Threads + Wait + Sync>(
-    rt: &R,
-    alloc: Global,
-    mine: &Instance,
-    mode: Mode,
-) -> Result<Certificate, Fault>
-    ensures shown { IfOk result (IsCertificateOf mine.now) }
-    ensures within { IfOk result (λ _. EndsWithin mode mine.now) }
-    ensures refused { IfErr result (λ e. RefusesSolve mode mine.now e.refusal e) }
-{
-    match outcome_in(rt, alloc, mine, mode)? {
-        Outcome::Pit(certificate) => Ok(certificate),
-        Outcome::Exhausted(count) => Err(Fault::exhausted(count)),
-    }
-}
 
 /// Writes a certificate of the mine to its writer, where there is one.
 fn put_certificate<C: OutBytes>(
@@ -129,7 +92,7 @@ pub fn run_solve<R: Threads + Wait + Sync, M: InBytes, P: InBytes, C: OutBytes, 
         (W.progress out.old) (W.progress out.new)) }
 {
     let mine = read_mine(alloc, model, prec)?;
-    let shown = pit_of(rt, alloc, &mine, mode)?;
+    let shown = find_pit(rt, alloc, &mine, &mode)?;
     put_certificate(certificate, &mine, &shown)?;
     put_pit(out, &mine, &shown)?;
     Ok(Status::Done)

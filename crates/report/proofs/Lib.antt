@@ -1,2 +1,3 @@
 pub mod PutLemmas
 pub mod Digits
+pub mod Firsts

@@ -1,3 +1,4 @@
 pub mod Puts
 pub mod FaultText
 pub mod AnswerText
+pub mod FirstWith

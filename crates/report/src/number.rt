@@ -1,6 +1,7 @@
 //! Numbers as text: whole ones, and those of a unit of a power of ten with their decimals.
 ghost use Rattle.std.specs.Prelude.{◌≡◌, ◌≤◌, ◌^◌, length};
 ghost use Rattle.pit_model.specs.PitText.{last_digits, sign_text, with_decimals, with_six_decimals};
+ghost use Rattle.pit_model.specs.ShellText.{with_nine_decimals};
 ghost use Rattle.report.specs.Puts.{IsReady, Puts};
 
 use crate::out::{Out, put};
@@ -64,4 +65,13 @@ pub fn put_millionths<W: OutBytes>(writer: &mut W, out: &mut Out, number: i128)
     ensures ready { IsReady (W.progress writer.new) out.new }
 {
     put_with_decimals(writer, out, number, 1_000_000, &mut [0; 6]);
+}
+
+/// Writes a number of billionths with nine decimals.
+pub fn put_billionths<W: OutBytes>(writer: &mut W, out: &mut Out, number: i128)
+    requires { IsReady (W.progress writer.old) out.old }
+    ensures puts { Puts (W.progress writer.old) out.old (W.progress writer.new) out.new (with_nine_decimals number) }
+    ensures ready { IsReady (W.progress writer.new) out.new }
+{
+    put_with_decimals(writer, out, number, 1_000_000_000, &mut [0; 9]);
 }

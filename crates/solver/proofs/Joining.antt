@@ -13,7 +13,7 @@ use Rattle.pit_model.specs.Joined.{IsCarried, IsCertifiedAt}
 use Rattle.pit_model.proofs.Joined.{certificates_join}
 use Rattle.mine_graph.specs.declared.part.Part.{Part}
 use Rattle.mine_graph.specs.Parts.{IsAt, AreParts}
-use Rattle.mine_graph.proofs.Members.{members_below, members_each, members_place, members_rise}
+use Rattle.pit_model.proofs.Members.{members_below, members_each, members_place, members_rise}
 use Rattle.certificate.specs.Check.{IsCandidate, has, amount, most_amount}
 use Rattle.solver.specs.declared.solved_part.SolvedPart.{SolvedPart}
 use Rattle.solver.specs.Parts.{graph_of, IsSolvedPart, StandsAt, AreSolved, named, AreMarked, AreCarried, IsListed, ArePlaced}

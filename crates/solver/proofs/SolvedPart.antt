@@ -6,7 +6,7 @@ use Rattle.pit_model.specs.Mine.{Instance}
 use Rattle.pit_model.specs.Part.{IsPart}
 use Rattle.mine_graph.specs.declared.part.Part.{Part}
 use Rattle.mine_graph.specs.Parts.{AreParts}
-use Rattle.mine_graph.proofs.Members.{members_each, members_rise}
+use Rattle.pit_model.proofs.Members.{members_each, members_rise}
 use Rattle.std.specs.List.{All}
 use Rattle.solver.specs.Parts.{IsPartOf, graph_of}
 

@@ -1,3 +1,4 @@
 pub mod Solved
 pub mod Order
 pub mod Parts
+pub mod Modes

@@ -2,6 +2,7 @@
 //! of mergers is used up. By one thread, by its parts, or by workers at one tree.
 #![tactic(auto)]
 
+mod by_mode;
 mod closing;
 mod first_mergers;
 mod joined;
@@ -14,6 +15,7 @@ mod single;
 mod solved_part;
 mod waiting;
 
+pub use by_mode::{find_pit, solve};
 pub use mode::Mode;
 pub use outcome::Outcome;
 pub use parts::solve_parts;

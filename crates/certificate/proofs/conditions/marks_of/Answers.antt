@@ -3,7 +3,7 @@ use Rattle.std.proofs.Common.{◌≡◌, ℕ, ◌<◌, true, false, refl, sym, a
 use Rattle.std.proofs.lemmas.Bool.{cases_eq}
 use Rattle.std.proofs.lemmas.List.{get_or-set_same, get_or-set_other, length-set}
 use Rattle.std.proofs.lemmas.List.Elements.{All-get_or}
-use Rattle.mine_graph.proofs.Members.{rising_members}
+use Rattle.pit_model.proofs.Members.{rising_members}
 use Rattle.certificate.specs.Check.{has}
 use Rattle.certificate.proofs.conditions.marks_of.Goals as goal
 

@@ -4,7 +4,7 @@ use Rattle.std.specs.Prelude.{◌↔◌, pos, int_lt}
 use Rattle.std.specs.List.{All}
 use Rattle.pit_model.specs.Mine.{members}
 use Rattle.pit_model.specs.Graph.{Graph, first_of, second_of}
-use Rattle.mine_graph.proofs.Members.{members_below}
+use Rattle.pit_model.proofs.Members.{members_below}
 use Rattle.certificate.specs.Check.{amount}
 use Rattle.certificate.specs.Queue.{IsSpread, IsExtended}
 use Rattle.certificate.proofs.Spreading.{spread_more, exactly}

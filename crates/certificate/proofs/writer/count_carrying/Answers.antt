@@ -2,7 +2,7 @@
 use Rattle.std.proofs.Common.{arith, ap, sym, ◌∙◌, length}
 use Rattle.std.specs.Prelude.{pos, int_lt}
 use Rattle.std.proofs.lemmas.List.{length_push}
-use Rattle.mine_graph.proofs.Members.{members_few}
+use Rattle.pit_model.proofs.Members.{members_few}
 use Rattle.certificate.specs.Check.{amount}
 use Rattle.certificate.specs.CertificateText.{carrying}
 use Rattle.certificate.proofs.Carrying.{carries, carries_not}

@@ -3,7 +3,7 @@ use Rattle.std.proofs.Common.{◌≡◌, ℕ, ◌<◌, eqb, arith, length, get_o
 use Rattle.std.specs.List.{All}
 use Rattle.pit_model.specs.Graph.{second_of}
 use Rattle.mine_graph.specs.Classes.{IsFlooded}
-use Rattle.mine_graph.proofs.Members.{members_below}
+use Rattle.pit_model.proofs.Members.{members_below}
 use Rattle.mine_graph.proofs.Flooding.{flood_goes_on, class_more}
 use Rattle.mine_graph.proofs.classes.flood.Goals as goal
 

@@ -3,7 +3,7 @@ use Rattle.std.proofs.Common.{◌≡◌, ◌<◌, ◌≤◌, ◌+◌, ℕ, suc, 
 use Rattle.std.proofs.lemmas.Bool.{eqb-true}
 use Rattle.pit_model.specs.Mine.{members}
 use Rattle.mine_graph.specs.Renumbered.{has_label, placed_pair, is_inside_before}
-use Rattle.mine_graph.proofs.Members.{member_at, bound_of}
+use Rattle.pit_model.proofs.Members.{member_at, bound_of}
 use Rattle.mine_graph.proofs.Renumbering.{rows_begin, rows_on, rows_end}
 use Rattle.mine_graph.proofs.part.pairs_within.Goals as goal
 

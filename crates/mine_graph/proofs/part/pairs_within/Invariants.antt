@@ -2,7 +2,7 @@
 use Rattle.std.proofs.Common.{◌≡◌, length, map}
 use Rattle.pit_model.specs.Mine.{members}
 use Rattle.mine_graph.specs.Renumbered.{has_label, placed_pair, is_inside_before}
-use Rattle.mine_graph.proofs.Members.{bound_of}
+use Rattle.pit_model.proofs.Members.{bound_of}
 use Rattle.mine_graph.proofs.part.pairs_within.Given as goal
 
 abbrev pub invariant-loop-i : goal.invariant-loop-i

@@ -3,7 +3,7 @@ use Rattle.std.proofs.Common.{◌≡◌, ℕ, List, length, ap, subst, ◌∙◌
 use Rattle.std.proofs.lemmas.Result.{err_from_is_err_and}
 use Rattle.pit_model.specs.Graph.{AreSamePairs}
 use Rattle.mine_graph.specs.Renumbered.{has_label}
-use Rattle.mine_graph.proofs.Members.{members_few}
+use Rattle.pit_model.proofs.Members.{members_few}
 use Rattle.mine_graph.proofs.Renumbering.{renumbered, renumbered_few, renumbered_in_range, renumbered_apart, renumbered_acyclic, part_is, only_memory}
 use Rattle.mine_graph.proofs.part.part_of.Goals as goal
 

@@ -4,7 +4,7 @@ use Rattle.std.proofs.lemmas.Result.{IfOk-weaker}
 use Rattle.pit_model.specs.Mine.{members}
 use Rattle.pit_model.specs.Part.{IsPart}
 use Rattle.mine_graph.specs.Renumbered.{has_label}
-use Rattle.mine_graph.proofs.Members.{members_few, members_each, members_rise}
+use Rattle.pit_model.proofs.Members.{members_few, members_each, members_rise}
 use Rattle.mine_graph.proofs.Renumbering.{part_ext}
 use Rattle.mine_graph.proofs.graph.Graph.without.Goals as goal
 

@@ -6,7 +6,8 @@ use mir.Val.{SFits}
 use mir.Syntax.{w128}
 use Rattle.pit_model.specs.Sum.{total}
 use Rattle.pit_model.specs.Mine.{value}
-use Rattle.mine_graph.proofs.Worth.{summed_fits, summed-members}
+use Rattle.pit_model.proofs.MemberSums.{summed-members}
+use Rattle.mine_graph.proofs.Worth.{summed_fits}
 use Rattle.mine_graph.proofs.instance.Instance.worth.Goals as goal
 
 pub overflow_add-sum : goal.overflow_add-sum

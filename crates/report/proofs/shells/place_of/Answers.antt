@@ -1,0 +1,19 @@
+-- Where blocks rise, the test "less than this one" parts them at the place that the binary search answers.
+use Rattle.std.proofs.Common.{ℕ, ltb, get_or, arith, rules}
+use Rattle.std.proofs.lemmas.Bool.{ltb-true, ltb-false}
+use Rattle.std.proofs.lemmas.List.Sorted.{IsNonDecreasingBy-from_default, IsPartitionPoint-from_clause, IsPartitionedBy-ltb}
+use Rattle.report.proofs.shells.place_of.Goals as goal
+
+pub returns-clause-before : goal.returns-clause-before
+returns-clause-before c i l =
+    let rising = IsNonDecreasingBy-from_default (λ (x : ℕ). x) c.args.blocks.now 0 c.requires in
+    let parted = IsPartitionedBy-ltb (λ (x : ℕ). x) c.args.blocks.now c.args.block rising in
+    let point = IsPartitionPoint-from_clause (λ (x : ℕ). ltb x c.args.block) _ _ c.partition_point.ensures.partitioned parted (λ a r q k. search rules) in
+    ltb-true (get_or c.args.blocks.now i 0) c.args.block (point.0 i 0 (omega arith) l)
+
+pub returns-clause-after : goal.returns-clause-after
+returns-clause-after c i l m =
+    let rising = IsNonDecreasingBy-from_default (λ (x : ℕ). x) c.args.blocks.now 0 c.requires in
+    let parted = IsPartitionedBy-ltb (λ (x : ℕ). x) c.args.blocks.now c.args.block rising in
+    let point = IsPartitionPoint-from_clause (λ (x : ℕ). ltb x c.args.block) _ _ c.partition_point.ensures.partitioned parted (λ a r q k. search rules) in
+    ltb-false (get_or c.args.blocks.now i 0) c.args.block (point.1 i 0 l m)

@@ -1,0 +1,47 @@
+-- Shells that grow from factor to factor: which blocks are taken so far, and what is left.
+use Rattle.std.specs.Prelude.{◌≡◌, ◌<◌, ℕ, false, Bool, List, length, get_or}
+use Rattle.minelib_reader.specs.declared.fault.Fault.{Fault}
+use Rattle.minelib_reader.specs.declared.fault.Refusal.{Refusal}
+use Rattle.minelib_reader.specs.declared.fault.Refusal.TheVariants.{NoMemory}
+use Rattle.minelib_reader.specs.Refused.{no_memory}
+use Rattle.pit_model.specs.Graph.{Graph}
+use Rattle.pit_model.specs.Mine.{Instance, members, IsPit}
+use Rattle.pit_model.specs.Deposit.{Deposit, mine_on}
+use Rattle.pit_model.specs.Shells.{IsShellBefore, IsOutside, IsRest}
+use Rattle.shells.specs.Prices.{Prices, deposit_of}
+use Rattle.solver.specs.declared.mode.Mode.{Mode}
+use Rattle.solver.specs.Modes.{EndsWithin, RefusesSolve}
+
+-- the set of the blocks that are marked
+abbrev pub marked : List Bool → ℕ → Bool
+marked marks u = get_or marks u false
+
+-- the marked blocks are the shell before that of the factor with number k, and the rest is what lies outside
+pub record IsGrown (deposit : Deposit) (factors : List ℕ) (k : ℕ) (marks : List Bool) (blocks : List ℕ) (part : Graph) : Type 0 where
+  pub size : length marks ≡ deposit.blocks
+  pub before : IsShellBefore deposit factors k (marked marks)
+  pub outside : IsOutside deposit (marked marks) blocks part
+
+-- the instance at a factor on what is left
+abbrev pub rest_at : Prices → ℕ → List ℕ → Graph → Instance
+rest_at prices factor blocks part = mine_on (deposit_of prices part) factor blocks part
+
+-- the blocks of the pit of an instance, rising
+pub record IsFound (mine : Instance) (pit : List ℕ) : Type 0 where
+  pub set : ℕ → Bool
+  pub listed : pit ≡ members mine.blocks set
+  pub is_pit : IsPit mine set
+
+-- the budget does not end the solve of the rest of the factor with number k
+abbrev pub RestEndsWithin : Mode → Deposit → List ℕ → ℕ → Type 0
+RestEndsWithin mode deposit factors k = (rest : Instance) × IsRest deposit factors k rest × EndsWithin mode rest
+
+-- nor that of any factor
+abbrev pub EachEndsWithin : Mode → Deposit → List ℕ → Type 0
+EachEndsWithin mode deposit factors = (k : ℕ) → k < length factors → RestEndsWithin mode deposit factors k
+
+-- why there are no shells: no memory; or the solve of some factor's rest was refused
+abbrev pub RefusesShells : Mode → Deposit → List ℕ → Refusal → Fault → Type 0
+RefusesShells mode deposit factors NoMemory fault = fault ≡ no_memory
+RefusesShells mode deposit factors refusal fault =
+    (k : ℕ) × (k < length factors) × ((rest : Instance) × IsRest deposit factors k rest × RefusesSolve mode rest refusal fault)

@@ -1,0 +1,3 @@
+pub mod FactorList
+pub mod Prices
+pub mod Grown

@@ -1,0 +1,110 @@
+//! The revenue and the cost of each block: two columns of a table of blocks.
+ghost use Rattle.std.specs.Prelude.{◌≡◌, ◌<◌, ◌≤◌, ◌^◌, pos, ◌≤ℤ◌, map, length, get_or, IfOk, IfErr};
+ghost use Rattle.std.specs.List.{All};
+ghost use Rattle.minelib_reader.specs.Number.{IsWithin};
+ghost use Rattle.pit_model.specs.Deposit.{priced};
+ghost use Rattle.pit_model.specs.Sum.{total};
+ghost use Rattle.shells.specs.Prices.{price_of, AreColumns, ArePrices, RefusesColumns};
+
+use minelib_reader::{BlockTable, Fault, column};
+use std::alloc::{AllocError, Global};
+use std::marker::Model;
+
+/// The revenue and the cost of each block in millionths, none negative.
+#[derive(Drop)]
+pub struct Columns {
+    revenues: Vec<i128>,
+    costs: Vec<i128>,
+}
+
+impl Model for Columns {
+    ghost use Rattle.shells.specs.Prices.{Prices, ArePrices};
+
+    ghost Value = { Prices };
+
+    ghost view = { λ c. record { revenues = c.revenues.items; costs = c.costs.items } };
+
+    ghost invariant = { λ c. ArePrices c.revenues.items c.costs.items };
+}
+
+/// What a revenue and a cost are worth at a factor.
+fn price(factor: u32, revenue: i128, cost: i128) -> i128
+    requires factor { factor ≤ 100000 }
+    requires revenue { (pos 0 ≤ℤ revenue) × (revenue ≤ℤ pos (10 ^ 18)) }
+    requires cost { (pos 0 ≤ℤ cost) × (cost ≤ℤ pos (10 ^ 18)) }
+    ensures value { result ≡ priced factor revenue cost }
+    ensures small { IsWithin (10 ^ 23) result }
+{
+    i128::from(factor) * revenue - 1000 * cost
+}
+
+impl Columns {
+    /// Two columns of a table. The column of revenues is taken first. Refused where the table has no such column (16), by
+    /// the least block with a negative number in it (15), and for want of memory (1).
+    pub fn of(alloc: Global, table: &BlockTable, revenue: u32, cost: u32) -> Result<Columns, Fault>
+        ensures columns { IfOk result (AreColumns table.now revenue cost) }
+        ensures refused { IfErr result (RefusesColumns table.now revenue cost) }
+    {
+        let _rows = table.len();
+        let revenues = column(alloc, table, revenue)?;
+        let costs = column(alloc, table, cost)?;
+        Ok(Columns { revenues, costs })
+    }
+
+    /// What is true of each pair of columns.
+    pub fn law(&self)
+        ensures { ArePrices self.now.revenues self.now.costs }
+    {
+        let _ = &self.revenues;
+    }
+
+    /// The number of rows.
+    pub fn len(&self) -> u32
+        ensures { result ≡ length self.now.revenues }
+    {
+        self.revenues.len() as u32
+    }
+
+    /// The value of a block at a factor in per mille, in billionths.
+    pub fn value(&self, u: u32, factor: u32) -> i128
+        requires block { u < length self.now.revenues }
+        requires factor { factor ≤ 100000 }
+        ensures value { result ≡ price_of self.now factor u }
+        ensures small { IsWithin (10 ^ 23) result }
+    {
+        price(factor, self.revenues[u as usize], self.costs[u as usize])
+    }
+
+    /// The values of a list of blocks at a factor in per mille, in billionths. Refused for want of memory alone.
+    pub(crate) fn values(
+        &self,
+        alloc: Global,
+        blocks: &[u32],
+        factor: u32,
+    ) -> Result<Vec<i128>, AllocError>
+        requires blocks { All (λ u. u < length self.now.revenues) blocks.now }
+        requires factor { factor ≤ 100000 }
+        ensures { IfOk result (λ v. v.items ≡ map (price_of self.now factor) blocks.now) }
+    {
+        let mut values = Vec::with_capacity(alloc, blocks.len())?;
+        for &u in blocks {
+            values.push(self.value(u, factor))?;
+        }
+        Ok(values)
+    }
+
+    /// The summed value of a list of blocks at a factor in per mille, in billionths.
+    pub(crate) fn worth(&self, blocks: &[u32], factor: u32) -> i128
+        requires few { length blocks.now ≤ 2 ^ 22 }
+        requires blocks { All (λ u. u < length self.now.revenues) blocks.now }
+        requires factor { factor ≤ 100000 }
+        ensures { result ≡ total (length blocks.now) (λ i. price_of self.now factor (get_or blocks.now i 0)) }
+    {
+        self.law();
+        let mut sum = 0;
+        for &u in blocks {
+            sum += self.value(u, factor);
+        }
+        sum
+    }
+}

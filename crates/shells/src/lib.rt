@@ -1,0 +1,16 @@
+//! Nested pits of a mine by price factor: each is solved on what the shell before leaves, and joined with that.
+#![tactic(auto)]
+
+mod columns;
+mod factors;
+mod growing;
+mod items;
+mod nesting;
+
+pub use columns::Columns;
+pub use factors::Factors;
+pub use nesting::shells;
+pub use pit_model::{Shell, ShellList};
+
+#[cfg(test)]
+mod tests;

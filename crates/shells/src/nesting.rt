@@ -1,0 +1,69 @@
+//! The shells of a mine: the pit at each factor, one within the next.
+ghost use Rattle.std.specs.Prelude.{◌≡◌, length, IfOk, IfErr};
+ghost use Rattle.pit_model.specs.Shells.{AreShells};
+ghost use Rattle.shells.specs.Prices.{deposit_of};
+ghost use Rattle.shells.specs.Grown.{EachEndsWithin, RefusesShells};
+
+use crate::columns::Columns;
+use crate::factors::Factors;
+use crate::growing::{next_shell, start};
+use mine_graph::Graph;
+use minelib_reader::Fault;
+use pit_model::{Shell, ShellList};
+use solver::Mode;
+use std::alloc::Global;
+use std::sync::{Arc, Wait};
+use std::thread::Threads;
+
+/// The shell of each factor, in their order.
+fn each_shell<R: Threads + Wait + Sync>(
+    rt: &R,
+    alloc: Global,
+    columns: &Columns,
+    graph: &Arc<Graph>,
+    factors: &Factors,
+    mode: &Mode,
+) -> Result<Vec<Shell>, Fault>
+    requires { length columns.now.revenues ≡ graph.now.value.blocks }
+    ensures shells { IfOk result (λ list. AreShells (deposit_of columns.now graph.now.value) factors.now list.items) }
+    ensures within { IfOk result (λ _. EachEndsWithin mode.now (deposit_of columns.now graph.now.value) factors.now) }
+    ensures refused { IfErr result (λ e. RefusesShells mode.now (deposit_of columns.now graph.now.value) factors.now e.refusal e) }
+{
+    factors.law();
+    columns.law();
+    graph.law();
+    let mut growing = start(alloc, graph)?;
+    let mut list = Vec::new(alloc);
+    for k in 0..factors.len() {
+        let shell = next_shell(rt, alloc, columns, graph, factors, k, &mut growing, mode)?;
+        list.push(shell)?;
+    }
+    Ok(list)
+}
+
+/// The shells of a mine with these revenues and costs: for each factor its pit, with the pit's worth in the factor's own
+/// values, in billionths. Each lies within all later ones. A factor is solved on what the shell before leaves; a budget of
+/// mergers counts anew for each.
+///
+/// Refused for want of memory (1), where the budget is used up with a merger arc left on some factor's rest (20), and where
+/// a worker could not be started (22).
+pub fn shells<R: Threads + Wait + Sync>(
+    rt: &R,
+    alloc: Global,
+    columns: &Columns,
+    graph: &Arc<Graph>,
+    factors: &Factors,
+    mode: &Mode,
+) -> Result<ShellList, Fault>
+    requires { length columns.now.revenues ≡ graph.now.value.blocks }
+    ensures blocks { IfOk result (λ list. list.n ≡ graph.now.value.blocks) }
+    ensures shells { IfOk result (λ list. AreShells (deposit_of columns.now graph.now.value) factors.now list.shells.items) }
+    ensures within { IfOk result (λ _. EachEndsWithin mode.now (deposit_of columns.now graph.now.value) factors.now) }
+    ensures refused { IfErr result (λ e. RefusesShells mode.now (deposit_of columns.now graph.now.value) factors.now e.refusal e) }
+{
+    let shells = each_shell(rt, alloc, columns, graph, factors, mode)?;
+    Ok(ShellList {
+        n: graph.n(),
+        shells,
+    })
+}

@@ -1,0 +1,56 @@
+//! One call for all ways to solve: what calls it knows modes and no more.
+ghost use Rattle.std.specs.Prelude.{IfOk, IfErr};
+ghost use Rattle.certificate.specs.Certificate.{IsCertificateOf};
+ghost use Rattle.solver.specs.Modes.{EndsIn, EndsWithin, RefusesSolve};
+
+use crate::mode::Mode;
+use crate::outcome::Outcome;
+use crate::parts::solve_parts;
+use crate::shared::solve_shared;
+use crate::single::solve_single;
+use certificate::Certificate;
+use mine_graph::Instance;
+use minelib_reader::Fault;
+use std::alloc::Global;
+use std::sync::Wait;
+use std::thread::Threads;
+
+/// How the mode's solve of an instance ended.
+///
+/// Refused for want of memory (1), and in mode shared where a worker could not be started (22).
+pub fn solve<R: Threads + Wait + Sync>(
+    rt: &R,
+    alloc: Global,
+    instance: &Instance,
+    mode: &Mode,
+) -> Result<Outcome, Fault>
+    ensures ended { IfOk result (EndsIn mode.now instance.now) }
+    ensures refused { IfErr result (λ e. RefusesSolve mode.now instance.now e.refusal e) }
+{
+    match *mode {
+        Mode::Single { budget } => solve_single(alloc, instance, budget),
+        Mode::Parts => Ok(Outcome::Pit(solve_parts(rt, alloc, instance)?)),
+        Mode::Shared { workers, budget } => {
+            let (outcome, _) = solve_shared(rt, alloc, instance, workers, budget)?;
+            Ok(outcome)
+        }
+    }
+}
+
+/// The pit of an instance with its certificate. Refused as `solve` is, and where the budget is used up with a merger arc
+/// left (20).
+pub fn find_pit<R: Threads + Wait + Sync>(
+    rt: &R,
+    alloc: Global,
+    instance: &Instance,
+    mode: &Mode,
+) -> Result<Certificate, Fault>
+    ensures shown { IfOk result (IsCertificateOf instance.now) }
+    ensures within { IfOk result (λ _. EndsWithin mode.now instance.now) }
+    ensures refused { IfErr result (λ e. RefusesSolve mode.now instance.now e.refusal e) }
+{
+    match solve(rt, alloc, instance, mode)? {
+        Outcome::Pit(certificate) => Ok(certificate),
+        Outcome::Exhausted(count) => Err(Fault::exhausted(count)),
+    }
+}
