@@ -17,3 +17,4 @@ pub mod SamePairs
 pub mod Journals
 pub mod FirstRuns
 pub mod FirstJournals
+pub mod Versions

@@ -13,3 +13,4 @@ pub mod PitText
 pub mod Journal
 pub mod FirstRun
 pub mod Part
+pub mod Version

@@ -10,6 +10,7 @@ ghost use Rattle.pit_model.specs.Limits.{FlowsStayWithinLimits};
 ghost use Rattle.pit_model.specs.Rank.{MergerLowersRank, RankIsBounded};
 ghost use Rattle.pit_model.specs.Journal.{JournalIsBounded, JournalKeepsBudget, JournalKeepsNormalised};
 ghost use Rattle.pit_model.specs.FirstRun.{FirstMergerIsLeast, FirstRunIsLawful, FirstRunIsNormalised};
+ghost use Rattle.pit_model.specs.Version.{JournalGivesVersion};
 
 mod journal;
 
@@ -88,4 +89,10 @@ pub fn first_run_is_normalised()
 /// The first run is that of a lawful journal, as long as the budget allows its mergers.
 pub fn first_run_is_lawful()
     ensures { FirstRunIsLawful }
+{}
+
+/// The replay of a lawful journal is the version of its applied arcs: the tree that their mergers give, each a merger arc
+/// at its turn.
+pub fn journal_gives_version()
+    ensures { JournalGivesVersion }
 {}
