@@ -1,4 +1,4 @@
--- A version of the tree: what a reader sees who does not hold the lock (read-copy-update: McKenney and Slingwine 1998).
+-- A version of the tree: what a reader sees who does not hold the lock (left-right: Ramalhete and Correia 2013).
 use Rattle.std.specs.Prelude.{◌≡◌, ℕ, IsTrue, if◌then◌else◌, List, [], ◌∷◌, Option}
 use Rattle.std.specs.List.{fold}
 use Rattle.pit_model.specs.declared.journal.Entry.{Entry}
