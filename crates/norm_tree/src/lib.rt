@@ -22,4 +22,6 @@ mod bare_tests;
 #[cfg(test)]
 mod label_tests;
 #[cfg(test)]
+mod random_tests;
+#[cfg(test)]
 mod tests;

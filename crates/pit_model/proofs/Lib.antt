@@ -21,3 +21,4 @@ pub mod FirstJournals
 pub mod Members
 pub mod MemberSums
 pub mod Shells
+pub mod Versions

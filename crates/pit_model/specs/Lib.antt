@@ -17,3 +17,4 @@ pub mod Joined
 pub mod Deposit
 pub mod Shells
 pub mod ShellText
+pub mod Version

@@ -12,6 +12,7 @@ ghost use Rattle.pit_model.specs.Rank.{MergerLowersRank, RankIsBounded};
 ghost use Rattle.pit_model.specs.Journal.{JournalIsBounded, JournalKeepsBudget, JournalKeepsNormalised};
 ghost use Rattle.pit_model.specs.FirstRun.{FirstMergerIsLeast, FirstRunIsLawful, FirstRunIsNormalised};
 ghost use Rattle.pit_model.specs.Shells.{RestGivesShell, ShellsNest};
+ghost use Rattle.pit_model.specs.Version.{JournalGivesVersion};
 
 mod journal;
 mod shell;
@@ -108,4 +109,10 @@ pub fn shells_nest()
 /// The pit of what is left outside the shell before, joined with that shell, is the pit of the factor's whole instance.
 pub fn rest_gives_shell()
     ensures { RestGivesShell }
+{}
+
+/// The replay of a lawful journal is the version of its applied arcs: the tree that their mergers give, each a merger arc
+/// at its turn.
+pub fn journal_gives_version()
+    ensures { JournalGivesVersion }
 {}

@@ -1,0 +1,4 @@
+mod Lists
+mod Cells
+mod StepLaws
+mod Copies

@@ -1,0 +1,92 @@
+//! A beginning of the list of arcs, as someone saw it: so many arcs, and the last of them.
+//! What is known of the arcs before is known in the proofs alone, so a beginning takes two numbers.
+ghost use Rattle.std.specs.Prelude.{◌≡◌, [], ◌∷◌, ◌++◌, length, IsTrue, IfSome};
+ghost use mathlib.Core.List.{IsPrefix};
+
+use crate::head::{Head, MOST, UNIT};
+use crate::link::Link;
+use crate::origin::Origin;
+use crate::steps::{ListRule, Look, Nothing};
+use logbook::{Offer, Seen};
+use std::marker::{Model, PhantomData};
+
+/// To a contract it is its arcs.
+#[derive(Drop)]
+pub struct Beginning<V: Origin> {
+    pub(crate) count: u64,
+    pub(crate) last: u32,
+    pub(crate) seen: Seen<Link, u64, ListRule>,
+    pub(crate) origin: PhantomData<V>,
+}
+
+impl<V: Origin> Model for Beginning<V> {
+    ghost use Rattle.std.specs.Prelude.{◌≡◌, ℕ, ◌+◌, List, length};
+    ghost use Rattle.versions.specs.ArcList.{arcs_of, last_of};
+
+    ghost Value = { List ℕ };
+
+    ghost view = { λ b. arcs_of b.seen.log };
+
+    ghost invariant = { λ b. (b.seen.book ≡ V.book) × (length b.seen.log ≡ b.count + 1) × ((last_of b.seen.log).arc ≡ b.last) };
+}
+
+impl<V: Origin> Beginning<V> {
+    /// The same beginning. It takes no memory.
+    pub fn again(&self) -> Beginning<V>
+        ensures { result ≡ self.now }
+    {
+        Beginning {
+            count: self.count,
+            last: self.last,
+            seen: self.seen.again(),
+            origin: PhantomData,
+        }
+    }
+
+    /// Whether it has no more arcs than the other: then the other begins with it.
+    pub fn begins(&self, other: &Beginning<V>) -> bool
+        ensures { IsTrue result → IsPrefix self.now other.now }
+    {
+        let mut both = self.seen.again();
+        both.learn(&other.seen);
+        if self.count > other.count {
+            return false;
+        }
+        true
+    }
+
+    /// The other, where it has this one arc more.
+    pub fn caught_up(&self, other: &Beginning<V>, arc: u32) -> Option<Beginning<V>>
+        ensures { IfSome result (λ b. b ≡ self.now ++ arc ∷ []) }
+    {
+        let mut both = self.seen.again();
+        both.learn(&other.seen);
+        if other.count == 0 || other.count - 1 != self.count || other.last != arc {
+            return None;
+        }
+        Some(other.again())
+    }
+
+    /// This with the arc, where that is the whole list by now: one load, and no memory.
+    pub fn followed(&self, head: &Head<V>, arc: u32) -> Option<Beginning<V>>
+        ensures { IfSome result (λ b. b ≡ self.now ++ arc ∷ []) }
+    {
+        if self.count >= MOST || u64::from(arc) >= UNIT {
+            return None;
+        }
+        let mut seen = self.seen.again();
+        let mut offer: Offer<Link, u64, ListRule, Nothing> = seen.plain::<Nothing, Link, Look>(
+            &Link::blank(),
+        );
+        let found = head.word.load::<Look, Nothing>(&mut seen, &mut offer);
+        if found != (self.count + 2) * UNIT + u64::from(arc) {
+            return None;
+        }
+        Some(Beginning {
+            count: self.count + 1,
+            last: arc,
+            seen,
+            origin: PhantomData,
+        })
+    }
+}

@@ -1,0 +1,177 @@
+//! The side of the holder of the lock: the list of the mergers made, and the two copies of the tree.
+//! Each arc is published at once, so that nothing is ever left pending.
+ghost use Rattle.std.specs.Prelude.{◌≡◌, ◌<◌, [], ◌∷◌, ◌++◌, true, drop, fold, IsTrue, IfOk, IfErr};
+ghost use mathlib.Core.List.{IsPrefix};
+ghost use Rattle.minelib_reader.specs.Refused.{no_memory, no_seat, IsNoRoom};
+ghost use Rattle.pit_model.specs.Tree.{is_merger, opening};
+ghost use Rattle.pit_model.specs.Version.{version_tree, IsVersion};
+ghost use Rattle.versions.specs.Published.{taken_in, tree_over};
+
+use crate::head::MOST;
+use crate::look::{LookSeat, LookSeats};
+use crate::origin::Origin;
+use crate::scribe::{Scribe, UnnamedList};
+use crate::tree_copy::TreeCopy;
+use core::mem::replace_with;
+use crossbeam_utils::rule::Unruled;
+use left_right::Absorb;
+use left_right::writer::Writer;
+use minelib_reader::Fault;
+use norm_tree::NormTree;
+use std::alloc::{AllocError, Global};
+use std::marker::Model;
+use std::sync::Wait;
+
+type Copies<V> = Writer<TreeCopy<V>, u32, (), Unruled>;
+
+/// To a contract it is the arcs that were merged over, all of which are published. It keeps the handle `rt`, since
+/// publishing and its drop wait for readers.
+pub struct Publisher<V: Origin, R: Wait + Drop>
+where
+    TreeCopy<V>: Absorb<u32, State = TreeCopy<V>>,
+{
+    scribe: Scribe<V>,
+    copies: Copies<V>,
+    rt: R,
+}
+
+impl<V: Origin, R: Wait + Drop> Model for Publisher<V, R>
+where
+    TreeCopy<V>: Absorb<u32, State = TreeCopy<V>>,
+{
+    ghost use Rattle.std.specs.Prelude.{ℕ, List, drop};
+    ghost use Rattle.versions.specs.Published.{IsPublished};
+
+    ghost Value = { List ℕ };
+
+    ghost view = { λ p. p.scribe };
+
+    ghost invariant = { λ p. IsPublished V.mine p.copies.desk.shown.value p.scribe (drop p.copies.behind p.copies.log.items) };
+}
+
+impl<V: Origin, R: Wait + Drop> Drop for Publisher<V, R> {
+    fn drop(self) {
+        let Self {
+            scribe: _,
+            copies,
+            rt,
+        } = self;
+        copies.take(&rt);
+    }
+}
+
+// Shows readers the copy that has taken in every arc. It waits for those that still look at that copy.
+fn shown<V: Origin, R: Wait>(copies: Copies<V>, rt: &R) -> Copies<V>
+    ensures shown { result.desk.shown.value ≡ fold taken_in copies.desk.shown.value (drop copies.behind copies.log.items) }
+    ensures none_left { drop result.behind result.log.items ≡ [] }
+{
+    let (copies, _taken_in) = copies.publish_as::<Unruled, R>(rt);
+    copies
+}
+
+// The same through a `&mut`.
+fn show<V: Origin, R: Wait>(copies: &mut Copies<V>, rt: &R)
+    ensures shown { copies.new.desk.shown.value ≡ fold taken_in copies.old.desk.shown.value (drop copies.old.behind copies.old.log.items) }
+    ensures none_left { drop copies.new.behind copies.new.log.items ≡ [] }
+{
+    replace_with(copies, rt, |copies, rt| (shown(copies, rt), ()));
+}
+
+impl<V: Origin, R: Wait + Drop> Publisher<V, R> {
+    /// Publishes the opening tree, and makes a copy of it and room for so many seats.
+    /// Errors: `NoMemory` where memory was refused, `NoSeat` where the table of places was.
+    pub fn new(
+        alloc: Global,
+        rt: R,
+        list: UnnamedList,
+        tree: NormTree,
+        seats: u32,
+    ) -> Result<Publisher<V, R>, Fault>
+        requires book { list ≡ V.book }
+        requires mine { tree.mine ≡ V.mine }
+        requires opening { tree.tree ≡ opening tree.mine }
+        requires seats { 0 < seats }
+        ensures made { IfOk result (λ publisher. publisher ≡ []) }
+        ensures refused { IfErr result IsNoRoom }
+    {
+        let scribe = Scribe::<V>::new(alloc, list)?;
+        let second = tree.copy()?;
+        let first = TreeCopy::new(tree, scribe.head()?, scribe.whole());
+        let second = TreeCopy::new(second, scribe.head()?, scribe.whole());
+        match Writer::new(alloc, first, second, seats as usize) {
+            Ok(copies) => Ok(Publisher { scribe, copies, rt }),
+            Err(_) => Err(Fault::no_seat()),
+        }
+    }
+
+    /// What is true of each publisher: each arc was a merger arc at its turn.
+    pub fn law(&self)
+        ensures { IsVersion V.mine (version_tree V.mine self.now) self.now }
+    {
+        let _ = &self.scribe;
+    }
+
+    /// The published tree.
+    pub fn tree(&self) -> &NormTree
+        ensures { result.now ≡ tree_over V.mine self.now }
+    {
+        let _ = &self.scribe;
+        self.copies.published().tree()
+    }
+
+    /// What gives seats to look from, which know of all that is published. Errors: `NoSeat` where the count of owners is full.
+    pub fn look_seats(&self) -> Result<LookSeats<V>, Fault>
+        ensures made { IfOk result (λ seats. seats ≡ self.now) }
+        ensures refused { IfErr result (λ fault. fault ≡ no_seat) }
+    {
+        match self.copies.factory().another() {
+            Ok(factory) => Ok(LookSeats::new(factory, self.scribe.whole())),
+            Err(_) => Err(Fault::no_seat()),
+        }
+    }
+
+    /// Merges over the arc and publishes that. It waits for readers that have not left an old version.
+    /// Errors: `NoMemory` where memory was refused; then nothing changed.
+    pub fn publish(&mut self, arc: u32) -> Result<(), Fault>
+        requires { IsTrue (is_merger V.mine (version_tree V.mine self.old) arc) }
+        ensures published { IfOk result (λ _. self.new ≡ self.old ++ arc ∷ []) }
+        ensures refused { IfErr result (λ fault. (fault ≡ no_memory) × (self.new ≡ self.old)) }
+    {
+        self.tree().law();
+        if self.scribe.count() >= MOST {
+            return Err(Fault::from(AllocError));
+        }
+        match self.copies.append(arc) {
+            Ok(()) => {}
+            Err(_) => return Err(Fault::from(AllocError)),
+        }
+        self.scribe.write(arc);
+        show(&mut self.copies, &self.rt);
+        Ok(())
+    }
+
+    /// Tells the seat of all that is published: all that it saw or was told of before was a beginning of that.
+    /// True where nothing is pending, which is always.
+    pub fn tell(&mut self, seat: &mut LookSeat<V>) -> bool
+        ensures same { self.new ≡ self.old }
+        ensures told { seat.new ≡ self.old }
+        ensures before { IsPrefix seat.old self.old }
+        ensures all { result ≡ true }
+    {
+        self.scribe.confirm(seat.list());
+        seat.learn(self.scribe.whole());
+        !self.copies.has_pending_operations()
+    }
+
+    /// The published tree, for good. It waits for readers that have not left; from then on a look gives its seat back.
+    pub fn into_tree(self) -> NormTree
+        ensures { result ≡ tree_over V.mine self }
+    {
+        let Publisher {
+            scribe: _,
+            copies,
+            rt,
+        } = self;
+        Box::into_inner(copies.take(&rt)).into_tree()
+    }
+}

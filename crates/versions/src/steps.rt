@@ -1,0 +1,101 @@
+//! The rule of the list's book, and the kinds of step that its word makes (`specs/ArcList`).
+use crate::link::Link;
+use logbook::{Gain, Pen, Plain, Play, Rule};
+
+/// What holds of the word and the list between any two steps.
+pub struct ListRule;
+
+impl Rule<Link, u64> for ListRule {
+    ghost use Rattle.std.specs.Prelude.{[]};
+    ghost use base.Fml.{ftrue};
+    ghost use Rattle.versions.specs.ArcList.{IsList};
+
+    ghost holds = { λ cells links. IsList cells links };
+
+    ghost first = { [] };
+
+    ghost hinted = { λ n links. Unit {0} };
+
+    ghost shows = { λ links. [] };
+
+    ghost keeps = { λ names links. ftrue };
+
+    ghost moves = { λ ask before after answer. Unit {0} };
+}
+
+/// A step trades nothing with its caller.
+pub struct Nothing;
+
+impl Gain<Link, u64> for Nothing {
+    ghost use base.Fml.{ftrue};
+
+    ghost after = { λ names about answer. ftrue };
+}
+
+/// A look at the word.
+pub struct Look;
+
+impl Play<Link, u64> for Look {
+    ghost use Rattle.versions.specs.ArcList.{Looks};
+
+    ghost then = { Looks };
+}
+
+impl Plain<Link, Link, u64> for Look {
+    ghost use Rattle.std.specs.Prelude.{None};
+
+    ghost ask = { λ link. link };
+
+    ghost state = { λ link. None };
+}
+
+/// The opening of an empty list.
+pub struct Begin;
+
+impl Play<Link, u64> for Begin {
+    ghost use Rattle.versions.specs.ArcList.{Begins};
+
+    ghost then = { Begins };
+}
+
+/// A new cell.
+pub struct Widen;
+
+impl Play<Link, u64> for Widen {
+    ghost use Rattle.versions.specs.ArcList.{Widens};
+
+    ghost then = { Widens };
+}
+
+/// The writer's look at a list that it knows whole.
+pub struct Confirm;
+
+impl Play<Link, u64> for Confirm {
+    ghost use Rattle.versions.specs.ArcList.{Confirms};
+
+    ghost then = { Confirms };
+}
+
+/// An arc, and the pen of the cell that its link names.
+pub struct NextLink {
+    pub arc: u32,
+    pub pen: Pen,
+}
+
+/// One link more.
+pub struct Write;
+
+impl Play<Link, u64> for Write {
+    ghost use Rattle.versions.specs.ArcList.{Writes};
+
+    ghost then = { Writes };
+}
+
+impl Plain<NextLink, Link, u64> for Write {
+    ghost use Rattle.std.specs.Prelude.{None};
+    ghost use Rattle.versions.specs.ArcList.{link};
+
+    ghost ask = { λ next. link next.arc next.pen.nib.key };
+
+    ghost state = { λ next. None };
+}
