@@ -107,7 +107,7 @@ fn goes_alike(alloc: Global, mine: &Instance, numbers: &mut Numbers) -> Result<b
             return Ok(false);
         }
         let drawn = if step < 60 {
-            Some(numbers.next() as u32 % 28)
+            Some((numbers.next() % 28) as u32)
         } else {
             tree.find_merger()
         };

@@ -52,30 +52,7 @@ fn refused(
     }
 }
 
-/// Writes the shells of a row, with column 0 for revenue and column 1 for cost.
-fn run_row<R: AllocGlobal + Threads + Wait + Sync>(
-    rt: &R,
-    mode: Mode,
-    row: Row,
-    out: &mut MemoryWriter,
-) -> Result<Status, Fault> {
-    let factors = Factors::read(rt.alloc(), row.factors)?;
-    let mut blocks = MemoryReader::new(row.blocks.as_bytes());
-    let mut prec = MemoryReader::new(row.prec.as_bytes());
-    run_shells(
-        rt,
-        rt.alloc(),
-        &mut blocks,
-        &mut prec,
-        out,
-        0,
-        1,
-        &factors,
-        &mode,
-    )
-}
-
-/// Whether `shells` in this mode writes the row's texts to standard output and standard error, and has its exit status.
+/// Whether `shells` in this mode, with column 0 for revenue and column 1 for cost, writes the row's texts to standard output and standard error, and has its exit status.
 fn holds<R: AllocGlobal + Threads + Wait + Sync>(
     rt: &R,
     mode: Mode,
@@ -84,9 +61,24 @@ fn holds<R: AllocGlobal + Threads + Wait + Sync>(
     if row.blocks.len() > 1000 || row.prec.len() > 1000 {
         return Ok(false);
     }
+    let mut blocks = MemoryReader::new(row.blocks.as_bytes());
+    let mut prec = MemoryReader::new(row.prec.as_bytes());
     let mut out = MemoryWriter::new(rt.alloc(), 1000);
     let mut err = MemoryWriter::new(rt.alloc(), 1000);
-    let result = run_row(rt, mode, row, &mut out);
+    let result = match Factors::read(rt.alloc(), row.factors) {
+        Err(fault) => Err(fault),
+        Ok(factors) => run_shells(
+            rt,
+            rt.alloc(),
+            &mut blocks,
+            &mut prec,
+            &mut out,
+            0,
+            1,
+            &factors,
+            &mode,
+        ),
+    };
     if let Err(fault) = &result {
         write_fault(&mut err, fault)?;
     }
