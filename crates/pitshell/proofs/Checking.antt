@@ -1,6 +1,6 @@
 -- What is answered of a certificate of the mine that was read is written, and where it is yes, the pit of the files' mine is
 -- shown: pairs stand in another order than in the file, and that order does not matter.
-use Rattle.std.proofs.Common.{◌≡◌, ℕ, Bool, List, refl, sym, ap, ◌∙◌, subst, Ok, Err, Result}
+use Rattle.std.proofs.Common.{◌≡◌, ℕ, Bool, List, refl, sym, subst, Ok, Err, Result}
 use Rattle.std.specs.Prelude.{ℤ, ◌↔◌, IsTrue, IfOk}
 use Rattle.minelib_reader.specs.Device.{Progress, Writes}
 use Rattle.minelib_reader.specs.Answer.{Refuses, ReadsText}
@@ -9,7 +9,7 @@ use Rattle.minelib_reader.specs.declared.fault.Fault.{Fault}
 use Rattle.minelib_reader.specs.declared.fault.Refusal.{Refusal}
 use Rattle.minelib_reader.specs.declared.fault.Refusal.TheVariants.{NoMemory, ReadFailed, WriteFailed}
 use Rattle.minelib_reader.specs.declared.fault.Source.TheVariants as sources
-use Rattle.pit_model.specs.Graph.{Graph, AreSamePairs}
+use Rattle.pit_model.specs.Graph.{AreSamePairs}
 use Rattle.pit_model.specs.Mine.{Instance, instance_of}
 use Rattle.pit_model.specs.Limits.{IsInstance}
 use Rattle.pit_model.specs.Certificate.{IsCertificate}
