@@ -8,6 +8,9 @@ pub record Labelled : Type 0 where
   pub graph : Graph
   pub strong : List Bool
 
+abbrev pub labelled : Graph → List Bool → Labelled
+labelled graph strong = record { graph = graph; strong = strong }
+
 abbrev pub label : List Bool → ℕ → Bool
 label strong u = get_or strong u false
 

@@ -1,11 +1,9 @@
-//! The label of each block, strong or weak, and the first merger arc by them: for each block the count of the weak blocks
-//! that it needs, and a mark on each strong block whose count is not 0. A change of a label goes to the users of its block.
-ghost use Rattle.std.specs.Prelude.{◌≡◌, ℕ, ◌^◌, ◌<◌, ◌≤◌, true, false, length, get_or, set, IsTrue, IfOk, IfErr, IfSome, IsNone, not};
+//! The label of each block, strong or weak, and the first merger arc by them: by an index, or by a look at each pair.
+ghost use Rattle.std.specs.Prelude.{◌≡◌, ℕ, ◌<◌, false, length, set, IsTrue, IfOk, IfErr, IfSome, IsNone};
 ghost use Rattle.minelib_reader.specs.Refused.{no_memory};
-ghost use Rattle.pit_model.specs.Graph.{first_of, second_of};
-ghost use Rattle.norm_tree.specs.Labelled.{is_open, label, AreCounted, AreMarked};
+ghost use Rattle.norm_tree.specs.Labelled.{is_open, label, labelled};
 
-use crate::marks::Marks;
+use crate::index::Index;
 use mine_graph::Graph;
 use minelib_reader::Fault;
 use std::alloc::Global;
@@ -17,94 +15,32 @@ use std::sync::Arc;
 pub(crate) struct Labels {
     graph: Arc<Graph>,
     strong: Vec<bool>,
-    /// Of how many weak blocks each block needs.
-    weak_needs: Vec<u32>,
-    /// The strong blocks that need a weak one.
-    marks: Marks,
+    /// None where changes of labels are to be cheap, and the first pair is looked for seldom.
+    index: Option<Index>,
 }
 
 impl Model for Labels {
+    ghost use Rattle.std.specs.Prelude.{◌≡◌, length, IfSome};
     ghost use Rattle.norm_tree.specs.Labelled.{Labelled, IsIndexed};
 
     ghost Value = { Labelled };
 
     ghost view = { λ l. record { graph = l.graph.value; strong = l.strong.items } };
 
-    ghost invariant = { λ l. IsIndexed l.graph.value l.strong.items l.weak_needs.items l.marks };
+    ghost invariant = { λ l. (length l.strong.items ≡ l.graph.value.blocks) × IfSome l.index (λ i. IsIndexed l.graph.value l.strong.items i.weak_needs.items i.marks) };
 }
 
-/// Counts the weak blocks that each block needs.
-fn count_weak(graph: &Graph, strong: &[bool], weak_needs: &mut [u32])
-    requires labelled { length strong.now ≡ graph.now.blocks }
-    requires sized { length weak_needs.old ≡ graph.now.blocks }
-    requires zero { (u : ℕ) → u < length weak_needs.old → get_or weak_needs.old u 0 ≡ 0 }
-    ensures { AreCounted graph.now.pairs strong.now weak_needs.new }
+/// The first pair by number that leads from a strong block to a weak one, by a look at each pair.
+fn first_open(graph: &Graph, strong: &[bool]) -> Option<u32>
+    requires { length strong.now ≡ graph.now.blocks }
+    ensures merger { IfSome result (λ k. IsTrue (is_open (labelled graph.now strong.now) k)) }
+    ensures least { IfSome result (λ k. (l : ℕ) → l < k → is_open (labelled graph.now strong.now) l ≡ false) }
+    ensures none { IsNone result → (k : ℕ) → is_open (labelled graph.now strong.now) k ≡ false }
 {
     graph.law();
     for k in 0..graph.arcs() {
         let (from, to) = graph.arc(k);
-        if !strong[to as usize] {
-            weak_needs[from as usize] += 1;
-        }
-    }
-}
-
-/// Marks the strong blocks that need a weak one, where nothing is marked yet.
-fn mark_all(strong: &[bool], weak_needs: &[u32], marks: &mut Marks)
-    requires few { length strong.now ≤ 2 ^ 22 }
-    requires sized { length weak_needs.now ≡ length strong.now }
-    requires room { length strong.now ≤ length marks.old }
-    requires unmarked { (u : ℕ) → get_or marks.old u false ≡ false }
-    ensures count { length marks.new ≡ length marks.old }
-    ensures marked { AreMarked strong.now weak_needs.now marks.new }
-{
-    for u in 0..strong.len() {
-        if strong[u] && weak_needs[u] > 0 {
-            marks.set(u as u32, true);
-        }
-    }
-}
-
-/// Takes the changed label of a block in at each of its users.
-fn tell_users(graph: &Graph, strong: &[bool], block: u32, weak_needs: &mut [u32], marks: &mut Marks)
-    requires labelled { length strong.now ≡ graph.now.blocks }
-    requires sized { length weak_needs.old ≡ graph.now.blocks }
-    requires room { graph.now.blocks ≤ length marks.old }
-    requires inside { block < graph.now.blocks }
-    requires counted { AreCounted graph.now.pairs (set strong.now block (not (get_or strong.now block false))) weak_needs.old }
-    requires marked { AreMarked strong.now weak_needs.old marks.old }
-    ensures sized { length weak_needs.new ≡ length weak_needs.old }
-    ensures count { length marks.new ≡ length marks.old }
-    ensures counted { AreCounted graph.now.pairs strong.now weak_needs.new }
-    ensures marked { AreMarked strong.now weak_needs.new marks.new }
-{
-    graph.law();
-    let users = graph.users(block);
-    for place in 0..users.len() {
-        let user = graph.arc(users[place]).0;
-        if strong[block as usize] {
-            weak_needs[user as usize] -= 1;
-        } else {
-            weak_needs[user as usize] += 1;
-        }
-        marks.set(user, strong[user as usize] && weak_needs[user as usize] > 0);
-    }
-}
-
-/// The first pair by which a block needs a weak one.
-fn first_weak_need(graph: &Graph, strong: &[bool], block: u32) -> Option<u32>
-    requires labelled { length strong.now ≡ graph.now.blocks }
-    requires inside { block < graph.now.blocks }
-    ensures own { IfSome result (λ k. (k < length graph.now.pairs) × (first_of graph.now.pairs k ≡ block)) }
-    ensures weak { IfSome result (λ k. label strong.now (second_of graph.now.pairs k) ≡ false) }
-    ensures first { IfSome result (λ k. (l : ℕ) → l < k → first_of graph.now.pairs l ≡ block → label strong.now (second_of graph.now.pairs l) ≡ true) }
-    ensures none { IsNone result → (l : ℕ) → l < length graph.now.pairs → first_of graph.now.pairs l ≡ block → label strong.now (second_of graph.now.pairs l) ≡ true }
-{
-    graph.law();
-    let arcs = graph.arcs_of(block);
-    for k in arcs.start..arcs.end {
-        let needed = graph.arc(k).1;
-        if !strong[needed as usize] {
+        if strong[from as usize] && !strong[to as usize] {
             return Some(k);
         }
     }
@@ -112,23 +48,34 @@ fn first_weak_need(graph: &Graph, strong: &[bool], block: u32) -> Option<u32>
 }
 
 impl Labels {
-    /// Those labels, indexed in time linear in blocks and pairs. Refused for want of memory alone.
-    pub(crate) fn of(alloc: Global, graph: Arc<Graph>, strong: Vec<bool>) -> Result<Labels, Fault>
+    /// Those labels, without an index. It takes no memory.
+    pub(crate) fn of(graph: Arc<Graph>, strong: Vec<bool>) -> Labels
         requires { length strong.items ≡ graph.value.blocks }
-        ensures graph { IfOk result (λ l. l.graph ≡ graph.value) }
-        ensures strong { IfOk result (λ l. l.strong ≡ strong.items) }
+        ensures graph { result.graph ≡ graph.value }
+        ensures strong { result.strong ≡ strong.items }
+    {
+        Labels {
+            graph,
+            strong,
+            index: None,
+        }
+    }
+
+    /// The same labels with an index, made in time linear in blocks and pairs. Refused for want of memory alone.
+    pub(crate) fn indexed(self, alloc: Global) -> Result<Labels, Fault>
+        ensures same { IfOk result (λ l. l ≡ self) }
         ensures no_memory { IfErr result (λ e. e ≡ no_memory) }
     {
-        graph.law();
-        let mut weak_needs = vec![in alloc; 0; graph.n() as usize]?;
-        let mut marks = Marks::none(alloc, graph.n())?;
-        count_weak(&graph, &strong, &mut weak_needs);
-        mark_all(&strong, &weak_needs, &mut marks);
+        let Labels {
+            graph,
+            strong,
+            index: _,
+        } = self;
+        let index = Index::of(alloc, &graph, &strong)?;
         Ok(Labels {
             graph,
             strong,
-            weak_needs,
-            marks,
+            index: Some(index),
         })
     }
 
@@ -154,7 +101,7 @@ impl Labels {
         &self.strong
     }
 
-    /// Labels a block. It takes time linear in the users of the block, and none where the label is the same.
+    /// Labels a block. With an index it takes time linear in the users of the block, and none where the label is the same.
     pub(crate) fn set(&mut self, block: u32, strong: bool)
         requires { block < self.old.graph.blocks }
         ensures graph { self.new.graph ≡ self.old.graph }
@@ -164,15 +111,9 @@ impl Labels {
             return;
         }
         self.strong[block as usize] = strong;
-        self.marks
-            .set(block, strong && self.weak_needs[block as usize] > 0);
-        tell_users(
-            &self.graph,
-            &self.strong,
-            block,
-            &mut self.weak_needs,
-            &mut self.marks,
-        );
+        if let Some(index) = &mut self.index {
+            index.take_in(&self.graph, &self.strong, block);
+        }
     }
 
     /// The first pair by number that leads from a strong block to a weak one.
@@ -181,10 +122,9 @@ impl Labels {
         ensures least { IfSome result (λ k. (l : ℕ) → l < k → is_open self.now l ≡ false) }
         ensures none { IsNone result → (k : ℕ) → is_open self.now k ≡ false }
     {
-        self.graph.law();
-        match self.marks.first() {
-            Some(block) => first_weak_need(&self.graph, &self.strong, block),
-            None => None,
+        match &self.index {
+            Some(index) => index.first(&self.graph, &self.strong),
+            None => first_open(&self.graph, &self.strong),
         }
     }
 }

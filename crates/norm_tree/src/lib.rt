@@ -4,6 +4,7 @@
 mod bare;
 mod flow;
 mod gather;
+mod index;
 mod labels;
 mod marks;
 mod merge;

@@ -1,7 +1,7 @@
 -- The blocks so far are marked.
 use Rattle.std.proofs.Common.{◌≡◌, ℕ, ◌<◌, ◌≤◌, nat_lt, false, ◌&&◌, length, get_or}
 use Rattle.norm_tree.specs.Labelled.{label}
-use Rattle.norm_tree.proofs.labels.mark_all.Given as goal
+use Rattle.norm_tree.proofs.index.mark_all.Given as goal
 
 abbrev pub invariant-loop-u : goal.invariant-loop-u
 invariant-loop-u l = record {

@@ -5,8 +5,8 @@ use Rattle.pit_model.specs.Graph.{first_of, second_of}
 use Rattle.mine_graph.proofs.Counts.{count-zero, count-le}
 use Rattle.norm_tree.specs.Labelled.{label, needs_weak}
 use Rattle.norm_tree.proofs.Labelling.{counting_strong, counting_weak}
-use Rattle.norm_tree.proofs.labels.count_weak.Goals as goal
-use Rattle.norm_tree.proofs.labels.count_weak.Goals.{then-not-strong-to, else-not-strong-to}
+use Rattle.norm_tree.proofs.index.count_weak.Goals as goal
+use Rattle.norm_tree.proofs.index.count_weak.Goals.{then-not-strong-to, else-not-strong-to}
 
 pub loop-k-init : goal.loop-k-init
 loop-k-init c = record {

@@ -6,8 +6,8 @@ use Rattle.mine_graph.specs.Queue.{count}
 use Rattle.mine_graph.proofs.Counts.{count-le}
 use Rattle.norm_tree.specs.Labelled.{label, AreMarked}
 use Rattle.norm_tree.proofs.Labelling.{IsTelling, bound_of, users_of, needs_so_far, user_at, telling_begins, telling_on, telling_ends, told_fewer, told_more, marking_on}
-use Rattle.norm_tree.proofs.labels.tell_users.Goals as goal
-use Rattle.norm_tree.proofs.labels.tell_users.Goals.{then-strong-block, else-strong-block, then-strong-user, else-strong-user}
+use Rattle.norm_tree.proofs.index.tell_users.Goals as goal
+use Rattle.norm_tree.proofs.index.tell_users.Goals.{then-strong-block, else-strong-block, then-strong-user, else-strong-user}
 
 pub loop-place-init : goal.loop-place-init
 loop-place-init c = record {

@@ -2,7 +2,7 @@
 use Rattle.std.proofs.Common.{◌≡◌, ℕ, ◌<◌, length, get_or}
 use Rattle.mine_graph.specs.Queue.{count}
 use Rattle.norm_tree.specs.Labelled.{needs_weak}
-use Rattle.norm_tree.proofs.labels.count_weak.Given as goal
+use Rattle.norm_tree.proofs.index.count_weak.Given as goal
 
 abbrev pub invariant-loop-k : goal.invariant-loop-k
 invariant-loop-k l = record {

@@ -2,7 +2,7 @@
 use Rattle.std.proofs.Common.{◌≡◌, length}
 use Rattle.norm_tree.specs.Labelled.{AreMarked}
 use Rattle.norm_tree.proofs.Labelling.{IsTelling, bound_of}
-use Rattle.norm_tree.proofs.labels.tell_users.Given as goal
+use Rattle.norm_tree.proofs.index.tell_users.Given as goal
 
 abbrev pub invariant-loop-place : goal.invariant-loop-place
 invariant-loop-place l = record {
