@@ -1,36 +1,59 @@
--- What the holder of the lock has: the tree of an instance, the journal of what was decided, and the budget of mergers.
-use Rattle.std.specs.Prelude.{◌≡◌, ℕ, [], ◌∷◌, ◌++◌, List, Option, Some, None}
+-- What the holder of the lock has: the tree of an instance, the journal of what was decided, the budget of mergers, the arcs of
+-- the mergers that readers see, and for each worker what was answered to it and what is claimed from it.
+use Rattle.std.specs.Prelude.{◌≡◌, ℕ, ◌-◌, ◌==◌, if◌then◌else◌, [], ◌∷◌, ◌++◌, List, Option}
+use Rattle.proposals.specs.declared.knows.Served.{Served}
+use Rattle.proposals.specs.Ledger.{reply, answering}
 use Rattle.pit_model.specs.declared.journal.Verdict.{Verdict}
 use Rattle.pit_model.specs.declared.journal.Entry.{Entry}
 use Rattle.pit_model.specs.Mine.{Instance}
 use Rattle.pit_model.specs.Tree.{Tree, opening}
-use Rattle.pit_model.specs.FirstRun.{HasNoMerger, IsFirstMerger}
-use Rattle.pit_model.specs.Journal.{lawful_verdict, tree_after, applied_count, IsLawful, replay}
+use Rattle.pit_model.specs.Journal.{lawful_verdict, tree_after, applied_count}
+use Rattle.pit_model.specs.Version.{version_tree, arcs_after}
+use Rattle.tree_lock.specs.Kept.{Kept, entry_of}
 
 pub record Held : Type 0 where
   pub mine : Instance
   pub tree : Tree
   pub journal : List Entry
   pub budget : Option ℕ
+  pub published : List ℕ
+  pub seats : List Served
 
-abbrev pub held : Instance → Tree → List Entry → Option ℕ → Held
-held mine tree journal budget = record { mine = mine; tree = tree; journal = journal; budget = budget }
+-- the opening tree, with nothing decided yet
+abbrev pub opened : Instance → Option ℕ → List Served → Held
+opened mine budget seats =
+    record { mine = mine; tree = opening mine; journal = []; budget = budget; published = []; seats = seats }
 
--- the opening tree, and nothing decided yet
-abbrev pub opened : Instance → Option ℕ → Held
-opened mine budget = held mine (opening mine) [] budget
+-- what a book keeps, with the tree of the published mergers and the seat at the board
+abbrev pub held_by : Instance → Kept → List Served → Held
+held_by mine kept seats = record {
+  mine = mine;
+  tree = version_tree mine kept.published;
+  journal = kept.journal;
+  budget = kept.budget;
+  published = kept.published;
+  seats = seats;
+}
 
 -- what is to be decided of an arc now
 abbrev pub verdict_on : Held → ℕ → Verdict
 verdict_on now arc = lawful_verdict now.mine now.budget now.tree (applied_count now.journal) arc
 
--- the entry of an arc that was decided for a seat
-abbrev pub entry_of : ℕ → ℕ → Verdict → Entry
-entry_of seat arc verdict = record { seat = seat; arc = arc; verdict = verdict }
+-- an entry under a worker's seat is answered to it; seat 0 is the driver's, to which nothing is answered
+abbrev pub seats_after : List Served → Entry → List Served
+seats_after seats entry =
+    if entry.seat == 0 then seats else answering seats (entry.seat - 1) (reply entry.arc entry.verdict)
 
--- after one more entry
+-- after one more entry: an applied arc is merged over and published, and what was decided is answered
 abbrev pub with_entry : Held → Entry → Held
-with_entry before entry = held before.mine (tree_after before.mine before.tree entry) (before.journal ++ entry ∷ []) before.budget
+with_entry before entry = record {
+  mine = before.mine;
+  tree = tree_after before.mine before.tree entry;
+  journal = before.journal ++ entry ∷ [];
+  budget = before.budget;
+  published = arcs_after before.published entry;
+  seats = seats_after before.seats entry;
+}
 
 -- an arc was decided for a seat, as is lawful
 abbrev pub DecidesFor : ℕ → ℕ → Held → Held → Verdict → Type 0
@@ -39,18 +62,3 @@ DecidesFor seat arc old new verdict = (verdict ≡ verdict_on old arc) × (new �
 -- and for the driver, which has seat 0
 abbrev pub Decides : ℕ → Held → Held → Verdict → Type 0
 Decides arc old new verdict = DecidesFor 0 arc old new verdict
-
--- the first merger arc was decided; or there was none, and nothing changed
-abbrev pub DecidesFirst : Held → Held → Option Verdict → Type 0
-DecidesFirst old new None = HasNoMerger old.mine old.tree × (new ≡ old)
-DecidesFirst old new (Some verdict) = (arc : ℕ) × IsFirstMerger old.mine old.tree (Some arc) × Decides arc old new verdict
-
--- the journal is lawful, the tree is its replay, and its mergers are counted
-pub record IsBook (mine : Instance) (tree : Tree) (journal : List Entry) (budget : Option ℕ) (applied : ℕ) : Type 0 where
-  pub lawful : IsLawful mine budget journal
-  pub replayed : tree ≡ replay mine journal
-  pub counted : applied ≡ applied_count journal
-
--- a mine of no blocks
-abbrev pub no_mine : Instance
-no_mine = record { blocks = 0; values = []; pairs = [] }

@@ -1,63 +1,70 @@
-//! The tree with its journal and its budget: the law of the lock is the invariant of this type.
-//! `holder` says which instance and budget it is of.
+//! The published tree with its journal and its budget: the law of the lock is the invariant of this type.
+//! `holder` says which budget it is of, and adds the seat at the board.
 ghost use Rattle.std.specs.Prelude.{◌≡◌, [], true, ◌<◌, ◌^◌, IfOk, IfErr, IsTrue};
+ghost use mathlib.Core.List.{IsPrefix};
 ghost use Rattle.minelib_reader.specs.Refused.{no_memory};
-ghost use Rattle.pit_model.specs.Tree.{is_merger, opening};
-ghost use Rattle.pit_model.specs.Journal.{applied_count, count_after, is_applied, tree_after, IsLawful, replay};
-ghost use Rattle.tree_lock.specs.Held.{DecidesFor, opened, verdict_on};
+ghost use Rattle.pit_model.specs.Tree.{is_merger};
+ghost use Rattle.pit_model.specs.Journal.{count_after, is_applied, IsLawful};
+ghost use Rattle.pit_model.specs.Version.{applied_arcs, arcs_after, version_tree};
+ghost use Rattle.versions.specs.Published.{tree_over};
+ghost use Rattle.tree_lock.specs.Kept.{kept, verdict_for, Keeps};
 
 use minelib_reader::Fault;
 use norm_tree::NormTree;
 use pit_model::{Entry, Verdict};
 use std::alloc::Global;
 use std::marker::Model;
+use std::sync::Wait;
+use versions::{LookSeat, Origin, Publisher};
 
-/// To a contract it is its tree, its journal and its budget.
+/// To a contract it is its journal, its budget and the arcs of its published mergers.
 #[derive(Drop)]
-pub struct Book {
-    tree: NormTree,
+pub struct Book<V: Origin, R: Wait + Drop> {
+    publisher: Publisher<V, R>,
     journal: Vec<Entry>,
     budget: Option<u64>,
     /// The applied entries of the journal.
     applied: u64,
 }
 
-impl Model for Book {
-    ghost use Rattle.tree_lock.specs.Held.{Held, held, IsBook};
+impl<V: Origin, R: Wait + Drop> Model for Book<V, R> {
+    ghost use Rattle.tree_lock.specs.Kept.{Kept, kept, IsBook};
 
-    ghost Value = { Held };
+    ghost Value = { Kept };
 
-    ghost view = { λ b. held b.tree.mine b.tree.tree b.journal.items b.budget };
+    ghost view = { λ b. kept b.journal.items b.budget b.publisher };
 
-    ghost invariant = { λ b. IsBook b.tree.mine b.tree.tree b.journal.items b.budget b.applied };
+    ghost invariant = { λ b. IsBook V.mine b.publisher b.journal.items b.budget b.applied };
 }
 
-impl Book {
+impl<V: Origin, R: Wait + Drop> Book<V, R> {
     /// The opening tree, with nothing decided. It takes no memory.
-    pub fn new(alloc: Global, tree: NormTree, budget: Option<u64>) -> Book
-        requires { tree.tree ≡ opening tree.mine }
-        ensures { result ≡ opened tree.mine budget }
+    pub fn new(alloc: Global, publisher: Publisher<V, R>, budget: Option<u64>) -> Book<V, R>
+        requires { publisher ≡ [] }
+        ensures { result ≡ kept [] budget [] }
     {
         Book {
-            tree,
+            publisher,
             journal: Vec::new(alloc),
             budget,
             applied: 0,
         }
     }
 
-    /// What is true of each book.
+    /// What is true of each book: its journal is lawful, and what is published are the journal's applied arcs.
     pub fn law(&self)
-        ensures lawful { IsLawful self.now.mine self.now.budget self.now.journal }
-        ensures replayed { self.now.tree ≡ replay self.now.mine self.now.journal }
+        ensures lawful { IsLawful V.mine self.now.budget self.now.journal }
+        ensures published { self.now.published ≡ applied_arcs self.now.journal }
     {
         let _ = &self.journal;
     }
 
+    /// The published tree.
     pub fn tree(&self) -> &NormTree
-        ensures { result.now ≡ record { mine = self.now.mine; tree = self.now.tree } }
+        ensures { result.now ≡ tree_over V.mine self.now.published }
     {
-        &self.tree
+        let _ = &self.journal;
+        self.publisher.tree()
     }
 
     pub fn journal(&self) -> &[Entry]
@@ -73,23 +80,33 @@ impl Book {
     }
 
     pub fn into_parts(self) -> (NormTree, Vec<Entry>)
-        ensures tree { result.0 ≡ record { mine = self.mine; tree = self.tree } }
+        ensures tree { result.0 ≡ tree_over V.mine self.published }
         ensures journal { result.1.items ≡ self.journal }
     {
         let Book {
-            tree,
+            publisher,
             journal,
             budget: _,
             applied: _,
         } = self;
-        (tree, journal)
+        (publisher.into_tree(), journal)
+    }
+
+    /// Tells the seat of all that is published; true where nothing is pending, which is always.
+    pub fn tell(&mut self, seat: &mut LookSeat<V>) -> bool
+        ensures same { self.new ≡ self.old }
+        ensures told { seat.new ≡ self.old.published }
+        ensures before { IsPrefix seat.old self.old.published }
+        ensures all { result ≡ true }
+    {
+        self.publisher.tell(seat)
     }
 
     // The lawful verdict on an arc.
     fn verdict_on(&self, arc: u32) -> Verdict
-        ensures { result ≡ verdict_on self.now arc }
+        ensures { result ≡ verdict_for V.mine self.now arc }
     {
-        if !self.tree.is_merger(arc) {
+        if !self.tree().is_merger(arc) {
             return Verdict::Stale;
         }
         match self.budget {
@@ -98,33 +115,43 @@ impl Book {
         }
     }
 
-    /// Decides one proposal for a seat, with an entry. Where memory for it was refused, nothing changed.
+    /// Decides one proposal for a seat, with an entry; an applied merger is published. Where memory for that was refused,
+    /// nothing changed.
     pub fn decide(&mut self, seat: u32, arc: u32) -> Result<Verdict, Fault>
-        ensures decided { IfOk result (DecidesFor seat arc self.old self.new) }
+        ensures decided { IfOk result (Keeps V.mine seat arc self.old self.new) }
         ensures refused { IfErr result (λ e. (e ≡ no_memory) × (self.new ≡ self.old)) }
     {
         self.journal.reserve(1)?;
         let verdict = self.verdict_on(arc);
         let entry = Entry { seat, arc, verdict };
+        match carry_out(&mut self.publisher, &mut self.applied, entry) {
+            Ok(()) => {}
+            Err(error) => return Err(error),
+        }
         self.journal.push_reserved(entry);
-        carry_out(&mut self.tree, &mut self.applied, entry);
         Ok(verdict)
     }
 }
 
-// Makes the merger of an applied entry, and counts it.
-fn carry_out(tree: &mut NormTree, applied: &mut u64, entry: Entry)
-    requires merger { is_applied entry.verdict ≡ true → IsTrue (is_merger tree.old.mine tree.old.tree entry.arc) }
+// Makes and publishes the merger of an applied entry, and counts it. Where memory was refused, nothing changed.
+fn carry_out<V: Origin, R: Wait + Drop>(
+    publisher: &mut Publisher<V, R>,
+    applied: &mut u64,
+    entry: Entry,
+) -> Result<(), Fault>
+    requires merger { is_applied entry.verdict ≡ true → IsTrue (is_merger V.mine (version_tree V.mine publisher.old) entry.arc) }
     requires room { applied.old < 2 ^ 63 }
-    ensures mine { tree.new.mine ≡ tree.old.mine }
-    ensures tree { tree.new.tree ≡ tree_after tree.old.mine tree.old.tree entry }
-    ensures applied { applied.new ≡ count_after applied.old entry }
+    ensures done { IfOk result (λ _. (publisher.new ≡ arcs_after publisher.old entry) × (applied.new ≡ count_after applied.old entry)) }
+    ensures refused { IfErr result (λ e. (e ≡ no_memory) × (publisher.new ≡ publisher.old) × (applied.new ≡ applied.old)) }
 {
     match entry.verdict {
-        Verdict::Applied => {
-            tree.try_merge(entry.arc);
-            *applied += 1;
-        }
-        Verdict::Stale | Verdict::Spent => {}
+        Verdict::Applied => match publisher.publish(entry.arc) {
+            Ok(()) => {
+                *applied += 1;
+                Ok(())
+            }
+            Err(error) => Err(error),
+        },
+        Verdict::Stale | Verdict::Spent => Ok(()),
     }
 }

@@ -1,15 +1,18 @@
 //! The holder of the lock: a book of the instance and the budget that the site names, and the seat that answers its board.
 //! `serve` has the pass over the board (flat combining: Hendler, Incze, Shavit and Tzafrir 2010); `shared` puts the holder
 //! under a mutex.
-ghost use Rattle.std.specs.Prelude.{◌≡◌, ◌<◌, suc, IfOk, IfErr, pos, ◌+ℤ◌, ◌*ℤ◌, ◌≤ℤ◌};
+ghost use Rattle.std.specs.Prelude.{◌≡◌, ℕ, ◌+◌, ◌<◌, suc, true, [], None, IfOk, IfErr, pos, ◌+ℤ◌, ◌*ℤ◌, ◌≤ℤ◌};
+ghost use mathlib.Core.List.{IsPrefix};
 ghost use Rattle.minelib_reader.specs.Refused.{no_memory};
 ghost use Rattle.pit_model.specs.Mine.{arcs};
-ghost use Rattle.pit_model.specs.Tree.{opening, IsNormalised};
+ghost use Rattle.pit_model.specs.Tree.{IsNormalised};
 ghost use Rattle.pit_model.specs.Rank.{positive_worth};
 ghost use Rattle.pit_model.specs.Limits.{IsInstance};
 ghost use Rattle.pit_model.specs.Journal.{applied_count, IsLawful, IsWithin, replay};
-ghost use Rattle.tree_lock.specs.Held.{Decides, DecidesFirst, opened};
-ghost use Rattle.tree_lock.specs.Served.{AreUnderSeats, IsFresh, MeetsJournal};
+ghost use Rattle.pit_model.specs.Version.{applied_arcs, IsVersion};
+ghost use Rattle.proposals.specs.Ledger.{answered_to, claimed_from};
+ghost use Rattle.tree_lock.specs.Held.{Decides, opened};
+ghost use Rattle.tree_lock.specs.Served.{replies_under, AreUnderSeats, IsFresh, MeetsJournal};
 
 use crate::book::Book;
 use crate::site::Site;
@@ -19,52 +22,57 @@ use pit_model::{Entry, Verdict};
 use proposals::{Board, HolderSeat, WorkerSeat};
 use std::alloc::Global;
 use std::marker::Model;
+use std::sync::Wait;
+use versions::{LookSeat, Publisher};
 
 // The seat under which the driver's entries stand.
 const DRIVER: u32 = 0;
 
-/// To a contract it is its tree, its journal and its budget, which are of the site's instance and budget.
+/// To a contract it is its tree, its journal and its budget, the arcs that are published, and what was answered to each worker
+/// and is claimed from it. Tree and budget are of the site's instance and budget. It keeps a handle, since publishing waits
+/// for readers that have not left an old version.
 #[derive(Drop)]
-pub struct Holder<S: Site> {
-    pub(crate) book: Book,
+pub struct Holder<S: Site, R: Wait + Drop> {
+    pub(crate) book: Book<S, R>,
     pub(crate) seat: HolderSeat<S>,
 }
 
-impl<S: Site> Model for Holder<S> {
+impl<S: Site, R: Wait + Drop> Model for Holder<S, R> {
     ghost use Rattle.std.specs.Prelude.{◌≡◌};
-    ghost use Rattle.tree_lock.specs.Held.{Held};
+    ghost use Rattle.tree_lock.specs.Held.{Held, held_by};
     ghost use Rattle.tree_lock.specs.Served.{IsServed};
 
     ghost Value = { Held };
 
-    ghost view = { λ h. h.book };
+    ghost view = { λ h. held_by S.mine h.book h.seat };
 
-    ghost invariant = { λ h. IsServed h.book.mine h.book.journal S.workers h.seat × (h.book.mine ≡ S.mine) × (h.book.budget ≡ S.budget) };
+    ghost invariant = { λ h. IsServed S.mine h.book.journal S.workers h.seat × (h.book.budget ≡ S.budget) };
 }
 
-impl<S: Site> Holder<S> {
+impl<S: Site, R: Wait + Drop> Holder<S, R> {
     // The opening tree, with nothing decided.
     pub(crate) fn new(
         alloc: Global,
-        tree: NormTree,
+        publisher: Publisher<S, R>,
         budget: Option<u64>,
         seat: HolderSeat<S>,
-    ) -> Holder<S>
-        requires opening { tree.tree ≡ opening tree.mine }
-        requires mine { tree.mine ≡ S.mine }
+    ) -> Holder<S, R>
+        requires opening { publisher ≡ [] }
         requires budget { budget ≡ S.budget }
         requires fresh { IsFresh S.workers seat }
-        ensures { result ≡ opened tree.mine budget }
+        ensures { result ≡ opened S.mine budget seat }
     {
         Holder {
-            book: Book::new(alloc, tree, budget),
+            book: Book::new(alloc, publisher, budget),
             seat,
         }
     }
 
-    /// What is true of each holder: it is of the site's instance and budget; the journal is lawful, under the seats of the
-    /// workers and of the driver, whose arcs are the instance's; the tree is its replay by one thread, and normalised; the
-    /// mergers are at most the budget's, and at most P * (n + 1) + n, P the sum of the positive values.
+    /// What is true of each holder, the law of the lock. It is of the site's instance and budget. The journal is lawful, under
+    /// the seats of the workers and of the driver, whose arcs are the instance's; the tree is its replay by one thread, and
+    /// normalised; the mergers are at most the budget's, and at most P * (n + 1) + n, P the sum of the positive values.
+    /// The entries under each worker's seat are what was answered to it, and nothing is claimed. The published arcs are those
+    /// of the applied entries, and what readers see of them is the tree.
     pub fn law(&self)
         ensures mine { self.now.mine ≡ S.mine }
         ensures budget { self.now.budget ≡ S.budget }
@@ -75,15 +83,21 @@ impl<S: Site> Holder<S> {
         ensures normalised { IsNormalised self.now.mine self.now.tree }
         ensures within_budget { IsWithin self.now.budget (applied_count self.now.journal) }
         ensures bounded { pos (applied_count self.now.journal) ≤ℤ (positive_worth self.now.mine *ℤ pos (suc self.now.mine.blocks) +ℤ pos self.now.mine.blocks) }
+        ensures answered { (i : ℕ) → replies_under (i + 1) self.now.journal ≡ answered_to self.now.seats i }
+        ensures unclaimed { (i : ℕ) → claimed_from self.now.seats i ≡ None }
+        ensures published { self.now.published ≡ applied_arcs self.now.journal }
+        ensures version { IsVersion self.now.mine self.now.tree self.now.published }
     {
+        let _ = &self.seat;
         self.book.law();
         self.book.tree().law();
     }
 
-    /// The tree as it stands.
+    /// The tree as it stands, which is the published one.
     pub fn tree(&self) -> &NormTree
         ensures { result.now ≡ record { mine = self.now.mine; tree = self.now.tree } }
     {
+        let _ = &self.seat;
         self.book.tree()
     }
 
@@ -101,7 +115,7 @@ impl<S: Site> Holder<S> {
         self.book.budget()
     }
 
-    /// The tree and the journal, for good.
+    /// The tree and the journal, for good. It waits for readers that have not left; from then on a look gives its seat back.
     pub fn into_parts(self) -> (NormTree, Vec<Entry>)
         ensures tree { result.0 ≡ record { mine = self.mine; tree = self.tree } }
         ensures journal { result.1.items ≡ self.journal }
@@ -110,26 +124,28 @@ impl<S: Site> Holder<S> {
         book.into_parts()
     }
 
-    /// Decides one proposal of the driver, with an entry under seat 0: a merger arc is merged, unless the budget is used up.
-    /// Refused for want of memory for the entry, and then nothing changed.
+    /// Decides one proposal of the driver, with an entry under seat 0: a merger arc is merged and published, unless the budget
+    /// is used up. It waits for readers that have not left an old version.
+    /// Errors: `NoMemory` where memory for the entry or the merger was refused; then nothing changed.
     pub fn apply(&mut self, arc: u32) -> Result<Verdict, Fault>
         requires { arc < arcs self.old.mine }
         ensures decided { IfOk result (Decides arc self.old self.new) }
         ensures refused { IfErr result (λ e. (e ≡ no_memory) × (self.new ≡ self.old)) }
     {
+        let _ = &self.seat;
         self.book.decide(DRIVER, arc)
     }
 
-    /// Decides the merger arc with the least number; None where no merger arc is left.
-    /// Refused for want of memory for the entry, and then nothing changed.
-    pub fn apply_first(&mut self) -> Result<Option<Verdict>, Fault>
-        ensures decided { IfOk result (DecidesFirst self.old self.new) }
-        ensures refused { IfErr result (λ e. (e ≡ no_memory) × (self.new ≡ self.old)) }
+    /// Tells a seat to look from of all mergers that were made: all that it saw or was told of before was a beginning of these.
+    /// True where nothing is left to be published, which is always.
+    pub fn tell(&mut self, seat: &mut LookSeat<S>) -> bool
+        ensures same { self.new ≡ self.old }
+        ensures told { seat.new ≡ applied_arcs self.old.journal }
+        ensures before { IsPrefix seat.old (applied_arcs self.old.journal) }
+        ensures all { result ≡ true }
     {
-        match self.tree().find_merger() {
-            None => Ok(None),
-            Some(arc) => Ok(Some(self.apply(arc)?)),
-        }
+        self.book.law();
+        self.book.tell(seat)
     }
 
     /// Lets a worker's seat meet the holder's. What each knows stays as it was, and the entries under the worker's seat and
@@ -138,6 +154,7 @@ impl<S: Site> Holder<S> {
         ensures same { (worker.new ≡ worker.old) × (self.new ≡ self.old) }
         ensures meets { MeetsJournal worker.old self.old.journal }
     {
+        let _ = &self.book;
         board.settle(worker, &mut self.seat);
     }
 }

@@ -1,4 +1,5 @@
-//! The tree under its lock: each proposal is decided by whoever holds it, with an entry in the journal.
+//! The tree under its lock: each proposal is decided by whoever holds it, with an entry in the journal. Readers look at the
+//! published version without the lock.
 #![tactic(auto)]
 
 mod book;
@@ -11,7 +12,10 @@ pub use holder::Holder;
 pub use pit_model::{Entry, Verdict};
 pub use shared::SharedTree;
 pub use site::Site;
+pub use versions::{LookSeat, Origin, UnnamedList, Version};
 
+#[cfg(test)]
+mod look_tests;
 #[cfg(test)]
 mod serve_tests;
 #[cfg(test)]

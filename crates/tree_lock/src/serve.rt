@@ -8,8 +8,9 @@ use crate::holder::Holder;
 use crate::site::Site;
 use minelib_reader::Fault;
 use proposals::Board;
+use std::sync::Wait;
 
-impl<S: Site> Holder<S> {
+impl<S: Site, R: Wait + Drop> Holder<S, R> {
     // Serves one worker, and tells whether an ask of it stood there.
     fn serve_one(&mut self, board: &Board<S>, worker: u32) -> Result<bool, Fault>
         requires { 0 < worker }
@@ -35,10 +36,11 @@ impl<S: Site> Holder<S> {
     }
 
     /// One pass over the board, workers rising: each ask that stands there is decided and answered, with an entry under its
-    /// worker's seat, at most one for each worker. It answers how many were. An arc that the instance does not have is stale.
+    /// worker's seat, at most one for each worker; an applied merger is published before its answer. It answers how many
+    /// were. An arc that the instance does not have is stale. It waits for readers that have not left an old version.
     ///
-    /// Refused for want of memory for an entry: tree and journal are then as after the asks answered before it, its ask stands
-    /// as it stood, and the pass ends.
+    /// Errors: `NoMemory` where memory for an entry or its merger was refused: all is then as after the asks answered before
+    /// it, its ask stands as it stood, and the pass ends.
     pub fn serve(&mut self, board: &Board<S>) -> Result<u32, Fault>
         ensures served { IfOk result (Serves self.old self.new) }
         ensures refused { IfErr result (λ e. (e ≡ no_memory) × ((count : ℕ) × Serves self.old self.new count)) }

@@ -10,7 +10,7 @@ use norm_tree::NormTree;
 use proposals::{Board, UnnamedBoard, WorkerSeat};
 use std::alloc::Global;
 use std::marker::Brand;
-use std::sync::Arc;
+use std::sync::{Arc, Wait};
 use std::test::*;
 
 // The opening tree of the four blocks.
@@ -25,8 +25,8 @@ fn four_blocks(alloc: Global) -> Result<NormTree, Fault>
 
 // One round: each worker asks for its arc, the holder serves all of them in one pass, and each collects: whether the replies
 // are these verdicts.
-fn round<S: Site>(
-    holder: &mut Holder<S>,
+fn round<S: Site, R: Wait + Drop>(
+    holder: &mut Holder<S, R>,
     board: &Board<S>,
     seats: &mut [WorkerSeat<S>],
     arcs: [u32; 3],
@@ -67,22 +67,26 @@ fn holds(entries: &[Entry], arcs: &[u32], verdicts: &[Verdict]) -> bool {
 }
 
 // Two rounds of three workers.
-fn two_rounds<S: Site>(
+fn two_rounds<S: Site, R: Wait>(
+    rt: &R,
     alloc: Global,
     tree: NormTree,
+    list: UnnamedList,
     unnamed: UnnamedBoard,
     budget: Option<u64>,
     second: [Verdict; 3],
 ) -> Result<bool, Fault>
     requires opening { tree.tree ≡ opening tree.mine }
     requires mine { tree.mine ≡ S.mine }
+    requires book { list ≡ S.book }
     requires budget { budget ≡ S.budget }
     requires board { unnamed.cells.shared.table_id ≡ S.board }
     requires workers { unnamed.workers ≡ S.workers }
 {
     let first = [Verdict::Applied, Verdict::Stale, Verdict::Stale];
     let (board, mut seats, seat) = Board::<S>::new(alloc, unnamed)?;
-    let mut holder = SharedTree::<S>::new(alloc, tree, budget, seat).into_holder();
+    let shared = SharedTree::<S, &R>::new(alloc, rt, list, tree, budget, &board, seat)?;
+    let mut holder = shared.into_holder();
     let good = round(&mut holder, &board, &mut seats, [0, 0, 2], first)?
         && round(&mut holder, &board, &mut seats, [1, 2, 2], second)?
         && holder.serve(&board)? == 0;
@@ -98,8 +102,18 @@ fn two_rounds<S: Site>(
 fn asks_are_served_in_the_order_of_workers(rt: HostRuntime) -> Result<(), Fail> {
     let tree = four_blocks(rt.alloc())?;
     let unnamed = UnnamedBoard::new(rt.alloc(), 3)?;
+    let list = UnnamedList::new()?;
     let second = [Verdict::Applied, Verdict::Applied, Verdict::Stale];
-    assert!(rt; two_rounds::<Brand>(rt.alloc(), tree, unnamed, None, second)?);
+    let good = two_rounds::<Brand, HostRuntime>(
+        &rt,
+        rt.alloc(),
+        tree,
+        list,
+        unnamed,
+        None,
+        second,
+    )?;
+    assert!(rt; good);
     Ok(())
 }
 
@@ -107,7 +121,17 @@ fn asks_are_served_in_the_order_of_workers(rt: HostRuntime) -> Result<(), Fail> 
 fn asks_past_the_budget_are_spent(rt: HostRuntime) -> Result<(), Fail> {
     let tree = four_blocks(rt.alloc())?;
     let unnamed = UnnamedBoard::new(rt.alloc(), 3)?;
+    let list = UnnamedList::new()?;
     let second = [Verdict::Spent, Verdict::Stale, Verdict::Stale];
-    assert!(rt; two_rounds::<Brand>(rt.alloc(), tree, unnamed, Some(1), second)?);
+    let good = two_rounds::<Brand, HostRuntime>(
+        &rt,
+        rt.alloc(),
+        tree,
+        list,
+        unnamed,
+        Some(1),
+        second,
+    )?;
+    assert!(rt; good);
     Ok(())
 }

@@ -1,7 +1,7 @@
-//! The holder under a mutex, so that each thread takes its turn.
-ghost use Rattle.std.specs.Prelude.{◌≡◌, ◌<◌, IfErr, IfSome};
-ghost use Rattle.minelib_reader.specs.Refused.{no_memory};
-ghost use Rattle.pit_model.specs.Mine.{arcs};
+//! The holder under a mutex, so that each thread takes its turn, and beside it what gives seats to look from without the lock.
+ghost use Rattle.std.specs.Prelude.{◌≡◌, IfErr};
+ghost use mathlib.Core.List.{IsPrefix};
+ghost use Rattle.minelib_reader.specs.Refused.{no_memory, no_seat, IsNoRoom};
 ghost use Rattle.pit_model.specs.Tree.{opening};
 ghost use Rattle.tree_lock.specs.Served.{IsFresh};
 
@@ -12,53 +12,80 @@ use norm_tree::NormTree;
 use proposals::{Board, HolderSeat};
 use std::alloc::Global;
 use std::sync::{Mutex, Wait};
+use versions::{LookSeat, LookSeats, Publisher, UnnamedList};
 
 /// A tree that threads share.
 #[derive(Drop)]
-pub struct SharedTree<S: Site> {
-    lock: Mutex<Holder<S>>,
+pub struct SharedTree<S: Site, R: Wait + Drop> {
+    lock: Mutex<Holder<S, R>>,
+    look_seats: LookSeats<S>,
 }
 
-impl<S: Site> SharedTree<S> {
-    /// Puts the opening tree under a lock, with an empty journal and the seat that answers the board. It takes no memory;
-    /// what the journal will need comes from `alloc`.
+impl<S: Site, R: Wait + Drop> SharedTree<S, R> {
+    /// Puts the opening tree under a lock, with an empty journal and the seat that answers the board, and publishes it. There
+    /// is a place to look from for each worker of the board, and one more. It keeps the handle.
+    /// Errors: `NoMemory` where memory was refused, `NoSeat` where the table of places was.
     pub fn new(
         alloc: Global,
+        rt: R,
+        list: UnnamedList,
         tree: NormTree,
         budget: Option<u64>,
+        board: &Board<S>,
         seat: HolderSeat<S>,
-    ) -> SharedTree<S>
+    ) -> Result<SharedTree<S, R>, Fault>
+        requires book { list ≡ S.book }
         requires opening { tree.tree ≡ opening tree.mine }
         requires mine { tree.mine ≡ S.mine }
         requires budget { budget ≡ S.budget }
         requires fresh { IsFresh S.workers seat }
+        ensures { IfErr result IsNoRoom }
     {
-        SharedTree {
-            lock: Mutex::new(Holder::new(alloc, tree, budget, seat)),
+        let places = board.workers(&seat).saturating_add(1);
+        let publisher = Publisher::<S, R>::new(alloc, rt, list, tree, places)?;
+        match publisher.look_seats() {
+            Ok(look_seats) => Ok(SharedTree {
+                lock: Mutex::new(Holder::new(alloc, publisher, budget, seat)),
+                look_seats,
+            }),
+            Err(fault) => Err(fault),
         }
     }
 
-    /// Takes the lock and looks for the merger arc with the least number then; None where no merger arc was left. Once the
-    /// lock is given back, the arc may be one no more.
-    pub fn find_merger<R: Wait>(&self, rt: &R) -> Option<u32>
-        ensures { IfSome result (λ arc. arc < arcs S.mine) }
+    /// A new seat to look from. It takes no lock. Errors: `NoSeat` where each place is taken.
+    pub fn look_seat(&self) -> Result<LookSeat<S>, Fault>
+        ensures { IfErr result (λ fault. fault ≡ no_seat) }
     {
-        let holder = self.lock.lock(rt);
-        holder.law();
-        holder.tree().find_merger()
+        self.look_seats.seat()
     }
 
     /// Takes the lock and serves the board as the holder does.
-    /// Refused for want of memory for an entry; the asks before it were then answered.
-    pub fn serve<R: Wait>(&self, rt: &R, board: &Board<S>) -> Result<u32, Fault>
-        ensures refused { IfErr result (λ e. e ≡ no_memory) }
+    /// Errors: `NoMemory` where memory for an entry or its merger was refused; the asks before it were then answered.
+    pub fn serve<H: Wait>(&self, rt: &H, board: &Board<S>) -> Result<u32, Fault>
+        ensures { IfErr result (λ fault. fault ≡ no_memory) }
     {
         self.lock.lock(rt).serve(board)
     }
 
+    /// Takes the lock and tells the seat of all mergers that were made by then: all that it saw or was told of before was a
+    /// beginning of these.
+    pub fn tell<H: Wait>(&self, rt: &H, seat: &mut LookSeat<S>) -> bool
+        ensures { IsPrefix seat.old seat.new }
+    {
+        self.lock.lock(rt).tell(seat)
+    }
+
+    /// The holder, while no other thread has the tree. It takes no lock.
+    pub fn holder(&mut self) -> &mut Holder<S, R> {
+        self.lock.get_mut()
+    }
+
     /// The holder, for good, once no thread has the tree any more. It takes no lock.
-    pub fn into_holder(self) -> Holder<S> {
-        let SharedTree { lock } = self;
+    pub fn into_holder(self) -> Holder<S, R> {
+        let SharedTree {
+            lock,
+            look_seats: _,
+        } = self;
         lock.into_inner()
     }
 }

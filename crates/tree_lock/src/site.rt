@@ -1,13 +1,13 @@
-//! Which instance, which budget and which board a lock works on: a type without bytes names them, so no call compares anything.
+//! Which instance, which list of mergers, which budget and which board a lock works on: a type without bytes names them, so no
+//! call compares anything.
 use proposals::Room;
 use std::marker::Brand;
+use versions::Origin;
 
-/// Names an instance, a budget and the number of workers at the board. A caller that has them picks them, as its `ghosts-F`.
-pub trait Site: Room {
+/// Names a budget and the number of workers at the board, beside the board of a `Room` and the instance and the list of
+/// mergers of an `Origin`. A caller that has them picks them, as its `ghosts-F`.
+pub trait Site: Room + Origin {
     ghost use Rattle.std.specs.Prelude.{ℕ, Option};
-    ghost use Rattle.pit_model.specs.Mine.{Instance};
-
-    ghost mine: { Instance };
 
     ghost budget: { Option ℕ };
 
@@ -16,9 +16,6 @@ pub trait Site: Room {
 
 impl Site for Brand {
     ghost use Rattle.std.specs.Prelude.{None};
-    ghost use Rattle.tree_lock.specs.Held.{no_mine};
-
-    ghost mine = { no_mine };
 
     ghost budget = { None };
 

@@ -9,7 +9,7 @@ use norm_tree::NormTree;
 use proposals::{Board, UnnamedBoard};
 use std::alloc::Global;
 use std::marker::Brand;
-use std::sync::Arc;
+use std::sync::{Arc, Wait};
 use std::test::*;
 
 // Whether the journal holds the driver's entries of these arcs with these verdicts.
@@ -26,9 +26,11 @@ fn holds(journal: &[Entry], arcs: &[u32], verdicts: &[Verdict]) -> bool {
 }
 
 // Decides the arcs in turn: whether the answers are these verdicts, and the journal holds them.
-fn decides<S: Site>(
+fn decides<S: Site, R: Wait>(
+    rt: &R,
     alloc: Global,
     tree: NormTree,
+    list: UnnamedList,
     unnamed: UnnamedBoard,
     budget: Option<u64>,
     arcs: &[u32],
@@ -36,12 +38,14 @@ fn decides<S: Site>(
 ) -> Result<bool, Fault>
     requires opening { tree.tree ≡ opening tree.mine }
     requires mine { tree.mine ≡ S.mine }
+    requires book { list ≡ S.book }
     requires budget { budget ≡ S.budget }
     requires board { unnamed.cells.shared.table_id ≡ S.board }
     requires workers { unnamed.workers ≡ S.workers }
 {
-    let (_, _, seat) = Board::<S>::new(alloc, unnamed)?;
-    let mut holder = SharedTree::<S>::new(alloc, tree, budget, seat).into_holder();
+    let (board, _, seat) = Board::<S>::new(alloc, unnamed)?;
+    let shared = SharedTree::<S, &R>::new(alloc, rt, list, tree, budget, &board, seat)?;
+    let mut holder = shared.into_holder();
     let mut good = holder.budget() == budget;
     for (arc, verdict) in arcs.iter().zip(verdicts) {
         if *arc >= holder.tree().instance().graph().arcs() {
@@ -74,9 +78,11 @@ fn an_arc_is_stale_until_it_is_a_merger_arc(rt: HostRuntime) -> Result<(), Fail>
         Verdict::Applied,
         Verdict::Stale,
     ];
-    let good = decides::<Brand>(
+    let good = decides::<Brand, HostRuntime>(
+        &rt,
         rt.alloc(),
         tree,
+        UnnamedList::new()?,
         UnnamedBoard::new(rt.alloc(), 1)?,
         None,
         &[0, 1, 2, 1, 0],
@@ -96,9 +102,11 @@ fn a_merger_past_the_budget_is_spent(rt: HostRuntime) -> Result<(), Fail> {
         Verdict::Spent,
         Verdict::Stale,
     ];
-    let good = decides::<Brand>(
+    let good = decides::<Brand, HostRuntime>(
+        &rt,
         rt.alloc(),
         tree,
+        UnnamedList::new()?,
         UnnamedBoard::new(rt.alloc(), 1)?,
         Some(2),
         &[0, 1, 2, 1, 0],

@@ -18,6 +18,7 @@ use std::marker::{Model, PhantomData};
 use std::sync::Arc;
 
 /// A list without an arc, of a book that no type names yet. To a contract it is that book.
+#[derive(Drop)]
 pub struct UnnamedList {
     word: Word<Link, u64, ListRule>,
     seen: Seen<Link, u64, ListRule>,

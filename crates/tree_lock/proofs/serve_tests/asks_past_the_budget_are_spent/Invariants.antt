@@ -1,8 +1,11 @@
--- The lock works on this instance, this budget and the board that was just made.
+-- The lock works on this instance, this list of mergers, this budget and the board that was just made.
 use Rattle.tree_lock.proofs.serve_tests.asks_past_the_budget_are_spent.Given as goal
 
 abbrev pub ghosts-two_rounds-S-Room : goal.ghosts-two_rounds-S-Room
 ghosts-two_rounds-S-Room g a = record { board = a.unnamed.cells.shared.table_id }
 
+abbrev pub ghosts-two_rounds-S-Origin : goal.ghosts-two_rounds-S-Origin
+ghosts-two_rounds-S-Origin g a = record { book = a.list; mine = a.tree.mine }
+
 abbrev pub ghosts-two_rounds-S-Site : goal.ghosts-two_rounds-S-Site
-ghosts-two_rounds-S-Site g a = record { mine = a.tree.mine; budget = a.budget; workers = a.unnamed.workers }
+ghosts-two_rounds-S-Site g a = record { budget = a.budget; workers = a.unnamed.workers }
