@@ -4,7 +4,11 @@
 
 mod by_mode;
 mod closing;
+mod deepest_first;
+mod driver;
 mod first_mergers;
+mod gate;
+mod guide;
 mod joined;
 mod lowest_label;
 mod mode;
@@ -13,9 +17,12 @@ mod parts;
 mod shared;
 mod single;
 mod solved_part;
+mod sweeps;
 mod waiting;
+mod worker;
 
 pub use by_mode::{find_pit, solve};
+pub use gate::{Gate, OpenGate};
 pub use mode::Mode;
 pub use outcome::Outcome;
 pub use parts::solve_parts;

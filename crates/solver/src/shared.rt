@@ -1,12 +1,16 @@
 //! Many workers solve one instance at one tree: each asks for merger arcs on the board, and whoever holds the lock decides what
 //! stands there (flat combining: Hendler, Incze, Shavit and Tzafrir 2010). The driver makes what they left over.
-ghost use Rattle.std.specs.Prelude.{◌≡◌, filter, nat_lt, IfOk, IfErr};
-ghost use Rattle.minelib_reader.specs.Refused.{no_memory, no_seat, IsNoRoom};
+ghost use Rattle.std.specs.Prelude.{◌≡◌, IfOk, IfErr};
+ghost use Rattle.minelib_reader.specs.Refused.{no_seat, IsNoRoom};
 ghost use Rattle.pit_model.specs.Tree.{opening};
-ghost use Rattle.solver.specs.Solved.{EndsBy, IsEnded, IsSolvedTogether};
+ghost use Rattle.solver.specs.Solved.{IsSolvedTogether};
 
+use crate::driver::{end_of, finish};
+use crate::gate::Gate;
+use crate::guide::Guide;
 use crate::outcome::Outcome;
-use certificate::of_tree;
+use crate::sweeps::Crew;
+use crate::worker::Worker;
 use mine_graph::Instance;
 use minelib_reader::Fault;
 use norm_tree::NormTree;
@@ -14,128 +18,37 @@ use proposals::{Board, UnnamedBoard, WorkerSeat};
 use std::alloc::Global;
 use std::marker::Brand;
 use std::sync::Wait;
-use std::thread;
 use std::thread::Threads;
-use tree_lock::{Entry, Holder, SharedTree, Site, Verdict};
+use tree_lock::{Entry, SharedTree, Site, UnnamedList};
 
-// One worker: again and again it looks for a merger arc, asks for it, serves the board, and collects. It leaves where it sees
-// none, where the budget is used up, or where memory was refused: then it takes its ask back, and the driver does its work.
-fn work<S: Site, R: Wait>(
-    rt: &R,
-    board: &Board<S>,
-    shared: &SharedTree<S>,
-    seat: &mut WorkerSeat<S>,
-) {
-    for _turn in 0..u32::MAX {
-        let Some(arc) = shared.find_merger(rt) else {
-            return;
-        };
-        board.ask(seat, arc);
-        let served = shared.serve(rt, board);
-        match board.collect(seat) {
-            Some(reply) if reply.verdict != Verdict::Spent && served.is_ok() => {}
-            Some(_) => return,
-            None => {
-                board.withdraw(seat);
-                return;
-            }
-        }
-    }
-}
-
-// The workers, each in a thread of its own with its seat. All have ended afterwards.
-fn run_workers<S: Site + Send + Sync, R: Threads + Wait + Sync>(
-    rt: &R,
-    board: &Board<S>,
-    shared: &SharedTree<S>,
-    seats: &mut [WorkerSeat<S>],
-) -> Result<(), Fault>
-    ensures { IfErr result (λ e. e ≡ no_seat) }
+// A worker for each seat at the board, with a seat to look from.
+fn workers_of<S: Site, R: Wait + Drop>(
+    alloc: Global,
+    shared: &SharedTree<S, R>,
+    seats: Vec<WorkerSeat<S>>,
+) -> Result<Vec<Worker<S>>, Fault>
+    ensures { IfErr result IsNoRoom }
 {
-    let started = thread::scope(thread::scope_env(), rt, |scope| {
-        let mut started = true;
-        for seat in seats.iter_mut() {
-            if started && scope.spawn(move || work(rt, board, shared, seat)).is_err() {
-                started = false;
-            }
-        }
-        started
-    });
-    if started {
-        Ok(())
-    } else {
-        Err(Fault::no_seat())
+    let mut workers = Vec::with_capacity(alloc, seats.len())?;
+    let mut number = 0u32;
+    for seat in seats {
+        number = number.saturating_add(1);
+        workers.push(Worker::new(number, seat, shared.look_seat()?))?;
     }
+    Ok(workers)
 }
 
-// The driver decides the first merger arc again and again, until none is left or the budget is used up.
-fn finish<S: Site>(holder: &mut Holder<S>) -> Result<(), Fault>
-    ensures ended { IfOk result (λ _. IsEnded holder.new) }
-    ensures refused { IfErr result (λ e. e ≡ no_memory) }
-{
-    holder.law();
-    'mergers: while let Some(verdict) = holder.apply_first()? {
-        match verdict {
-            Verdict::Spent => return Ok(()),
-            Verdict::Applied | Verdict::Stale => {}
-        }
-        holder.law();
-    }
-    Ok(())
-}
-
-// The certificate of the holder's tree, or that the budget is used up.
-fn outcome_of<S: Site>(holder: &Holder<S>) -> Result<Outcome, Fault>
-    requires { IsEnded holder.now }
-    ensures ends { IfOk result (EndsBy holder.now.mine holder.now.budget holder.now.journal) }
-    ensures refused { IfErr result (λ e. e ≡ no_memory) }
-{
-    holder.law();
-    if let Some(certificate) = of_tree(holder.tree())? {
-        return Ok(Outcome::Pit(certificate));
-    }
-    match holder.budget() {
-        Some(budget) => Ok(Outcome::Exhausted(budget)),
-        None => unreachable!(),
-    }
-}
-
-// Leaves out the entries of arcs that the mine does not have. Workers ask for none, and each would be stale; but a seat's
-// type does not say so.
-fn keep_known(journal: &mut Vec<Entry>, arcs: u32)
-    ensures { journal.new.items ≡ filter (λ entry. nat_lt entry.arc arcs) journal.old.items }
-{
-    let mut kept = 0;
-    for i in 0..journal.len() {
-        if journal[i].arc < arcs {
-            journal.swap(kept, i);
-            kept += 1;
-        }
-    }
-    journal.truncate(kept);
-}
-
-// The outcome of the holder's tree, and its journal.
-fn end_of<S: Site>(holder: Holder<S>) -> Result<(Outcome, Vec<Entry>), Fault>
-    requires { IsEnded holder }
-    ensures solved { IfOk result (λ r. IsSolvedTogether S.mine S.workers S.budget r.0 r.1.items) }
-    ensures refused { IfErr result (λ e. e ≡ no_memory) }
-{
-    holder.law();
-    let outcome = outcome_of(&holder)?;
-    let arcs = holder.tree().instance().graph().arcs();
-    let (_, mut journal) = holder.into_parts();
-    keep_known(&mut journal, arcs);
-    Ok((outcome, journal))
-}
-
-fn solve_at<S: Site + Send + Sync, R: Threads + Wait + Sync>(
+fn solve_at<S: Site + Send + Sync, G: Gate + Sync, R: Threads + Wait + Sync>(
     rt: &R,
     alloc: Global,
     tree: NormTree,
+    list: UnnamedList,
     unnamed: UnnamedBoard,
     budget: Option<u64>,
+    chunk: u32,
+    gate: &G,
 ) -> Result<(Outcome, Vec<Entry>), Fault>
+    requires book { list ≡ S.book }
     requires opening { tree.tree ≡ opening tree.mine }
     requires mine { tree.mine ≡ S.mine }
     requires budget { budget ≡ S.budget }
@@ -144,30 +57,43 @@ fn solve_at<S: Site + Send + Sync, R: Threads + Wait + Sync>(
     ensures solved { IfOk result (λ r. IsSolvedTogether S.mine S.workers S.budget r.0 r.1.items) }
     ensures refused { IfErr result IsNoRoom }
 {
-    let (board, mut seats, holder_seat) = Board::<S>::new(alloc, unnamed)?;
-    let shared = SharedTree::<S>::new(alloc, tree, budget, holder_seat);
-    run_workers(rt, &board, &shared, &mut seats)?;
+    let guide = Guide::new(alloc, &tree)?;
+    let (board, seats, holder_seat) = Board::<S>::new(alloc, unnamed)?;
+    let mut shared = SharedTree::<S, &R>::new(alloc, rt, list, tree, budget, &board, holder_seat)?;
+    let workers = workers_of(alloc, &shared, seats)?;
+    let mut crew = Crew {
+        board: &board,
+        workers,
+        guide,
+        chunk,
+        gate,
+    };
+    crew.run(rt, alloc, &mut shared)?;
     let mut holder = shared.into_holder();
-    finish(&mut holder)?;
+    finish(rt, &mut holder)?;
     end_of(holder)
 }
 
-/// Solves with so many workers, 1 to 64, at one tree, and gives the journal of what was decided: it is lawful for the
-/// instance and the budget, whatever the schedule. `Exhausted` comes where the budget is used up and a merger arc is left.
+/// Solves with so many workers, 1 to 64, at one tree, each of which draws so many arcs at once, and gives the journal of what
+/// was decided: it is lawful for the instance and the budget, whatever the schedule. `Exhausted` comes where the budget is
+/// used up and a merger arc is left. The gate is told of the workers' steps.
 ///
 /// Refused for want of memory (1), and where a seat was refused or a worker could not be started (22); those that were have
 /// then ended.
-pub fn solve_shared<R: Threads + Wait + Sync>(
+pub fn solve_shared<G: Gate + Sync, R: Threads + Wait + Sync>(
     rt: &R,
     alloc: Global,
     instance: &Instance,
     workers: u32,
     budget: Option<u64>,
+    chunk: u32,
+    gate: &G,
 ) -> Result<(Outcome, Vec<Entry>), Fault>
     ensures solved { IfOk result (λ r. IsSolvedTogether instance.now workers budget r.0 r.1.items) }
     ensures refused { IfErr result IsNoRoom }
 {
     let tree = NormTree::start(alloc, instance)?;
     let unnamed = UnnamedBoard::new(alloc, workers)?;
-    solve_at::<Brand, R>(rt, alloc, tree, unnamed, budget)
+    let list = UnnamedList::new()?;
+    solve_at::<Brand, G, R>(rt, alloc, tree, list, unnamed, budget, chunk, gate)
 }
