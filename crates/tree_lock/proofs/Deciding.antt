@@ -1,23 +1,41 @@
 -- One more entry keeps the book's law.
-use Rattle.std.proofs.Common.{◌≡◌, ℕ, ◌+◌, ◌<◌, ◌≤◌, true, false, sym, ap, ◌∙◌, arith, ⊎_elim, List, [], ◌∷◌, ◌++◌, length, Option}
+use Rattle.std.proofs.Common.{◌≡◌, ℕ, ◌+◌, ◌≤◌, true, false, refl, sym, ap, ◌∙◌, subst, arith, ⊎_elim, List, [], ◌∷◌, ◌++◌, length, Option}
 use Rattle.std.specs.List.{fold}
 use Rattle.std.proofs.lemmas.Bool.{cases_Bool}
 use Rattle.pit_model.specs.declared.journal.Entry.{Entry}
 use Rattle.pit_model.specs.Mine.{Instance}
-use Rattle.pit_model.specs.Tree.{Tree, opening}
-use Rattle.pit_model.specs.Journal.{is_applied, lawful_verdict, tree_after, count_after, applied_count}
-use Rattle.pit_model.proofs.Journals.{lawful-snoc, replay-snoc, applied_count-snoc}
-use Rattle.tree_lock.specs.Held.{IsBook}
+use Rattle.pit_model.specs.Tree.{opening}
+use Rattle.pit_model.specs.Journal.{is_applied, lawful_verdict, count_after, applied_count, IsLawful, replay}
+use Rattle.pit_model.specs.Version.{version_tree, arcs_after, applied_arcs, IsVersion}
+use Rattle.pit_model.proofs.Journals.{lawful-snoc, applied_count-snoc}
+use Rattle.pit_model.proofs.Versions.{applied_arcs-snoc, journal_gives_version}
+use Rattle.tree_lock.specs.Kept.{IsBook}
+
+-- the published tree is the replay of the journal
+pub published_is_replay :
+    (mine : Instance) (published : List ℕ) (journal : List Entry) (budget : Option ℕ) → IsLawful mine budget journal → published ≡ applied_arcs journal
+    → version_tree mine published ≡ replay mine journal
+published_is_replay mine published journal budget lawful followed =
+    ap (version_tree mine) followed ∙ sym (journal_gives_version mine budget journal lawful).gives
+
+-- and each published arc was a merger arc at its turn
+pub published_is_version :
+    (mine : Instance) (published : List ℕ) (journal : List Entry) (budget : Option ℕ) → IsLawful mine budget journal → published ≡ applied_arcs journal
+    → IsVersion mine (version_tree mine published) published
+published_is_version mine published journal budget lawful followed =
+    subst (λ (arcs : List ℕ). IsVersion mine (version_tree mine arcs) arcs) (sym followed)
+    (record { mergers = (journal_gives_version mine budget journal lawful).mergers; gives = refl })
 
 pub book_after :
-    (mine : Instance) (tree : Tree) (journal : List Entry) (budget : Option ℕ) (applied : ℕ) (entry : Entry) → IsBook mine tree journal budget applied
-    → entry.verdict ≡ lawful_verdict mine budget tree applied entry.arc
-    → IsBook mine (tree_after mine tree entry) (journal ++ entry ∷ []) budget (count_after applied entry)
-book_after mine tree journal budget applied entry book is = record {
-  lawful = lawful-snoc mine budget journal entry (opening mine) 0 book.lawful (is ∙ (λ i. lawful_verdict mine budget (book.replayed i) (book.counted i) entry.arc));
-  replayed = ap (λ t. tree_after mine t entry) book.replayed ∙ sym (replay-snoc mine journal entry);
-  counted = ap (λ n. count_after n entry) book.counted ∙ sym (applied_count-snoc journal entry);
-}
+    (mine : Instance) (published : List ℕ) (journal : List Entry) (budget : Option ℕ) (applied : ℕ) (entry : Entry) → IsBook mine published journal budget applied
+    → entry.verdict ≡ lawful_verdict mine budget (version_tree mine published) applied entry.arc
+    → IsBook mine (arcs_after published entry) (journal ++ entry ∷ []) budget (count_after applied entry)
+book_after mine published journal budget applied entry book is =
+    let tree = published_is_replay mine published journal budget book.lawful book.followed in record {
+      lawful = lawful-snoc mine budget journal entry (opening mine) 0 book.lawful (is ∙ (λ i. lawful_verdict mine budget (tree i) (book.counted i) entry.arc));
+      followed = ap (λ l. arcs_after l entry) book.followed ∙ sym (applied_arcs-snoc journal entry);
+      counted = ap (λ n. count_after n entry) book.counted ∙ sym (applied_count-snoc journal entry);
+    }
 
 count_most : (made : ℕ) (entry : Entry) → count_after made entry ≤ made + 1
 count_most made entry =

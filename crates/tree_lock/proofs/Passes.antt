@@ -1,7 +1,8 @@
 -- A pass over the board that has come to a worker: the entries so far stand under rising seats up to it.
 use Rattle.std.proofs.Common.{◌≡◌, ℕ, ◌+◌, ◌<◌, ◌≤◌, true, List, [], ◌∷◌, ◌++◌, length, append_assoc, append-nil, sym, refl, ap, ◌∙◌, subst, arith, length-append}
 use Rattle.pit_model.specs.declared.journal.Entry.{Entry}
-use Rattle.tree_lock.specs.Held.{Held, entry_of}
+use Rattle.tree_lock.specs.Kept.{entry_of}
+use Rattle.tree_lock.specs.Held.{Held}
 use Rattle.tree_lock.specs.Served.{AreRisingSeats, Serves, ServesOne}
 
 abbrev pub AreUpTo : ℕ → List Entry → Type 0

@@ -1,9 +1,10 @@
 -- The journal and the board's seat after one more entry: the entry goes under one seat, and its reply to the same worker.
-use Rattle.std.proofs.Common.{◌≡◌, ◌≢◌, ℕ, ◌+◌, ◌-◌, ◌<◌, ◌≤◌, eqb, cond, Bool, true, false, List, [], ◌∷◌, ◌++◌, length, get_or, set, Option, Some, None, sym, refl, ap, ◌∙◌, subst, arith, length-set, get_or-set_same, get_or-set_other, ⊎_elim, eq-eqb, ne_eqb}
+use Rattle.std.proofs.Common.{◌≡◌, ◌≢◌, ℕ, zero, suc, ◌+◌, ◌-◌, ◌<◌, ◌≤◌, eqb, cond, Bool, true, false, List, [], ◌∷◌, ◌++◌, length, get_or, set, Option, Some, None, sym, refl, ap, ◌∙◌, subst, arith, length-set, get_or-set_same, get_or-set_other, ⊎_elim, eq-eqb, ne_eqb}
 use Rattle.std.specs.Prelude.{Result, Ok, Err, IfOk, IfErr}
 use Rattle.minelib_reader.specs.declared.fault.Fault.{Fault}
 use Rattle.minelib_reader.specs.Refused.{no_memory}
 use Rattle.std.proofs.lemmas.Bool.{cases_eq}
+use Rattle.std.proofs.lemmas.List.{set-get_or}
 use Rattle.std.proofs.lemmas.List.Elements.{All-push}
 use Rattle.proposals.specs.declared.verdict.Reply.{Reply}
 use Rattle.proposals.specs.declared.knows.Served.{Served}
@@ -11,7 +12,10 @@ use Rattle.proposals.specs.Ledger.{reply, served, nothing, answered_to, claimed_
 use Rattle.pit_model.specs.declared.journal.Verdict.{Verdict}
 use Rattle.pit_model.specs.declared.journal.Entry.{Entry}
 use Rattle.pit_model.specs.Mine.{Instance, arcs}
-use Rattle.tree_lock.specs.Held.{Held, entry_of, with_entry, Decides, DecidesFor}
+use Rattle.pit_model.specs.Version.{arcs_after}
+use Rattle.pit_model.proofs.Versions.{version_tree-after}
+use Rattle.tree_lock.specs.Kept.{Kept, entry_of, Keeps}
+use Rattle.tree_lock.specs.Held.{held_by, seats_after, Decides, DecidesFor}
 use Rattle.tree_lock.specs.Served.{replies_under, IsUnderSeat, IsServed}
 
 replies-snoc : (s : ℕ) (es : List Entry) (e : Entry) → replies_under s (es ++ e ∷ []) ≡ cond (eqb s e.seat) (replies_under s es ++ reply e.arc e.verdict ∷ []) (replies_under s es)
@@ -51,92 +55,111 @@ at_other : (ss : List Served) (i j : ℕ) (x : Served) → j ≢ i → get_or (s
 at_other ss i j x ne = get_or-set_other ss i j x nothing ne
 
 -- the entry of a worker is the reply to it
-pub answered : (mine : Instance) (journal : List Entry) (workers : ℕ) (ss : List Served) (i a : ℕ) (v : Verdict) → IsServed mine journal workers ss → i < length ss
-    → IsServed mine (journal ++ entry_of (i + 1) a v ∷ []) workers (answering (claiming ss i a) i (reply a v))
+answered : (mine : Instance) (journal : List Entry) (workers : ℕ) (ss : List Served) (i a : ℕ) (v : Verdict) → IsServed mine journal workers ss → i < length ss
+    → IsServed mine (journal ++ entry_of (i + 1) a v ∷ []) workers (answering ss i (reply a v))
 answered mine journal workers ss i a v is lt = record {
-  wide = wide ∙ is.wide;
+  wide = length-set ss i last ∙ is.wide;
   answers = λ j. ⊎_elim
       (λ (e : j ≡ i). subst (λ (k : ℕ). replies_under (k + 1) (journal ++ entry_of (i + 1) a v ∷ []) ≡ answered_to two k) (sym e)
-      (replies_here (i + 1) journal a v ∙ (ap (λ l. l ++ reply a v ∷ []) (is.answers i ∙ sym (ap (λ (x : Served). x.answered) (at_same ss i (served (answered_to ss i) (Some a)) lt))) ∙ sym (ap (λ (x : Served). x.answered) (at_same one i last lt')))))
-      (λ (ne : j ≡ i → ⊥). replies_else (j + 1) (i + 1) journal a v (λ e. ne (omega arith)) ∙ (is.answers j ∙ sym (ap (λ (x : Served). x.answered) (at_other one i j last ne ∙ at_other ss i j (served (answered_to ss i) (Some a)) ne))))
+      (replies_here (i + 1) journal a v ∙ (ap (λ l. l ++ reply a v ∷ []) (is.answers i) ∙ sym (ap (λ (x : Served). x.answered) (at_same ss i last lt)))))
+      (λ (ne : j ≡ i → ⊥). replies_else (j + 1) (i + 1) journal a v (λ e. ne (omega arith)) ∙ (is.answers j ∙ sym (ap (λ (x : Served). x.answered) (at_other ss i j last ne))))
       (cases_eq j i);
   unclaimed = λ j. ⊎_elim
-      (λ (e : j ≡ i). ap (λ (k : ℕ). claimed_from two k) e ∙ ap (λ (x : Served). x.claimed) (at_same one i last lt'))
-      (λ (ne : j ≡ i → ⊥). ap (λ (x : Served). x.claimed) (at_other one i j last ne ∙ at_other ss i j (served (answered_to ss i) (Some a)) ne) ∙ is.unclaimed j)
+      (λ (e : j ≡ i). ap (λ (k : ℕ). claimed_from two k) e ∙ ap (λ (x : Served). x.claimed) (at_same ss i last lt))
+      (λ (ne : j ≡ i → ⊥). ap (λ (x : Served). x.claimed) (at_other ss i j last ne) ∙ is.unclaimed j)
       (cases_eq j i);
   seated = let all = is.wide in All-push (IsUnderSeat mine workers) journal (entry_of (i + 1) a v) is.seated (omega arith, λ e. absurd (omega arith));
 }
   where
-    one : List Served
-    one = claiming ss i a
-
     last : Served
-    last = served (answered_to one i ++ reply a v ∷ []) None
+    last = served (answered_to ss i ++ reply a v ∷ []) None
 
     two : List Served
-    two = answering one i (reply a v)
+    two = answering ss i (reply a v)
 
-    wide : length two ≡ length ss
-    wide = length-set one i last ∙ length-set ss i (served (answered_to ss i) (Some a))
+set_set : (ss : List Served) (i : ℕ) (x y : Served) → set (set ss i x) i y ≡ set ss i y
+set_set [] i x y = refl
+set_set (s ∷ ss) zero x y = refl
+set_set (s ∷ ss) (suc i) x y = ap (λ (l : List Served). s ∷ l) (set_set ss i x y)
 
-    lt' : i < length one
-    lt' = omega (arith, length-set ss i (served (answered_to ss i) (Some a)))
+-- an ask that was claimed and answered was answered
+claimed_answered : (ss : List Served) (i a : ℕ) (r : Reply) → i < length ss → answering (claiming ss i a) i r ≡ answering ss i r
+claimed_answered ss i a r lt =
+    set_set ss i claim (served (answered_to (claiming ss i a) i ++ r ∷ []) None)
+    ∙ ap (λ (x : Served). set ss i (served (x.answered ++ r ∷ []) None)) (at_same ss i claim lt)
+  where
+    claim : Served
+    claim = served (answered_to ss i) (Some a)
 
 -- a claim that was given back changed nothing
-pub given_back : (mine : Instance) (journal : List Entry) (workers : ℕ) (ss : List Served) (i a : ℕ) → IsServed mine journal workers ss → i < length ss
-    → IsServed mine journal workers (unclaiming (claiming ss i a) i)
-given_back mine journal workers ss i a is lt = record {
-  wide = length-set one i last ∙ length-set ss i first ∙ is.wide;
-  answers = λ j. is.answers j ∙ ⊎_elim
-      (λ (e : j ≡ i). subst (λ (k : ℕ). answered_to ss k ≡ answered_to two k) (sym e)
-      (sym (ap (λ (x : Served). x.answered) (at_same one i last lt') ∙ ap (λ (x : Served). x.answered) (at_same ss i first lt))))
-      (λ (ne : j ≡ i → ⊥). sym (ap (λ (x : Served). x.answered) (at_other one i j last ne ∙ at_other ss i j first ne)))
-      (cases_eq j i);
-  unclaimed = λ j. ⊎_elim
-      (λ (e : j ≡ i). ap (λ (k : ℕ). claimed_from two k) e ∙ ap (λ (x : Served). x.claimed) (at_same one i last lt'))
-      (λ (ne : j ≡ i → ⊥). ap (λ (x : Served). x.claimed) (at_other one i j last ne ∙ at_other ss i j first ne) ∙ is.unclaimed j)
-      (cases_eq j i);
-  seated = is.seated;
-}
+given_back : (ss : List Served) (i a : ℕ) → i < length ss → claimed_from ss i ≡ None → unclaiming (claiming ss i a) i ≡ ss
+given_back ss i a lt free =
+    set_set ss i claim (served (answered_to (claiming ss i a) i) None)
+    ∙ (ap (λ (x : Served). set ss i (served x.answered None)) (at_same ss i claim lt)
+    ∙ (ap (λ (o : Option ℕ). set ss i (served (answered_to ss i) o)) (sym free) ∙ set-get_or ss i nothing))
   where
-    first : Served
-    first = served (answered_to ss i) (Some a)
+    claim : Served
+    claim = served (answered_to ss i) (Some a)
 
-    one : List Served
-    one = claiming ss i a
+-- what a book decided, the holder decided
+pub decided :
+    (mine : Instance) (k k' : Kept) (ss ss' : List Served) (s a : ℕ) (v : Verdict) → Keeps mine s a k k' v → ss' ≡ seats_after ss (entry_of s a v)
+    → DecidesFor s a (held_by mine k ss) (held_by mine k' ss') v
+decided mine k k' ss ss' s a v keeps seats =
+    let entry : Entry = entry_of s a v in (
+      keeps.0,
+      (λ i. held_by mine (keeps.1 i) (seats i)) ∙ (λ i. record {
+        mine = mine;
+        tree = version_tree-after mine k.published entry i;
+        journal = k.journal ++ entry ∷ [];
+        budget = k.budget;
+        published = arcs_after k.published entry;
+        seats = seats_after ss entry;
+      }),
+    )
 
-    last : Served
-    last = served (answered_to one i) None
+-- the holder after a decision of the driver
+pub after_apply :
+    (mine : Instance) (k k' : Kept) (workers : ℕ) (ss : List Served) (a : ℕ) (r : Result Verdict Fault) → IfOk r (Keeps mine 0 a k k')
+    → IfErr r (λ e. (e ≡ no_memory) × (k' ≡ k)) → IsServed mine k.journal workers ss → a < arcs mine
+    → IsServed mine k'.journal workers ss × (k'.budget ≡ k.budget)
+after_apply mine k k' workers ss a (Ok v) ok err is below =
+    (subst (λ (x : Kept). IsServed mine x.journal workers ss) (sym ok.1) (driven mine k.journal workers ss a v is below), ap (λ (x : Kept). x.budget) ok.1)
+after_apply mine k k' workers ss a (Err e) ok err is below =
+    (subst (λ (x : Kept). IsServed mine x.journal workers ss) (sym err.1) is, ap (λ (x : Kept). x.budget) err.1)
 
-    two : List Served
-    two = set one i last
+pub applied : (mine : Instance) (k k' : Kept) (ss : List Served) (a : ℕ) (r : Result Verdict Fault) → IfOk r (Keeps mine 0 a k k') → IfOk r (Decides a (held_by mine k ss) (held_by mine k' ss))
+applied mine k k' ss a (Ok v) ok = decided mine k k' ss ss 0 a v ok refl
+applied mine k k' ss a (Err e) ok = tt
 
-    lt' : i < length one
-    lt' = omega (arith, length-set ss i first)
+-- the seat after an ask was claimed and answered
+pub seats_answered :
+    (ss xs ys : List Served) (w a : ℕ) (v : Verdict) → 0 < w → w ≤ length ss → xs ≡ claiming ss (w - 1) a
+    → ((b : ℕ) → claimed_from xs (w - 1) ≡ Some b → ys ≡ answering xs (w - 1) (reply b v)) → ys ≡ seats_after ss (entry_of w a v)
+seats_answered ss xs ys w a v low high claim answer =
+    let lt : w - 1 < length ss = omega arith in
+    let has : claimed_from xs (w - 1) ≡ Some a = ap (λ l. claimed_from l (w - 1)) claim ∙ ap (λ (x : Served). x.claimed) (at_same ss (w - 1) (served (answered_to ss (w - 1)) (Some a)) lt) in
+    answer a has
+    ∙ (ap (λ l. answering l (w - 1) (reply a v)) claim
+    ∙ (claimed_answered ss (w - 1) a (reply a v) lt
+    ∙ sym (ap (λ (b : Bool). cond b ss (answering ss (w - 1) (reply a v))) (ne_eqb w 0 (λ e. omega arith)))))
 
--- an entry changes neither the instance nor the budget
-pub same_site : (h k : Held) (s a : ℕ) (v : Verdict) → DecidesFor s a h k v → (k.mine ≡ h.mine) × (k.budget ≡ h.budget)
-same_site h k s a v d = (ap (λ (x : Held). x.mine) d.1, ap (λ (x : Held). x.budget) d.1)
-
-pub after_apply : (h k : Held) (workers : ℕ) (ss : List Served) (a : ℕ) (r : Result Verdict Fault) → IfOk r (Decides a h k) → IfErr r (λ e. (e ≡ no_memory) × (k ≡ h)) → IsServed h.mine h.journal workers ss → a < arcs h.mine → IsServed k.mine k.journal workers ss
-after_apply h k workers ss a (Ok v) ok err is below = subst (λ (x : Held). IsServed x.mine x.journal workers ss) (sym ok.1) (driven h.mine h.journal workers ss a v is below)
-after_apply h k workers ss a (Err e) ok err is below = subst (λ (x : Held). IsServed x.mine x.journal workers ss) (sym err.1) is
-
-pub site_after_apply : (h k : Held) (a : ℕ) (r : Result Verdict Fault) → IfOk r (Decides a h k) → IfErr r (λ e. (e ≡ no_memory) × (k ≡ h)) → (k.mine ≡ h.mine) × (k.budget ≡ h.budget)
-site_after_apply h k a (Ok v) ok err = same_site h k 0 a v ok
-site_after_apply h k a (Err e) ok err = (ap (λ (x : Held). x.mine) err.1, ap (λ (x : Held). x.budget) err.1)
-
-pub after_serve : (h k : Held) (workers : ℕ) (ss xs ys : List Served) (w a : ℕ) (v : Verdict) → IsServed h.mine h.journal workers ss → 0 < w → w ≤ length ss → DecidesFor w a h k v → xs ≡ claiming ss (w - 1) a
-    → ((b : ℕ) → claimed_from xs (w - 1) ≡ Some b → ys ≡ answering xs (w - 1) (reply b v)) → IsServed k.mine k.journal workers ys
-after_serve h k workers ss xs ys w a v is low high d f g =
+-- the holder after an ask was decided and answered
+pub after_answer :
+    (mine : Instance) (k k' : Kept) (workers : ℕ) (ss ys : List Served) (w a : ℕ) (v : Verdict) → IsServed mine k.journal workers ss → 0 < w → w ≤ length ss
+    → Keeps mine w a k k' v → ys ≡ seats_after ss (entry_of w a v) → IsServed mine k'.journal workers ys × (k'.budget ≡ k.budget)
+after_answer mine k k' workers ss ys w a v is low high keeps seats =
     let lt : w - 1 < length ss = omega arith in
     let back : (w - 1) + 1 ≡ w = omega arith in
-    let has : claimed_from xs (w - 1) ≡ Some a = ap (λ l. claimed_from l (w - 1)) f ∙ ap (λ (x : Served). x.claimed) (at_same ss (w - 1) (served (answered_to ss (w - 1)) (Some a)) lt) in
-    let y = g a has ∙ ap (λ l. answering l (w - 1) (reply a v)) f in
-    let e = d.1 ∙ ap (λ n. with_entry h (entry_of n a v)) (sym back) in
-    subst (λ (p : Held × List Served). IsServed p.0.mine p.0.journal workers p.1) (λ i. (sym e i, sym y i)) (answered h.mine h.journal workers ss (w - 1) a v is lt)
+    let now : ys ≡ answering ss (w - 1) (reply a v) = seats ∙ ap (λ (b : Bool). cond b ss (answering ss (w - 1) (reply a v))) (ne_eqb w 0 (λ e. omega arith)) in
+    let journal : k'.journal ≡ k.journal ++ entry_of ((w - 1) + 1) a v ∷ [] = ap (λ (x : Kept). x.journal) keeps.1 ∙ ap (λ n. k.journal ++ entry_of n a v ∷ []) (sym back) in
+    (subst (λ (p : List Entry × List Served). IsServed mine p.0 workers p.1) (λ i. (sym journal i, sym now i)) (answered mine k.journal workers ss (w - 1) a v is lt), ap (λ (x : Kept). x.budget) keeps.1)
 
-pub after_return : (h : Held) (workers : ℕ) (ss xs ys : List Served) (w a : ℕ) → IsServed h.mine h.journal workers ss → 0 < w → w ≤ length ss → xs ≡ claiming ss (w - 1) a → ys ≡ unclaiming xs (w - 1) → IsServed h.mine h.journal workers ys
-after_return h workers ss xs ys w a is low high f g =
+-- the seat after an ask was claimed and given back
+pub seats_returned : (ss xs ys : List Served) (w a : ℕ) → 0 < w → w ≤ length ss → claimed_from ss (w - 1) ≡ None → xs ≡ claiming ss (w - 1) a → ys ≡ unclaiming xs (w - 1) → ys ≡ ss
+seats_returned ss xs ys w a low high free claim back =
     let lt : w - 1 < length ss = omega arith in
-    subst (IsServed h.mine h.journal workers) (sym (g ∙ ap (λ l. unclaiming l (w - 1)) f)) (given_back h.mine h.journal workers ss (w - 1) a is lt)
+    back ∙ (ap (λ l. unclaiming l (w - 1)) claim ∙ given_back ss (w - 1) a lt free)
+
+pub returned : (mine : Instance) (k k' : Kept) (ss ys : List Served) → k' ≡ k → ys ≡ ss → held_by mine k' ys ≡ held_by mine k ss
+returned mine k k' ss ys kept seats = λ i. held_by mine (kept i) (seats i)

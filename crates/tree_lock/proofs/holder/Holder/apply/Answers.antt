@@ -1,13 +1,19 @@
-use Rattle.std.proofs.Common.{subst, sym, ◌<◌, ◌∙◌}
+use Rattle.std.proofs.Common.{subst, sym, ◌<◌, ◌∙◌, IfOk}
 use Rattle.pit_model.specs.Mine.{arcs}
-use Rattle.tree_lock.specs.Held.{Held}
-use Rattle.tree_lock.proofs.Serving.{after_apply, site_after_apply}
+use Rattle.tree_lock.specs.Held.{Held, Decides, held_by}
+use Rattle.tree_lock.proofs.Serving.{after_apply, applied}
 use Rattle.tree_lock.proofs.holder.Holder.apply.Goals as goal
 
 pub invariant_of-self : goal.invariant_of-self
 invariant_of-self g c =
     let i = c.self.invariant in
-    let h = c.self.inside.book in
-    let k = c.decide.new.self in
-    let same = site_after_apply h k c.args.arc c.decide.result c.decide.ensures.decided c.decide.ensures.refused in
-    (after_apply h k g.S.Site.workers c.self.inside.seat c.args.arc c.decide.result c.decide.ensures.decided c.decide.ensures.refused i.0 (subst (λ (x : Held). c.args.arc < arcs x.mine) (sym c.self.view_is) c.requires), same.0 ∙ i.1, same.1 ∙ i.2)
+    let did = c.decide.ensures in
+    let now = after_apply g.S.Origin.mine c.self.inside.book c.decide.new.self g.S.Site.workers c.self.inside.seat c.args.arc c.decide.result did.decided did.refused i.0 (subst (λ (h : Held). c.args.arc < arcs h.mine) (sym c.self.view_is) c.requires) in
+    (now.0, now.1 ∙ i.1)
+
+pub returns-clause-decided : goal.returns-clause-decided
+returns-clause-decided g c =
+    let mine = g.S.Origin.mine in
+    let fields = c.self.inside in
+    subst (λ (h : Held). IfOk c.decide.result (Decides c.args.arc h (held_by mine c.decide.new.self fields.seat))) c.self.view_is
+    (applied mine fields.book c.decide.new.self fields.seat c.args.arc c.decide.result c.decide.ensures.decided)

@@ -1,10 +1,12 @@
-use Rattle.std.proofs.Common.{subst}
+use Rattle.std.proofs.Common.{◌≡◌, sym, ◌∙◌, subst, List, ℕ}
 use Rattle.pit_model.specs.Tree.{MineTree}
 use Rattle.pit_model.specs.Limits.{IsInstance}
-use Rattle.pit_model.specs.Journal.{IsLawful}
+use Rattle.pit_model.specs.Journal.{IsLawful, replay}
+use Rattle.pit_model.specs.Version.{IsVersion}
 use Rattle.pit_model.proofs.Simple.{instance_is_simple}
 use Rattle.pit_model.proofs.Journals.{journal_is_bounded, journal_keeps_budget}
 use Rattle.tree_lock.specs.Held.{Held}
+use Rattle.tree_lock.proofs.Deciding.{published_is_replay, published_is_version}
 use Rattle.tree_lock.proofs.holder.Holder.law.Goals as goal
 
 pub returns-clause-within_budget : goal.returns-clause-within_budget
@@ -17,3 +19,15 @@ returns-clause-bounded g c =
     let now = c.args.self.now in
     let mine : IsInstance now.mine = subst (λ (h : Held). IsInstance h.mine) c.self.view_is (subst (λ (t : MineTree). IsInstance t.mine) c.tree.ensures c.law-2.ensures.instance) in
     journal_is_bounded now.mine now.budget now.journal (instance_is_simple now.mine mine) (subst (λ (h : Held). IsLawful h.mine h.budget h.journal) c.self.view_is c.law.ensures.lawful)
+
+pub returns-clause-replayed : goal.returns-clause-replayed
+returns-clause-replayed g c =
+    let book = c.self.inside.book in
+    subst (λ (h : Held). h.tree ≡ replay h.mine h.journal) c.self.view_is
+    (published_is_replay g.S.Origin.mine book.published book.journal book.budget c.law.ensures.lawful c.law.ensures.published)
+
+pub returns-clause-version : goal.returns-clause-version
+returns-clause-version g c =
+    let book = c.self.inside.book in
+    subst (λ (h : Held). IsVersion h.mine h.tree h.published) c.self.view_is
+    (published_is_version g.S.Origin.mine book.published book.journal book.budget c.law.ensures.lawful c.law.ensures.published)
