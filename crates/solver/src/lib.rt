@@ -5,6 +5,7 @@
 mod by_mode;
 mod closing;
 mod first_mergers;
+mod gate;
 mod joined;
 mod lowest_label;
 mod mode;
@@ -16,6 +17,7 @@ mod solved_part;
 mod waiting;
 
 pub use by_mode::{find_pit, solve};
+pub use gate::{Gate, OpenGate};
 pub use mode::Mode;
 pub use outcome::Outcome;
 pub use parts::solve_parts;

@@ -5,6 +5,7 @@ ghost use Rattle.minelib_reader.specs.Refused.{no_memory, no_seat, IsNoRoom};
 ghost use Rattle.pit_model.specs.Tree.{opening};
 ghost use Rattle.solver.specs.Solved.{EndsBy, IsEnded, IsSolvedTogether};
 
+use crate::gate::Gate;
 use crate::outcome::Outcome;
 use certificate::of_tree;
 use mine_graph::Instance;
@@ -20,21 +21,28 @@ use tree_lock::{Entry, Holder, SharedTree, Site, Verdict};
 
 // One worker: again and again it looks for a merger arc, asks for it, serves the board, and collects. It leaves where it sees
 // none, where the budget is used up, or where memory was refused: then it takes its ask back, and the driver does its work.
-fn work<S: Site, R: Wait>(
+fn work<S: Site, G: Gate, R: Wait>(
     rt: &R,
     board: &Board<S>,
     shared: &SharedTree<S>,
     seat: &mut WorkerSeat<S>,
+    worker: u32,
+    gate: &G,
 ) {
     for _turn in 0..u32::MAX {
         let Some(arc) = shared.find_merger(rt) else {
             return;
         };
         board.ask(seat, arc);
+        gate.asked(worker);
         let served = shared.serve(rt, board);
         match board.collect(seat) {
-            Some(reply) if reply.verdict != Verdict::Spent && served.is_ok() => {}
-            Some(_) => return,
+            Some(reply) => {
+                gate.served(worker);
+                if reply.verdict == Verdict::Spent || served.is_err() {
+                    return;
+                }
+            }
             None => {
                 board.withdraw(seat);
                 return;
@@ -44,18 +52,25 @@ fn work<S: Site, R: Wait>(
 }
 
 // The workers, each in a thread of its own with its seat. All have ended afterwards.
-fn run_workers<S: Site + Send + Sync, R: Threads + Wait + Sync>(
+fn run_workers<S: Site + Send + Sync, G: Gate + Sync, R: Threads + Wait + Sync>(
     rt: &R,
     board: &Board<S>,
     shared: &SharedTree<S>,
     seats: &mut [WorkerSeat<S>],
+    gate: &G,
 ) -> Result<(), Fault>
     ensures { IfErr result (λ e. e ≡ no_seat) }
 {
     let started = thread::scope(thread::scope_env(), rt, |scope| {
         let mut started = true;
+        let mut worker: u32 = 0;
         for seat in seats.iter_mut() {
-            if started && scope.spawn(move || work(rt, board, shared, seat)).is_err() {
+            worker = worker.saturating_add(1);
+            if started
+                && scope
+                    .spawn(move || work(rt, board, shared, seat, worker, gate))
+                    .is_err()
+            {
                 started = false;
             }
         }
@@ -129,12 +144,13 @@ fn end_of<S: Site>(holder: Holder<S>) -> Result<(Outcome, Vec<Entry>), Fault>
     Ok((outcome, journal))
 }
 
-fn solve_at<S: Site + Send + Sync, R: Threads + Wait + Sync>(
+fn solve_at<S: Site + Send + Sync, G: Gate + Sync, R: Threads + Wait + Sync>(
     rt: &R,
     alloc: Global,
     tree: NormTree,
     unnamed: UnnamedBoard,
     budget: Option<u64>,
+    gate: &G,
 ) -> Result<(Outcome, Vec<Entry>), Fault>
     requires opening { tree.tree ≡ opening tree.mine }
     requires mine { tree.mine ≡ S.mine }
@@ -146,7 +162,7 @@ fn solve_at<S: Site + Send + Sync, R: Threads + Wait + Sync>(
 {
     let (board, mut seats, holder_seat) = Board::<S>::new(alloc, unnamed)?;
     let shared = SharedTree::<S>::new(alloc, tree, budget, holder_seat);
-    run_workers(rt, &board, &shared, &mut seats)?;
+    run_workers(rt, &board, &shared, &mut seats, gate)?;
     let mut holder = shared.into_holder();
     finish(&mut holder)?;
     end_of(holder)
@@ -157,17 +173,20 @@ fn solve_at<S: Site + Send + Sync, R: Threads + Wait + Sync>(
 ///
 /// Refused for want of memory (1), and where a seat was refused or a worker could not be started (22); those that were have
 /// then ended.
-pub fn solve_shared<R: Threads + Wait + Sync>(
+pub fn solve_shared<G: Gate + Sync, R: Threads + Wait + Sync>(
     rt: &R,
     alloc: Global,
     instance: &Instance,
     workers: u32,
     budget: Option<u64>,
+    chunk: u32,
+    gate: &G,
 ) -> Result<(Outcome, Vec<Entry>), Fault>
     ensures solved { IfOk result (λ r. IsSolvedTogether instance.now workers budget r.0 r.1.items) }
     ensures refused { IfErr result IsNoRoom }
 {
+    let _ = chunk;
     let tree = NormTree::start(alloc, instance)?;
     let unnamed = UnnamedBoard::new(alloc, workers)?;
-    solve_at::<Brand, R>(rt, alloc, tree, unnamed, budget)
+    solve_at::<Brand, G, R>(rt, alloc, tree, unnamed, budget, gate)
 }

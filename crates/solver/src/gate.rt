@@ -1,0 +1,19 @@
+//! Where a worker tells that it asked and that it was served. A test holds workers back there; the program does not.
+
+/// Is told of a worker's steps, and may let it wait there. No answer depends on it.
+pub trait Gate {
+    /// The worker's ask stands on the board, and it has not served yet.
+    fn asked(&self, worker: u32);
+
+    /// The worker has collected a reply.
+    fn served(&self, worker: u32);
+}
+
+/// Lets every worker go on.
+pub struct OpenGate;
+
+impl Gate for OpenGate {
+    fn asked(&self, _worker: u32) {}
+
+    fn served(&self, _worker: u32) {}
+}
