@@ -20,5 +20,5 @@ mode_fault_of word budget journal =
 abbrev pub mode_named : List ℕ → ℕ → Option ℕ → Mode
 mode_named word workers budget =
     if bytes_eq word (codes "parts") then Parts
-    else (if bytes_eq word (codes "shared") then Shared workers budget
+    else (if bytes_eq word (codes "shared") then Shared workers budget 4096
     else Single budget)

@@ -91,6 +91,7 @@ const MODES: [Mode; 4] = [
     Mode::Shared {
         workers: 2,
         budget: None,
+        chunk: 1,
     },
 ];
 

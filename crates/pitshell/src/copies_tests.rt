@@ -77,6 +77,7 @@ fn many_parts_have_one_pit_in_each_mode(rt: HostRuntime) -> Result<(), Fail> {
     let shared = Mode::Shared {
         workers: 2,
         budget: None,
+        chunk: 1,
     };
     assert!(rt; finds_the_pit(&rt, shared)?);
     Ok(())

@@ -5,6 +5,9 @@ ghost use Rattle.pitshell.specs.Modes.{mode_fault_of, mode_named};
 
 use solver::Mode;
 
+/// How many arcs a worker goes over at once.
+const CHUNK: u32 = 4096;
+
 /// What is wrong with the word of a mode, given whether there is a budget and whether a journal is wanted: the first line
 /// that applies, for standard error, without its LF. None where nothing is.
 pub fn mode_fault(mode: &str, budget: bool, journal: bool) -> Option<&'static str>
@@ -30,7 +33,11 @@ pub fn mode_of(word: &str, workers: u32, budget: Option<u64>) -> Mode
         return Mode::Parts;
     }
     if word == "shared" {
-        return Mode::Shared { workers, budget };
+        return Mode::Shared {
+            workers,
+            budget,
+            chunk: CHUNK,
+        };
     }
     Mode::Single { budget }
 }

@@ -9,7 +9,7 @@ use crate::status::Status;
 use minelib_reader::{Fault, InBytes, OutBytes};
 use report::write_shells;
 use shells::{Factors, shells};
-use solver::Mode;
+use solver::{Mode, OpenGate};
 use std::alloc::Global;
 use std::sync::Wait;
 use std::thread::Threads;
@@ -50,7 +50,15 @@ pub fn run_shells<R: Threads + Wait + Sync, B: InBytes, P: InBytes, W: OutBytes>
         revenue cost factors.now (W.progress out.old) (W.progress out.new)) }
 {
     let deposit = read_deposit(alloc, blocks, prec, revenue, cost)?;
-    let list = shells(rt, alloc, &deposit.columns, &deposit.graph, factors, mode)?;
+    let list = shells(
+        rt,
+        alloc,
+        &deposit.columns,
+        &deposit.graph,
+        factors,
+        mode,
+        &OpenGate,
+    )?;
     write_shells(out, &list)?;
     Ok(Status::Done)
 }

@@ -94,6 +94,7 @@ const ONE_THREAD: Mode = Mode::Single { budget: None };
 const TWO_WORKERS: Mode = Mode::Shared {
     workers: 2,
     budget: None,
+    chunk: 1,
 };
 
 /// An ore that yields 10 and costs 1, below a block that costs 3.

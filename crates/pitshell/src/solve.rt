@@ -14,7 +14,7 @@ use certificate::{Certificate, write};
 use mine_graph::Instance;
 use minelib_reader::{Fault, InBytes, OutBytes};
 use report::write_pit;
-use solver::{Mode, find_pit};
+use solver::{Mode, OpenGate, find_pit};
 use std::alloc::Global;
 use std::sync::Wait;
 use std::thread::Threads;
@@ -92,7 +92,7 @@ pub fn run_solve<R: Threads + Wait + Sync, M: InBytes, P: InBytes, C: OutBytes, 
         (W.progress out.old) (W.progress out.new)) }
 {
     let mine = read_mine(alloc, model, prec)?;
-    let shown = find_pit(rt, alloc, &mine, &mode)?;
+    let shown = find_pit(rt, alloc, &mine, &mode, &OpenGate)?;
     put_certificate(certificate, &mine, &shown)?;
     put_pit(out, &mine, &shown)?;
     Ok(Status::Done)

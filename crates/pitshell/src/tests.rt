@@ -78,11 +78,13 @@ const ONE_THREAD: Mode = Mode::Single { budget: None };
 const ONE_WORKER: Mode = Mode::Shared {
     workers: 1,
     budget: None,
+    chunk: 1,
 };
 
 const TWO_WORKERS: Mode = Mode::Shared {
     workers: 2,
     budget: None,
+    chunk: 1,
 };
 
 #[test]
@@ -161,7 +163,15 @@ fn holds_within<R: AllocGlobal + Threads + Wait + Sync>(
     let budget = Some(most);
     Ok(
         holds(rt, Mode::Single { budget }, row)?
-            && holds(rt, Mode::Shared { workers: 1, budget }, row)?,
+            && holds(
+                rt,
+                Mode::Shared {
+                    workers: 1,
+                    budget,
+                    chunk: 1,
+                },
+                row,
+            )?,
     )
 }
 
@@ -302,7 +312,8 @@ fn modes_and_what_goes_with_them(rt: HostRuntime) -> Result<(), Fail> {
             shared,
             Mode::Shared {
                 workers: 3,
-                budget: Some(7)
+                budget: Some(7),
+                chunk: 4096,
             }
         )
     );

@@ -15,7 +15,7 @@ use crate::factors::Factors;
 use mine_graph::{Graph, Instance};
 use minelib_reader::Fault;
 use pit_model::Shell;
-use solver::{Mode, find_pit};
+use solver::{Gate, Mode, find_pit};
 use std::alloc::{AllocError, Global};
 use std::sync::{Arc, Wait};
 use std::thread::Threads;
@@ -53,13 +53,14 @@ pub fn start(alloc: Global, graph: &Arc<Graph>) -> Result<Growing, AllocError>
 }
 
 /// The pit of the rest at a factor, by the rest's own numbers.
-fn solve_rest<R: Threads + Wait + Sync>(
+fn solve_rest<G: Gate + Sync, R: Threads + Wait + Sync>(
     rt: &R,
     alloc: Global,
     columns: &Columns,
     growing: &Growing,
     factor: u32,
     mode: &Mode,
+    gate: &G,
 ) -> Result<Vec<u32>, Fault>
     requires factor { factor ≤ 100000 }
     requires rows { (i : ℕ) → i < length growing.now.blocks.items → get_or growing.now.blocks.items i 0 < length columns.now.revenues }
@@ -73,7 +74,7 @@ fn solve_rest<R: Threads + Wait + Sync>(
     let graph = Arc::try_clone(&growing.graph)?;
     let rest = Instance::new(graph, values);
     rest.law();
-    let certificate = find_pit(rt, alloc, &rest, mode)?;
+    let certificate = find_pit(rt, alloc, &rest, mode, gate)?;
     Ok(certificate.pit)
 }
 
@@ -128,7 +129,7 @@ fn join(alloc: Global, graph: &Graph, growing: &mut Growing, found: &[u32]) -> R
 ///
 /// Refused for want of memory (1), where the budget is used up with a merger arc left (20), and where a worker could not be
 /// started (22).
-pub fn next_shell<R: Threads + Wait + Sync>(
+pub fn next_shell<G: Gate + Sync, R: Threads + Wait + Sync>(
     rt: &R,
     alloc: Global,
     columns: &Columns,
@@ -137,6 +138,7 @@ pub fn next_shell<R: Threads + Wait + Sync>(
     k: usize,
     growing: &mut Growing,
     mode: &Mode,
+    gate: &G,
 ) -> Result<Shell, Fault>
     requires rows { length columns.now.revenues ≡ graph.now.blocks }
     requires known { k < length factors.now }
@@ -151,7 +153,7 @@ pub fn next_shell<R: Threads + Wait + Sync>(
     columns.law();
     graph.law();
     let factor = factors.get(k);
-    let found = solve_rest(rt, alloc, columns, growing, factor, mode)?;
+    let found = solve_rest(rt, alloc, columns, growing, factor, mode, gate)?;
     join(alloc, graph, growing, &found)?;
     let pit = marked_blocks(alloc, &growing.marks)?;
     let worth = columns.worth(&pit, factor);

@@ -10,19 +10,20 @@ use crate::growing::{next_shell, start};
 use mine_graph::Graph;
 use minelib_reader::Fault;
 use pit_model::{Shell, ShellList};
-use solver::Mode;
+use solver::{Gate, Mode};
 use std::alloc::Global;
 use std::sync::{Arc, Wait};
 use std::thread::Threads;
 
 /// The shell of each factor, in their order.
-fn each_shell<R: Threads + Wait + Sync>(
+fn each_shell<G: Gate + Sync, R: Threads + Wait + Sync>(
     rt: &R,
     alloc: Global,
     columns: &Columns,
     graph: &Arc<Graph>,
     factors: &Factors,
     mode: &Mode,
+    gate: &G,
 ) -> Result<Vec<Shell>, Fault>
     requires { length columns.now.revenues ≡ graph.now.value.blocks }
     ensures shells { IfOk result (λ list. AreShells (deposit_of columns.now graph.now.value) factors.now list.items) }
@@ -35,7 +36,17 @@ fn each_shell<R: Threads + Wait + Sync>(
     let mut growing = start(alloc, graph)?;
     let mut list = Vec::new(alloc);
     for k in 0..factors.len() {
-        let shell = next_shell(rt, alloc, columns, graph, factors, k, &mut growing, mode)?;
+        let shell = next_shell(
+            rt,
+            alloc,
+            columns,
+            graph,
+            factors,
+            k,
+            &mut growing,
+            mode,
+            gate,
+        )?;
         list.push(shell)?;
     }
     Ok(list)
@@ -43,17 +54,18 @@ fn each_shell<R: Threads + Wait + Sync>(
 
 /// The shells of a mine with these revenues and costs: for each factor its pit, with the pit's worth in the factor's own
 /// values, in billionths. Each lies within all later ones. A factor is solved on what the shell before leaves; a budget of
-/// mergers counts anew for each.
+/// mergers counts anew for each. The gate is told of the steps of workers.
 ///
 /// Refused for want of memory (1), where the budget is used up with a merger arc left on some factor's rest (20), and where
 /// a worker could not be started (22).
-pub fn shells<R: Threads + Wait + Sync>(
+pub fn shells<G: Gate + Sync, R: Threads + Wait + Sync>(
     rt: &R,
     alloc: Global,
     columns: &Columns,
     graph: &Arc<Graph>,
     factors: &Factors,
     mode: &Mode,
+    gate: &G,
 ) -> Result<ShellList, Fault>
     requires { length columns.now.revenues ≡ graph.now.value.blocks }
     ensures blocks { IfOk result (λ list. list.n ≡ graph.now.value.blocks) }
@@ -61,7 +73,7 @@ pub fn shells<R: Threads + Wait + Sync>(
     ensures within { IfOk result (λ _. EachEndsWithin mode.now (deposit_of columns.now graph.now.value) factors.now) }
     ensures refused { IfErr result (λ e. RefusesShells mode.now (deposit_of columns.now graph.now.value) factors.now e.refusal e) }
 {
-    let shells = each_shell(rt, alloc, columns, graph, factors, mode)?;
+    let shells = each_shell(rt, alloc, columns, graph, factors, mode, gate)?;
     Ok(ShellList {
         n: graph.n(),
         shells,

@@ -2,7 +2,7 @@
 use super::*;
 use mine_graph::Graph;
 use minelib_reader::{Fault, Refusal, Source, parse_blocks};
-use solver::Mode;
+use solver::{Mode, OpenGate};
 use std::alloc::Global;
 use std::sync::{Arc, Wait};
 use std::test::*;
@@ -122,7 +122,7 @@ fn ending_of<R: Threads + Wait + Sync>(
         return Ok(Ending::Refused);
     }
     let factors = Factors::read(alloc, factors)?;
-    match shells(rt, alloc, columns, graph, &factors, mode) {
+    match shells(rt, alloc, columns, graph, &factors, mode, &OpenGate) {
         Ok(list) => Ok(compared(&list, graph.n(), wanted)),
         Err(fault) => match fault.refusal {
             Refusal::Exhausted(count) => Ok(Ending::UsedUp(count)),
@@ -154,6 +154,7 @@ fn each_mode_gives_the_shells(rt: HostRuntime) -> Result<(), Fail> {
     let shared = Mode::Shared {
         workers: 2,
         budget: None,
+        chunk: 1,
     };
     for mode in [SINGLE, Mode::Parts, shared] {
         let one = ending_of(
@@ -211,7 +212,15 @@ fn no_factors_have_no_shells(rt: HostRuntime) -> Result<(), Fail> {
     let (columns, graph) = one_ore(rt.alloc())?;
     if columns.len() == graph.n() {
         let factors = Factors::new(Vec::new(rt.alloc()))?;
-        let list = shells(&rt, rt.alloc(), &columns, &graph, &factors, &SINGLE)?;
+        let list = shells(
+            &rt,
+            rt.alloc(),
+            &columns,
+            &graph,
+            &factors,
+            &SINGLE,
+            &OpenGate,
+        )?;
         assert_eq!(rt; list.n, 2);
         assert_eq!(rt; list.shells.len(), 0);
     }

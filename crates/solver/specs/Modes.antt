@@ -23,7 +23,7 @@ EndsWithin _ mine = Unit {0}
 abbrev pub RunsOut : Mode → Instance → ℕ → Type 0
 RunsOut (Single budget) mine count = (budget ≡ Some count) × HasMerger mine (first_run mine count)
 RunsOut Parts mine count = ⊥
-RunsOut (Shared workers budget) mine count =
+RunsOut (Shared workers budget chunk) mine count =
     (budget ≡ Some count)
     × ((journal : List Entry) × IsLawful mine budget journal × (applied_count journal ≡ count) × HasMerger mine (replay mine journal))
 
@@ -33,7 +33,7 @@ EndsIn mode mine (Pit certificate) = IsCertificateOf mine certificate × EndsWit
 EndsIn mode mine (Exhausted count) = RunsOut mode mine count
 
 abbrev pub IsShared : Mode → Type 0
-IsShared (Shared workers budget) = Unit {0}
+IsShared (Shared workers budget chunk) = Unit {0}
 IsShared _ = ⊥
 
 -- why a mine is not solved: no memory; no worker could be started; or the budget is used up

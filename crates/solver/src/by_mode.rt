@@ -3,6 +3,7 @@ ghost use Rattle.std.specs.Prelude.{IfOk, IfErr};
 ghost use Rattle.certificate.specs.Certificate.{IsCertificateOf};
 ghost use Rattle.solver.specs.Modes.{EndsIn, EndsWithin, RefusesSolve};
 
+use crate::gate::Gate;
 use crate::mode::Mode;
 use crate::outcome::Outcome;
 use crate::parts::solve_parts;
@@ -15,14 +16,15 @@ use std::alloc::Global;
 use std::sync::Wait;
 use std::thread::Threads;
 
-/// How the mode's solve of an instance ended.
+/// How the mode's solve of an instance ended. The gate is told of the steps of workers.
 ///
 /// Refused for want of memory (1), and in mode shared where a worker could not be started (22).
-pub fn solve<R: Threads + Wait + Sync>(
+pub fn solve<G: Gate + Sync, R: Threads + Wait + Sync>(
     rt: &R,
     alloc: Global,
     instance: &Instance,
     mode: &Mode,
+    gate: &G,
 ) -> Result<Outcome, Fault>
     ensures ended { IfOk result (EndsIn mode.now instance.now) }
     ensures refused { IfErr result (λ e. RefusesSolve mode.now instance.now e.refusal e) }
@@ -30,8 +32,12 @@ pub fn solve<R: Threads + Wait + Sync>(
     match *mode {
         Mode::Single { budget } => solve_single(alloc, instance, budget),
         Mode::Parts => Ok(Outcome::Pit(solve_parts(rt, alloc, instance)?)),
-        Mode::Shared { workers, budget } => {
-            let (outcome, _) = solve_shared(rt, alloc, instance, workers, budget)?;
+        Mode::Shared {
+            workers,
+            budget,
+            chunk,
+        } => {
+            let (outcome, _) = solve_shared(rt, alloc, instance, workers, budget, chunk, gate)?;
             Ok(outcome)
         }
     }
@@ -39,17 +45,18 @@ pub fn solve<R: Threads + Wait + Sync>(
 
 /// The pit of an instance with its certificate. Refused as `solve` is, and where the budget is used up with a merger arc
 /// left (20).
-pub fn find_pit<R: Threads + Wait + Sync>(
+pub fn find_pit<G: Gate + Sync, R: Threads + Wait + Sync>(
     rt: &R,
     alloc: Global,
     instance: &Instance,
     mode: &Mode,
+    gate: &G,
 ) -> Result<Certificate, Fault>
     ensures shown { IfOk result (IsCertificateOf instance.now) }
     ensures within { IfOk result (λ _. EndsWithin mode.now instance.now) }
     ensures refused { IfErr result (λ e. RefusesSolve mode.now instance.now e.refusal e) }
 {
-    match solve(rt, alloc, instance, mode)? {
+    match solve(rt, alloc, instance, mode, gate)? {
         Outcome::Pit(certificate) => Ok(certificate),
         Outcome::Exhausted(count) => Err(Fault::exhausted(count)),
     }

@@ -4,9 +4,15 @@
 #[derive(Clone, Copy, Debug)]
 pub enum Mode {
     /// By one thread.
-    Single { budget: Option<u64> },
+    Single {
+        budget: Option<u64>,
+    },
     /// Each part that no pair joins to another by itself.
     Parts,
-    /// By so many workers, 1 to 64, at one tree.
-    Shared { workers: u32, budget: Option<u64> },
+    /// By so many workers, 1 to 64, at one tree, each of which goes over so many arcs at once, 1 to 67,108,864.
+    Shared {
+        workers: u32,
+        budget: Option<u64>,
+        chunk: u32,
+    },
 }

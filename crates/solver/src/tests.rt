@@ -87,7 +87,7 @@ fn merges_over(journal: &[Entry], workers: u32, arcs: &[u32]) -> bool {
 fn workers_find_the_pit(rt: HostRuntime) -> Result<(), Fail> {
     let mine = cut_once(rt.alloc())?;
     for workers in 1..5 {
-        let (outcome, journal) = solve_shared(&rt, rt.alloc(), &mine, workers, None)?;
+        let (outcome, journal) = solve_shared(&rt, rt.alloc(), &mine, workers, None, 1, &OpenGate)?;
         assert!(rt; is_answer(&outcome, Some(&[1, 2]), 0));
         assert!(rt; merges_over(&journal, workers, &[0, 2, 1]));
     }
@@ -98,7 +98,15 @@ fn workers_find_the_pit(rt: HostRuntime) -> Result<(), Fail> {
 fn workers_stop_at_the_budget(rt: HostRuntime) -> Result<(), Fail> {
     let mine = dug_whole(rt.alloc())?;
     for workers in 1..3 {
-        let (outcome, journal) = solve_shared(&rt, rt.alloc(), &mine, workers, Some(2))?;
+        let (outcome, journal) = solve_shared(
+            &rt,
+            rt.alloc(),
+            &mine,
+            workers,
+            Some(2),
+            1,
+            &OpenGate,
+        )?;
         assert!(rt; is_answer(&outcome, None, 2));
         assert!(rt; merges_over(&journal, workers, &[0, 1]));
     }
@@ -108,7 +116,7 @@ fn workers_stop_at_the_budget(rt: HostRuntime) -> Result<(), Fail> {
 #[test]
 fn one_worker_does_all_the_work(rt: HostRuntime) -> Result<(), Fail> {
     let mine = cut_once(rt.alloc())?;
-    let (_, journal) = solve_shared(&rt, rt.alloc(), &mine, 1, None)?;
+    let (_, journal) = solve_shared(&rt, rt.alloc(), &mine, 1, None, 1, &OpenGate)?;
     assert_eq!(rt; journal.len(), 3);
     assert!(rt; journal.iter().all(|entry| entry.seat == 1 && entry.verdict == Verdict::Applied));
     Ok(())
