@@ -6,3 +6,4 @@ pub mod Ordering
 pub mod Joining
 pub mod Gathered
 pub mod SolvedPart
+mod FirstFound

@@ -1,13 +1,14 @@
 -- What a solve gives.
 use Rattle.std.specs.Prelude.{◌≡◌, ◌⊎◌, ℕ, List, Option, Some, None, IsTrue, ◌<ℤ◌}
 use Rattle.pit_model.specs.declared.journal.Entry.{Entry}
+use Rattle.pit_model.specs.declared.journal.Verdict.{Verdict}
 use Rattle.pit_model.specs.Mine.{Instance}
 use Rattle.pit_model.specs.Tree.{MineTree}
 use Rattle.pit_model.specs.Rank.{rank}
 use Rattle.pit_model.specs.Journal.{is_used_up, applied_count, IsLawful, AreSeated, replay}
-use Rattle.pit_model.specs.FirstRun.{HasMerger, HasNoMerger, first_run}
+use Rattle.pit_model.specs.FirstRun.{HasMerger, HasNoMerger, IsFirstMerger, first_run}
 use Rattle.certificate.specs.Certificate.{IsCertificateOf}
-use Rattle.tree_lock.specs.Held.{Held}
+use Rattle.tree_lock.specs.Held.{Held, Decides}
 use Rattle.solver.specs.declared.outcome.Outcome.{Outcome}
 use Rattle.solver.specs.declared.outcome.Outcome.TheVariants.{Pit, Exhausted}
 
@@ -37,3 +38,8 @@ pub record IsSolvedTogether (mine : Instance) (workers : ℕ) (budget : Option �
 -- nothing more is to be done: no merger arc is left, or the budget is used up
 abbrev pub IsEnded : Held → Type 0
 IsEnded held = HasNoMerger held.mine held.tree ⊎ IsTrue (is_used_up held.budget (applied_count held.journal))
+
+-- the first merger arc was decided for the driver; or there was none, and nothing changed
+abbrev pub DecidesFirst : Held → Held → Option Verdict → Type 0
+DecidesFirst old new None = HasNoMerger old.mine old.tree × (new ≡ old)
+DecidesFirst old new (Some verdict) = (arc : ℕ) × IsFirstMerger old.mine old.tree (Some arc) × Decides arc old new verdict

@@ -1,7 +1,8 @@
 //! What the driver does between sweeps and at the end: it decides the first merger arc, and answers by the tree that is left.
-ghost use Rattle.std.specs.Prelude.{◌≡◌, ◌<◌, ℕ, false, filter, nat_lt, IfOk, IfErr, IfSome, IsNone, IsTrue};
+ghost use Rattle.std.specs.Prelude.{◌≡◌, filter, nat_lt, IfOk, IfErr};
 ghost use Rattle.minelib_reader.specs.Refused.{no_memory};
 ghost use Rattle.pit_model.specs.Tree.{is_merger};
+ghost use Rattle.pit_model.specs.FirstRun.{IsFirstMerger};
 ghost use Rattle.solver.specs.Solved.{EndsBy, DecidesFirst, IsEnded, IsSolvedTogether};
 
 use crate::outcome::Outcome;
@@ -15,16 +16,14 @@ use tree_lock::{Entry, Holder, Site, Verdict};
 
 // The merger arc with the least number, over as many threads as there are processors; None where there is none.
 fn first_merger<R: Threads + Sync>(rt: &R, tree: &NormTree) -> Option<u32>
-    ensures merger { IfSome result (λ k. IsTrue (is_merger tree.now.mine tree.now.tree k)) }
-    ensures least { IfSome result (λ k. (l : ℕ) → l < k → is_merger tree.now.mine tree.now.tree l ≡ false) }
-    ensures none { IsNone result → (k : ℕ) → is_merger tree.now.mine tree.now.tree k ≡ false }
+    ensures { IsFirstMerger tree.now.mine tree.now.tree result }
 {
     (0..tree.instance().graph().arcs())
         .into_par_iter()
         .find_first(
             rt,
             |arc: &u32| -> bool
-                ensures { result ≡ is_merger tree.now.mine tree.now.tree arc.now }
+                ensures { result ≡ is_merger tree.entry.now.mine tree.entry.now.tree arc.now }
             { tree.is_merger(*arc) },
         )
 }
@@ -97,9 +96,7 @@ fn keep_known(journal: &mut Vec<Entry>, arcs: u32)
 }
 
 /// The outcome of the holder's tree, and its journal. Refused for want of memory alone.
-pub fn end_of<S: Site, R: Wait + Drop>(
-    holder: Holder<S, R>,
-) -> Result<(Outcome, Vec<Entry>), Fault>
+pub fn end_of<S: Site, R: Wait + Drop>(holder: Holder<S, R>) -> Result<(Outcome, Vec<Entry>), Fault>
     requires { IsEnded holder }
     ensures solved { IfOk result (λ r. IsSolvedTogether S.mine S.workers S.budget r.0 r.1.items) }
     ensures refused { IfErr result (λ e. e ≡ no_memory) }

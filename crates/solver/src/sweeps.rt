@@ -61,6 +61,11 @@ fn run_workers<
     }
 }
 
+// No mine has so many arcs that more would count.
+fn as_count(length: usize) -> u32 {
+    length.min(u32::MAX as usize) as u32
+}
+
 // How many of the entries are mergers.
 fn count_applied(entries: &[Entry]) -> usize {
     entries
@@ -102,7 +107,7 @@ impl<'a, S: Site + Send + Sync, G: Gate + Sync> Crew<'a, S, G> {
         ensures { IfErr result IsNoRoom }
     {
         let chunks = self.guide.count().div_ceil(self.chunk.max(1) as usize);
-        UnnamedDraws::new(alloc, chunks as u32, self.workers.len() as u32)
+        UnnamedDraws::new(alloc, as_count(chunks), as_count(self.workers.len()))
     }
 
     /// Sweeps again and again, until the driver finds no merger arc between two sweeps, or the budget is used up.
