@@ -1,5 +1,5 @@
-//! `pitshell`: the ultimate pit of a mine, from the bytes of its files to the bytes that are written.
-//! `solve`, `shells` and `check` do the work over readers and writers; `main` opens files, calls it and gives the exit status.
+//! `pitshell`: the ultimate pit of a mine, from files to standard output.
+//! The crate `runs` does the work over readers and writers; `main` opens files, calls it and gives the exit status.
 #![tactic(auto)]
 
 ghost use Rattle.std.specs.Prelude.{◌≡◌, ◌^◌, IfOk, IfErr};
@@ -7,40 +7,18 @@ ghost use Rattle.minelib_reader.specs.Steps.{at_line};
 ghost use Rattle.minelib_reader.specs.declared.fault.Refusal.TheVariants.{ReadFailed};
 ghost use Rattle.minelib_reader.specs.Device.{unread};
 ghost use Rattle.minelib_reader.specs.Refused.{write_failed};
-ghost use Rattle.pitshell.specs.Chosen.{progress_of, IsCountable};
+ghost use Rattle.runs.specs.Chosen.{progress_of, IsCountable};
 
-#[cfg(test)]
-mod certificate_tests;
-mod check;
-#[cfg(test)]
-mod check_tests;
 mod command_line;
-#[cfg(test)]
-mod copies_tests;
-mod deposit;
-mod mine;
-mod mode_words;
-mod nested;
-#[cfg(test)]
-mod nested_tests;
 mod options;
-#[cfg(test)]
-mod small_mines;
-mod solve;
-mod status;
-#[cfg(test)]
-mod tests;
 
-use check::run_check;
 use clap::error::ErrorKind;
 use command_line::command;
 use minelib_reader::{Fault, FileReader, InBytes, OutBytes, Refusal, Source, StreamWriter};
-use nested::run_shells;
 use options::{CheckOptions, Options, ShellsOptions, SolveOptions};
 use report::write_fault;
+use runs::{Status, exit_code, run_check, run_shells, run_solve};
 use shells::Factors;
-use solve::run_solve;
-use status::{Status, exit_code};
 use std::alloc::AllocError;
 use std::fs::File;
 use std::process::ExitCode;

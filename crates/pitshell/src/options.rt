@@ -1,7 +1,7 @@
 //! What the command line asks for, as types of the program's own.
 
-use crate::mode_words::{mode_fault, mode_of};
 use clap::ArgMatches;
+use runs::{mode_fault, mode_of};
 use solver::Mode;
 
 /// The files of `solve`, and how to solve. The certificate's is there where one is wanted.

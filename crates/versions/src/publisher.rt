@@ -95,9 +95,10 @@ impl<V: Origin, R: Wait + Drop> Publisher<V, R> {
         ensures refused { IfErr result IsNoRoom }
     {
         let scribe = Scribe::<V>::new(alloc, list)?;
-        let second = tree.copy()?;
-        let first = TreeCopy::new(tree, scribe.head()?, scribe.whole());
-        let second = TreeCopy::new(second, scribe.head()?, scribe.whole());
+        let first_head = scribe.head()?;
+        let second_head = scribe.head()?;
+        let second = TreeCopy::new(tree.copy()?, second_head, scribe.whole());
+        let first = TreeCopy::new(tree, first_head, scribe.whole());
         match Writer::new(alloc, first, second, seats as usize) {
             Ok(copies) => Ok(Publisher { scribe, copies, rt }),
             Err(_) => Err(Fault::no_seat()),

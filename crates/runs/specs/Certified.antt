@@ -1,0 +1,40 @@
+-- The certificate that a run of `solve` writes, in the words in which `check` answers to it.
+use Rattle.std.specs.Prelude.{◌≡◌, ℕ, ◌+◌, ◌++◌, true, List, Result, Ok, Err}
+use Rattle.minelib_reader.specs.Device.{Progress, Begins, Writes}
+use Rattle.minelib_reader.specs.Refused.{write_failed}
+use Rattle.minelib_reader.specs.declared.fault.Fault.{Fault}
+use Rattle.pit_model.specs.Mine.{Instance}
+use Rattle.runs.specs.Solve.{Reading}
+use Rattle.runs.specs.Check.{AnswersText, GaveInOrder}
+use Rattle.runs.specs.Chosen.{Chosen, OfWriter, OfWriterIfAny}
+
+-- the text is a certificate of the mine that the readers gave, and the answer to it is yes
+pub record IsAnsweredYes (model prec : Reading) (text : List ℕ) : Type 0 where
+  pub mine : Instance
+  pub given : GaveInOrder model prec mine
+  pub yes : AnswersText mine text true
+
+-- a text to which the answer is yes was written, or a beginning of it
+abbrev pub WritesCertificate : {E : Type 0} → Instance → Result (Unit {0}) E → Progress → Progress → Type 0
+WritesCertificate mine result before after = (text : List ℕ) × AnswersText mine text true × Writes before after text result
+
+-- what went of a certificate of the mine to a writer of choice
+abbrev pub PutsCertificate : Instance → Chosen → Result (Unit {0}) Fault → Type 0
+PutsCertificate mine c (Ok x) = OfWriterIfAny c (WritesCertificate {E = Fault} mine (Ok x))
+PutsCertificate mine c (Err e) = OfWriter c (WritesCertificate {E = Fault} mine (Err e)) × (e ≡ write_failed)
+
+-- exactly a certificate of the mine was written
+pub record IsCertified (model prec : Reading) (before after : Progress) : Type 0 where
+  pub text : List ℕ
+  pub answered : IsAnsweredYes model prec text
+  pub written : after.bytes ≡ before.bytes ++ text
+  pub no_failure : after.failures ≡ before.failures
+
+-- a beginning of one was written, and then a write failed
+pub record IsCertificateCut (model prec : Reading) (before after : Progress) : Type 0 where
+  pub text : List ℕ
+  pub answered : IsAnsweredYes model prec text
+  pub front : List ℕ
+  pub begins : Begins front text
+  pub written : after.bytes ≡ before.bytes ++ front
+  pub failure : after.failures ≡ before.failures + 1

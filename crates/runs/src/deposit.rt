@@ -1,0 +1,52 @@
+//! The deposit of a run: a table of blocks and the precedence pairs, read in their order, and two of the table's columns.
+ghost use Rattle.std.specs.Prelude.{◌≡◌, ◌<◌, ◌≤◌, ◌^◌, length, IfOk, IfErr};
+ghost use Rattle.runs.specs.Solve.{reading};
+ghost use Rattle.runs.specs.Deposit.{HoldsDeposit, RefusesDeposit};
+
+use mine_graph::Graph;
+use minelib_reader::{Fault, InBytes, read_blocks, read_prec};
+use shells::Columns;
+use std::alloc::Global;
+use std::sync::Arc;
+
+/// What the blocks yield and cost, and the graph of their pairs.
+#[derive(Drop)]
+pub struct Deposit {
+    pub columns: Columns,
+    pub graph: Arc<Graph>,
+}
+
+/// The deposit of a block model and a precedence file, with the columns of revenue and of cost; else the first fault: of the
+/// two files, then a cycle, then that of the columns.
+pub fn read_deposit<B: InBytes, P: InBytes>(
+    alloc: Global,
+    blocks: &mut B,
+    prec: &mut P,
+    revenue: u32,
+    cost: u32,
+) -> Result<Deposit, Fault>
+    requires blocks_countable { (B.progress blocks.old).failures < 2 ^ 63 }
+    requires blocks_bounded { (B.progress blocks.old).allowance ≤ 2 ^ 40 }
+    requires prec_countable { (P.progress prec.old).failures < 2 ^ 63 }
+    requires prec_bounded { (P.progress prec.old).allowance ≤ 2 ^ 40 }
+    ensures deposit { IfOk result (λ d. HoldsDeposit
+        (reading (B.progress blocks.old) (B.progress blocks.new) (B.IsAtEnd blocks.new))
+        (reading (P.progress prec.old) (P.progress prec.new) (P.IsAtEnd prec.new))
+        revenue cost d.columns d.graph.value) }
+    ensures rows { IfOk result (λ d. length d.columns.revenues ≡ d.graph.value.blocks) }
+    ensures refused { IfErr result (λ e. RefusesDeposit e.refusal e
+        (reading (B.progress blocks.old) (B.progress blocks.new) (B.IsAtEnd blocks.new))
+        (reading (P.progress prec.old) (P.progress prec.new) (P.IsAtEnd prec.new))
+        revenue cost) }
+{
+    let table = read_blocks(alloc, blocks)?;
+    let n = table.len();
+    let pairs = read_prec(alloc, prec, n)?;
+    let graph = Graph::new(alloc, n, pairs)?;
+    let columns = Columns::of(alloc, &table, revenue, cost)?;
+    let shared = Arc::new(alloc, graph)?;
+    Ok(Deposit {
+        columns,
+        graph: shared,
+    })
+}

@@ -1,0 +1,30 @@
+//! The runs of `solve`, `shells` and `check` over any readers and writers: from the bytes of the files to the bytes that are
+//! written. Also the mode that words ask for, and the exit status of a run.
+#![tactic(auto)]
+
+mod check;
+mod deposit;
+mod mine;
+mod mode_words;
+mod nested;
+mod solve;
+mod status;
+
+pub use check::run_check;
+pub use mode_words::{mode_fault, mode_of};
+pub use nested::run_shells;
+pub use solve::run_solve;
+pub use status::{Status, exit_code};
+
+#[cfg(test)]
+mod certificate_tests;
+#[cfg(test)]
+mod check_tests;
+#[cfg(test)]
+mod copies_tests;
+#[cfg(test)]
+mod nested_tests;
+#[cfg(test)]
+mod small_mines;
+#[cfg(test)]
+mod tests;

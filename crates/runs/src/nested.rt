@@ -1,0 +1,64 @@
+//! `shells`: from the bytes of a block model and a precedence file to the bytes of the nested pits.
+ghost use Rattle.std.specs.Prelude.{◌<◌, ◌≤◌, ◌^◌, IfOk, IfErr};
+ghost use Rattle.shells.specs.Grown.{EachEndsWithin};
+ghost use Rattle.runs.specs.Solve.{reading};
+ghost use Rattle.runs.specs.ShellsRun.{HoldsOfDeposit, IsShellsDone, RefusesShellsRun};
+
+use crate::deposit::read_deposit;
+use crate::status::Status;
+use minelib_reader::{Fault, InBytes, OutBytes};
+use report::write_shells;
+use shells::{Factors, shells};
+use solver::{Mode, OpenGate};
+use std::alloc::Global;
+use std::sync::Wait;
+use std::thread::Threads;
+
+/// Reads a block model and then a precedence file, takes the columns of revenue and of cost, and writes the text of the
+/// shells: the pit at each factor, whatever the mode.
+///
+/// Refused by the first fault of the files (3 to 14), by that of the columns (15, 16), for want of memory (1), where a read
+/// failed (2), where the budget is used up on some factor's rest (20) and where a worker could not be started (22), all with
+/// nothing written; and where a write failed (18), with a beginning of the text written.
+pub fn run_shells<R: Threads + Wait + Sync, B: InBytes, P: InBytes, W: OutBytes>(
+    rt: &R,
+    alloc: Global,
+    blocks: &mut B,
+    prec: &mut P,
+    out: &mut W,
+    revenue: u32,
+    cost: u32,
+    factors: &Factors,
+    mode: &Mode,
+) -> Result<Status, Fault>
+    requires blocks_countable { (B.progress blocks.old).failures < 2 ^ 63 }
+    requires blocks_bounded { (B.progress blocks.old).allowance ≤ 2 ^ 40 }
+    requires prec_countable { (P.progress prec.old).failures < 2 ^ 63 }
+    requires prec_bounded { (P.progress prec.old).allowance ≤ 2 ^ 40 }
+    requires out_countable { (W.progress out.old).failures < 2 ^ 63 }
+    ensures done { IfOk result (IsShellsDone
+        (reading (B.progress blocks.old) (B.progress blocks.new) (B.IsAtEnd blocks.new))
+        (reading (P.progress prec.old) (P.progress prec.new) (P.IsAtEnd prec.new))
+        revenue cost factors.now (W.progress out.old) (W.progress out.new)) }
+    ensures within { IfOk result (λ _. HoldsOfDeposit
+        (reading (B.progress blocks.old) (B.progress blocks.new) (B.IsAtEnd blocks.new))
+        (reading (P.progress prec.old) (P.progress prec.new) (P.IsAtEnd prec.new))
+        revenue cost (λ deposit. EachEndsWithin mode.now deposit factors.now)) }
+    ensures refused { IfErr result (λ e. RefusesShellsRun mode.now e.refusal e
+        (reading (B.progress blocks.old) (B.progress blocks.new) (B.IsAtEnd blocks.new))
+        (reading (P.progress prec.old) (P.progress prec.new) (P.IsAtEnd prec.new))
+        revenue cost factors.now (W.progress out.old) (W.progress out.new)) }
+{
+    let deposit = read_deposit(alloc, blocks, prec, revenue, cost)?;
+    let list = shells(
+        rt,
+        alloc,
+        &deposit.columns,
+        &deposit.graph,
+        factors,
+        mode,
+        &OpenGate,
+    )?;
+    write_shells(out, &list)?;
+    Ok(Status::Done)
+}

@@ -1,0 +1,335 @@
+//! The worked rows, run over memory in each mode: what is written, what is refused, and the exit status. The expected texts
+//! were worked out by hand.
+
+use super::*;
+use crate::small_mines::{mines_of_four_blocks_and_more, mines_of_three_blocks_at_most};
+use minelib_reader::{Fault, MemoryReader, MemoryWriter, Refusal};
+use report::write_fault;
+use solver::Mode;
+use std::sync::Wait;
+use std::test::*;
+use std::thread::Threads;
+
+/// A model, a precedence file, and what `solve` then writes.
+#[derive(Clone, Copy)]
+pub(crate) struct Row {
+    model: &'static str,
+    prec: &'static str,
+    out: &'static str,
+    err: &'static str,
+    status: u8,
+}
+
+/// A row that is solved.
+pub(crate) fn solved(model: &'static str, prec: &'static str, out: &'static str) -> Row {
+    Row {
+        model,
+        prec,
+        out,
+        err: "",
+        status: 0,
+    }
+}
+
+/// A row that is refused.
+fn refused(model: &'static str, prec: &'static str, err: &'static str, status: u8) -> Row {
+    Row {
+        model,
+        prec,
+        out: "",
+        err,
+        status,
+    }
+}
+
+/// Whether `solve` in this mode writes the row's texts to standard output and standard error, and has its exit status.
+fn holds<R: AllocGlobal + Threads + Wait + Sync>(
+    rt: &R,
+    mode: Mode,
+    row: Row,
+) -> Result<bool, Fail> {
+    if row.model.len() > 1000 || row.prec.len() > 1000 {
+        return Ok(false);
+    }
+    let mut model = MemoryReader::new(row.model.as_bytes());
+    let mut prec = MemoryReader::new(row.prec.as_bytes());
+    let mut out = MemoryWriter::new(rt.alloc(), 1000);
+    let mut err = MemoryWriter::new(rt.alloc(), 1000);
+    let mut unwanted: Option<MemoryWriter> = None;
+    let result = run_solve(
+        rt,
+        rt.alloc(),
+        &mut model,
+        &mut prec,
+        &mut unwanted,
+        &mut out,
+        mode,
+    );
+    if let Err(fault) = &result {
+        write_fault(&mut err, fault)?;
+    }
+    Ok(
+        exit_code(&result) == row.status
+            && out.text.as_slice() == row.out.as_bytes()
+            && err.text.as_slice() == row.err.as_bytes(),
+    )
+}
+
+const ONE_THREAD: Mode = Mode::Single { budget: None };
+
+const ONE_WORKER: Mode = Mode::Shared {
+    workers: 1,
+    budget: None,
+    chunk: 1,
+};
+
+const TWO_WORKERS: Mode = Mode::Shared {
+    workers: 2,
+    budget: None,
+    chunk: 1,
+};
+
+#[test]
+fn solves_small_mines_in_each_mode(rt: HostRuntime) -> Result<(), Fail> {
+    for mode in [ONE_THREAD, Mode::Parts, ONE_WORKER, TWO_WORKERS] {
+        for row in mines_of_three_blocks_at_most() {
+            assert!(rt; holds(&rt, mode, row)?);
+        }
+        for row in mines_of_four_blocks_and_more() {
+            assert!(rt; holds(&rt, mode, row)?);
+        }
+    }
+    Ok(())
+}
+
+#[test]
+fn refuses_the_first_fault_in_each_mode(rt: HostRuntime) -> Result<(), Fail> {
+    let rows = [
+        refused(
+            "NAME: t\nTYPE: UPIT\nNBLOCKS: 3\nOBJECTIVE_FUNCTION:\n0 1\n1 1\n2 1\n",
+            "0 1 1\n1 1 2\n2 1 0\n",
+            "error 14: cycle 0 1 2 in precedence\n",
+            1,
+        ),
+        refused(
+            "NAME: t\nTYPE: UPIT\nNBLOCKS: 2\nOBJECTIVE_FUNCTION:\n0 1\n1 1.0000001\n",
+            "",
+            "error 6: not a decimal in model line 6\n",
+            1,
+        ),
+        refused(
+            "NAME: t\nTYPE: UPIT\nNBLOCKS: 5\nOBJECTIVE_FUNCTION:\n0 1\n1 1\n2 1\n",
+            "",
+            "error 12: ends early in model line 8\n",
+            1,
+        ),
+        refused(
+            "NAME: t\nTYPE: UPIT\nNBLOCKS: 2\nOBJECTIVE_FUNCTION:\n0 1\n1 1\n",
+            "1 2 0 0\n",
+            "error 10: predecessor named twice in precedence line 1\n",
+            1,
+        ),
+        refused(
+            "NAME: t\nTYPE: UPIT\nNBLOCKS: 2\nOBJECTIVE_FUNCTION:\n0 1\n1 1\n",
+            "1 1 1\n",
+            "error 9: block needs itself in precedence line 1\n",
+            1,
+        ),
+        refused(
+            "NAME: t\nTYPE: UPIT\nNBLOCKS: 2\nOBJECTIVE_FUNCTION:\n0 1\n1 1\n",
+            "1 1 7\n",
+            "error 8: predecessor out of range in precedence line 1\n",
+            1,
+        ),
+        refused(
+            "NAME: t\nTYPE: UPIT\nNBLOCKS: 2\nOBJECTIVE_FUNCTION:\n0 1\n1 1\n",
+            "1 2 0\n",
+            "error 11: wrong number of fields in precedence line 1\n",
+            1,
+        ),
+    ];
+    for row in rows {
+        for mode in [ONE_THREAD, Mode::Parts, TWO_WORKERS] {
+            assert!(rt; holds(&rt, mode, row)?);
+        }
+    }
+    Ok(())
+}
+
+/// Whether a row holds with this budget by one thread, and by one worker.
+fn holds_within<R: AllocGlobal + Threads + Wait + Sync>(
+    rt: &R,
+    most: u64,
+    row: Row,
+) -> Result<bool, Fail> {
+    let budget = Some(most);
+    Ok(
+        holds(rt, Mode::Single { budget }, row)?
+            && holds(
+                rt,
+                Mode::Shared {
+                    workers: 1,
+                    budget,
+                    chunk: 1,
+                },
+                row,
+            )?,
+    )
+}
+
+#[test]
+fn stops_at_the_budget(rt: HostRuntime) -> Result<(), Fail> {
+    let none = "error 20: exhausted after 0 mergers\n";
+    let two = "error 20: exhausted after 2 mergers\n";
+    let rows = [
+        (
+            0,
+            refused(
+                "NAME: t\nTYPE: UPIT\nNBLOCKS: 2\nOBJECTIVE_FUNCTION:\n0 -3\n1 5\n",
+                "1 1 0\n",
+                none,
+                3,
+            ),
+        ),
+        (
+            0,
+            solved(
+                "NAME: t\nTYPE: UPIT\nNBLOCKS: 1\nOBJECTIVE_FUNCTION:\n0 0\n",
+                "",
+                "PIT\nBLOCKS: 1\nIN: 0\nWORTH: 0.000000\n",
+            ),
+        ),
+        (
+            2,
+            refused(
+                "NAME: t\nTYPE: UPIT\nNBLOCKS: 4\nOBJECTIVE_FUNCTION:\n0 1\n1 -2\n2 5\n3 -2\n",
+                "0 2 1 3\n2 1 1\n",
+                two,
+                3,
+            ),
+        ),
+        (
+            3,
+            solved(
+                "NAME: t\nTYPE: UPIT\nNBLOCKS: 4\nOBJECTIVE_FUNCTION:\n0 1\n1 -2\n2 5\n3 -2\n",
+                "0 2 1 3\n2 1 1\n",
+                "PIT\nBLOCKS: 4\nIN: 2\nWORTH: 3.000000\n1\n2\n",
+            ),
+        ),
+        (
+            2,
+            refused(
+                "NAME: t\nTYPE: UPIT\nNBLOCKS: 4\nOBJECTIVE_FUNCTION:\n0 4\n1 -2\n2 5\n3 -2\n",
+                "0 2 1 3\n2 1 1\n",
+                two,
+                3,
+            ),
+        ),
+        (
+            3,
+            solved(
+                "NAME: t\nTYPE: UPIT\nNBLOCKS: 4\nOBJECTIVE_FUNCTION:\n0 4\n1 -2\n2 5\n3 -2\n",
+                "0 2 1 3\n2 1 1\n",
+                "PIT\nBLOCKS: 4\nIN: 4\nWORTH: 5.000000\n0\n1\n2\n3\n",
+            ),
+        ),
+    ];
+    for (most, row) in rows {
+        assert!(rt; holds_within(&rt, most, row)?);
+    }
+    Ok(())
+}
+
+/// Whether, into a writer that takes so many bytes in all and then fails, a beginning of that length is written.
+fn is_cut<R: AllocGlobal + Threads + Wait + Sync>(
+    rt: &R,
+    mode: Mode,
+    text: &str,
+    room: usize,
+) -> Result<bool, Fail> {
+    let mut model = MemoryReader::new(
+        b"NAME: t\nTYPE: UPIT\nNBLOCKS: 2\nOBJECTIVE_FUNCTION:\n0 -3\n1 5\n",
+    );
+    let mut prec = MemoryReader::new(b"1 1 0\n");
+    let mut out = MemoryWriter::new(rt.alloc(), room);
+    let mut unwanted: Option<MemoryWriter> = None;
+    let result = run_solve(
+        rt,
+        rt.alloc(),
+        &mut model,
+        &mut prec,
+        &mut unwanted,
+        &mut out,
+        mode,
+    );
+    let Some(front) = text.as_bytes().get(..room) else {
+        return Ok(false);
+    };
+    let failed = matches!(
+        result,
+        Err(Fault {
+            refusal: Refusal::WriteFailed,
+            ..
+        })
+    );
+    Ok(failed && exit_code(&result) == 1 && out.text.as_slice() == front)
+}
+
+#[test]
+fn leaves_a_beginning_where_writing_fails(rt: HostRuntime) -> Result<(), Fail> {
+    let text = "PIT\nBLOCKS: 2\nIN: 2\nWORTH: 2.000000\n0\n1\n";
+    for room in 0..text.len() {
+        for mode in [ONE_THREAD, ONE_WORKER, TWO_WORKERS] {
+            assert!(rt; is_cut(&rt, mode, text, room)?);
+        }
+    }
+    Ok(())
+}
+
+#[test]
+fn modes_and_what_goes_with_them(rt: HostRuntime) -> Result<(), Fail> {
+    let wrong = "pitshell: mode is single, parts or shared";
+    let parts = "pitshell: parts takes no budget";
+    let journal = "pitshell: journal needs shared";
+    let rows = [
+        ("single", true, false, ""),
+        ("parts", false, false, ""),
+        ("shared", true, true, ""),
+        ("Single", true, true, wrong),
+        ("", false, false, wrong),
+        ("parts", true, true, parts),
+        ("parts", false, true, journal),
+        ("single", false, true, journal),
+    ];
+    for (word, with_budget, with_journal, line) in rows {
+        assert_eq!(rt;
+            mode_fault(word, with_budget, with_journal).unwrap_or(""),
+            line,
+            "{word}"
+        );
+    }
+    let shared = mode_of("shared", 3, Some(7));
+    assert!(rt;
+        matches!(
+            shared,
+            Mode::Shared {
+                workers: 3,
+                budget: Some(7),
+                chunk: 4096,
+            }
+        )
+    );
+    assert!(rt; matches!(mode_of("parts", 3, None), Mode::Parts));
+    assert!(rt; matches!(mode_of("single", 3, None), Mode::Single { budget: None }));
+    Ok(())
+}
+
+#[test]
+fn statuses(rt: HostRuntime) -> Result<(), Fail> {
+    assert_eq!(rt; exit_code(&Ok(Status::Done)), 0);
+    assert_eq!(rt; exit_code(&Ok(Status::No)), 4);
+    assert_eq!(rt; exit_code(&Err(Fault::write_failed())), 1);
+    assert_eq!(rt; exit_code(&Err(Fault::no_seat())), 1);
+    assert_eq!(rt; exit_code(&Err(Fault::exhausted(2))), 3);
+    Ok(())
+}
