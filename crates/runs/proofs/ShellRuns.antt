@@ -1,7 +1,7 @@
 -- The shells of the deposit that was read give the text of the shells of the deposit that the files spell: pairs stand there
 -- in another order, and that order does not matter.
 use Rattle.std.proofs.Common.{◌≡◌, ℕ, zero, suc, ◌+◌, arith, refl, sym, ap, subst, ◌∙◌, List, get_or, not, Bool, true}
-use Rattle.std.specs.Prelude.{Ok, Err}
+use Rattle.std.specs.Prelude.{Ok, Err, Some, None}
 use Rattle.std.specs.List.{range_with_len, All}
 use Rattle.std.specs.List.Sorted.{IsStrictlyIncreasing}
 use Rattle.pit_model.proofs.Members.{members_rise}
@@ -19,6 +19,7 @@ use Rattle.pit_model.specs.Shells.{AreShells, IsShellBefore, IsRest, factor_of}
 use Rattle.pit_model.specs.ShellText.{shells_text}
 use Rattle.pit_model.proofs.SamePairs.{turned, pit_knows_no_order}
 use Rattle.solver.specs.declared.mode.Mode.{Mode}
+use Rattle.solver.specs.declared.mode.Mode.TheVariants.{Single, Parts, Shared}
 use Rattle.shells.specs.Prices.{Prices, deposit_of}
 use Rattle.shells.specs.Grown.{EachEndsWithin, RefusesShells}
 use Rattle.runs.specs.Solve.{Reading}
@@ -70,7 +71,10 @@ module _ (prices : Prices) (n : ℕ) (ps qs : List (ℕ × ℕ)) (same : AreSame
   }
 
   pub within_moves : (mode : Mode) (factors : List ℕ) → EachEndsWithin mode (deposit_of prices (graph_with n ps)) factors → EachEndsWithin mode (deposit_of prices (graph_with n qs)) factors
-  within_moves mode factors each k l = let h = each k l in (h.0, rest_moves factors k h.0 h.1, h.2)
+  within_moves (Single (Some budget)) factors each k l = let h = each k l in (h.0, rest_moves factors k h.0 h.1, h.2)
+  within_moves (Single None) factors each k l = tt
+  within_moves Parts factors each k l = tt
+  within_moves (Shared workers budget chunk) factors each k l = tt
 
   pub refused_moves : (mode : Mode) (factors : List ℕ) (r : Refusal) (e : Fault) → RefusesShells mode (deposit_of prices (graph_with n ps)) factors r e → RefusesShells mode (deposit_of prices (graph_with n qs)) factors r e
   refused_moves mode factors NoMemory e h = h

@@ -161,66 +161,60 @@ fn a_budget_counts_anew_for_each_rest(rt: HostRuntime) -> Result<(), Fail> {
     Ok(())
 }
 
-#[test]
-fn refuses_by_the_first_fault(rt: HostRuntime) -> Result<(), Fail> {
-    let rows = [
-        (
-            "400,400",
-            ONE_ORE,
-            "1 1 0\n",
-            "error 19: factors not rising in factors item 2\n",
-        ),
-        (
-            "300,",
-            ONE_ORE,
-            "1 1 0\n",
-            "error 5: not a whole number in factors item 2\n",
-        ),
-        (
-            "100001",
-            "0\n",
-            "0\n",
-            "error 4: over the limit in factors item 1\n",
-        ),
-        (
-            "",
-            "0\n",
-            "0\n",
-            "error 5: not a whole number in factors item 1\n",
-        ),
-        (
-            "5",
-            "0 0 0 0 0 -3\n1 0 0 1 10\n",
-            "9\n",
-            "error 11: wrong number of fields in blocks line 2\n",
-        ),
-        (
-            "5",
-            "0 0 0 0 0 -3\n1 0 0 1 10 1\n",
-            "9\n",
-            "error 11: wrong number of fields in precedence line 1\n",
-        ),
-        (
-            "5",
-            "0 0 0 0 0 -3\n1 0 0 1 10 1\n",
-            "0 1 1\n1 1 0\n",
-            "error 14: cycle 0 1 in precedence\n",
-        ),
-        (
-            "5",
-            "0 0 0 0 0 -3\n1 0 0 1 10 1\n",
-            "1 1 0\n",
-            "error 15: negative value at block 0 in blocks\n",
-        ),
-        (
-            "5",
-            "0 0 0 0 7\n1 0 0 1 10\n",
-            "1 1 0\n",
-            "error 16: no column 1 in blocks\n",
-        ),
-    ];
+/// Whether each of some rows of factors, blocks and precedence is refused with status 1 by its line.
+fn all_refused<R: AllocGlobal + Threads + Wait + Sync>(
+    rt: &R,
+    rows: &[(&'static str, &'static str, &'static str, &'static str)],
+) -> Result<bool, Fail> {
     for (factors, blocks, prec, err) in rows {
-        assert!(rt; holds(&rt, ONE_THREAD, refused(blocks, prec, factors, err, 1))?);
+        if !holds(rt, ONE_THREAD, refused(blocks, prec, factors, err, 1))? {
+            return Ok(false);
+        }
     }
+    Ok(true)
+}
+
+#[test]
+fn refuses_factors_before_the_files(rt: HostRuntime) -> Result<(), Fail> {
+    let not_rising = "error 19: factors not rising in factors item 2\n";
+    let second_not_whole = "error 5: not a whole number in factors item 2\n";
+    let over_limit = "error 4: over the limit in factors item 1\n";
+    let not_whole = "error 5: not a whole number in factors item 1\n";
+    let rows = [
+        ("400,400", ONE_ORE, "1 1 0\n", not_rising),
+        ("300,", ONE_ORE, "1 1 0\n", second_not_whole),
+        ("100001", "0\n", "0\n", over_limit),
+        ("", "0\n", "0\n", not_whole),
+    ];
+    assert!(rt; all_refused(&rt, &rows)?);
+    Ok(())
+}
+
+/// A cost below 0.
+const BAD_COST: &str = "0 0 0 0 0 -3\n1 0 0 1 10 1\n";
+
+#[test]
+fn refuses_blocks_then_precedence(rt: HostRuntime) -> Result<(), Fail> {
+    let short_blocks = "error 11: wrong number of fields in blocks line 2\n";
+    let short_prec = "error 11: wrong number of fields in precedence line 1\n";
+    let cycle = "error 14: cycle 0 1 in precedence\n";
+    let rows = [
+        ("5", "0 0 0 0 0 -3\n1 0 0 1 10\n", "9\n", short_blocks),
+        ("5", BAD_COST, "9\n", short_prec),
+        ("5", BAD_COST, "0 1 1\n1 1 0\n", cycle),
+    ];
+    assert!(rt; all_refused(&rt, &rows)?);
+    Ok(())
+}
+
+#[test]
+fn refuses_columns_last(rt: HostRuntime) -> Result<(), Fail> {
+    let negative = "error 15: negative value at block 0 in blocks\n";
+    let no_column = "error 16: no column 1 in blocks\n";
+    let rows = [
+        ("5", BAD_COST, "1 1 0\n", negative),
+        ("5", "0 0 0 0 7\n1 0 0 1 10\n", "1 1 0\n", no_column),
+    ];
+    assert!(rt; all_refused(&rt, &rows)?);
     Ok(())
 }

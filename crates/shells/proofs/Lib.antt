@@ -3,3 +3,7 @@ pub mod Joining
 pub mod Nests
 pub mod Marking
 pub mod PriceBounds
+pub mod Lifting
+pub mod Amounts
+pub mod Ends
+pub mod Outer

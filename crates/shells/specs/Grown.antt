@@ -1,5 +1,5 @@
 -- Shells that grow from factor to factor: which blocks are taken so far, and what is left.
-use Rattle.std.specs.Prelude.{◌≡◌, ◌<◌, ℕ, false, Bool, List, length, get_or}
+use Rattle.std.specs.Prelude.{◌≡◌, ◌<◌, ℕ, false, Bool, List, length, get_or, Some, None}
 use Rattle.minelib_reader.specs.declared.fault.Fault.{Fault}
 use Rattle.minelib_reader.specs.declared.fault.Refusal.{Refusal}
 use Rattle.minelib_reader.specs.declared.fault.Refusal.TheVariants.{NoMemory}
@@ -10,6 +10,7 @@ use Rattle.pit_model.specs.Deposit.{Deposit, mine_on}
 use Rattle.pit_model.specs.Shells.{IsShellBefore, IsOutside, IsRest}
 use Rattle.shells.specs.Prices.{Prices, deposit_of}
 use Rattle.solver.specs.declared.mode.Mode.{Mode}
+use Rattle.solver.specs.declared.mode.Mode.TheVariants.{Single, Parts}
 use Rattle.solver.specs.Modes.{EndsWithin, RefusesSolve}
 
 -- the set of the blocks that are marked
@@ -32,9 +33,11 @@ pub record IsFound (mine : Instance) (pit : List ℕ) : Type 0 where
   pub listed : pit ≡ members mine.blocks set
   pub is_pit : IsPit mine set
 
--- the budget does not end the solve of the rest of the factor with number k
+-- the budget, where there is one, does not end the solve of the rest of the factor with number k
 abbrev pub RestEndsWithin : Mode → Deposit → List ℕ → ℕ → Type 0
-RestEndsWithin mode deposit factors k = (rest : Instance) × IsRest deposit factors k rest × EndsWithin mode rest
+RestEndsWithin (Single (Some budget)) deposit factors k =
+    (rest : Instance) × IsRest deposit factors k rest × EndsWithin (Single (Some budget)) rest
+RestEndsWithin _ deposit factors k = Unit {0}
 
 -- nor that of any factor
 abbrev pub EachEndsWithin : Mode → Deposit → List ℕ → Type 0
@@ -45,3 +48,9 @@ abbrev pub RefusesShells : Mode → Deposit → List ℕ → Refusal → Fault �
 RefusesShells mode deposit factors NoMemory fault = fault ≡ no_memory
 RefusesShells mode deposit factors refusal fault =
     (k : ℕ) × (k < length factors) × ((rest : Instance) × IsRest deposit factors k rest × RefusesSolve mode rest refusal fault)
+
+-- no budget ends a solve in this mode, and it is refused for want of memory alone
+abbrev pub IsFree : Mode → Type 0
+IsFree (Single None) = Unit {0}
+IsFree Parts = Unit {0}
+IsFree _ = ⊥

@@ -1,3 +1,4 @@
 pub mod FactorList
 pub mod Prices
 pub mod Grown
+pub mod Outermost

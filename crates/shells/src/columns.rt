@@ -4,6 +4,7 @@ ghost use Rattle.std.specs.List.{All};
 ghost use Rattle.minelib_reader.specs.Number.{IsWithin};
 ghost use Rattle.pit_model.specs.Deposit.{priced};
 ghost use Rattle.pit_model.specs.Sum.{total};
+ghost use Rattle.shells.specs.Outermost.{amounts_of};
 ghost use Rattle.shells.specs.Prices.{price_of, AreColumns, ArePrices, RefusesColumns};
 
 use minelib_reader::{BlockTable, Fault, column};
@@ -36,6 +37,18 @@ fn price(factor: u32, revenue: i128, cost: i128) -> i128
     ensures small { IsWithin (10 ^ 23) result }
 {
     i128::from(factor) * revenue - 1000 * cost
+}
+
+/// The amounts of some blocks.
+fn amounts_at(alloc: Global, amounts: &[i128], blocks: &[u32]) -> Result<Vec<i128>, AllocError>
+    requires { All (λ u. u < length amounts.now) blocks.now }
+    ensures { IfOk result (λ v. v.items ≡ amounts_of amounts.now blocks.now) }
+{
+    let mut list = Vec::with_capacity(alloc, blocks.len())?;
+    for &u in blocks {
+        list.push(amounts[u as usize])?;
+    }
+    Ok(list)
 }
 
 impl Columns {
@@ -91,6 +104,19 @@ impl Columns {
             values.push(self.value(u, factor))?;
         }
         Ok(values)
+    }
+
+    /// The rows of some blocks, as columns of their own. Refused for want of memory alone.
+    pub(crate) fn at(&self, alloc: Global, blocks: &[u32]) -> Result<Columns, AllocError>
+        requires few { length blocks.now ≤ 2 ^ 22 }
+        requires blocks { All (λ u. u < length self.now.revenues) blocks.now }
+        ensures revenues { IfOk result (λ c. c.revenues ≡ amounts_of self.now.revenues blocks.now) }
+        ensures costs { IfOk result (λ c. c.costs ≡ amounts_of self.now.costs blocks.now) }
+    {
+        self.law();
+        let revenues = amounts_at(alloc, &self.revenues, blocks)?;
+        let costs = amounts_at(alloc, &self.costs, blocks)?;
+        Ok(Columns { revenues, costs })
     }
 
     /// The summed value of a list of blocks at a factor in per mille, in billionths.

@@ -24,9 +24,9 @@ use std::thread::Threads;
 /// among them, renumbered in that order.
 #[derive(Drop)]
 pub struct Growing {
-    marks: Vec<bool>,
-    blocks: Vec<u32>,
-    graph: Arc<Graph>,
+    pub marks: Vec<bool>,
+    pub blocks: Vec<u32>,
+    pub graph: Arc<Graph>,
 }
 
 /// The numbers of all blocks.
@@ -53,7 +53,7 @@ pub fn start(alloc: Global, graph: &Arc<Graph>) -> Result<Growing, AllocError>
 }
 
 /// The pit of the rest at a factor, by the rest's own numbers.
-fn solve_rest<G: Gate + Sync, R: Threads + Wait + Sync>(
+pub fn solve_rest<G: Gate + Sync, R: Threads + Wait + Sync>(
     rt: &R,
     alloc: Global,
     columns: &Columns,
@@ -79,7 +79,7 @@ fn solve_rest<G: Gate + Sync, R: Threads + Wait + Sync>(
 }
 
 /// Marks the blocks of the rest that were found, by their numbers there.
-fn mark(marks: &mut [bool], blocks: &[u32], found: &[u32])
+pub fn mark(marks: &mut [bool], blocks: &[u32], found: &[u32])
     requires blocks { (i : ℕ) → i < length blocks.now → get_or blocks.now i 0 < length marks.old }
     requires found { (j : ℕ) → j < length found.now → get_or found.now j 0 < length blocks.now }
     ensures keeps { (u : ℕ) → marked marks.old u ≡ true → marked marks.new u ≡ true }
@@ -93,7 +93,7 @@ fn mark(marks: &mut [bool], blocks: &[u32], found: &[u32])
 }
 
 /// The marked blocks, rising.
-fn marked_blocks(alloc: Global, marks: &[bool]) -> Result<Vec<u32>, AllocError>
+pub fn marked_blocks(alloc: Global, marks: &[bool]) -> Result<Vec<u32>, AllocError>
     requires { length marks.now ≤ 2 ^ 22 }
     ensures { IfOk result (λ v. v.items ≡ members (length marks.now) (marked marks.now)) }
 {

@@ -6,6 +6,7 @@ mod factors;
 mod growing;
 mod items;
 mod nesting;
+mod outermost;
 
 pub use columns::Columns;
 pub use factors::Factors;

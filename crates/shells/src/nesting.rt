@@ -1,12 +1,14 @@
 //! The shells of a mine: the pit at each factor, one within the next.
-ghost use Rattle.std.specs.Prelude.{◌≡◌, length, IfOk, IfErr};
+ghost use Rattle.std.specs.Prelude.{◌≡◌, ◌<◌, length, IfOk, IfErr};
+ghost use Rattle.minelib_reader.specs.Refused.{no_memory};
 ghost use Rattle.pit_model.specs.Shells.{AreShells};
 ghost use Rattle.shells.specs.Prices.{deposit_of};
-ghost use Rattle.shells.specs.Grown.{EachEndsWithin, RefusesShells};
+ghost use Rattle.shells.specs.Grown.{EachEndsWithin, IsFree, RefusesShells};
 
 use crate::columns::Columns;
 use crate::factors::Factors;
 use crate::growing::{next_shell, start};
+use crate::outermost::{is_free, lift_all, outermost_shell};
 use mine_graph::Graph;
 use minelib_reader::Fault;
 use pit_model::{Shell, ShellList};
@@ -52,6 +54,54 @@ fn each_shell<G: Gate + Sync, R: Threads + Wait + Sync>(
     Ok(list)
 }
 
+/// The shell of each factor, found among the blocks of the last one. Refused for want of memory alone.
+fn shells_within<G: Gate + Sync, R: Threads + Wait + Sync>(
+    rt: &R,
+    alloc: Global,
+    columns: &Columns,
+    graph: &Arc<Graph>,
+    factors: &Factors,
+    mode: &Mode,
+    gate: &G,
+) -> Result<Vec<Shell>, Fault>
+    requires rows { length columns.now.revenues ≡ graph.now.value.blocks }
+    requires some { 0 < length factors.now }
+    requires free { IsFree mode.now }
+    ensures shells { IfOk result (λ list. AreShells (deposit_of columns.now graph.now.value) factors.now list.items) }
+    ensures refused { IfErr result (λ e. e ≡ no_memory) }
+{
+    factors.law();
+    columns.law();
+    graph.law();
+    let greatest = factors.get(factors.len() - 1);
+    let outer = outermost_shell(rt, alloc, columns, graph, greatest, mode, gate)?;
+    outer.columns.law();
+    outer.graph.law();
+    let inner = each_shell(rt, alloc, &outer.columns, &outer.graph, factors, mode, gate)?;
+    Ok(lift_all(alloc, graph.n(), &outer.blocks, &inner)?)
+}
+
+/// The shell of each factor, in their order, by the way that the mode allows.
+fn all_shells<G: Gate + Sync, R: Threads + Wait + Sync>(
+    rt: &R,
+    alloc: Global,
+    columns: &Columns,
+    graph: &Arc<Graph>,
+    factors: &Factors,
+    mode: &Mode,
+    gate: &G,
+) -> Result<Vec<Shell>, Fault>
+    requires { length columns.now.revenues ≡ graph.now.value.blocks }
+    ensures shells { IfOk result (λ list. AreShells (deposit_of columns.now graph.now.value) factors.now list.items) }
+    ensures within { IfOk result (λ _. EachEndsWithin mode.now (deposit_of columns.now graph.now.value) factors.now) }
+    ensures refused { IfErr result (λ e. RefusesShells mode.now (deposit_of columns.now graph.now.value) factors.now e.refusal e) }
+{
+    if factors.len() < 2 || !is_free(mode) {
+        return each_shell(rt, alloc, columns, graph, factors, mode, gate);
+    }
+    shells_within(rt, alloc, columns, graph, factors, mode, gate)
+}
+
 /// The shells of a mine with these revenues and costs: for each factor its pit, with the pit's worth in the factor's own
 /// values, in billionths. Each lies within all later ones. A factor is solved on what the shell before leaves; a budget of
 /// mergers counts anew for each. The gate is told of the steps of workers.
@@ -73,7 +123,7 @@ pub fn shells<G: Gate + Sync, R: Threads + Wait + Sync>(
     ensures within { IfOk result (λ _. EachEndsWithin mode.now (deposit_of columns.now graph.now.value) factors.now) }
     ensures refused { IfErr result (λ e. RefusesShells mode.now (deposit_of columns.now graph.now.value) factors.now e.refusal e) }
 {
-    let shells = each_shell(rt, alloc, columns, graph, factors, mode, gate)?;
+    let shells = all_shells(rt, alloc, columns, graph, factors, mode, gate)?;
     Ok(ShellList {
         n: graph.n(),
         shells,

@@ -12,6 +12,7 @@ use Rattle.pit_model.specs.Shells.{factor_of, IsJoined}
 use Rattle.shells.specs.Prices.{deposit_of, price_of}
 use Rattle.shells.specs.Grown.{marked, rest_at, IsFound}
 use Rattle.shells.proofs.Joining.{found_below, grows, is_priced, is_rest, is_shell, left_over, marked_below, marked_few, solve_refuses}
+use Rattle.shells.proofs.Ends.{rest_ends}
 use Rattle.shells.proofs.growing.next_shell.Goals as goal
 
 pub solve_rest-requires-clause-rows : goal.solve_rest-requires-clause-rows
@@ -86,8 +87,7 @@ pub returns-clause-within : goal.returns-clause-within
 returns-clause-within g c =
     let columns = c.args.columns.now in
     let growing = c.args.growing.now in
-    let factors = c.args.factors.now in (
-      rest_at columns (factor_of factors c.args.k) growing.blocks.items growing.graph.value,
-      is_rest columns c.args.graph.now growing.graph.value factors c.args.k growing.marks.items growing.blocks.items c.requires.grown,
-      subst (λ f. EndsWithin c.args.mode.now (rest_at columns f growing.blocks.items growing.graph.value)) c.get-factor.ensures c.in_ok-found.ensures.within,
-    )
+    let factors = c.args.factors.now in
+    rest_ends c.args.mode.now (deposit_of columns c.args.graph.now) factors c.args.k (rest_at columns (factor_of factors c.args.k) growing.blocks.items growing.graph.value)
+    (is_rest columns c.args.graph.now growing.graph.value factors c.args.k growing.marks.items growing.blocks.items c.requires.grown)
+    (subst (λ f. EndsWithin c.args.mode.now (rest_at columns f growing.blocks.items growing.graph.value)) c.get-factor.ensures c.in_ok-found.ensures.within)
