@@ -1,5 +1,5 @@
 //! The holder under a mutex, so that each thread takes its turn, and beside it what gives seats to look from without the lock.
-ghost use Rattle.std.specs.Prelude.{◌≡◌, IfErr};
+ghost use Rattle.std.specs.Prelude.{◌≡◌, true, IfErr};
 ghost use mathlib.Core.List.{IsPrefix};
 ghost use Rattle.minelib_reader.specs.Refused.{no_memory, no_seat, IsNoRoom};
 ghost use Rattle.pit_model.specs.Tree.{opening};
@@ -68,9 +68,10 @@ impl<S: Site, R: Wait + Drop> SharedTree<S, R> {
     }
 
     /// Takes the lock and tells the seat of all mergers that were made by then: all that it saw or was told of before was a
-    /// beginning of these.
+    /// beginning of these. True where nothing is left to be published, which is always.
     pub fn tell<H: Wait>(&self, rt: &H, seat: &mut LookSeat<S>) -> bool
-        ensures { IsPrefix seat.old seat.new }
+        ensures before { IsPrefix seat.old seat.new }
+        ensures all { result ≡ true }
     {
         self.lock.lock(rt).tell(seat)
     }
