@@ -33,4 +33,6 @@ pub use tree_lock::{Entry, Verdict};
 #[cfg(test)]
 mod parts_tests;
 #[cfg(test)]
+mod shared_tests;
+#[cfg(test)]
 mod tests;

@@ -10,7 +10,7 @@ use std::sync::Arc;
 use std::test::*;
 
 // Block 0 needs 1 and 3, and block 2 needs 1. The first run merges over arc 0, arc 2 and arc 1, and leaves 1 and 2.
-fn cut_once(alloc: Global) -> Result<Instance, Fault> {
+pub fn cut_once(alloc: Global) -> Result<Instance, Fault> {
     let pairs = vec![in alloc; (0, 1), (0, 3), (2, 1)]?;
     let graph = Arc::new(alloc, Graph::new(alloc, 4, pairs)?)?;
     let values = vec![in alloc; 1, -2, 5, -2]?;
@@ -18,7 +18,7 @@ fn cut_once(alloc: Global) -> Result<Instance, Fault> {
 }
 
 // The same blocks, of which all are worth digging: over arc 0, arc 1 and arc 2.
-fn dug_whole(alloc: Global) -> Result<Instance, Fault> {
+pub fn dug_whole(alloc: Global) -> Result<Instance, Fault> {
     let pairs = vec![in alloc; (0, 1), (0, 3), (2, 1)]?;
     let graph = Arc::new(alloc, Graph::new(alloc, 4, pairs)?)?;
     let values = vec![in alloc; 4, -2, 5, -2]?;
@@ -34,7 +34,7 @@ fn worth_nothing(alloc: Global) -> Result<Instance, Fault> {
 }
 
 // Whether the answer is this pit, or, where none is expected, that this budget is used up.
-fn is_answer(outcome: &Outcome, pit: Option<&[u32]>, budget: u64) -> bool {
+pub fn is_answer(outcome: &Outcome, pit: Option<&[u32]>, budget: u64) -> bool {
     match (outcome, pit) {
         (Outcome::Pit(certificate), Some(pit)) => certificate.pit.as_slice() == pit,
         (Outcome::Exhausted(count), None) => *count == budget,
@@ -63,62 +63,6 @@ fn one_thread_stops_at_the_budget(rt: HostRuntime) -> Result<(), Fail> {
     assert!(rt; is_answer(&outcome, None, 0));
     let outcome = solve_single(rt.alloc(), &worth_nothing(rt.alloc())?, Some(u64::MAX))?;
     assert!(rt; is_answer(&outcome, Some(&[]), 0));
-    Ok(())
-}
-
-// Whether the mergers of the journal are over these arcs, all under seats of workers, or of the driver.
-fn merges_over(journal: &[Entry], workers: u32, arcs: &[u32]) -> bool {
-    let mut made = 0;
-    for entry in journal {
-        if entry.seat > workers {
-            return false;
-        }
-        if entry.verdict == Verdict::Applied {
-            if arcs.get(made) != Some(&entry.arc) {
-                return false;
-            }
-            made += 1;
-        }
-    }
-    made == arcs.len()
-}
-
-#[test]
-fn workers_find_the_pit(rt: HostRuntime) -> Result<(), Fail> {
-    let mine = cut_once(rt.alloc())?;
-    for workers in 1..5 {
-        let (outcome, journal) = solve_shared(&rt, rt.alloc(), &mine, workers, None, 1, &OpenGate)?;
-        assert!(rt; is_answer(&outcome, Some(&[1, 2]), 0));
-        assert!(rt; merges_over(&journal, workers, &[0, 2, 1]));
-    }
-    Ok(())
-}
-
-#[test]
-fn workers_stop_at_the_budget(rt: HostRuntime) -> Result<(), Fail> {
-    let mine = dug_whole(rt.alloc())?;
-    for workers in 1..3 {
-        let (outcome, journal) = solve_shared(
-            &rt,
-            rt.alloc(),
-            &mine,
-            workers,
-            Some(2),
-            1,
-            &OpenGate,
-        )?;
-        assert!(rt; is_answer(&outcome, None, 2));
-        assert!(rt; merges_over(&journal, workers, &[0, 1]));
-    }
-    Ok(())
-}
-
-#[test]
-fn one_worker_does_all_the_work(rt: HostRuntime) -> Result<(), Fail> {
-    let mine = cut_once(rt.alloc())?;
-    let (_, journal) = solve_shared(&rt, rt.alloc(), &mine, 1, None, 1, &OpenGate)?;
-    assert_eq!(rt; journal.len(), 3);
-    assert!(rt; journal.iter().all(|entry| entry.seat == 1 && entry.verdict == Verdict::Applied));
     Ok(())
 }
 
