@@ -17,10 +17,3 @@ pub use make::of_tree;
 pub use pit_with_flow::Certificate;
 pub use reader::{certificate_law, parse_certificate, read};
 pub use writer::write;
-
-#[cfg(test)]
-mod made_tests;
-#[cfg(test)]
-mod tests;
-#[cfg(test)]
-mod text_tests;

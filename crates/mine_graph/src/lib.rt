@@ -14,10 +14,3 @@ pub use cycle::acyclic_has_no_needy;
 pub use graph::Graph;
 pub use instance::Instance;
 pub use part::Part;
-
-#[cfg(test)]
-mod part_tests;
-#[cfg(test)]
-mod parts_tests;
-#[cfg(test)]
-mod tests;

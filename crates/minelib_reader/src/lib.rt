@@ -27,6 +27,3 @@ pub use prec::{parse_prec, prec_law, read_prec};
 pub use rows::{Row, Rows};
 pub use table::BlockTable;
 pub use upit::{Model, parse_upit, read_upit, upit_law};
-
-#[cfg(test)]
-mod tests;

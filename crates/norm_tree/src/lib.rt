@@ -17,12 +17,3 @@ mod walk;
 
 pub use bare::BareTree;
 pub use tree::NormTree;
-
-#[cfg(test)]
-mod bare_tests;
-#[cfg(test)]
-mod label_tests;
-#[cfg(test)]
-mod random_tests;
-#[cfg(test)]
-mod tests;

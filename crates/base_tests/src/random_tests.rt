@@ -1,9 +1,9 @@
 //! Random small mines: after each merger, and after each arc that is none, the kept labels and the first merger arc are those
 //! that the bare tree sees, which climbs to roots, arc by arc. So two bodies of one thing are held against each other.
 
-use super::*;
 use mine_graph::{Graph, Instance};
 use minelib_reader::{Fault, MemoryReader, read_prec, read_upit};
+use norm_tree::{BareTree, NormTree};
 use std::alloc::Global;
 use std::sync::Arc;
 use std::test::*;

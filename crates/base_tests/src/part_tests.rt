@@ -1,7 +1,7 @@
 //! Parts of the mine with the pairs (0, 1), (0, 3) and (2, 1), worked out by hand.
 ghost use Rattle.std.specs.Prelude.{◌≡◌, IfOk};
 
-use super::*;
+use mine_graph::{Graph, Part};
 use minelib_reader::Fault;
 use std::alloc::Global;
 use std::test::*;

@@ -3,7 +3,11 @@
 ghost use Rattle.std.specs.Prelude.{◌≡◌, ◌≤◌, ◌<◌, ◌-◌, ◌^◌, length, take, IfOk};
 ghost use Rattle.minelib_reader.specs.Device.{Progress};
 
-use super::*;
+use minelib_reader::{
+    BlockTable, DeviceFailed, Fault, FileReader, InBytes, MemoryReader, MemoryWriter, Model,
+    OutBytes, Rows, Source, StreamWriter, column, decimal, digits, next_field, parse_blocks,
+    parse_prec, parse_upit, read_all, read_blocks, read_prec, read_upit, two_fields, write_all,
+};
 use std::alloc::{AllocError, Global};
 use std::fs::File;
 use std::test::*;
@@ -114,6 +118,36 @@ fn column_told(alloc: Global, text: &[u8], k: u32) -> Result<String, AllocError>
     }
 }
 
+/// Whether a short text is the model that is told so, or refused so, read whole and byte by byte.
+fn is_model(alloc: Global, text: &[u8], told: &str) -> Result<bool, AllocError> {
+    if text.len() > 1000 {
+        return Ok(false);
+    }
+    let whole = read_upit(alloc, &mut MemoryReader::new(text));
+    let slow = read_upit(alloc, &mut SlowReader::new(text, text.len() + 1));
+    Ok(model_told(alloc, whole)?.as_str() == told && model_told(alloc, slow)?.as_str() == told)
+}
+
+/// Whether a short text is the pairs that are told so, or refused so, read whole and byte by byte.
+fn are_pairs(alloc: Global, text: &[u8], n: u32, told: &str) -> Result<bool, AllocError> {
+    if text.len() > 1000 {
+        return Ok(false);
+    }
+    let whole = read_prec(alloc, &mut MemoryReader::new(text), n);
+    let slow = read_prec(alloc, &mut SlowReader::new(text, text.len() + 1), n);
+    Ok(pairs_told(alloc, whole)?.as_str() == told && pairs_told(alloc, slow)?.as_str() == told)
+}
+
+/// Whether a short text is the table that is told so, or refused so, read whole and byte by byte.
+fn is_table(alloc: Global, text: &[u8], told: &str) -> Result<bool, AllocError> {
+    if text.len() > 1000 {
+        return Ok(false);
+    }
+    let whole = read_blocks(alloc, &mut MemoryReader::new(text));
+    let slow = read_blocks(alloc, &mut SlowReader::new(text, text.len() + 1));
+    Ok(table_told(alloc, whole)?.as_str() == told && table_told(alloc, slow)?.as_str() == told)
+}
+
 const MODELS: [(&str, &str); 13] = [
     (
         "NAME: t\nTYPE: UPIT\nNBLOCKS: 0\nOBJECTIVE_FUNCTION:\n",
@@ -172,11 +206,7 @@ const MODELS: [(&str, &str); 13] = [
 #[test]
 fn models_whole_and_by_bytes(rt: HostRuntime) -> Result<(), Fail> {
     for (text, told) in MODELS {
-        let text = text.as_bytes();
-        let whole = read_upit(rt.alloc(), &mut MemoryReader::new(text));
-        assert_eq!(rt; model_told(rt.alloc(), whole)?.as_str(), told);
-        let slow = read_upit(rt.alloc(), &mut SlowReader::new(text, text.len() + 1));
-        assert_eq!(rt; model_told(rt.alloc(), slow)?.as_str(), told);
+        assert!(rt; is_model(rt.alloc(), text.as_bytes(), told)?);
     }
     Ok(())
 }
@@ -220,11 +250,7 @@ const PRECEDENCES: [(u32, &str, &str); 13] = [
 #[test]
 fn pairs_whole_and_by_bytes(rt: HostRuntime) -> Result<(), Fail> {
     for (n, text, told) in PRECEDENCES {
-        let text = text.as_bytes();
-        let whole = read_prec(rt.alloc(), &mut MemoryReader::new(text), n);
-        assert_eq!(rt; pairs_told(rt.alloc(), whole)?.as_str(), told);
-        let slow = read_prec(rt.alloc(), &mut SlowReader::new(text, text.len() + 1), n);
-        assert_eq!(rt; pairs_told(rt.alloc(), slow)?.as_str(), told);
+        assert!(rt; are_pairs(rt.alloc(), text.as_bytes(), n, told)?);
     }
     Ok(())
 }
@@ -268,11 +294,7 @@ const TABLE_FAULTS: [(&str, &str); 8] = [
 #[test]
 fn tables_whole_and_by_bytes(rt: HostRuntime) -> Result<(), Fail> {
     for (text, told) in TABLES {
-        let text = text.as_bytes();
-        let whole = read_blocks(rt.alloc(), &mut MemoryReader::new(text));
-        assert_eq!(rt; table_told(rt.alloc(), whole)?.as_str(), told);
-        let slow = read_blocks(rt.alloc(), &mut SlowReader::new(text, text.len() + 1));
-        assert_eq!(rt; table_told(rt.alloc(), slow)?.as_str(), told);
+        assert!(rt; is_table(rt.alloc(), text.as_bytes(), told)?);
     }
     Ok(())
 }
@@ -280,11 +302,7 @@ fn tables_whole_and_by_bytes(rt: HostRuntime) -> Result<(), Fail> {
 #[test]
 fn faults_of_tables_whole_and_by_bytes(rt: HostRuntime) -> Result<(), Fail> {
     for (text, told) in TABLE_FAULTS {
-        let text = text.as_bytes();
-        let whole = read_blocks(rt.alloc(), &mut MemoryReader::new(text));
-        assert_eq!(rt; table_told(rt.alloc(), whole)?.as_str(), told);
-        let slow = read_blocks(rt.alloc(), &mut SlowReader::new(text, text.len() + 1));
-        assert_eq!(rt; table_told(rt.alloc(), slow)?.as_str(), told);
+        assert!(rt; is_table(rt.alloc(), text.as_bytes(), told)?);
     }
     Ok(())
 }
@@ -367,25 +385,39 @@ fn writers(rt: HostRuntime) -> Result<(), Fail> {
 }
 
 #[test]
-fn files(rt: HostRuntime) -> Result<(), Fail> {
+fn an_empty_file(rt: HostRuntime) -> Result<(), Fail> {
     let mut none = FileReader::new(File::open(&rt, "/dev/null")?);
-    assert_eq!(rt;
-        pairs_told(rt.alloc(), read_prec(rt.alloc(), &mut none, 2))?.as_str(),
-        "[]"
-    );
+    let read = read_prec(rt.alloc(), &mut none, 2);
+    assert_eq!(rt; pairs_told(rt.alloc(), read)?.as_str(), "[]");
+    Ok(())
+}
+
+#[test]
+fn a_file_of_one_line(rt: HostRuntime) -> Result<(), Fail> {
     let mut name = FileReader::new(File::open(&rt, "/proc/sys/kernel/ostype")?);
-    assert_eq!(rt;
-        read_all(rt.alloc(), &mut name, Source::Blocks)?.as_slice(),
-        b"Linux\n".as_slice()
-    );
+    let read = read_all(rt.alloc(), &mut name, Source::Blocks)?;
+    assert_eq!(rt; read.as_slice(), b"Linux\n".as_slice());
+    Ok(())
+}
+
+#[test]
+fn a_folder_fails_to_read(rt: HostRuntime) -> Result<(), Fail> {
     let mut folder = FileReader::new(File::open(&rt, "/")?);
     let read = read_upit(rt.alloc(), &mut folder);
-    assert_eq!(rt;
-        model_told(rt.alloc(), read)?.as_str(),
-        "read failed in model line 0"
-    );
+    let told = model_told(rt.alloc(), read)?;
+    assert_eq!(rt; told.as_str(), "read failed in model line 0");
+    Ok(())
+}
+
+#[test]
+fn a_file_takes_all(rt: HostRuntime) -> Result<(), Fail> {
     let mut sink = StreamWriter::new(File::create(&rt, "/dev/null")?);
     assert_eq!(rt; write_all(&mut sink, b"PIT\n"), Ok(()));
+    Ok(())
+}
+
+#[test]
+fn a_full_device_takes_nothing(rt: HostRuntime) -> Result<(), Fail> {
     let mut full = StreamWriter::new(File::create(&rt, "/dev/full")?);
     assert_eq!(rt; write_all(&mut full, b"PIT\n"), Err(DeviceFailed));
     Ok(())

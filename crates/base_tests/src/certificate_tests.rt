@@ -1,7 +1,7 @@
 //! Four blocks, of which block 0 needs 1 and 3, and block 2 needs 1: the certificate comes only once no merger arc is left.
 ghost use Rattle.std.specs.Prelude.{◌≡◌, ◌≤◌, ◌<◌, ℕ, ℤ, pos, neg_ℤ, ◌^◌, ◌≤ℤ◌, get_or, IfOk};
 
-use super::*;
+use certificate::of_tree;
 use mine_graph::{Graph, Instance};
 use norm_tree::NormTree;
 use std::sync::Arc;

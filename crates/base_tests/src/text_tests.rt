@@ -2,7 +2,7 @@
 //! two of worth -5 and 5. What is answered was worked out by hand.
 ghost use Rattle.std.specs.Prelude.{◌≡◌, ◌≤◌, ◌<◌, ℕ, ℤ, pos, neg_ℤ, ◌^◌, ◌≤ℤ◌, get_or, length, IfOk};
 
-use super::*;
+use certificate::{Certificate, check, parse_certificate, read, write};
 use mine_graph::{Graph, Instance};
 use minelib_reader::{Fault, MemoryReader, MemoryWriter};
 use report::write_fault;

@@ -1,7 +1,7 @@
 //! The worked mines, solved: the certificate of the last tree, written and read again, is answered yes.
 ghost use Rattle.std.specs.Prelude.{◌≤◌, ◌^◌, length};
 
-use super::*;
+use certificate::{check, of_tree, parse_certificate, write};
 use mine_graph::{Graph, Instance};
 use minelib_reader::{Fault, MemoryWriter, parse_prec, parse_upit};
 use norm_tree::NormTree;

@@ -2,9 +2,9 @@
 //! where it cuts between two strong branches, and where a residual is used up exactly and the link stays.
 ghost use Rattle.std.specs.Prelude.{◌≡◌, ℕ, ◌<◌, ◌^◌, IfOk, ℤ, pos, neg_ℤ, ◌≤ℤ◌, length, get_or};
 
-use super::*;
 use mine_graph::{Graph, Instance};
 use minelib_reader::Fault;
+use norm_tree::NormTree;
 use std::alloc::Global;
 use std::sync::Arc;
 use std::test::*;
