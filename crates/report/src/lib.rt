@@ -16,4 +16,6 @@ pub use pit::{put_line, write_pit};
 pub use shells::write_shells;
 
 #[cfg(test)]
+mod shells_tests;
+#[cfg(test)]
 mod tests;

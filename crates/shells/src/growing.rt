@@ -29,6 +29,14 @@ pub struct Growing {
     pub graph: Arc<Graph>,
 }
 
+/// A mine with the revenues and the costs of its blocks, and the factors at which its shells are wanted.
+#[derive(Clone, Copy)]
+pub struct Priced<'a> {
+    pub columns: &'a Columns,
+    pub graph: &'a Graph,
+    pub factors: &'a Factors,
+}
+
 /// The numbers of all blocks.
 fn all_blocks(alloc: Global, n: u32) -> Result<Vec<u32>, AllocError>
     ensures { IfOk result (λ v. v.items ≡ range_with_len 0 n) }
@@ -132,23 +140,26 @@ fn join(alloc: Global, graph: &Graph, growing: &mut Growing, found: &[u32]) -> R
 pub fn next_shell<G: Gate + Sync, R: Threads + Wait + Sync>(
     rt: &R,
     alloc: Global,
-    columns: &Columns,
-    graph: &Graph,
-    factors: &Factors,
+    priced: &Priced<'_>,
     k: usize,
     growing: &mut Growing,
     mode: &Mode,
     gate: &G,
 ) -> Result<Shell, Fault>
-    requires rows { length columns.now.revenues ≡ graph.now.blocks }
-    requires known { k < length factors.now }
-    requires grown { IsGrown (deposit_of columns.now graph.now) factors.now k growing.old.marks.items growing.old.blocks.items growing.old.graph.value }
-    ensures grown { IfOk result (λ _. IsGrown (deposit_of columns.now graph.now) factors.now (suc k) growing.new.marks.items growing.new.blocks.items growing.new.graph.value) }
-    ensures shell { IfOk result (IsShell (deposit_of columns.now graph.now)) }
-    ensures factor { IfOk result (λ shell. shell.factor ≡ factor_of factors.now k) }
-    ensures within { IfOk result (λ _. RestEndsWithin mode.now (deposit_of columns.now graph.now) factors.now k) }
-    ensures refused { IfErr result (λ e. RefusesShells mode.now (deposit_of columns.now graph.now) factors.now e.refusal e) }
+    requires rows { length priced.now.columns.now.revenues ≡ priced.now.graph.now.blocks }
+    requires known { k < length priced.now.factors.now }
+    requires grown { IsGrown (deposit_of priced.now.columns.now priced.now.graph.now) priced.now.factors.now k growing.old.marks.items growing.old.blocks.items growing.old.graph.value }
+    ensures grown { IfOk result (λ _. IsGrown (deposit_of priced.now.columns.now priced.now.graph.now) priced.now.factors.now (suc k) growing.new.marks.items growing.new.blocks.items growing.new.graph.value) }
+    ensures shell { IfOk result (IsShell (deposit_of priced.now.columns.now priced.now.graph.now)) }
+    ensures factor { IfOk result (λ shell. shell.factor ≡ factor_of priced.now.factors.now k) }
+    ensures within { IfOk result (λ _. RestEndsWithin mode.now (deposit_of priced.now.columns.now priced.now.graph.now) priced.now.factors.now k) }
+    ensures refused { IfErr result (λ e. RefusesShells mode.now (deposit_of priced.now.columns.now priced.now.graph.now) priced.now.factors.now e.refusal e) }
 {
+    let Priced {
+        columns,
+        graph,
+        factors,
+    } = *priced;
     factors.law();
     columns.law();
     graph.law();

@@ -7,7 +7,7 @@ ghost use Rattle.shells.specs.Grown.{EachEndsWithin, IsFree, RefusesShells};
 
 use crate::columns::Columns;
 use crate::factors::Factors;
-use crate::growing::{next_shell, start};
+use crate::growing::{Priced, next_shell, start};
 use crate::outermost::{is_free, lift_all, outermost_shell};
 use mine_graph::Graph;
 use minelib_reader::Fault;
@@ -37,18 +37,13 @@ fn each_shell<G: Gate + Sync, R: Threads + Wait + Sync>(
     graph.law();
     let mut growing = start(alloc, graph)?;
     let mut list = Vec::new(alloc);
+    let priced = Priced {
+        columns,
+        graph,
+        factors,
+    };
     for k in 0..factors.len() {
-        let shell = next_shell(
-            rt,
-            alloc,
-            columns,
-            graph,
-            factors,
-            k,
-            &mut growing,
-            mode,
-            gate,
-        )?;
+        let shell = next_shell(rt, alloc, &priced, k, &mut growing, mode, gate)?;
         list.push(shell)?;
     }
     Ok(list)
