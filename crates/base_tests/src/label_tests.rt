@@ -6,6 +6,7 @@ use mine_graph::{Graph, Instance};
 use minelib_reader::Fault;
 use norm_tree::NormTree;
 use std::alloc::Global;
+use std::process::Abort;
 use std::sync::Arc;
 use std::test::*;
 
@@ -26,13 +27,21 @@ fn shows(tree: &NormTree, labels: [bool; 4], first: Option<u32>) -> bool {
 
 #[test]
 fn the_first_pair_follows_the_labels(rt: HostRuntime) -> Result<(), Fail> {
-    let mut tree = opening(rt.alloc())?;
-    assert!(rt; shows(&tree, [true, false, true, false], Some(0)));
-    assert!(rt; tree.try_merge(0));
-    assert!(rt; shows(&tree, [false, false, true, false], Some(2)));
-    assert!(rt; tree.try_merge(2));
-    assert!(rt; shows(&tree, [true, true, true, false], Some(1)));
-    assert!(rt; tree.try_merge(1));
-    assert!(rt; shows(&tree, [false, false, false, false], None));
+    follow(&rt, opening(rt.alloc())?)?;
+    follow(&rt, opening(rt.alloc())?.indexed()?)
+}
+
+/// With an index or without one, the first merger arc is the same.
+fn follow(rt: &impl Abort, opening: NormTree) -> Result<(), Fail>
+    requires { opening.mine.blocks ≡ 4 }
+{
+    let mut tree = opening;
+    assert!(*rt; shows(&tree, [true, false, true, false], Some(0)));
+    assert!(*rt; tree.try_merge(0));
+    assert!(*rt; shows(&tree, [false, false, true, false], Some(2)));
+    assert!(*rt; tree.try_merge(2));
+    assert!(*rt; shows(&tree, [true, true, true, false], Some(1)));
+    assert!(*rt; tree.try_merge(1));
+    assert!(*rt; shows(&tree, [false, false, false, false], None));
     Ok(())
 }

@@ -77,26 +77,45 @@ fn holds<R: AllocGlobal + Threads + Wait + Sync>(
 
 const ONE_THREAD: Mode = Mode::Single { budget: None };
 
-const ONE_WORKER: Mode = Mode::Shared {
-    workers: 1,
-    budget: None,
-    chunk: 1,
-};
-
 const TWO_WORKERS: Mode = Mode::Shared {
     workers: 2,
     budget: None,
     chunk: 1,
 };
 
+/// Whether each small mine is solved in this mode.
+fn solves_small_mines<R: AllocGlobal + Threads + Wait + Sync>(
+    rt: &R,
+    mode: Mode,
+) -> Result<bool, Fail> {
+    let mut good = true;
+    for row in mines_of_three_blocks_at_most() {
+        good = holds(rt, mode, row)? && good;
+    }
+    for row in mines_of_four_blocks_and_more() {
+        good = holds(rt, mode, row)? && good;
+    }
+    Ok(good)
+}
+
 #[test]
 fn solves_small_mines_in_each_mode(rt: HostRuntime) -> Result<(), Fail> {
-    for mode in [ONE_THREAD, Mode::Parts, ONE_WORKER, TWO_WORKERS] {
-        for row in mines_of_three_blocks_at_most() {
-            assert!(rt; holds(&rt, mode, row)?);
-        }
-        for row in mines_of_four_blocks_and_more() {
-            assert!(rt; holds(&rt, mode, row)?);
+    for mode in [ONE_THREAD, Mode::Parts] {
+        assert!(rt; solves_small_mines(&rt, mode)?);
+    }
+    Ok(())
+}
+
+#[test]
+fn solves_small_mines_with_any_crew(rt: HostRuntime) -> Result<(), Fail> {
+    for workers in [1, 2, 4, 64] {
+        for chunk in [1, 7, 4096] {
+            let mode = Mode::Shared {
+                workers,
+                budget: None,
+                chunk,
+            };
+            assert!(rt; solves_small_mines(&rt, mode)?);
         }
     }
     Ok(())

@@ -1,12 +1,14 @@
 //! The closing loop: a merger over the first merger arc, until none is left. It ends every solve without a budget, so that
 //! whatever an order of mergers left over, the tree that is answered has no merger arc.
-ghost use Rattle.std.specs.Prelude.{◌≡◌, false, ℕ};
+ghost use Rattle.std.specs.Prelude.{◌≡◌, false, ℕ, IfOk, IfErr};
+ghost use Rattle.minelib_reader.specs.Refused.{no_memory};
 ghost use Rattle.pit_model.specs.Tree.{is_merger};
 
+use minelib_reader::Fault;
 use norm_tree::NormTree;
 
-/// Merges until no merger arc is left. Each merger lowers the tree's rank, so they end.
-pub fn merge_rest(tree: &mut NormTree)
+// Merges until no merger arc is left. Each merger lowers the tree's rank, so they end.
+fn merge_all(tree: &mut NormTree)
     ensures mine { tree.new.mine ≡ tree.old.mine }
     ensures none_left { (k : ℕ) → is_merger tree.new.mine tree.new.tree k ≡ false }
 {
@@ -14,4 +16,18 @@ pub fn merge_rest(tree: &mut NormTree)
         tree.try_merge(arc);
         tree.law();
     }
+}
+
+/// Merges until no merger arc is left. An index is made only where there is one. Refused for want of memory alone.
+pub fn merge_rest(tree: NormTree) -> Result<NormTree, Fault>
+    ensures mine { IfOk result (λ t. t.mine ≡ tree.mine) }
+    ensures none_left { IfOk result (λ t. (k : ℕ) → is_merger t.mine t.tree k ≡ false) }
+    ensures refused { IfErr result (λ e. e ≡ no_memory) }
+{
+    if tree.find_merger().is_none() {
+        return Ok(tree);
+    }
+    let mut tree = tree.indexed()?;
+    merge_all(&mut tree);
+    Ok(tree)
 }

@@ -117,7 +117,7 @@ impl Guide {
     pub fn renew<R: Threads + Sync>(&mut self, rt: &R, tree: &NormTree, mergers: usize) {
         let graph: &Graph = tree.instance().graph();
         let little = usize::max(8, graph.n() as usize / 4096);
-        self.is_free = !self.is_free && mergers < little;
+        self.is_free = mergers < little;
         let labels = tree.labels();
         let distances = self.distances.as_slice();
         par_for_each_mut(rt, &mut self.next, |block: usize, next: &mut u32| {

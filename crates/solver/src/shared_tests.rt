@@ -25,7 +25,10 @@ fn mine_of(alloc: Global, model: &str, prec: &str) -> Result<Instance, Fault> {
 // So many copies of a mine of two blocks, numbered two at a time: the second block needs the first, and pays for it.
 fn pairs_of_blocks(alloc: Global, copies: u32) -> Result<Instance, Fail> {
     let copies = copies.min(1000);
-    let mut model = format!(in alloc; "NAME: t\nTYPE: UPIT\nNBLOCKS: {}\nOBJECTIVE_FUNCTION:\n", 2 * copies)?;
+    let mut model = format!(in alloc;
+        "NAME: t\nTYPE: UPIT\nNBLOCKS: {}\nOBJECTIVE_FUNCTION:\n",
+        2 * copies
+    )?;
     let mut prec = String::new(alloc);
     for copy in 0..copies {
         let u = 2 * copy;
@@ -89,7 +92,11 @@ fn two_workers_work_at_once(rt: HostRuntime) -> Result<(), Fail> {
     assert!(rt; is_answer(&outcome, Some(&[0, 1, 2, 3]), 0));
     assert!(rt; !gate.is_over.load(Ordering::SeqCst));
     assert_eq!(rt; journal.len(), 2);
-    assert!(rt; journal.iter().all(|entry| entry.verdict == Verdict::Applied));
+    assert!(rt;
+        journal
+            .iter()
+            .all(|entry| entry.verdict == Verdict::Applied)
+    );
     for number in 0..2 {
         assert!(rt; journal.iter().any(|entry| entry.arc == number));
         assert!(rt; journal.iter().any(|entry| entry.seat == number + 1));
@@ -149,12 +156,7 @@ fn workers_stop_at_the_budget(rt: HostRuntime) -> Result<(), Fail> {
 
 // Whether the journal, followed by one thread from the opening tree, has the lawful verdict at each entry where nothing
 // limits the mergers, and leads to a tree without a merger arc and with these strong blocks.
-fn leads_to(
-    alloc: Global,
-    mine: &Instance,
-    journal: &[Entry],
-    pit: &[u32],
-) -> Result<bool, Fault> {
+fn leads_to(alloc: Global, mine: &Instance, journal: &[Entry], pit: &[u32]) -> Result<bool, Fault> {
     let mut tree = NormTree::start(alloc, mine)?;
     for entry in journal {
         if tree.try_merge(entry.arc) != (entry.verdict == Verdict::Applied) {

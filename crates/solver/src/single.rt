@@ -21,8 +21,7 @@ pub(crate) fn certificate_of(alloc: Global, instance: &Instance) -> Result<Certi
 {
     let mut bare = BareTree::start(alloc, instance)?;
     merge_by_lowest_label(alloc, &mut bare)?;
-    let mut tree = NormTree::from_bare(bare)?;
-    merge_rest(&mut tree);
+    let tree = merge_rest(NormTree::from_bare(bare)?)?;
     match of_tree(&tree)? {
         Some(certificate) => Ok(certificate),
         None => unreachable!(),
@@ -42,7 +41,7 @@ fn solve_within(alloc: Global, instance: &Instance, budget: u64) -> Result<Outco
     ensures solved { IfOk result (IsSolvedAlone instance.now (Some budget)) }
     ensures refused { IfErr result (λ e. e ≡ no_memory) }
 {
-    let mut tree = NormTree::start(alloc, instance)?;
+    let mut tree = NormTree::start(alloc, instance)?.indexed()?;
     make_first_mergers(&mut tree, budget);
     match of_tree(&tree)? {
         Some(certificate) => Ok(Outcome::Pit(certificate)),
