@@ -74,6 +74,7 @@ def of_peer(program, name, model, prec, runs, limit):
     if rows[0] is None:
         return None
     rows += [timed(command, 0, limit) for _ in range(runs - 1)]
+    rows = [row for row in rows if row is not None]
     solve = min(float(row[1].split()[1]) for row in rows)
     return solve, min(row[0] for row in rows), peak_of(command), rows[0][2]
 
