@@ -298,7 +298,7 @@ fn is_cut<R: AllocGlobal + Threads + Wait + Sync>(
 fn leaves_a_beginning_where_writing_fails(rt: HostRuntime) -> Result<(), Fail> {
     let text = "PIT\nBLOCKS: 2\nIN: 2\nWORTH: 2.000000\n0\n1\n";
     for room in 0..text.len() {
-        for mode in [ONE_THREAD, ONE_WORKER, TWO_WORKERS] {
+        for mode in [ONE_THREAD, TWO_WORKERS] {
             assert!(rt; is_cut(&rt, mode, text, room)?);
         }
     }

@@ -11,11 +11,13 @@ use norm_tree::NormTree;
 use rayon::prelude::*;
 use std::alloc::Global;
 use std::mem;
+use std::sync::Arc;
 use std::thread::Threads;
 use tree_lock::{Site, Version};
 
 #[derive(Drop)]
 pub struct Guide {
+    graph: Arc<Graph>,
     /// The arcs, in the order in which a sweep goes over them.
     arcs: Vec<u32>,
     distances: Vec<u32>,
@@ -59,9 +61,11 @@ impl Guide {
     pub fn new(alloc: Global, tree: &NormTree) -> Result<Guide, Fault>
         ensures { IfErr result (λ e. e ≡ no_memory) }
     {
+        let graph = Arc::try_clone(tree.instance().graph())?;
         let distances = opening_distances(alloc, tree.labels())?;
         Ok(Guide {
-            arcs: arcs_deepest_first(alloc, tree.instance().graph())?,
+            arcs: arcs_deepest_first(alloc, &graph)?,
+            graph,
             next: distances.clone()?,
             distances,
             is_free: false,
@@ -74,14 +78,14 @@ impl Guide {
     }
 
     // Whether the arc is worth an ask, where it is a merger arc: it leads to a nearer block.
-    fn wants(&self, graph: &Graph, arc: u32) -> bool {
+    fn wants(&self, arc: u32) -> bool {
         if self.is_free {
             return true;
         }
-        if arc >= graph.arcs() {
+        if arc >= self.graph.arcs() {
             return false;
         }
-        let (from, to) = graph.arc(arc);
+        let (from, to) = self.graph.arc(arc);
         match (
             self.distances.get(from as usize),
             self.distances.get(to as usize),
@@ -91,8 +95,22 @@ impl Guide {
         }
     }
 
-    /// The first place from `place` on, and before `end`, whose arc is a merger arc of the version and worth an ask.
-    pub fn first_wanted<S: Site>(
+    /// The first place from `place` on, and before `end`, whose arc is worth an ask, where it is a merger arc.
+    pub fn first_wanted(&self, place: usize, end: usize) -> Option<usize>
+        ensures { IfSome result (λ found. (place ≤ found) × (found < end)) }
+    {
+        for at in place..end {
+            match self.arcs.get(at) {
+                Some(&arc) if self.wants(arc) => return Some(at),
+                Some(_) => {}
+                None => return None,
+            }
+        }
+        None
+    }
+
+    /// The first place from `place` on, and before `end`, whose arc is worth an ask, and is a merger arc of the version.
+    pub fn first_merger<S: Site>(
         &self,
         version: &Version<S>,
         place: usize,
@@ -100,12 +118,11 @@ impl Guide {
     ) -> Option<(usize, u32)>
         ensures { IfSome result (λ found. (place ≤ found.0) × (found.0 < end)) }
     {
-        let graph: &Graph = version.instance().graph();
         for at in place..end {
             let Some(&arc) = self.arcs.get(at) else {
                 return None;
             };
-            if self.wants(graph, arc) && version.is_merger(arc) {
+            if self.wants(arc) && version.is_merger(arc) {
                 return Some((at, arc));
             }
         }
@@ -117,7 +134,7 @@ impl Guide {
     pub fn renew<R: Threads + Sync>(&mut self, rt: &R, tree: &NormTree, mergers: usize) {
         let graph: &Graph = tree.instance().graph();
         let little = usize::max(8, graph.n() as usize / 4096);
-        self.is_free = mergers < little;
+        self.is_free = !self.is_free && mergers < little;
         let labels = tree.labels();
         let distances = self.distances.as_slice();
         par_for_each_mut(rt, &mut self.next, |block: usize, next: &mut u32| {

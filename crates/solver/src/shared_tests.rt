@@ -6,10 +6,11 @@ use mine_graph::{Graph, Instance};
 use minelib_reader::{Fault, MemoryReader, read_prec, read_upit};
 use norm_tree::NormTree;
 use std::alloc::Global;
-use std::sync::Arc;
 use std::sync::atomic::{AtomicBool, Ordering};
+use std::sync::{Arc, Wait};
 use std::test::*;
 use std::thread;
+use std::thread::Threads;
 
 // The mine that two texts spell.
 fn mine_of(alloc: Global, model: &str, prec: &str) -> Result<Instance, Fault> {
@@ -189,13 +190,13 @@ fn prec_line(alloc: Global, block: u32, place: u32) -> Result<String, Fail> {
 }
 
 // A mine in cross section: 200 blocks wide and 100 deep.
-fn cross_section(alloc: Global) -> Result<Instance, Fail> {
+fn cross_section(alloc: Global, seed: u64) -> Result<Instance, Fail> {
     let mut model = String::from_str(
         alloc,
         "NAME: t\nTYPE: UPIT\nNBLOCKS: 20000\nOBJECTIVE_FUNCTION:\n",
     )?;
     let mut prec = String::new(alloc);
-    let mut random = 1u64;
+    let mut random = seed;
     for block in 0..20_000u32 {
         random = random
             .wrapping_mul(6_364_136_223_846_793_005)
@@ -210,17 +211,50 @@ fn cross_section(alloc: Global) -> Result<Instance, Fail> {
     Ok(mine_of(alloc, &model, &prec)?)
 }
 
-#[test]
-fn a_storm_of_workers_finds_one_pit(rt: HostRuntime) -> Result<(), Fail> {
-    let mine = cross_section(rt.alloc())?;
+// Whether ten runs of eight workers, an arc at a time, find the pit that one thread finds, each by a lawful journal.
+fn storm_finds_the_pit<R: AllocGlobal + Threads + Wait + Sync>(
+    rt: &R,
+    seed: u64,
+) -> Result<bool, Fail> {
+    let mine = cross_section(rt.alloc(), seed)?;
     let Outcome::Pit(alone) = solve_single(rt.alloc(), &mine, None)? else {
-        return Ok(());
+        return Ok(false);
     };
-    assert!(rt; alone.pit.len() > 1000);
-    for _run in 0..50 {
-        let (outcome, journal) = solve_shared(&rt, rt.alloc(), &mine, 8, None, 1, &OpenGate)?;
-        assert!(rt; is_answer(&outcome, Some(&alone.pit), 0));
-        assert!(rt; leads_to(rt.alloc(), &mine, &journal, &alone.pit)?);
+    let mut good = alone.pit.len() > 1000;
+    for _run in 0..10 {
+        let (outcome, journal) = solve_shared(rt, rt.alloc(), &mine, 8, None, 1, &OpenGate)?;
+        good = is_answer(&outcome, Some(&alone.pit), 0) && good;
+        good = leads_to(rt.alloc(), &mine, &journal, &alone.pit)? && good;
     }
+    Ok(good)
+}
+
+#[test]
+fn a_storm_finds_the_first_pit(rt: HostRuntime) -> Result<(), Fail> {
+    assert!(rt; storm_finds_the_pit(&rt, 1)?);
+    Ok(())
+}
+
+#[test]
+fn a_storm_finds_the_second_pit(rt: HostRuntime) -> Result<(), Fail> {
+    assert!(rt; storm_finds_the_pit(&rt, 2)?);
+    Ok(())
+}
+
+#[test]
+fn a_storm_finds_the_third_pit(rt: HostRuntime) -> Result<(), Fail> {
+    assert!(rt; storm_finds_the_pit(&rt, 3)?);
+    Ok(())
+}
+
+#[test]
+fn a_storm_finds_the_fourth_pit(rt: HostRuntime) -> Result<(), Fail> {
+    assert!(rt; storm_finds_the_pit(&rt, 4)?);
+    Ok(())
+}
+
+#[test]
+fn a_storm_finds_the_fifth_pit(rt: HostRuntime) -> Result<(), Fail> {
+    assert!(rt; storm_finds_the_pit(&rt, 5)?);
     Ok(())
 }

@@ -37,15 +37,19 @@ impl<S: Site> Worker<S> {
     }
 
     // The first place whose arc is worth an ask by the version that is published now. None also where there is no version.
+    // It does not look where nothing is wanted.
     fn look(&mut self, guide: &Guide, place: usize, end: usize) -> Option<(usize, u32)>
         ensures { IfSome result (λ found. (place ≤ found.0) × (found.0 < end)) }
     {
+        let Some(first) = guide.first_wanted(place, end) else {
+            return None;
+        };
         let Some(seat) = self.looks.take() else {
             return None;
         };
         match seat.look() {
             Ok(version) => {
-                let found = guide.first_wanted(&version, place, end);
+                let found = guide.first_merger(&version, first, end);
                 self.looks = Some(version.leave());
                 found
             }
