@@ -29,6 +29,21 @@ fn sorts_pairs_and_finds_them(rt: HostRuntime) -> Result<(), Fail> {
 }
 
 #[test]
+fn takes_pairs_that_rise_already(rt: HostRuntime) -> Result<(), Fail> {
+    let pairs = vec![in rt.alloc(); (0, 1), (0, 3), (2, 1), (4, 1)]?;
+    let graph = Graph::new(rt.alloc(), 6, pairs)?;
+    assert_eq!(rt; graph.arcs_of(0), 0..2);
+    assert_eq!(rt; graph.arcs_of(1), 2..2);
+    assert_eq!(rt; graph.arcs_of(2), 2..3);
+    assert_eq!(rt; graph.arcs_of(3), 3..3);
+    assert_eq!(rt; graph.arcs_of(4), 3..4);
+    assert_eq!(rt; graph.arcs_of(5), 4..4);
+    assert_eq!(rt; graph.arc_of(2, 1), Some(2));
+    assert_eq!(rt; graph.users(3), [1].as_slice());
+    Ok(())
+}
+
+#[test]
 fn sums_values(rt: HostRuntime) -> Result<(), Fail> {
     let pairs = vec![in rt.alloc(); (0, 1), (0, 3), (2, 1), (4, 1)]?;
     let graph = Graph::new(rt.alloc(), 5, pairs)?;
@@ -54,6 +69,13 @@ fn no_blocks_are_a_graph(rt: HostRuntime) -> Result<(), Fail> {
 #[test]
 fn names_the_cycle(rt: HostRuntime) -> Result<(), Fail> {
     let pairs = vec![in rt.alloc(); (0, 1), (1, 2), (2, 0)]?;
+    assert!(rt; is_cycle(Graph::new(rt.alloc(), 3, pairs), &[0, 1, 2]));
+    Ok(())
+}
+
+#[test]
+fn names_the_cycle_of_pairs_in_whatever_order(rt: HostRuntime) -> Result<(), Fail> {
+    let pairs = vec![in rt.alloc(); (2, 0), (1, 2), (0, 1)]?;
     assert!(rt; is_cycle(Graph::new(rt.alloc(), 3, pairs), &[0, 1, 2]));
     Ok(())
 }

@@ -1,7 +1,7 @@
 -- Counting down tells whether there is a cycle. The place in the queue is a height, since each block stands after all
 -- that it needs. What is left over is needy, since an arc to it was never handled; and it is the largest needy set, since
 -- no block of such a set is ever queued: the first of them to be queued would need one that was queued sooner.
-use Rattle.std.proofs.Common.{◌≡◌, ℕ, zero, suc, ◌<◌, ◌≤◌, Bool, true, false, cond, eqb, refl, sym, ap, ◌∙◌, arith, ⊎_elim, List, get_or, length}
+use Rattle.std.proofs.Common.{◌≡◌, ℕ, zero, suc, ◌-◌, ◌<◌, ◌≤◌, Bool, true, false, cond, eqb, refl, sym, ap, ◌∙◌, arith, ⊎_elim, List, get_or, length}
 use Rattle.std.specs.Prelude.{not}
 use Rattle.std.proofs.lemmas.Bool.{cases_eq, cases_lt, true≢false, eq-eqb, ne_eqb, and_parts, eqb-true, lt-ltb, ltb-true, not-true}
 use Rattle.std.proofs.lemmas.List.{get_or_past}
@@ -35,6 +35,23 @@ place-is order (suc t) i u apart l e = ⊎_elim
     (λ (s : i ≡ t). place-here order t u (ap (λ k. get_or order k 0) (sym s) ∙ e) ∙ sym s)
     (λ (ne : i ≡ t → ⊥). place-off order t u (λ s. apart i t (omega arith) (omega arith) (e ∙ sym s)) ∙ place-is order t i u (λ i j h m. apart i j h (omega arith)) (omega arith) e)
     (cases_eq i t)
+
+-- the other way round it is a height as well, less what stands behind
+pub acyclic_along : (arcs : List (ℕ × ℕ)) (left order : List ℕ) (tail : ℕ) → AreInRange arcs (length left) → IsSettled arcs left order tail tail
+    → ((u : ℕ) → u < length left → get_or left u 0 ≡ 0) → IsAcyclic arcs
+acyclic_along arcs left order tail range end none = (
+  λ u. tail - place order tail u,
+  λ k l.
+      let p : ℕ = second_of arcs k in
+      let w = end.counted.queue.waits p (range k l).1 (none p (range k l).1) in
+      let s = end.counted.sooner w.0 k w.1 l (sym w.2) in
+      let apart = end.counted.queue.apart in
+      let x = place-is order tail w.0 p apart w.1 w.2 in
+      let y = place-is order tail s.0 (first_of arcs k) apart (let i = w.1 in let j = s.1 in omega arith) s.2 in
+      let i = w.1 in
+      let j = s.1 in
+      omega arith,
+)
 
 module _ (pairs arcs : List (ℕ × ℕ)) (left order : List ℕ) (tail : ℕ)
     (turn : AreTurned pairs arcs) (range : AreInRange pairs (length left)) (end : IsSettled arcs left order tail tail) where

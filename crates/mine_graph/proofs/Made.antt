@@ -2,22 +2,20 @@
 use Rattle.std.proofs.Common.{◌≡◌, ℕ, ◌+◌, ◌-◌, ◌<◌, ◌≤◌, Bool, sym, ap, ◌∙◌, arith, subst, List, get_or, length}
 use Rattle.pit_model.specs.Graph.{AreInRange, AreSamePairs, AreApart, AreRising, IsAcyclic}
 use Rattle.pit_model.specs.Cycle.{IsNeedy, IsLargestNeedy, IsLeastNeeded, IsCycleList}
+use Rattle.minelib_reader.specs.declared.fault.Fault.{Fault}
+use Rattle.minelib_reader.specs.declared.fault.Refusal.{Refusal}
+use Rattle.minelib_reader.specs.declared.fault.Refusal.TheVariants.{NoMemory, Cycle}
+use Rattle.mine_graph.specs.Faults.{RefusesPairs, IsGraphFault}
 use Rattle.mine_graph.specs.Rows.{by_second}
 use Rattle.mine_graph.specs.Queue.{IsCountedDown}
 use Rattle.mine_graph.specs.Left.{left_over}
 use Rattle.mine_graph.proofs.Order.{by_second-from, by_second-to, twice, twice-same}
-use Rattle.mine_graph.proofs.Acyclic.{AreTurned, acyclic, over-largest}
+use Rattle.mine_graph.proofs.Acyclic.{AreTurned, acyclic, over-largest, acyclic_along}
 
 pub turned_pairs : (qs : List (ℕ × ℕ)) (n : ℕ) → AreInRange qs n → AreTurned qs (by_second qs n)
 turned_pairs qs n range = record {
   forth = λ k h. let a = by_second-to qs n k h (range k h).1 in (a.0, a.1, ap (λ (x : ℕ × ℕ). x.0) a.2, ap (λ (x : ℕ × ℕ). x.1) a.2);
   back = λ l h. let b = by_second-from qs n l h in (b.0, b.1, sym (ap (λ (x : ℕ × ℕ). x.0) b.2), sym (ap (λ (x : ℕ × ℕ). x.1) b.2));
-}
-
-turned_back : (ps qs : List (ℕ × ℕ)) → AreTurned ps qs → AreTurned qs ps
-turned_back ps qs t = record {
-  forth = λ k h. let r = t.back k h in (r.0, r.1, r.3, r.2);
-  back = λ l h. let r = t.forth l h in (r.0, r.1, r.3, r.2);
 }
 
 needy-back : (ps qs : List (ℕ × ℕ)) (n : ℕ) (set : ℕ → Bool) → AreSamePairs ps qs → IsNeedy qs n set → IsNeedy ps n set
@@ -48,13 +46,22 @@ rising_pairs pairs half sorted n apart h s =
     let is : sorted ≡ by_second (by_second pairs n) n = s ∙ ap (λ q. by_second q n) h in
     subst AreRising (sym is) (twice pairs n apart)
 
-turned_to : (sorted arcs : List (ℕ × ℕ)) (n : ℕ) → AreInRange arcs n → sorted ≡ by_second arcs n → AreTurned sorted arcs
-turned_to sorted arcs n range is = turned_back arcs sorted (subst (AreTurned arcs) (sym is) (turned_pairs arcs n range))
+module _ (pairs turned : List (ℕ × ℕ)) (left : List ℕ) (n : ℕ) (range : AreInRange pairs n) (is : turned ≡ by_second pairs n) (size : length left ≡ n)
+    (end : IsCountedDown turned left) where
+  are_turned : AreTurned pairs turned
+  are_turned = subst (AreTurned pairs) (sym is) (turned_pairs pairs n range)
 
-pub over_is : (sorted arcs : List (ℕ × ℕ)) (left : List ℕ) (n : ℕ) → AreInRange arcs n → sorted ≡ by_second arcs n → AreInRange sorted n → length left ≡ n
-    → IsCountedDown arcs left → IsLargestNeedy sorted (length left) (left_over left)
-over_is sorted arcs left n range is sorted_range size end =
-    over-largest sorted arcs left end.order end.tail (turned_to sorted arcs n range is) (subst (AreInRange sorted) (sym size) sorted_range) end.settled
+  -- what counting needs down leaves over is the largest needy set
+  pub over_turned : IsLargestNeedy pairs (length left) (left_over left)
+  over_turned = over-largest pairs turned left end.order end.tail are_turned (subst (AreInRange pairs) (sym size) range) end.settled
+
+  pub acyclic_turned : ((u : ℕ) → u < length left → get_or left u 0 ≡ 0) → IsAcyclic pairs
+  acyclic_turned none = acyclic pairs turned left end.order end.tail are_turned (subst (AreInRange pairs) (sym size) range) end.settled none
+
+-- nothing is left over along the pairs as they lie
+pub acyclic_as_they_lie : (pairs : List (ℕ × ℕ)) (left : List ℕ) (n : ℕ) → AreInRange pairs n → length left ≡ n → IsCountedDown pairs left
+    → ((u : ℕ) → u < length left → get_or left u 0 ≡ 0) → IsAcyclic pairs
+acyclic_as_they_lie pairs left n range size end none = acyclic_along pairs left end.order end.tail (subst (AreInRange pairs) (sym size) range) end.settled none
 
 -- the same pairs in another order have the same cycle
 least-back : (ps qs : List (ℕ × ℕ)) (set : ℕ → Bool) (u p : ℕ) → AreSamePairs ps qs → IsLeastNeeded qs set u p → IsLeastNeeded ps set u p
@@ -84,11 +91,6 @@ cycle-back ps qs n cycle same c = record {
   is = c.is;
 }
 
-pub made_acyclic : (sorted arcs : List (ℕ × ℕ)) (left : List ℕ) (n : ℕ) → AreInRange arcs n → sorted ≡ by_second arcs n → AreInRange sorted n → length left ≡ n
-    → IsCountedDown arcs left → ((u : ℕ) → u < length left → get_or left u 0 ≡ 0) → IsAcyclic sorted
-made_acyclic sorted arcs left n range is sorted_range size end none =
-    acyclic sorted arcs left end.order end.tail (turned_to sorted arcs n range is) (subst (AreInRange sorted) (sym size) sorted_range) end.settled none
-
 pub acyclic-back : (ps qs : List (ℕ × ℕ)) → AreSamePairs ps qs → IsAcyclic qs → IsAcyclic ps
 acyclic-back ps qs same acyclic = (
   acyclic.0,
@@ -99,3 +101,12 @@ acyclic-back ps qs same acyclic = (
       let b = ap (λ (x : ℕ × ℕ). acyclic.0 x.1) f.2 in
       omega arith,
 )
+
+refuses-back : (ps qs : List (ℕ × ℕ)) (n : ℕ) (refusal : Refusal) (fault : Fault) → AreSamePairs ps qs → RefusesPairs qs n refusal fault → RefusesPairs ps n refusal fault
+refuses-back ps qs n NoMemory fault same h = h
+refuses-back ps qs n (Cycle list) fault same h = (cycle-back ps qs n list.items same h.0, h.1, h.2)
+refuses-back ps qs n _ fault same h = absurd h
+
+-- pairs are refused as they are in another order
+pub fault-back : (ps qs : List (ℕ × ℕ)) (n : ℕ) (fault : Fault) → AreSamePairs ps qs → IsGraphFault qs n fault → IsGraphFault ps n fault
+fault-back ps qs n fault same h = refuses-back ps qs n fault.refusal fault same h

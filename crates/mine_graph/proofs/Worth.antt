@@ -1,18 +1,14 @@
 -- The values of a list of blocks, summed: small, and for the members of a set the worth of the set.
-use Rattle.std.proofs.Common.{◌≡◌, ℕ, zero, suc, ◌*◌, ◌^◌, ◌<◌, ◌≤◌, Bool, true, false, refl, sym, ap, ◌∙◌, arith, ⊎_elim, List, [], ◌∷◌, ◌++◌, get_or, length}
+use Rattle.std.proofs.Common.{ℕ, zero, suc, ◌*◌, ◌^◌, ◌<◌, ◌≤◌, arith, List, get_or, length}
 use Rattle.std.specs.Prelude.{ℤ, pos, neg_ℤ, ◌+ℤ◌, ◌≤ℤ◌}
 use Rattle.std.specs.List.{All}
-use Rattle.std.proofs.lemmas.Bool.{cases_Bool}
 use Rattle.std.proofs.lemmas.Int.{ints}
-use Rattle.std.proofs.lemmas.List.{get_or_append_left, get_or_at, length_push}
 use Rattle.std.proofs.lemmas.List.Elements.{All-get_or}
 use mir.Val.{SFits}
 use mir.Syntax.{w128}
-use Rattle.pit_model.specs.Sum.{total, when}
-use Rattle.pit_model.specs.Mine.{Instance, members, value}
+use Rattle.pit_model.specs.Sum.{total}
+use Rattle.pit_model.specs.Mine.{Instance, value}
 use Rattle.pit_model.specs.Limits.{IsWithinLimits}
-use Rattle.pit_model.proofs.Sums.{total-same}
-use Rattle.pit_model.proofs.Members.{members-in, members-out}
 
 -- a sum of numbers within 10^23 of 0
 pub total-small : (n : ℕ) (f : ℕ → ℤ) → ((i : ℕ) → i < n → (neg_ℤ (pos (10 ^ 23)) ≤ℤ f i) × (f i ≤ℤ pos (10 ^ 23)))

@@ -6,4 +6,5 @@ pub mod Kept
 pub mod Faults
 pub mod Renumbered
 pub mod Classes
+pub mod Order
 pub mod Parts

@@ -8,7 +8,7 @@ ghost use Rattle.pit_model.specs.Part.{AreNeighbours};
 ghost use Rattle.mine_graph.specs.Classes.{label_of, IsFree, AreQueued, AreTaken, IsFlooded, AreClasses};
 
 use crate::graph::Graph;
-use std::alloc::{AllocError, Global};
+use std::alloc::AllocError;
 
 /// Gives the block the label and puts it at the end of the queue, where it has none yet.
 fn take_in(block: u32, label: u32, labels: &mut [u32], queue: &mut [u32], tail: usize) -> usize
@@ -117,13 +117,25 @@ fn label_classes(graph: &Graph, labels: &mut [u32], queue: &mut [u32]) -> u32
     count
 }
 
-/// The number of each block's class, and how many classes there are.
-pub(crate) fn classes_of(alloc: Global, graph: &Graph) -> Result<(Vec<u32>, u32), AllocError>
-    ensures { IfOk result (λ r. AreClasses graph.now r.0.items r.1 graph.now.blocks) }
-{
-    let n = graph.n();
-    let mut labels = vec![in alloc; n; n as usize]?;
-    let mut queue = vec![in alloc; 0; n as usize]?;
-    let count = label_classes(graph, &mut labels, &mut queue);
-    Ok((labels, count))
+/// The classes of the blocks of a graph that pairs join, in whichever direction, numbered in the order of their least blocks.
+#[derive(Drop)]
+pub struct Classes {
+    /// The number of each block's class.
+    pub labels: Vec<u32>,
+    pub count: u32,
+}
+
+impl Graph {
+    /// The classes of blocks that pairs join, in whichever direction. Time is linear in blocks and pairs, and nothing is copied.
+    /// Refused for want of memory alone.
+    pub fn classes(&self) -> Result<Classes, AllocError>
+        ensures { IfOk result (λ classes. AreClasses self.now classes.labels.items classes.count self.now.blocks) }
+    {
+        let alloc = self.alloc();
+        let n = self.n();
+        let mut labels = vec![in alloc; n; n as usize]?;
+        let mut queue = vec![in alloc; 0; n as usize]?;
+        let count = label_classes(self, &mut labels, &mut queue);
+        Ok(Classes { labels, count })
+    }
 }

@@ -91,8 +91,8 @@ fn count_down(arcs: &[(u32, u32)], starts: &[u32], left: &mut [u32], order: &mut
     tail
 }
 
-/// How many needs of each block are left when no more can be counted down.
-pub fn needs_left(
+/// How many of the arcs that lead to each block are left when no more can be counted down.
+pub fn arcs_left(
     alloc: Global,
     n: u32,
     arcs: &[(u32, u32)],

@@ -1,15 +1,15 @@
-//! The graph of the pairs "u needs p". Making one sorts the pairs (sort.rt), counts needs down (count_down.rt), and
-//! refuses by the cycle that is left over (cycle.rt); so its type carries that it has none.
+//! The graph of the pairs "u needs p". Making one puts the pairs into their order (rising.rt) and refuses by a cycle where they
+//! have one (no_cycle.rt); so its type carries that it has none.
 ghost use Rattle.std.specs.Prelude.{◌≡◌, ◌<◌, ◌≤◌, ◌^◌, ◌↔◌, ◌==◌, ℕ, length, get_or, IfOk, IfErr, IfSome, IfNone};
 ghost use Rattle.pit_model.specs.Graph.{first_of, second_of, AreApart, AreInRange, AreSamePairs, IsAcyclic, IsGraph};
 ghost use Rattle.pit_model.specs.Mine.{members};
 ghost use Rattle.mine_graph.specs.Faults.{IsGraphFault};
 
-use crate::count_down::{first_left, needs_left};
-use crate::cycle::cycle_of;
-use crate::sort::{number_by_second, sort_by_second};
-use minelib_reader::{Fault, Refusal, Source};
-use std::alloc::{AllocError, Global};
+use crate::no_cycle::check_acyclic;
+use crate::rising::in_order;
+use crate::sort::number_by_second;
+use minelib_reader::Fault;
+use std::alloc::Global;
 use std::marker::Model;
 use std::ops::Range;
 
@@ -47,26 +47,16 @@ impl Graph {
         ensures acyclic { IfOk result (λ _. IsAcyclic pairs.items) }
         ensures refused { IfErr result (IsGraphFault pairs.items n) }
     {
-        let (half_starts, half) = sort_by_second(alloc, n, &pairs)?;
-        drop(pairs);
-        let left = needs_left(alloc, n, &half, &half_starts)?;
-        let (starts, sorted) = sort_by_second(alloc, n, &half)?;
-        drop(half);
-        let (user_starts, users) = number_by_second(alloc, n, &sorted)?;
-        match first_left(&left) {
-            Some(first) => Err(Fault {
-                refusal: Refusal::Cycle(cycle_of(alloc, &sorted, &starts, &left, first)?),
-                source: Source::Precedence,
-                line: 0,
-            }),
-            None => Ok(Graph {
-                blocks: n,
-                starts,
-                pairs: sorted,
-                user_starts,
-                users,
-            }),
-        }
+        let (starts, pairs) = in_order(alloc, n, pairs)?;
+        check_acyclic(alloc, n, &pairs, &starts)?;
+        let (user_starts, users) = number_by_second(alloc, n, &pairs)?;
+        Ok(Graph {
+            blocks: n,
+            starts,
+            pairs,
+            user_starts,
+            users,
+        })
     }
 
     /// What is true of each graph.
@@ -88,21 +78,6 @@ impl Graph {
     /// Where the graph takes its memory from.
     pub(crate) fn alloc(&self) -> Global {
         *self.pairs.allocator()
-    }
-
-    /// The same graph once more.
-    pub(crate) fn copy(&self) -> Result<Graph, AllocError>
-        ensures blocks { IfOk result (λ g. g.blocks ≡ self.now.blocks) }
-        ensures pairs { IfOk result (λ g. g.pairs ≡ self.now.pairs) }
-    {
-        let alloc = self.alloc();
-        Ok(Graph {
-            blocks: self.n(),
-            starts: Vec::from_slice(alloc, &self.starts)?,
-            pairs: Vec::from_slice(alloc, &self.pairs)?,
-            user_starts: Vec::from_slice(alloc, &self.user_starts)?,
-            users: Vec::from_slice(alloc, &self.users)?,
-        })
     }
 
     /// How many blocks there are.

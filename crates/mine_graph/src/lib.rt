@@ -6,10 +6,13 @@ mod count_down;
 mod cycle;
 mod graph;
 mod instance;
+mod no_cycle;
 mod part;
 mod parts;
+mod rising;
 mod sort;
 
+pub use classes::Classes;
 pub use cycle::acyclic_has_no_needy;
 pub use graph::Graph;
 pub use instance::Instance;

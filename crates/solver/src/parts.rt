@@ -85,10 +85,11 @@ pub fn solve_parts<R: Threads + Sync>(
 {
     instance.law();
     let graph: &Graph = instance.graph();
-    let parts = graph.parts()?;
-    if parts.len() < 2 {
+    let classes = graph.classes()?;
+    if classes.count < 2 {
         return certificate_of(alloc, instance);
     }
+    let parts = graph.parts_by(&classes)?;
     let solved = solve_each(rt, alloc, instance, parts)?;
     join_parts(alloc, instance, &solved)
 }
