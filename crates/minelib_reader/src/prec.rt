@@ -7,6 +7,7 @@ ghost use Rattle.minelib_reader.specs.declared.fault.Fault.{Fault as AnyFault};
 ghost use Rattle.minelib_reader.specs.declared.fault.Source.TheVariants as sources;
 ghost use Rattle.minelib_reader.specs.Answer.{Gives, Answers, AnswersBy, FailsBy, FailsAt};
 ghost use Rattle.minelib_reader.specs.Marks.{AreMarked, AddsLine};
+ghost use Rattle.minelib_reader.specs.Number.{whole_of};
 ghost use Rattle.minelib_reader.specs.Prec.{in_precedence, need_of, needs_from, front_of, needs_line, pairs_of, prec_of, most_pairs};
 ghost use Rattle.minelib_reader.specs.PrecFault.{IsFirstPrecFault};
 ghost use Rattle.minelib_reader.specs.PrecGrammar.{SpellsPrec};
@@ -16,7 +17,7 @@ ghost use Rattle.minelib_reader.specs.Text.{row, fields_of};
 use crate::device::InBytes;
 use crate::fault::{Fault, Refusal, Source};
 use crate::input::read_all;
-use crate::lines::{count_fields, first_two, next_field};
+use crate::lines::{count_fields, first_two, next_whole};
 use crate::number::digits;
 use crate::rows::{Row, Rows};
 use std::alloc::Global;
@@ -48,15 +49,15 @@ fn in_precedence(refusal: Refusal, line: u64) -> Fault
     }
 }
 
-/// One predecessor of a block, where the marks tell those that were seen on its line.
+/// One predecessor of a block, by the whole number of its field, where the marks tell those that were seen on its line.
 #[tactic(auto, unfolding(crate::specs::Prec::need_of))]
-fn read_need(n: u32, id: u32, line: u64, marks: &[u32], field: &[u8]) -> Result<u32, Fault>
+fn read_need(n: u32, id: u32, line: u64, marks: &[u32], whole: Option<u64>) -> Result<u32, Fault>
     requires sizes { length marks.now ≡ n }
     requires known { id < n }
-    ensures gives { (seen : List ℕ) → AreMarked n id marks.now seen → Gives (λ p. p) result (need_of n id line seen field.now) }
+    ensures gives { (seen field : List ℕ) → whole ≡ whole_of field → AreMarked n id marks.now seen → Gives (λ p. p) result (need_of n id line seen field) }
     ensures below { IfOk result (λ p. p < n) }
 {
-    let Some(p) = digits(field, 10) else {
+    let Some(p) = whole else {
         return Err(in_precedence(Refusal::NotWhole, line));
     };
     if p >= u64::from(n) {
@@ -90,8 +91,8 @@ fn read_needs(
     ensures new_marks { All (λ m. m ≤ id + 1) marks.new.items }
 {
     let mut rest = text;
-    while let Some((field, behind)) = next_field(rest) {
-        let p = read_need(n, id, line, marks, field)?;
+    while let Some((whole, behind)) = next_whole(rest) {
+        let p = read_need(n, id, line, marks, whole)?;
         marks[p as usize] = id + 1;
         pairs.push((id, p))?;
         rest = behind;
