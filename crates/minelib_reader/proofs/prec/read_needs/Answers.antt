@@ -8,6 +8,7 @@ use Rattle.minelib_reader.specs.Prec.{needs_from}
 use Rattle.minelib_reader.specs.Marks.{AreMarked}
 use Rattle.minelib_reader.proofs.StepLemmas.{fails_map}
 use Rattle.minelib_reader.proofs.PrecLemmas.{SoFar, goes_on, stops, ends}
+use Rattle.minelib_reader.proofs.PrecLineLemmas.{named}
 use Rattle.minelib_reader.proofs.prec.read_needs.Goals as goal
 
 pub returns-in_err-p-clause-err : goal.returns-in_err-p-clause-err
@@ -36,3 +37,10 @@ returns-clause-ok c =
     let total = needs_from c.args.n c.args.id c.args.line [] (fields_of c.args.text.now) in
     let s = subst (λ (fs : List (List ℕ)). SoFar c.args.n c.args.id c.args.line c.loop-whole.marks.items fs total c.args.pairs.now.items c.loop-whole.pairs.items) c.in_default.ensures.whole c.loop-whole.invariant.so_far in
     (s.seen, ends c.args.n c.args.id c.args.line c.loop-whole.marks.items total c.args.pairs.now.items c.loop-whole.pairs.items s, s.pushed)
+
+pub returns-clause-named : goal.returns-clause-named
+returns-clause-named c =
+    let total = needs_from c.args.n c.args.id c.args.line [] (fields_of c.args.text.now) in
+    let s = subst (λ (fs : List (List ℕ)). SoFar c.args.n c.args.id c.args.line c.loop-whole.marks.items fs total c.args.pairs.now.items c.loop-whole.pairs.items) c.in_default.ensures.whole c.loop-whole.invariant.so_far in
+    let many = named c.args.n c.args.id c.args.line [] (fields_of c.args.text.now) s.seen c.args.pairs.now.items c.loop-whole.pairs.items (ends c.args.n c.args.id c.args.line c.loop-whole.marks.items total c.args.pairs.now.items c.loop-whole.pairs.items s) s.pushed in
+    omega (arith, many, c.len.ensures, c.len-before.ensures)
