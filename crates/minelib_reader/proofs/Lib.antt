@@ -1,4 +1,5 @@
 pub mod WriteLemmas
+pub mod WholeLemmas
 pub mod Numbers
 pub mod TextLemmas
 pub mod LineLemmas

@@ -1,6 +1,6 @@
 -- Reading the lines of a precedence file one after the other, as a loop does.
-use Rattle.std.proofs.Common.{◌≡◌, ℕ, suc, ◌+◌, List, [], ◌∷◌, ◌++◌, length, Result, Ok, Err, refl, sym, ap, ◌∙◌, append_assoc}
-use Rattle.std.proofs.lemmas.List.{append-nil}
+use Rattle.std.proofs.Common.{◌≡◌, ℕ, suc, ◌+◌, List, [], ◌∷◌, ◌++◌, length, Result, Ok, Err, refl, sym, ap, ◌∙◌, append_assoc, ◌-◌, arith, length-append}
+use Rattle.std.proofs.lemmas.List.{append-nil, length-map}
 use Rattle.minelib_reader.specs.declared.fault.Fault.{Fault}
 use Rattle.minelib_reader.specs.Steps.{◌>>=◌}
 use Rattle.minelib_reader.specs.Text.{Row}
@@ -16,6 +16,13 @@ length_needs n id line seen (f ∷ fields) ps h =
     let a = bind_ok (need_of n id line seen f) (λ p. needs_from n id line (seen ++ p ∷ []) fields >>= λ others. Ok (p ∷ others)) ps h in
     let b = bind_ok (needs_from n id line (seen ++ a.0 ∷ []) fields) (λ others. Ok (a.0 ∷ others)) ps a.2 in
     ap length (sym (ok_is (a.0 ∷ b.0) ps b.2)) ∙ ap suc (length_needs n id line (seen ++ a.0 ∷ []) fields b.0 b.1)
+
+-- so many pairs are added as fields name predecessors
+pub named : (n id line : ℕ) (seen : List ℕ) (fields : List (List ℕ)) (ps : List ℕ) (old new : List (ℕ × ℕ)) → needs_from n id line seen fields ≡ Ok ps → new ≡ old ++ pairs_of id ps → length new - length old ≡ length fields
+named n id line seen fields ps old new h pushed =
+    let pair_with : ℕ → ℕ × ℕ = λ p. (id, p) in
+    let size : length (pairs_of id ps) ≡ length ps = length-map ps pair_with in
+    omega (arith, ap length pushed, length-append old (pairs_of id ps), size, length_needs n id line seen fields ps h)
 
 pub front_stops : (e : Fault) (n from total : ℕ) (r : Row) → front_of n from total r ≡ Err e → needs_line n from total r ≡ Err e
 unfolding needs_line

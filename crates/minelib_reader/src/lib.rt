@@ -20,7 +20,7 @@ pub use columns::column;
 pub use device::{DeviceFailed, InBytes, OutBytes};
 pub use fault::{Fault, Refusal, Source};
 pub use input::{FileReader, MemoryReader, read_all};
-pub use lines::{next_field, two_fields};
+pub use lines::{next_field, next_whole, two_fields};
 pub use number::{Decimal, cut, decimal, digits};
 pub use output::{MemoryWriter, StreamWriter, write_all};
 pub use prec::{parse_prec, prec_law, read_prec};

@@ -1,12 +1,14 @@
 //! The text of a precedence file (`.prec`): for a block a line with its id, how many blocks it needs, and these.
 //! Each line is checked in the order of `specs/Prec.antt`; the first fault ends the reading.
 //! Blocks seen on a line are marked by its id plus one, so that ids, which rise, need no clearing of the marks.
-ghost use Rattle.std.specs.Prelude.{◌≡◌, ◌↔◌, ℕ, List, ◌≤◌, ◌+◌, ◌<◌, ◌^◌, ◌++◌, [], length, IfOk, IfErr, Ok, Err};
+ghost use Rattle.std.specs.Prelude.{◌≡◌, ◌≢◌, ◌==◌, if◌then◌else◌, ◌↔◌, ℕ, List, ◌≤◌, ◌+◌, ◌<◌, ◌^◌, ◌++◌, [], length, IfOk, IfErr, Ok, Err};
 ghost use Rattle.std.specs.List.{All};
 ghost use Rattle.minelib_reader.specs.declared.fault.Fault.{Fault as AnyFault};
+ghost use Rattle.minelib_reader.specs.declared.fault.Refusal.TheVariants.{OverLimit, WrongFieldCount};
 ghost use Rattle.minelib_reader.specs.declared.fault.Source.TheVariants as sources;
 ghost use Rattle.minelib_reader.specs.Answer.{Gives, Answers, AnswersBy, FailsBy, FailsAt};
 ghost use Rattle.minelib_reader.specs.Marks.{AreMarked, AddsLine};
+ghost use Rattle.minelib_reader.specs.Number.{whole_of};
 ghost use Rattle.minelib_reader.specs.Prec.{in_precedence, need_of, needs_from, front_of, needs_line, pairs_of, prec_of, most_pairs};
 ghost use Rattle.minelib_reader.specs.PrecFault.{IsFirstPrecFault};
 ghost use Rattle.minelib_reader.specs.PrecGrammar.{SpellsPrec};
@@ -16,7 +18,7 @@ ghost use Rattle.minelib_reader.specs.Text.{row, fields_of};
 use crate::device::InBytes;
 use crate::fault::{Fault, Refusal, Source};
 use crate::input::read_all;
-use crate::lines::{count_fields, first_two, next_field};
+use crate::lines::{count_fields, first_two, next_whole};
 use crate::number::digits;
 use crate::rows::{Row, Rows};
 use std::alloc::Global;
@@ -48,15 +50,15 @@ fn in_precedence(refusal: Refusal, line: u64) -> Fault
     }
 }
 
-/// One predecessor of a block, where the marks tell those that were seen on its line.
+/// One predecessor of a block, by the whole number of its field, where the marks tell those that were seen on its line.
 #[tactic(auto, unfolding(crate::specs::Prec::need_of))]
-fn read_need(n: u32, id: u32, line: u64, marks: &[u32], field: &[u8]) -> Result<u32, Fault>
+fn read_need(n: u32, id: u32, line: u64, marks: &[u32], whole: Option<u64>) -> Result<u32, Fault>
     requires sizes { length marks.now ≡ n }
     requires known { id < n }
-    ensures gives { (seen : List ℕ) → AreMarked n id marks.now seen → Gives (λ p. p) result (need_of n id line seen field.now) }
+    ensures gives { (seen field : List ℕ) → whole ≡ whole_of field → AreMarked n id marks.now seen → Gives (λ p. p) result (need_of n id line seen field) }
     ensures below { IfOk result (λ p. p < n) }
 {
-    let Some(p) = digits(field, 10) else {
+    let Some(p) = whole else {
         return Err(in_precedence(Refusal::NotWhole, line));
     };
     if p >= u64::from(n) {
@@ -72,7 +74,7 @@ fn read_need(n: u32, id: u32, line: u64, marks: &[u32], field: &[u8]) -> Result<
     Ok(p)
 }
 
-/// Adds the pairs of a block, from left to right.
+/// Adds the pairs of a block, from left to right, and answers how many they are.
 fn read_needs(
     n: u32,
     id: u32,
@@ -80,34 +82,48 @@ fn read_needs(
     marks: &mut Vec<u32>,
     text: &[u8],
     pairs: &mut Vec<(u32, u32)>,
-) -> Result<(), Fault>
+) -> Result<u64, Fault>
     requires sizes { length marks.old.items ≡ n }
     requires known { id < n }
     requires old_marks { All (λ m. m ≤ id) marks.old.items }
-    ensures ok { IfOk result (λ u. (ps : List ℕ) × (needs_from n id line [] (fields_of text.now) ≡ Ok ps) × (pairs.new.items ≡ pairs.old.items ++ pairs_of id ps)) }
+    ensures ok { IfOk result (λ _. (ps : List ℕ) × (needs_from n id line [] (fields_of text.now) ≡ Ok ps) × (pairs.new.items ≡ pairs.old.items ++ pairs_of id ps)) }
+    ensures named { IfOk result (λ named. named ≡ length (fields_of text.now)) }
     ensures err { IfErr result (λ e. FailsBy e.refusal e (needs_from n id line [] (fields_of text.now))) }
     ensures sizes { length marks.new.items ≡ n }
     ensures new_marks { All (λ m. m ≤ id + 1) marks.new.items }
 {
+    let before = pairs.len();
     let mut rest = text;
-    while let Some((field, behind)) = next_field(rest) {
-        let p = read_need(n, id, line, marks, field)?;
+    while let Some((whole, behind)) = next_whole(rest) {
+        let p = read_need(n, id, line, marks, whole)?;
         marks[p as usize] = id + 1;
         pairs.push((id, p))?;
         rest = behind;
     }
-    Ok(())
+    Ok((pairs.len() - before) as u64)
 }
 
-/// The id of a line and how many predecessors it has, checked up to these.
+/// The fault of a line with too many predecessors in all, as it says itself.
+fn over_limit(line: u64, count: u64, rest: &[u8]) -> Fault
+    ensures { result ≡ in_precedence (if length (fields_of rest.now) == count then OverLimit else WrongFieldCount) line }
+{
+    if count_fields(rest) as u64 != count {
+        return in_precedence(Refusal::WrongFieldCount, line);
+    }
+    in_precedence(Refusal::OverLimit, line)
+}
+
+/// The id of a line and how many predecessors it names, checked up to these. Whether there are so many, the caller
+/// finds as it reads them.
 #[tactic(auto, unfolding(crate::specs::Prec::front_of))]
 fn read_front<'a>(n: u32, before: Before, r: Row<'a>) -> Result<Front<'a>, Fault>
     requires few { before.total ≤ most_pairs }
-    ensures gives { Gives (λ f. (f.id, f.count, fields_of f.rest.now)) result (front_of n before.from before.total (row r.entry.line (fields_of r.entry.text.now))) }
+    ensures counted { IfOk result (λ f. length (fields_of f.rest.now) ≡ f.count → front_of n before.from before.total (row r.entry.line (fields_of r.entry.text.now)) ≡ Ok (f.id, f.count, fields_of f.rest.now)) }
+    ensures miscounted { IfOk result (λ f. length (fields_of f.rest.now) ≢ f.count → front_of n before.from before.total (row r.entry.line (fields_of r.entry.text.now)) ≡ Err (in_precedence WrongFieldCount r.entry.line)) }
+    ensures err { IfErr result (λ e. FailsBy e.refusal e (front_of n before.from before.total (row r.entry.line (fields_of r.entry.text.now)))) }
     ensures known { IfOk result (λ f. f.id < n) }
     ensures rising { IfOk result (λ f. before.from ≤ f.id) }
     ensures few { IfOk result (λ f. before.total + f.count ≤ most_pairs) }
-    ensures count { IfOk result (λ f. f.count ≡ length (fields_of f.rest.now)) }
 {
     let Some((first, second, rest)) = first_two(r.text) else {
         return Err(in_precedence(Refusal::WrongFieldCount, r.line));
@@ -121,11 +137,8 @@ fn read_front<'a>(n: u32, before: Before, r: Row<'a>) -> Result<Front<'a>, Fault
     let Some(count) = digits(second, 10) else {
         return Err(in_precedence(Refusal::NotWhole, r.line));
     };
-    if count_fields(rest) as u64 != count {
-        return Err(in_precedence(Refusal::WrongFieldCount, r.line));
-    }
     if before.total + count > MOST_PAIRS {
-        return Err(in_precedence(Refusal::OverLimit, r.line));
+        return Err(over_limit(r.line, count, rest));
     }
     let id = id as u32;
     Ok(Front { id, count, rest })
@@ -149,11 +162,24 @@ fn read_line(
     ensures new_marks { IfOk result (λ after. All (λ m. m ≤ after.from) marks.new.items) }
 {
     let front = read_front(n, before, r)?;
-    read_needs(n, front.id, r.line, marks, front.rest, pairs)?;
-    Ok(Before {
-        from: front.id + 1,
-        total: before.total + front.count,
-    })
+    match read_needs(n, front.id, r.line, marks, front.rest, pairs) {
+        Ok(named) => {
+            if named != front.count {
+                return Err(in_precedence(Refusal::WrongFieldCount, r.line));
+            }
+            Ok(Before {
+                from: front.id + 1,
+                total: before.total + front.count,
+            })
+        }
+        Err(fault) => {
+            // A wrong number of fields is the fault that comes first.
+            if count_fields(front.rest) as u64 != front.count {
+                return Err(in_precedence(Refusal::WrongFieldCount, r.line));
+            }
+            Err(fault)
+        }
+    }
 }
 
 /// The pairs of all lines.

@@ -6,12 +6,12 @@ use Rattle.minelib_reader.specs.Prec.{needs_from}
 use Rattle.minelib_reader.proofs.PrecLemmas.{SoFar}
 use Rattle.minelib_reader.proofs.prec.read_needs.Given as goal
 
-abbrev pub invariant-loop-field : goal.invariant-loop-field
-invariant-loop-field l = record {
+abbrev pub invariant-loop-whole : goal.invariant-loop-whole
+invariant-loop-whole l = record {
   so_far : SoFar l.n l.id l.line l.marks.items (fields_of l.rest) (needs_from l.n l.id l.line [] (fields_of l.fn.text)) l.initial.pairs.items l.pairs.items;
   sizes : length l.marks.items ≡ l.n;
   marks : All (λ m. m ≤ l.id + 1) l.marks.items;
 }
 
-abbrev pub decreases-loop-field : goal.decreases-loop-field
-decreases-loop-field l = length l.rest
+abbrev pub decreases-loop-whole : goal.decreases-loop-whole
+decreases-loop-whole l = length l.rest
