@@ -1,11 +1,17 @@
 -- The same bytes went through two readers, so they gave the same text; a text spells one model, one list of pairs, one table,
 -- one certificate; and of these there is one pit, one list of shells, one answer.
-use Rattle.std.proofs.Common.{◌≡◌, ℕ, ◌<◌, Bool, true, sym, ap, subst, ◌∙◌, List, ◌++◌, length}
-use Rattle.std.specs.Prelude.{ℤ, pos}
+use Rattle.std.proofs.Common.{◌≡◌, ℕ, ◌<◌, Bool, true, refl, sym, ap, subst, ◌∙◌, List, ◌++◌, length, inl, inr}
+use Rattle.std.specs.Prelude.{ℤ, pos, ◌⊎◌, None}
 use Rattle.std.proofs.lemmas.List.{append_cancel_left, ext_get_or}
 use Rattle.minelib_reader.specs.Text.{rows_of, count_of_lines}
 use Rattle.minelib_reader.specs.Upit.{Upit}
 use Rattle.minelib_reader.specs.UpitGrammar.{SpellsUpit}
+use Rattle.minelib_reader.specs.UpitFault.{upit_fault_at}
+use Rattle.minelib_reader.specs.PrecFault.{prec_fault_at}
+use Rattle.minelib_reader.specs.Refused.{no_memory}
+use Rattle.minelib_reader.specs.declared.fault.Fault.{Fault}
+use Rattle.minelib_reader.specs.declared.fault.Refusal.{Refusal}
+use Rattle.minelib_reader.specs.declared.fault.Refusal.TheVariants.{NoMemory, ReadFailed, WriteFailed, NoSeat, Exhausted}
 use Rattle.minelib_reader.specs.PrecGrammar.{SpellsPrec}
 use Rattle.minelib_reader.specs.Table.{Table}
 use Rattle.minelib_reader.specs.Column.{IsColumn}
@@ -13,8 +19,11 @@ use Rattle.minelib_reader.specs.BlocksGrammar.{SpellsTable}
 use Rattle.minelib_reader.proofs.StepLemmas.{ok_is}
 use Rattle.minelib_reader.proofs.UpitGrammarLemmas as models
 use Rattle.minelib_reader.proofs.PrecGrammarLemmas as precedences
+use Rattle.minelib_reader.proofs.UpitFaultLemmas as model_faults
+use Rattle.minelib_reader.proofs.PrecFaultLemmas as precedence_faults
+use Rattle.mine_graph.proofs.Renumbering.{only_memory}
 use Rattle.minelib_reader.proofs.BlocksGrammarLemmas as tables
-use Rattle.pit_model.specs.Graph.{Graph, AreRising, AreSamePairs}
+use Rattle.pit_model.specs.Graph.{Graph, AreRising, AreSamePairs, IsAcyclic}
 use Rattle.pit_model.specs.Mine.{Instance, instance_of, members, worth}
 use Rattle.pit_model.specs.Certificate.{IsCertificate}
 use Rattle.pit_model.specs.PitText.{pit_text}
@@ -28,11 +37,11 @@ use Rattle.certificate.proofs.TextRead as certificates
 use Rattle.solver.specs.Parts.{graph_of}
 use Rattle.shells.specs.Prices.{Prices}
 use Rattle.report.specs.AnswerText.{answer_text}
-use Rattle.runs.specs.Solve.{Reading, Gave, GaveMine, IsPitText, mine_of}
+use Rattle.runs.specs.Solve.{Reading, Gave, GaveMine, IsPitText, mine_of, FirstFault, in_model, in_prec, in_pairs, RefusesMine}
 use Rattle.runs.specs.Check.{AnswersText, GaveInOrder, Checks, status_of_answer}
 use Rattle.runs.specs.Deposit.{GaveTable, GaveDeposit, deposit_in, rows}
 use Rattle.runs.specs.ShellsRun.{IsShellsText}
-use Rattle.runs.specs.Uniqueness.{GaveSame, SolvesOnce, NestsOnce, AnswerIsOne, ChecksOnce, PassesCheck}
+use Rattle.runs.specs.Uniqueness.{GaveAlike, SolvesOnce, NeverFaulty, NestsOnce, AnswerIsOne, ChecksOnce, PassesCheck}
 
 -- a reader gave one text
 given_once : (r : Reading) (a b : List ℕ) → Gave r a → Gave r b → a ≡ b
@@ -53,24 +62,23 @@ certificate_once : (graph : Graph) (text : List ℕ) (c d : PitAndFlow) → AreR
 certificate_once graph text c d rise s t =
     ok_is c d (sym (certificates.reads graph (count_of_lines text) (rows_of text) c rise s) ∙ certificates.reads graph (count_of_lines text) (rows_of text) d rise t)
 
--- two readers of the same text gave the same pairs for as many blocks
-pairs_given : (prec other_prec : Reading) (n k : ℕ) (t u : List ℕ) (ps qs : List (ℕ × ℕ)) → GaveSame prec other_prec → k ≡ n → Gave prec t → Gave other_prec u → SpellsPrec n t ps → SpellsPrec k u qs → ps ≡ qs
-pairs_given prec other_prec n k t u ps qs same count a b s v =
-    pairs_once n same.text ps qs (subst (λ x. SpellsPrec n x ps) (given_once prec t same.text a same.given) s)
-    (subst (λ i. SpellsPrec i same.text qs) count (subst (λ x. SpellsPrec k x qs) (given_once other_prec u same.text b same.given_too) v))
+-- the same pairs for as many blocks
+pairs_given : (n k : ℕ) (t u : List ℕ) (ps qs : List (ℕ × ℕ)) → k ≡ n → t ≡ u → SpellsPrec n t ps → SpellsPrec k u qs → ps ≡ qs
+pairs_given n k t u ps qs count same s v = pairs_once n u ps qs (subst (λ x. SpellsPrec n x ps) same s) (subst (λ i. SpellsPrec i u qs) count v)
 
 -- ---- the mine that two readers gave
 
-module _ (model prec other_model other_prec : Reading) (same : GaveSame model other_model) (same_prec : GaveSame prec other_prec) where
+module _ (model prec other_model other_prec : Reading) (same : GaveAlike model other_model) (same_prec : GaveAlike prec other_prec) where
   one_model : (u v : Upit) (ps qs : List (ℕ × ℕ)) → GaveMine model prec u ps → GaveMine other_model other_prec v qs → u ≡ v
   one_model u v ps qs one other =
-      model_once same.text u v (subst (λ t. SpellsUpit t u) (given_once model one.model_text same.text one.model_given same.given) one.model_spelled)
-      (subst (λ t. SpellsUpit t v) (given_once other_model other.model_text same.text other.model_given same.given_too) other.model_spelled)
+      let text = same one.model_text other.model_text one.model_given other.model_given in
+      model_once other.model_text u v (subst (λ t. SpellsUpit t u) text one.model_spelled) other.model_spelled
 
   one_precedence : (u v : Upit) (ps qs : List (ℕ × ℕ)) → GaveMine model prec u ps → GaveMine other_model other_prec v qs → ps ≡ qs
   one_precedence u v ps qs one other =
       let n : v.n ≡ u.n = ap (λ (m : Upit). m.n) (sym (one_model u v ps qs one other)) in
-      pairs_given prec other_prec u.n v.n one.prec_text other.prec_text ps qs same_prec n one.prec_given other.prec_given one.prec_spelled other.prec_spelled
+      let text = same_prec one.prec_text other.prec_text one.prec_given other.prec_given in
+      pairs_given u.n v.n one.prec_text other.prec_text ps qs n text one.prec_spelled other.prec_spelled
 
   one_mine : (u v : Upit) (ps qs : List (ℕ × ℕ)) → GaveMine model prec u ps → GaveMine other_model other_prec v qs → mine_of u ps ≡ mine_of v qs
   one_mine u v ps qs one other = ap (λ m. mine_of m ps) (one_model u v ps qs one other) ∙ ap (mine_of v) (one_precedence u v ps qs one other)
@@ -86,7 +94,7 @@ same_mine : (m n : Instance) → m.blocks ≡ n.blocks → m.values ≡ n.values
 same_mine m n b v p = ap (λ k. instance_of k m.values m.pairs) b ∙ ap (λ vs. instance_of n.blocks vs m.pairs) v ∙ ap (instance_of n.blocks n.values) p
 
 -- the mine with its pairs in order is one
-mine_in_order : (model prec other_model other_prec : Reading) → GaveSame model other_model → GaveSame prec other_prec
+mine_in_order : (model prec other_model other_prec : Reading) → GaveAlike model other_model → GaveAlike prec other_prec
     → (m n : Instance) → GaveInOrder model prec m → GaveInOrder other_model other_prec n → m ≡ n
 mine_in_order model prec other_model other_prec same same_prec m n one other =
     let x = one.holds in
@@ -112,6 +120,40 @@ solves_once model prec other_model other_prec before after other_before other_af
     let text = one_text (mine_of b.upit b.pairs) done.text other.text (subst (λ m. IsPitText m done.text) mine a.solved) b.solved in
     record { text = other.text; taken = done.written ∙ ap (λ t. before.bytes ++ t) text; taken_too = other.written }
 
+-- where a mine was given, the texts have no fault
+module _ (model prec other_model other_prec : Reading) (same : GaveAlike model other_model) (same_prec : GaveAlike prec other_prec)
+    (u : Upit) (ps : List (ℕ × ℕ)) (one : GaveMine model prec u ps) (acyclic : IsAcyclic ps) where
+  no_fault : (fault : Fault) → FirstFault fault other_model other_prec → fault ≡ no_memory
+  no_fault fault (in_model text given is) =
+      let alike = same one.model_text text one.model_given given in
+      let read = models.reads (count_of_lines text) (rows_of text) u (subst (λ t. SpellsUpit t u) alike one.model_spelled) in
+      let none : upit_fault_at text is.place ≡ None = model_faults.clear_where_read (count_of_lines text) (rows_of text) u read is.place in
+      let some = is.here in
+      absurd cc
+  no_fault fault (in_prec text behind upit given spelled prec_given is) =
+      let alike = same one.model_text text one.model_given given in
+      let n : u.n ≡ upit.n = ap (λ (m : Upit). m.n) (model_once text u upit (subst (λ t. SpellsUpit t u) alike one.model_spelled) spelled) in
+      let alike_prec = same_prec one.prec_text behind one.prec_given prec_given in
+      let read = precedences.reads upit.n 0 0 (rows_of behind) ps (subst (λ k. SpellsPrec k behind ps) n (subst (λ t. SpellsPrec u.n t ps) alike_prec one.prec_spelled)) in
+      let none : prec_fault_at upit.n behind is.place ≡ None = precedence_faults.clear_where_read upit.n 0 0 (rows_of behind) ps read is.place in
+      let some = is.here in
+      absurd cc
+  no_fault fault (in_pairs upit pairs gave is) =
+      only_memory pairs upit.n fault (subst IsAcyclic (one_precedence model prec other_model other_prec same same_prec u upit ps pairs one gave) acyclic) is
+
+  only_passing : (r : Refusal) (fault : Fault) → fault.refusal ≡ r → RefusesMine r fault other_model other_prec → (r ≡ NoMemory) ⊎ (r ≡ ReadFailed)
+  only_passing NoMemory fault is h = inl refl
+  only_passing ReadFailed fault is h = inr refl
+  only_passing WriteFailed fault is h = absurd h
+  only_passing NoSeat fault is h = absurd h
+  only_passing (Exhausted count) fault is h = absurd h
+  only_passing r fault is h = inl (sym is ∙ ap (λ (f : Fault). f.refusal) (no_fault fault h))
+
+pub never_faulty : (model prec other_model other_prec : Reading) → NeverFaulty model prec other_model other_prec
+never_faulty model prec other_model other_prec before after status fault same same_prec done h =
+    let a = done.solves in
+    only_passing model prec other_model other_prec same same_prec a.upit a.pairs a.given a.acyclic fault.refusal fault refl h
+
 -- ---- `shells`
 
 one_column : (t : Table) (k : ℕ) (vs ws : List ℤ) → IsColumn t k vs → IsColumn t k ws → vs ≡ ws
@@ -121,19 +163,19 @@ one_column t k vs ws a b = ext_get_or (pos 0) vs ws (a.count ∙ sym b.count)
 prices_of : List ℤ → List ℤ → Prices
 prices_of revenues costs = record { revenues = revenues; costs = costs }
 
-module _ (blocks prec other_blocks other_prec : Reading) (same : GaveSame blocks other_blocks) (same_prec : GaveSame prec other_prec) where
+module _ (blocks prec other_blocks other_prec : Reading) (same : GaveAlike blocks other_blocks) (same_prec : GaveAlike prec other_prec) where
   one_table : (s t : Table) (ps qs : List (ℕ × ℕ)) → GaveTable blocks prec s ps → GaveTable other_blocks other_prec t qs → s ≡ t
   one_table s t ps qs one other =
-      table_once same.text s t (subst (λ x. SpellsTable x s) (given_once blocks one.blocks_text same.text one.blocks_given same.given) one.blocks_spelled)
-      (subst (λ x. SpellsTable x t) (given_once other_blocks other.blocks_text same.text other.blocks_given same.given_too) other.blocks_spelled)
+      let text = same one.blocks_text other.blocks_text one.blocks_given other.blocks_given in
+      table_once other.blocks_text s t (subst (λ x. SpellsTable x s) text one.blocks_spelled) other.blocks_spelled
 
   one_deposit : (revenue cost : ℕ) (d e : Deposit) → GaveDeposit blocks prec revenue cost d → GaveDeposit other_blocks other_prec revenue cost e → d ≡ e
   unfolding prices_of
   one_deposit revenue cost d e one other =
       let table = one_table one.table other.table one.pairs other.pairs one.given other.given in
       let count : rows other.table ≡ rows one.table = ap rows (sym table) in
-      let pairs = pairs_given prec other_prec (rows one.table) (rows other.table) one.given.prec_text other.given.prec_text one.pairs other.pairs same_prec count
-      one.given.prec_given other.given.prec_given one.given.prec_spelled other.given.prec_spelled in
+      let text = same_prec one.given.prec_text other.given.prec_text one.given.prec_given other.given.prec_given in
+      let pairs = pairs_given (rows one.table) (rows other.table) one.given.prec_text other.given.prec_text one.pairs other.pairs count text one.given.prec_spelled other.given.prec_spelled in
       let revenues = one_column other.table revenue one.prices.revenues other.prices.revenues (subst (λ t. IsColumn t revenue one.prices.revenues) table one.columns.revenues_are) other.columns.revenues_are in
       let costs = one_column other.table cost one.prices.costs other.prices.costs (subst (λ t. IsColumn t cost one.prices.costs) table one.columns.costs_are) other.columns.costs_are in
       let prices : one.prices ≡ other.prices = ap (λ r. prices_of r one.prices.costs) revenues ∙ ap (prices_of other.prices.revenues) costs in
@@ -160,7 +202,7 @@ answer_is_one mine text answer other graph a b =
     (λ yes. b.exact.1 (subst (λ (c : PitAndFlow). IsCertificate mine c.pit c.flow) same (a.exact.0 yes)))
     (λ yes. a.exact.1 (subst (λ (c : PitAndFlow). IsCertificate mine c.pit c.flow) (sym same) (b.exact.0 yes)))
 
-module _ (model prec other_model other_prec : Reading) (same : GaveSame model other_model) (same_prec : GaveSame prec other_prec) where
+module _ (model prec other_model other_prec : Reading) (same : GaveAlike model other_model) (same_prec : GaveAlike prec other_prec) where
   -- of one text there is one answer
   text_answers : (m n : Instance) (s t : List ℕ) (answer other : Bool) → GaveInOrder model prec m → GaveInOrder other_model other_prec n → s ≡ t
       → AnswersText m s answer → AnswersText n t other → answer ≡ other
@@ -168,12 +210,12 @@ module _ (model prec other_model other_prec : Reading) (same : GaveSame model ot
       let mine = mine_in_order model prec other_model other_prec same same_prec m n one two in
       answer_is_one n t answer other two.ordered (subst (λ x. AnswersText x t answer) mine (subst (λ x. AnswersText m x answer) text a)) b
 
-  one_answer : (certificate other_certificate : Reading) (answer other : Bool) → GaveSame certificate other_certificate
+  one_answer : (certificate other_certificate : Reading) (answer other : Bool) → GaveAlike certificate other_certificate
       → Checks model prec certificate answer → Checks other_model other_prec other_certificate other → answer ≡ other
   one_answer certificate other_certificate answer other same_text a b =
       let x = a.answered in
       let y = b.answered in
-      let text : x.text ≡ y.text = given_once certificate x.text same_text.text x.given same_text.given ∙ sym (given_once other_certificate y.text same_text.text y.given same_text.given_too) in
+      let text = same_text x.text y.text x.given y.given in
       text_answers a.mine b.mine x.text y.text answer other a.given b.given text x.answers y.answers
 
 pub checks_once : (model prec certificate other_model other_prec other_certificate : Reading) → ChecksOnce model prec certificate other_model other_prec other_certificate

@@ -1,21 +1,21 @@
 -- Two runs over the same texts end alike: what they write is the same, whatever their readers and writers, modes and workers.
-use Rattle.std.specs.Prelude.{◌≡◌, ℕ, ◌++◌, Bool, true, List}
+use Rattle.std.specs.Prelude.{◌≡◌, ◌⊎◌, ℕ, ◌++◌, Bool, true, List}
 use Rattle.minelib_reader.specs.Device.{Progress}
+use Rattle.minelib_reader.specs.declared.fault.Fault.{Fault}
+use Rattle.minelib_reader.specs.declared.fault.Refusal.TheVariants.{NoMemory, ReadFailed}
 use Rattle.pit_model.specs.Graph.{IsGraph}
 use Rattle.pit_model.specs.Mine.{Instance}
 use Rattle.report.specs.AnswerText.{answer_text}
-use Rattle.runs.specs.Solve.{Reading, Gave, IsDone}
+use Rattle.runs.specs.Solve.{Reading, Gave, IsDone, RefusesMine}
 use Rattle.runs.specs.ShellsRun.{IsShellsDone}
 use Rattle.runs.specs.Certified.{IsCertified}
 use Rattle.runs.specs.Check.{AnswersText, IsChecked}
 use Rattle.runs.specs.declared.status.Status.{Status}
 use Rattle.runs.specs.declared.status.Status.TheVariants.{Done}
 
--- two readers gave the same text
-pub record GaveSame (reading other : Reading) : Type 0 where
-  pub text : List ℕ
-  pub given : Gave reading text
-  pub given_too : Gave other text
+-- two readers gave no two different texts: where both gave a text, it is the same one
+abbrev pub GaveAlike : (reading other : Reading) → Type 0
+GaveAlike reading other = (text behind : List ℕ) → Gave reading text → Gave other behind → text ≡ behind
 
 -- the same text went to two writers
 pub record TookSame (before after other_before other_after : Progress) : Type 0 where
@@ -33,15 +33,24 @@ pub record GaveTaken (reading : Reading) (before after : Progress) : Type 0 wher
 abbrev pub SolvesOnce : (model prec other_model other_prec : Reading) → Type 0
 SolvesOnce model prec other_model other_prec =
     (before after other_before other_after : Progress) (status other_status : Status)
-    → GaveSame model other_model → GaveSame prec other_prec
+    → GaveAlike model other_model → GaveAlike prec other_prec
     → IsDone model prec before after status → IsDone other_model other_prec other_before other_after other_status
     → TookSame before after other_before other_after
+
+-- where a run of `solve` is done, none over the same texts finds a fault in them: if it reads no mine, then for want of memory
+-- or by a failed read
+abbrev pub NeverFaulty : (model prec other_model other_prec : Reading) → Type 0
+NeverFaulty model prec other_model other_prec =
+    (before after : Progress) (status : Status) (fault : Fault)
+    → GaveAlike model other_model → GaveAlike prec other_prec
+    → IsDone model prec before after status → RefusesMine fault.refusal fault other_model other_prec
+    → (fault.refusal ≡ NoMemory) ⊎ (fault.refusal ≡ ReadFailed)
 
 -- two runs of `shells` over the same texts, with the same columns and factors, both done, wrote the same text
 abbrev pub NestsOnce : (blocks prec other_blocks other_prec : Reading) → Type 0
 NestsOnce blocks prec other_blocks other_prec =
     (revenue cost : ℕ) (factors : List ℕ) (before after other_before other_after : Progress) (status other_status : Status)
-    → GaveSame blocks other_blocks → GaveSame prec other_prec
+    → GaveAlike blocks other_blocks → GaveAlike prec other_prec
     → IsShellsDone blocks prec revenue cost factors before after status
     → IsShellsDone other_blocks other_prec revenue cost factors other_before other_after other_status
     → TookSame before after other_before other_after
@@ -56,7 +65,7 @@ AnswerIsOne =
 abbrev pub ChecksOnce : (model prec certificate other_model other_prec other_certificate : Reading) → Type 0
 ChecksOnce model prec certificate other_model other_prec other_certificate =
     (before after other_before other_after : Progress) (status other_status : Status)
-    → GaveSame model other_model → GaveSame prec other_prec → GaveSame certificate other_certificate
+    → GaveAlike model other_model → GaveAlike prec other_prec → GaveAlike certificate other_certificate
     → IsChecked model prec certificate before after status
     → IsChecked other_model other_prec other_certificate other_before other_after other_status
     → TookSame before after other_before other_after × (status ≡ other_status)
@@ -65,7 +74,7 @@ ChecksOnce model prec certificate other_model other_prec other_certificate =
 abbrev pub PassesCheck : (model prec other_model other_prec certificate : Reading) → Type 0
 PassesCheck model prec other_model other_prec certificate =
     (before after other_before other_after : Progress) (status : Status)
-    → GaveSame model other_model → GaveSame prec other_prec → GaveTaken certificate before after
+    → GaveAlike model other_model → GaveAlike prec other_prec → GaveTaken certificate before after
     → IsCertified model prec before after
     → IsChecked other_model other_prec certificate other_before other_after status
     → (status ≡ Done) × (other_after.bytes ≡ other_before.bytes ++ answer_text true)

@@ -1,13 +1,23 @@
 //! Laws: two runs over the same texts end alike. Each is a function with an empty body whose contract is the law, over any
 //! readers: a run's reading is a reader's state before it and its state after.
 ghost use Rattle.runs.specs.Solve.{reading};
-ghost use Rattle.runs.specs.Uniqueness.{SolvesOnce, NestsOnce, AnswerIsOne, ChecksOnce, PassesCheck};
+ghost use Rattle.runs.specs.Uniqueness.{SolvesOnce, NeverFaulty, NestsOnce, AnswerIsOne, ChecksOnce, PassesCheck};
 
 use minelib_reader::InBytes;
 
 /// Two runs of `solve` over the same texts, both done, wrote the same text, whatever their modes and workers.
 pub fn solve_writes_one_text<M: InBytes, P: InBytes, N: InBytes, Q: InBytes>()
     ensures { (model model_end : M) (prec prec_end : P) (other_model other_model_end : N) (other_prec other_prec_end : Q) → SolvesOnce
+        (reading (M.progress model) (M.progress model_end) (M.IsAtEnd model_end))
+        (reading (P.progress prec) (P.progress prec_end) (P.IsAtEnd prec_end))
+        (reading (N.progress other_model) (N.progress other_model_end) (N.IsAtEnd other_model_end))
+        (reading (Q.progress other_prec) (Q.progress other_prec_end) (Q.IsAtEnd other_prec_end)) }
+{}
+
+/// Where a run of `solve` is done, none over the same texts finds a fault in them: whichever reads no mine lacks memory or
+/// meets a failed read.
+pub fn done_texts_have_no_fault<M: InBytes, P: InBytes, N: InBytes, Q: InBytes>()
+    ensures { (model model_end : M) (prec prec_end : P) (other_model other_model_end : N) (other_prec other_prec_end : Q) → NeverFaulty
         (reading (M.progress model) (M.progress model_end) (M.IsAtEnd model_end))
         (reading (P.progress prec) (P.progress prec_end) (P.IsAtEnd prec_end))
         (reading (N.progress other_model) (N.progress other_model_end) (N.IsAtEnd other_model_end))
