@@ -14,6 +14,6 @@ pub mod PrecGrammarLemmas
 pub mod PrecLimitLemmas
 mod BlocksLineLemmas
 mod BlocksFaultLemmas
-mod BlocksGrammarLemmas
+pub mod BlocksGrammarLemmas
 mod ColumnLemmas
 pub mod TextFaults

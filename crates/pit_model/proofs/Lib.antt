@@ -22,3 +22,5 @@ pub mod Members
 pub mod MemberSums
 pub mod Shells
 pub mod Versions
+pub mod Uniqueness
+pub mod OneOrder

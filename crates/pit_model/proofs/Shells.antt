@@ -5,7 +5,7 @@ use Rattle.std.proofs.Common.{◌≡◌, ℕ, zero, suc, ◌<◌, ◌≤◌, ◌
 use Rattle.std.specs.Prelude.{ℤ, pos, negsuc, ◌+ℤ◌, ◌-ℤ◌, ◌*ℤ◌, ◌≤ℤ◌}
 use Rattle.std.specs.List.{range_with_len}
 use Rattle.std.specs.List.Sorted.{IsStrictlyIncreasing}
-use Rattle.std.proofs.lemmas.Bool.{cases_Bool, true≢false}
+use Rattle.std.proofs.lemmas.Bool.{and_from, and_parts, cases_Bool, or_left, or_right, true≢false}
 use Rattle.std.proofs.lemmas.Int.{ints}
 use Rattle.std.proofs.Math.Nat.{mul-le-mul_right}
 use Rattle.std.proofs.lemmas.List.{get_or-map}
@@ -46,7 +46,8 @@ scaled_least : (r : ℤ) (a : ℕ) → pos 0 ≤ℤ r → pos 0 ≤ℤ (pos a *�
 scaled_least (pos x) a least = omega (arith, ints)
 scaled_least (negsuc x) a least = absurd (omega (arith, ints))
 
-values_rise : (deposit : Deposit) (a b u : ℕ) → IsPriced deposit → a ≤ b → u < deposit.blocks → value (mine_at deposit a) u ≤ℤ value (mine_at deposit b) u
+-- no value falls as the factor rises
+pub values_rise : (deposit : Deposit) (a b u : ℕ) → IsPriced deposit → a ≤ b → u < deposit.blocks → value (mine_at deposit a) u ≤ℤ value (mine_at deposit b) u
 values_rise deposit a b u priced few below =
     let more = scaled_le (revenue deposit u) a b (priced.revenues.least u below) few in
     let low = value_at_is deposit a u below in
@@ -65,27 +66,7 @@ when_most : (b : Bool) (x : ℤ) → x ≤ℤ pos 0 → when b x ≤ℤ pos 0
 when_most true x h = h
 when_most false x h = omega (arith, ints)
 
--- tests of two sets, joined and met
-both : (a b : Bool) → a ≡ true → b ≡ true → (a && b) ≡ true
-both true b l r = r
-both false b l r = l
-
-left_of : (a b : Bool) → (a && b) ≡ true → a ≡ true
-left_of true b h = refl
-left_of false b h = h
-
-right_of : (a b : Bool) → (a && b) ≡ true → b ≡ true
-right_of true b h = h
-right_of false b h = absurd (true≢false (sym h))
-
-either_left : (a b : Bool) → a ≡ true → (a || b) ≡ true
-either_left true b h = refl
-either_left false b h = absurd (true≢false (sym h))
-
-either_right : (a b : Bool) → b ≡ true → (a || b) ≡ true
-either_right true b h = refl
-either_right false b h = h
-
+-- two sets, joined and met
 union_and_meet : (a b : Bool) (x : ℤ) → when (a || b) x +ℤ when (a && b) x ≡ when a x +ℤ when b x
 union_and_meet true true x = refl
 union_and_meet true false x = refl
@@ -112,12 +93,14 @@ module _ (n : ℕ) (v w : ℕ → ℤ) (A C : ℕ → Bool) (rise : (u : ℕ) �
 
 module _ (deposit : Deposit) (lesser greater : ℕ) (priced : IsPriced deposit) (le : lesser ≤ greater) (A C : ℕ → Bool) (pit : IsPit (mine_at deposit lesser) A) (closed : IsClosed (mine_at deposit greater) C) where
   meet_closed : IsClosed (mine_at deposit lesser) (λ u. A u && C u)
-  meet_closed k l h = both _ _ (pit.closed k l (left_of _ _ h)) (closed k l (right_of _ _ h))
+  meet_closed k l h =
+      let held = and_parts (A (first_of deposit.pairs k)) (C (first_of deposit.pairs k)) h in
+      and_from _ _ (pit.closed k l held.0) (closed k l held.1)
 
   pub union_closed : IsClosed (mine_at deposit greater) (λ u. A u || C u)
   union_closed k l h = ⊎_elim
-      (λ (a : A (first_of deposit.pairs k) ≡ true). either_left _ _ (pit.closed k l a))
-      (λ (a : A (first_of deposit.pairs k) ≡ false). either_right _ _ (closed k l (ap (λ b. b || C (first_of deposit.pairs k)) (sym a) ∙ h)))
+      (λ (a : A (first_of deposit.pairs k) ≡ true). or_left _ _ (pit.closed k l a))
+      (λ (a : A (first_of deposit.pairs k) ≡ false). or_right _ _ (closed k l (ap (λ b. b || C (first_of deposit.pairs k)) (sym a) ∙ h)))
       (cases_Bool (A (first_of deposit.pairs k)))
 
   gained : (worth (mine_at deposit lesser) A -ℤ worth (mine_at deposit lesser) (λ u. A u && C u)) ≤ℤ (worth (mine_at deposit greater) (λ u. A u || C u) -ℤ worth (mine_at deposit greater) C)
@@ -136,7 +119,7 @@ module _ (deposit : Deposit) (lesser greater : ℕ) (priced : IsPriced deposit) 
       let best = pit.best (λ u. A u && C u) meet_closed in
       let more = gained in
       let same : worth (mine_at deposit lesser) (λ u. A u && C u) ≡ worth (mine_at deposit lesser) A = omega (arith, ints) in
-      right_of (A u) (C u) (pit.smallest (λ u. A u && C u) meet_closed same u below h)
+      (and_parts (A u) (C u) (pit.smallest (λ u. A u && C u) meet_closed same u below h)).1
 
 pub shells_nest : ShellsNest
 shells_nest deposit lesser greater inner outer priced le pit pit2 u below h =
@@ -249,7 +232,7 @@ module _ (deposit : Deposit) (lesser greater : ℕ) (priced : IsPriced deposit) 
     wide u = A u || C u
 
     wide_holds : (u : ℕ) → u < deposit.blocks → A u ≡ true → (A u || C u) ≡ true
-    wide_holds u l h = either_left (A u) (C u) h
+    wide_holds u l h = or_left (A u) (C u) h
 
     wide_closed : IsClosed (mine_at deposit greater) (λ u. A u || C u)
     wide_closed = union_closed deposit lesser greater priced le A C pit closed

@@ -18,3 +18,4 @@ pub mod Deposit
 pub mod Shells
 pub mod ShellText
 pub mod Version
+pub mod Uniqueness

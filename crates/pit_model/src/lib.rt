@@ -13,6 +13,7 @@ ghost use Rattle.pit_model.specs.Journal.{JournalIsBounded, JournalKeepsBudget, 
 ghost use Rattle.pit_model.specs.FirstRun.{FirstMergerIsLeast, FirstRunIsLawful, FirstRunIsNormalised};
 ghost use Rattle.pit_model.specs.Shells.{RestGivesShell, ShellsNest};
 ghost use Rattle.pit_model.specs.Version.{JournalGivesVersion};
+ghost use Rattle.pit_model.specs.Uniqueness.{PairsHaveOneOrder, PitIsOne, ShellsAreOne};
 
 mod journal;
 mod shell;
@@ -69,6 +70,22 @@ pub fn residual_readings_agree()
 /// A pit does not depend on the order in which the pairs stand.
 pub fn pit_knows_no_order()
     ensures { PitKnowsNoOrder }
+{}
+
+/// The same pairs stand in order in one way.
+pub fn pairs_have_one_order()
+    ensures { PairsHaveOneOrder }
+{}
+
+/// A mine has one pit at most: two smallest closed sets of greatest worth hold the same blocks, since each lies within the
+/// other; as rising lists they are one list.
+pub fn pit_is_one()
+    ensures { PitIsOne }
+{}
+
+/// A deposit has one list of shells at most for a list of factors, and so one text of them.
+pub fn shells_are_one()
+    ensures { ShellsAreOne }
 {}
 
 /// A lawful journal leads to a normalised tree.

@@ -4,3 +4,4 @@ pub mod Certifying
 pub mod Checking
 pub mod Depositing
 pub mod ShellRuns
+pub mod Uniqueness

@@ -8,3 +8,4 @@ pub mod Modes
 pub mod Run
 pub mod Deposit
 pub mod ShellsRun
+pub mod Uniqueness

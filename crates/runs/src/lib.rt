@@ -1,9 +1,10 @@
 //! The runs of `solve`, `shells` and `check` over any readers and writers: from the bytes of the files to the bytes that are
-//! written. Also the mode that words ask for, and the exit status of a run.
+//! written. Also the laws that runs over the same texts end alike, the mode that words ask for, and the exit status of a run.
 #![tactic(auto)]
 
 mod check;
 mod deposit;
+mod laws;
 mod mine;
 mod mode_words;
 mod nested;
@@ -11,6 +12,10 @@ mod solve;
 mod status;
 
 pub use check::run_check;
+pub use laws::{
+    answer_is_one, check_answers_once, done_texts_have_no_fault, shells_write_one_text,
+    solve_passes_check, solve_writes_one_text,
+};
 pub use mode_words::{mode_fault, mode_of};
 pub use nested::run_shells;
 pub use solve::run_solve;

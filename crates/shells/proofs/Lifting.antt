@@ -1,42 +1,23 @@
 -- What is found among the blocks of the outermost shell is enough. That shell is closed, and a closed set loses nothing at a
 -- lesser factor by being cut down to it: what it would lose, the outermost shell would gain. So a best closed set may be
 -- looked for inside, where closed sets and their worth are those of the part.
-use Rattle.std.proofs.Common.{◌≡◌, ℕ, ◌+◌, ◌<◌, ◌≤◌, ◌*◌, ◌&&◌, ◌||◌, Bool, true, false, refl, sym, ap, subst, ◌∙◌, arith, ⊎_elim, List, [], ◌∷◌, ◌++◌, get_or, length}
-use Rattle.std.specs.Prelude.{ℤ, pos, negsuc, ◌-ℤ◌, ◌*ℤ◌, ◌≤ℤ◌}
-use Rattle.std.proofs.lemmas.Bool.{and_parts, cases_Bool, cases_eq, cases_lt, true≢false}
+use Rattle.std.proofs.Common.{◌≡◌, ℕ, ◌+◌, ◌<◌, ◌≤◌, ◌&&◌, ◌||◌, Bool, true, false, refl, sym, ap, subst, ◌∙◌, arith, ⊎_elim, List, [], ◌∷◌, ◌++◌, get_or, length}
+use Rattle.std.specs.Prelude.{ℤ, pos, ◌-ℤ◌, ◌*ℤ◌, ◌≤ℤ◌}
+use Rattle.std.proofs.lemmas.Bool.{and_from, and_parts, cases_Bool, cases_eq, cases_lt, or_left, or_right, true≢false}
 use Rattle.std.proofs.lemmas.Int.{ints}
-use Rattle.std.proofs.Math.Nat.{mul-le-mul_right}
 use Rattle.std.proofs.lemmas.List.{get_or_append_left, get_or_at, get_or-map, length_push}
 use Rattle.pit_model.specs.Sum.{total, when}
 use Rattle.pit_model.specs.Graph.{Graph, first_of, second_of, AreInRange}
 use Rattle.pit_model.specs.Mine.{IsClosed, IsPit, members, value, worth}
-use Rattle.pit_model.specs.Deposit.{Deposit, IsPriced, mine_at}
+use Rattle.pit_model.specs.Deposit.{IsPriced, mine_at}
 use Rattle.pit_model.specs.Shells.{IsShell}
 use Rattle.pit_model.specs.declared.shell.Shell.{Shell}
 use Rattle.pit_model.proofs.Members.{members_each, members_place, members_rise}
 use Rattle.pit_model.proofs.MemberSums.{summed, summed-members}
-use Rattle.pit_model.proofs.Shells.{gains, value_at_is}
+use Rattle.pit_model.proofs.Shells.{gains, value_at_is, values_rise}
 use Rattle.pit_model.proofs.Sums.{total-same}
 use Rattle.shells.specs.Prices.{Prices, deposit_of}
 use Rattle.shells.specs.Outermost.{AreLifted, IsLiftedShell, IsOutermost}
-
--- a value rises with the factor
-scaled_le : (r : ℤ) (a b : ℕ) → pos 0 ≤ℤ r → a ≤ b → (pos a *ℤ r) ≤ℤ (pos b *ℤ r)
-scaled_le (pos x) a b least few = let more : a * x ≤ b * x = mul-le-mul_right x few in omega (arith, ints)
-scaled_le (negsuc x) a b least few = absurd (omega (arith, ints))
-
--- tests of two sets
-both : (a b : Bool) → a ≡ true → b ≡ true → (a && b) ≡ true
-both true b l r = r
-both false b l r = l
-
-either_left : (a b : Bool) → a ≡ true → (a || b) ≡ true
-either_left true b h = refl
-either_left false b h = absurd (true≢false (sym h))
-
-either_right : (a b : Bool) → b ≡ true → (a || b) ≡ true
-either_right true b h = refl
-either_right false b h = h
 
 -- what is summed of a set lies in a set around it
 lies_inside : (a d : Bool) (x : ℤ) → (d ≡ true → a ≡ true) → when d x ≡ when a (when d x)
@@ -91,25 +72,19 @@ module _ (prices inner : Prices) (graph part : Graph) (lesser greater : ℕ) (bl
     cut_closed : IsClosed (mine_at (deposit_of prices graph) lesser) (λ u. C u && outer.set u)
     cut_closed k l h =
         let here = and_parts (C (first_of graph.pairs k)) (outer.set (first_of graph.pairs k)) h in
-        both _ _ (closed k l here.0) (outer.is_pit.closed k l here.1)
+        and_from _ _ (closed k l here.0) (outer.is_pit.closed k l here.1)
 
     wide_closed : IsClosed (mine_at (deposit_of prices graph) greater) (λ u. C u || outer.set u)
     wide_closed k l h = ⊎_elim
-        (λ (a : C (first_of graph.pairs k) ≡ true). either_left _ _ (closed k l a))
-        (λ (a : C (first_of graph.pairs k) ≡ false). either_right _ _ (outer.is_pit.closed k l (ap (λ b. b || outer.set (first_of graph.pairs k)) (sym a) ∙ h)))
+        (λ (a : C (first_of graph.pairs k) ≡ true). or_left _ _ (closed k l a))
+        (λ (a : C (first_of graph.pairs k) ≡ false). or_right _ _ (outer.is_pit.closed k l (ap (λ b. b || outer.set (first_of graph.pairs k)) (sym a) ∙ h)))
         (cases_Bool (C (first_of graph.pairs k)))
-
-    values_rise : (u : ℕ) → u < graph.blocks → value (mine_at (deposit_of prices graph) lesser) u ≤ℤ value (mine_at (deposit_of prices graph) greater) u
-    values_rise u below =
-        let more = scaled_le (get_or prices.revenues u (pos 0)) lesser greater (priced.revenues.least u below) le in
-        let low = value_at_is (deposit_of prices graph) lesser u below in
-        let high = value_at_is (deposit_of prices graph) greater u below in
-        omega (arith, ints)
 
     no_loss : worth (mine_at (deposit_of prices graph) lesser) C ≤ℤ worth (mine_at (deposit_of prices graph) lesser) (λ u. C u && outer.set u)
     no_loss =
         let best = outer.is_pit.best (λ u. C u || outer.set u) wide_closed in
-        let more = gains graph.blocks (value (mine_at (deposit_of prices graph) lesser)) (value (mine_at (deposit_of prices graph) greater)) C outer.set values_rise in
+        let more = gains graph.blocks (value (mine_at (deposit_of prices graph) lesser)) (value (mine_at (deposit_of prices graph) greater)) C outer.set
+        (λ u l. values_rise (deposit_of prices graph) lesser greater u priced le l) in
         omega (arith, ints)
 
     cut_worth : worth (mine_at (deposit_of prices graph) lesser) (λ u. C u && outer.set u) ≡ worth (mine_at (deposit_of inner part) lesser) (λ i. C (get_or blocks i 0) && outer.set (get_or blocks i 0))

@@ -1,0 +1,80 @@
+-- Two runs over the same texts end alike: what they write is the same, whatever their readers and writers, modes and workers.
+use Rattle.std.specs.Prelude.{◌≡◌, ◌⊎◌, ℕ, ◌++◌, Bool, true, List}
+use Rattle.minelib_reader.specs.Device.{Progress}
+use Rattle.minelib_reader.specs.declared.fault.Fault.{Fault}
+use Rattle.minelib_reader.specs.declared.fault.Refusal.TheVariants.{NoMemory, ReadFailed}
+use Rattle.pit_model.specs.Graph.{IsGraph}
+use Rattle.pit_model.specs.Mine.{Instance}
+use Rattle.report.specs.AnswerText.{answer_text}
+use Rattle.runs.specs.Solve.{Reading, Gave, IsDone, RefusesMine}
+use Rattle.runs.specs.ShellsRun.{IsShellsDone}
+use Rattle.runs.specs.Certified.{IsCertified}
+use Rattle.runs.specs.Check.{AnswersText, IsChecked}
+use Rattle.runs.specs.declared.status.Status.{Status}
+use Rattle.runs.specs.declared.status.Status.TheVariants.{Done}
+
+-- two readers gave no two different texts: where both gave a text, it is the same one
+abbrev pub GaveAlike : (reading other : Reading) → Type 0
+GaveAlike reading other = (text behind : List ℕ) → Gave reading text → Gave other behind → text ≡ behind
+
+-- the same text went to two writers
+pub record TookSame (before after other_before other_after : Progress) : Type 0 where
+  pub text : List ℕ
+  pub taken : after.bytes ≡ before.bytes ++ text
+  pub taken_too : other_after.bytes ≡ other_before.bytes ++ text
+
+-- a reader gave the text that went to a writer
+pub record GaveTaken (reading : Reading) (before after : Progress) : Type 0 where
+  pub text : List ℕ
+  pub taken : after.bytes ≡ before.bytes ++ text
+  pub given : Gave reading text
+
+-- two runs of `solve` over the same texts, both done, wrote the same text
+abbrev pub SolvesOnce : (model prec other_model other_prec : Reading) → Type 0
+SolvesOnce model prec other_model other_prec =
+    (before after other_before other_after : Progress) (status other_status : Status)
+    → GaveAlike model other_model → GaveAlike prec other_prec
+    → IsDone model prec before after status → IsDone other_model other_prec other_before other_after other_status
+    → TookSame before after other_before other_after
+
+-- where a run of `solve` is done, none over the same texts finds a fault in them: if it reads no mine, then for want of memory
+-- or by a failed read
+abbrev pub NeverFaulty : (model prec other_model other_prec : Reading) → Type 0
+NeverFaulty model prec other_model other_prec =
+    (before after : Progress) (status : Status) (fault : Fault)
+    → GaveAlike model other_model → GaveAlike prec other_prec
+    → IsDone model prec before after status → RefusesMine fault.refusal fault other_model other_prec
+    → (fault.refusal ≡ NoMemory) ⊎ (fault.refusal ≡ ReadFailed)
+
+-- two runs of `shells` over the same texts, with the same columns and factors, both done, wrote the same text
+abbrev pub NestsOnce : (blocks prec other_blocks other_prec : Reading) → Type 0
+NestsOnce blocks prec other_blocks other_prec =
+    (revenue cost : ℕ) (factors : List ℕ) (before after other_before other_after : Progress) (status other_status : Status)
+    → GaveAlike blocks other_blocks → GaveAlike prec other_prec
+    → IsShellsDone blocks prec revenue cost factors before after status
+    → IsShellsDone other_blocks other_prec revenue cost factors other_before other_after other_status
+    → TookSame before after other_before other_after
+
+-- the law: of one text and one mine there is one answer: yes and no exclude each other
+abbrev pub AnswerIsOne : Type 0
+AnswerIsOne =
+    (mine : Instance) (text : List ℕ) (answer other : Bool) → IsGraph mine.blocks mine.pairs
+    → AnswersText mine text answer → AnswersText mine text other → answer ≡ other
+
+-- two runs of `check` over the same texts, both done, wrote the same answer, and ended with the same status
+abbrev pub ChecksOnce : (model prec certificate other_model other_prec other_certificate : Reading) → Type 0
+ChecksOnce model prec certificate other_model other_prec other_certificate =
+    (before after other_before other_after : Progress) (status other_status : Status)
+    → GaveAlike model other_model → GaveAlike prec other_prec → GaveAlike certificate other_certificate
+    → IsChecked model prec certificate before after status
+    → IsChecked other_model other_prec other_certificate other_before other_after other_status
+    → TookSame before after other_before other_after × (status ≡ other_status)
+
+-- where `check` is done over the same texts and the certificate that a run of `solve` wrote, it wrote yes
+abbrev pub PassesCheck : (model prec other_model other_prec certificate : Reading) → Type 0
+PassesCheck model prec other_model other_prec certificate =
+    (before after other_before other_after : Progress) (status : Status)
+    → GaveAlike model other_model → GaveAlike prec other_prec → GaveTaken certificate before after
+    → IsCertified model prec before after
+    → IsChecked other_model other_prec certificate other_before other_after status
+    → (status ≡ Done) × (other_after.bytes ≡ other_before.bytes ++ answer_text true)

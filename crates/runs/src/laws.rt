@@ -1,0 +1,61 @@
+//! Laws: two runs over the same texts end alike. Each is a function with an empty body whose contract is the law, over any
+//! readers: a run's reading is a reader's state before it and its state after.
+ghost use Rattle.runs.specs.Solve.{reading};
+ghost use Rattle.runs.specs.Uniqueness.{SolvesOnce, NeverFaulty, NestsOnce, AnswerIsOne, ChecksOnce, PassesCheck};
+
+use minelib_reader::InBytes;
+
+/// Two runs of `solve` over the same texts, both done, wrote the same text, whatever their modes and workers.
+pub fn solve_writes_one_text<M: InBytes, P: InBytes, N: InBytes, Q: InBytes>()
+    ensures { (model model_end : M) (prec prec_end : P) (other_model other_model_end : N) (other_prec other_prec_end : Q) → SolvesOnce
+        (reading (M.progress model) (M.progress model_end) (M.IsAtEnd model_end))
+        (reading (P.progress prec) (P.progress prec_end) (P.IsAtEnd prec_end))
+        (reading (N.progress other_model) (N.progress other_model_end) (N.IsAtEnd other_model_end))
+        (reading (Q.progress other_prec) (Q.progress other_prec_end) (Q.IsAtEnd other_prec_end)) }
+{}
+
+/// Where a run of `solve` is done, none over the same texts finds a fault in them: whichever reads no mine lacks memory or
+/// meets a failed read.
+pub fn done_texts_have_no_fault<M: InBytes, P: InBytes, N: InBytes, Q: InBytes>()
+    ensures { (model model_end : M) (prec prec_end : P) (other_model other_model_end : N) (other_prec other_prec_end : Q) → NeverFaulty
+        (reading (M.progress model) (M.progress model_end) (M.IsAtEnd model_end))
+        (reading (P.progress prec) (P.progress prec_end) (P.IsAtEnd prec_end))
+        (reading (N.progress other_model) (N.progress other_model_end) (N.IsAtEnd other_model_end))
+        (reading (Q.progress other_prec) (Q.progress other_prec_end) (Q.IsAtEnd other_prec_end)) }
+{}
+
+/// Two runs of `shells` over the same texts, with the same columns and factors, both done, wrote the same text, whatever
+/// their modes and workers.
+pub fn shells_write_one_text<B: InBytes, P: InBytes, N: InBytes, Q: InBytes>()
+    ensures { (blocks blocks_end : B) (prec prec_end : P) (other_blocks other_blocks_end : N) (other_prec other_prec_end : Q) → NestsOnce
+        (reading (B.progress blocks) (B.progress blocks_end) (B.IsAtEnd blocks_end))
+        (reading (P.progress prec) (P.progress prec_end) (P.IsAtEnd prec_end))
+        (reading (N.progress other_blocks) (N.progress other_blocks_end) (N.IsAtEnd other_blocks_end))
+        (reading (Q.progress other_prec) (Q.progress other_prec_end) (Q.IsAtEnd other_prec_end)) }
+{}
+
+/// The answer to a certificate's text is yes or no, and never both.
+pub fn answer_is_one()
+    ensures { AnswerIsOne }
+{}
+
+/// Two runs of `check` over the same texts, both done, wrote the same answer and ended with the same status.
+pub fn check_answers_once<M: InBytes, P: InBytes, C: InBytes, N: InBytes, Q: InBytes, D: InBytes>()
+    ensures { (model model_end : M) (prec prec_end : P) (certificate certificate_end : C) (other_model other_model_end : N) (other_prec other_prec_end : Q) (other_certificate other_certificate_end : D) → ChecksOnce
+        (reading (M.progress model) (M.progress model_end) (M.IsAtEnd model_end))
+        (reading (P.progress prec) (P.progress prec_end) (P.IsAtEnd prec_end))
+        (reading (C.progress certificate) (C.progress certificate_end) (C.IsAtEnd certificate_end))
+        (reading (N.progress other_model) (N.progress other_model_end) (N.IsAtEnd other_model_end))
+        (reading (Q.progress other_prec) (Q.progress other_prec_end) (Q.IsAtEnd other_prec_end))
+        (reading (D.progress other_certificate) (D.progress other_certificate_end) (D.IsAtEnd other_certificate_end)) }
+{}
+
+/// Where `check` is done over the texts of a run of `solve` and the certificate that it wrote, the answer is yes.
+pub fn solve_passes_check<M: InBytes, P: InBytes, N: InBytes, Q: InBytes, C: InBytes>()
+    ensures { (model model_end : M) (prec prec_end : P) (other_model other_model_end : N) (other_prec other_prec_end : Q) (certificate certificate_end : C) → PassesCheck
+        (reading (M.progress model) (M.progress model_end) (M.IsAtEnd model_end))
+        (reading (P.progress prec) (P.progress prec_end) (P.IsAtEnd prec_end))
+        (reading (N.progress other_model) (N.progress other_model_end) (N.IsAtEnd other_model_end))
+        (reading (Q.progress other_prec) (Q.progress other_prec_end) (Q.IsAtEnd other_prec_end))
+        (reading (C.progress certificate) (C.progress certificate_end) (C.IsAtEnd certificate_end)) }
+{}
