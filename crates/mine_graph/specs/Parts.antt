@@ -2,13 +2,9 @@
 use Rattle.std.specs.Prelude.{◌≡◌, ℕ, ◌<◌, ◌≤◌, ◌+◌, ◌-◌, ◌==◌, List, length, get_or, map, take, drop}
 use Rattle.pit_model.specs.Graph.{Graph}
 use Rattle.pit_model.specs.Mine.{members}
-use Rattle.pit_model.specs.Part.{IsPart, IsClass}
+use Rattle.pit_model.specs.Part.{IsPart, IsClass, StandsAt}
 use Rattle.mine_graph.specs.declared.part.Part.{Part}
 use Rattle.mine_graph.specs.Renumbered.{has_label}
-
--- the part at a place of a list
-abbrev pub IsAt : List Part → ℕ → Part → Type 0
-IsAt parts i part = (i < length parts) × (get_or parts i part ≡ part)
 
 abbrev pub least_block : Part → ℕ
 least_block part = get_or part.blocks.items 0 0
@@ -18,9 +14,9 @@ least_block part = get_or part.blocks.items 0 0
 pub record AreParts (whole : Graph) (parts : List Part) : Type 0 where
   pub label : ℕ → ℕ
   pub labelled : (u : ℕ) → u < whole.blocks → label u < length parts
-  pub each : (i : ℕ) (part : Part) → IsAt parts i part → IsPart whole (λ u. label u == i) part.blocks.items part.graph
-  pub classes : (i : ℕ) (part : Part) → IsAt parts i part → IsClass whole (λ u. label u == i) (least_block part)
-  pub in_order : (i j : ℕ) (p q : Part) → i < j → IsAt parts i p → IsAt parts j q → least_block p < least_block q
+  pub each : (i : ℕ) (part : Part) → StandsAt parts i part → IsPart whole (λ u. label u == i) part.blocks.items part.graph
+  pub classes : (i : ℕ) (part : Part) → StandsAt parts i part → IsClass whole (λ u. label u == i) (least_block part)
+  pub in_order : (i j : ℕ) (p q : Part) → i < j → StandsAt parts i p → StandsAt parts j q → least_block p < least_block q
 
 -- the label of each block, as both blocks of a pair
 abbrev pub labelled : List ℕ → List (ℕ × ℕ)

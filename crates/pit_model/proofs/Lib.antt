@@ -24,3 +24,4 @@ pub mod Shells
 pub mod Versions
 pub mod Uniqueness
 pub mod OneOrder
+pub mod OneCycle

@@ -1,7 +1,9 @@
--- What there is one of at most: the order of a graph's pairs, the pit of a mine, and the shells of a deposit.
+-- What there is one of at most: the order of a graph's pairs, the cycle that a refusal names, the pit of a mine, and the shells
+-- of a deposit.
 use Rattle.std.specs.Prelude.{◌≡◌, ℕ, ◌<◌, ℤ, Bool, List, map}
 use Rattle.pit_model.specs.declared.shell.Shell.{Shell}
 use Rattle.pit_model.specs.Graph.{AreRising, AreSamePairs}
+use Rattle.pit_model.specs.Cycle.{IsCycleList}
 use Rattle.pit_model.specs.Mine.{Instance, IsPit, members, worth}
 use Rattle.pit_model.specs.Deposit.{Deposit}
 use Rattle.pit_model.specs.Shells.{AreShells}
@@ -10,6 +12,10 @@ use Rattle.pit_model.specs.ShellText.{shells_text}
 -- the law: the same pairs stand in order in one way
 abbrev pub PairsHaveOneOrder : Type 0
 PairsHaveOneOrder = (ps qs : List (ℕ × ℕ)) → AreSamePairs ps qs → AreRising ps → AreRising qs → ps ≡ qs
+
+-- the law: pairs have one cycle that a refusal names
+abbrev pub CycleIsOne : Type 0
+CycleIsOne = (pairs : List (ℕ × ℕ)) (n : ℕ) (cycle other : List ℕ) → IsCycleList pairs n cycle → IsCycleList pairs n other → cycle ≡ other
 
 -- two sets hold the same blocks of a mine; so their rising lists are one list, and they are worth the same
 pub record AreOneSet (mine : Instance) (set other : ℕ → Bool) : Type 0 where

@@ -13,7 +13,7 @@ ghost use Rattle.pit_model.specs.Journal.{JournalIsBounded, JournalKeepsBudget, 
 ghost use Rattle.pit_model.specs.FirstRun.{FirstMergerIsLeast, FirstRunIsLawful, FirstRunIsNormalised};
 ghost use Rattle.pit_model.specs.Shells.{RestGivesShell, ShellsNest};
 ghost use Rattle.pit_model.specs.Version.{JournalGivesVersion};
-ghost use Rattle.pit_model.specs.Uniqueness.{PairsHaveOneOrder, PitIsOne, ShellsAreOne};
+ghost use Rattle.pit_model.specs.Uniqueness.{CycleIsOne, PairsHaveOneOrder, PitIsOne, ShellsAreOne};
 
 mod journal;
 mod shell;
@@ -75,6 +75,11 @@ pub fn pit_knows_no_order()
 /// The same pairs stand in order in one way.
 pub fn pairs_have_one_order()
     ensures { PairsHaveOneOrder }
+{}
+
+/// The cycle that a refusal of pairs names is one.
+pub fn cycle_is_one()
+    ensures { CycleIsOne }
 {}
 
 /// A mine has one pit at most: two smallest closed sets of greatest worth hold the same blocks, since each lies within the

@@ -7,16 +7,16 @@ use Rattle.std.proofs.lemmas.List.{get_or-set_same, get_or-set_other, length-set
 use Rattle.pit_model.specs.Graph.{Graph, first_of, second_of, AreRising, IsGraph}
 use Rattle.pit_model.specs.Mine.{Instance, value, arcs, source, target, members}
 use Rattle.pit_model.specs.Limits.{Between, IsInstance}
-use Rattle.pit_model.specs.Part.{IsPart, IsRenumbered}
+use Rattle.pit_model.specs.Part.{IsPart, IsRenumbered, StandsAt}
 use Rattle.pit_model.specs.Certificate.{Certifies, IsCertificate}
 use Rattle.pit_model.specs.Joined.{IsCarried, IsCertifiedAt}
 use Rattle.pit_model.proofs.Joined.{certificates_join}
 use Rattle.mine_graph.specs.declared.part.Part.{Part}
-use Rattle.mine_graph.specs.Parts.{IsAt, AreParts}
+use Rattle.mine_graph.specs.Parts.{AreParts}
 use Rattle.pit_model.proofs.Members.{members_below, members_each, members_place, members_rise}
 use Rattle.certificate.specs.Check.{IsCandidate, has, amount, most_amount}
 use Rattle.solver.specs.declared.solved_part.SolvedPart.{SolvedPart}
-use Rattle.solver.specs.Parts.{graph_of, IsSolvedPart, StandsAt, AreSolved, named, AreMarked, AreCarried, IsListed, ArePlaced}
+use Rattle.solver.specs.Parts.{graph_of, IsSolvedPart, AreSolved, named, AreMarked, AreCarried, IsListed, ArePlaced}
 
 -- ---- marks
 pub none_marked : (blocks pit : List ℕ) (marks : List Bool) → AreMarked blocks pit 0 marks marks
@@ -107,10 +107,10 @@ module _ (whole : Graph) (blocks : List ℕ) (part : Graph) (is_whole : IsGraph 
   }
 
 -- ---- the list of parts
-standing : (parts : List SolvedPart) (i : ℕ) → i < length parts → (p : SolvedPart) × StandsAt parts i p
+standing : {A : Type 0} (xs : List A) (i : ℕ) → i < length xs → (x : A) × StandsAt xs i x
 standing [] i l = absurd (omega arith)
-standing (p ∷ parts) zero l = (p, (l, refl))
-standing (p ∷ parts) (suc i) l = let r = standing parts i (omega arith) in (r.0, (l, r.1.1))
+standing (x ∷ xs) zero l = (x, (l, refl))
+standing (x ∷ xs) (suc i) l = let r = standing xs i (omega arith) in (r.0, (l, r.1.1))
 
 stands_once : (parts : List SolvedPart) (i : ℕ) (p q : SolvedPart) → StandsAt parts i p → StandsAt parts i q → p ≡ q
 stands_once parts i p q at to = sym at.1 ∙ get_or_default parts i p q at.0 ∙ to.1
@@ -352,7 +352,7 @@ module _ (mine : Instance) (parts : List SolvedPart) (is : IsInstance mine) (are
 
 -- ---- what is solved of the parts that a graph falls into
 zipped_at : (mine : Instance) (xs : List Part) (ys : List SolvedPart) → AllZip (IsSolvedPart mine) xs ys → (i : ℕ) (y : SolvedPart) → StandsAt ys i y
-    → (x : Part) × IsAt xs i x × IsSolvedPart mine x y
+    → (x : Part) × StandsAt xs i x × IsSolvedPart mine x y
 zipped_at mine [] [] h i y at = absurd (let l = at.0 in omega arith)
 zipped_at mine [] (z ∷ ys) h i y at = absurd h
 zipped_at mine (x ∷ xs) [] h i y at = absurd h
@@ -367,11 +367,6 @@ zipped_long mine [] (y ∷ ys) h = absurd h
 zipped_long mine (x ∷ xs) [] h = absurd h
 zipped_long mine (x ∷ xs) (y ∷ ys) h = ap suc (zipped_long mine xs ys h.1)
 
-at_all : (parts : List Part) (i : ℕ) → i < length parts → (p : Part) × IsAt parts i p
-at_all [] i l = absurd (omega arith)
-at_all (p ∷ parts) zero l = (p, (l, refl))
-at_all (p ∷ parts) (suc i) l = let r = at_all parts i (omega arith) in (r.0, (l, r.1.1))
-
 pub are_solved : (mine : Instance) (parts : List Part) (solved : List SolvedPart) → IsInstance mine → AreParts (graph_of mine) parts → AllZip (IsSolvedPart mine) parts solved → AreSolved mine solved
 are_solved mine parts solved is fall by =
     let long = zipped_long mine parts solved by in
@@ -381,7 +376,7 @@ are_solved mine parts solved is fall by =
       together = λ k l.
           let r = is.graph.in_range k l in
           let i : ℕ = fall.label (source mine k) in
-          let p = at_all parts (fall.label (source mine k)) (fall.labelled (source mine k) r.0) in
+          let p = standing parts (fall.label (source mine k)) (fall.labelled (source mine k) r.0) in
           let class = fall.classes (fall.label (source mine k)) p.0 p.1 in
           let same = class.together k l in
           sym (eqb-true (fall.label (target mine k)) (fall.label (source mine k)) (sym same ∙ eq-eqb (fall.label (source mine k)) (fall.label (source mine k)) refl));

@@ -3,7 +3,7 @@ use Rattle.std.specs.Prelude.{◌≡◌, ◌⊎◌, ℕ, ◌<◌, ◌==◌, ℤ,
 use Rattle.pit_model.specs.Graph.{Graph}
 use Rattle.pit_model.specs.Mine.{Instance, value, arcs, source, target}
 use Rattle.pit_model.specs.Limits.{IsInstance}
-use Rattle.pit_model.specs.Part.{IsPart, IsRenumbered}
+use Rattle.pit_model.specs.Part.{IsPart, IsRenumbered, StandsAt}
 use Rattle.mine_graph.specs.declared.part.Part.{Part}
 use Rattle.certificate.specs.Certificate.{IsCertificateOf}
 use Rattle.certificate.specs.Check.{has, amount}
@@ -22,10 +22,6 @@ pub record IsSolvedPart (mine : Instance) (part : Part) (solved : SolvedPart) : 
   pub values : (u : ℕ) → u < solved.mine.blocks → value solved.mine u ≡ value mine (get_or part.blocks.items u 0)
   pub instance : IsInstance solved.mine
   pub answer : IsCertificateOf solved.mine solved.certificate
-
--- a solved part at its place
-abbrev pub StandsAt : List SolvedPart → ℕ → SolvedPart → Type 0
-StandsAt parts i part = (i < length parts) × (get_or parts i part ≡ part)
 
 -- the solved parts of an instance: `label` tells of each block in which part it lies, and no pair joins two parts
 pub record AreSolved (mine : Instance) (parts : List SolvedPart) : Type 0 where
