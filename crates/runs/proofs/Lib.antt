@@ -5,3 +5,4 @@ pub mod Checking
 pub mod Depositing
 pub mod ShellRuns
 pub mod Uniqueness
+pub mod OneFault

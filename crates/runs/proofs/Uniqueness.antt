@@ -1,17 +1,11 @@
 -- The same bytes went through two readers, so they gave the same text; a text spells one model, one list of pairs, one table,
 -- one certificate; and of these there is one pit, one list of shells, one answer.
-use Rattle.std.proofs.Common.{◌≡◌, ℕ, ◌<◌, Bool, true, refl, sym, ap, subst, ◌∙◌, List, ◌++◌, length, inl, inr}
-use Rattle.std.specs.Prelude.{ℤ, pos, ◌⊎◌, None}
+use Rattle.std.proofs.Common.{◌≡◌, ℕ, ◌<◌, Bool, true, sym, ap, subst, ◌∙◌, List, ◌++◌, length}
+use Rattle.std.specs.Prelude.{ℤ, pos}
 use Rattle.std.proofs.lemmas.List.{append_cancel_left, ext_get_or}
 use Rattle.minelib_reader.specs.Text.{rows_of, count_of_lines}
 use Rattle.minelib_reader.specs.Upit.{Upit}
 use Rattle.minelib_reader.specs.UpitGrammar.{SpellsUpit}
-use Rattle.minelib_reader.specs.UpitFault.{upit_fault_at}
-use Rattle.minelib_reader.specs.PrecFault.{prec_fault_at}
-use Rattle.minelib_reader.specs.Refused.{no_memory}
-use Rattle.minelib_reader.specs.declared.fault.Fault.{Fault}
-use Rattle.minelib_reader.specs.declared.fault.Refusal.{Refusal}
-use Rattle.minelib_reader.specs.declared.fault.Refusal.TheVariants.{NoMemory, ReadFailed, WriteFailed, NoSeat, Exhausted}
 use Rattle.minelib_reader.specs.PrecGrammar.{SpellsPrec}
 use Rattle.minelib_reader.specs.Table.{Table}
 use Rattle.minelib_reader.specs.Column.{IsColumn}
@@ -19,11 +13,8 @@ use Rattle.minelib_reader.specs.BlocksGrammar.{SpellsTable}
 use Rattle.minelib_reader.proofs.StepLemmas.{ok_is}
 use Rattle.minelib_reader.proofs.UpitGrammarLemmas as models
 use Rattle.minelib_reader.proofs.PrecGrammarLemmas as precedences
-use Rattle.minelib_reader.proofs.UpitFaultLemmas as model_faults
-use Rattle.minelib_reader.proofs.PrecFaultLemmas as precedence_faults
-use Rattle.mine_graph.proofs.Renumbering.{only_memory}
 use Rattle.minelib_reader.proofs.BlocksGrammarLemmas as tables
-use Rattle.pit_model.specs.Graph.{Graph, AreRising, AreSamePairs, IsAcyclic}
+use Rattle.pit_model.specs.Graph.{Graph, AreRising, AreSamePairs}
 use Rattle.pit_model.specs.Mine.{Instance, instance_of, members, worth}
 use Rattle.pit_model.specs.Certificate.{IsCertificate}
 use Rattle.pit_model.specs.PitText.{pit_text}
@@ -37,11 +28,11 @@ use Rattle.certificate.proofs.TextRead as certificates
 use Rattle.solver.specs.Parts.{graph_of}
 use Rattle.shells.specs.Prices.{Prices}
 use Rattle.report.specs.AnswerText.{answer_text}
-use Rattle.runs.specs.Solve.{Reading, Gave, GaveMine, IsPitText, mine_of, FirstFault, in_model, in_prec, in_pairs, RefusesMine}
+use Rattle.runs.specs.Solve.{Reading, Gave, GaveMine, IsPitText, mine_of}
 use Rattle.runs.specs.Check.{AnswersText, GaveInOrder, Checks, status_of_answer}
 use Rattle.runs.specs.Deposit.{GaveTable, GaveDeposit, deposit_in, rows}
 use Rattle.runs.specs.ShellsRun.{IsShellsText}
-use Rattle.runs.specs.Uniqueness.{GaveAlike, SolvesOnce, NeverFaulty, NestsOnce, AnswerIsOne, ChecksOnce, PassesCheck}
+use Rattle.runs.specs.Uniqueness.{GaveAlike, SolvesOnce, NestsOnce, AnswerIsOne, ChecksOnce, PassesCheck}
 
 -- a reader gave one text
 given_once : (r : Reading) (a b : List ℕ) → Gave r a → Gave r b → a ≡ b
@@ -49,10 +40,10 @@ given_once r a b x y = append_cancel_left r.before.bytes a b (sym x.bytes ∙ y.
 
 -- ---- what a text spells
 
-model_once : (text : List ℕ) (m n : Upit) → SpellsUpit text m → SpellsUpit text n → m ≡ n
+pub model_once : (text : List ℕ) (m n : Upit) → SpellsUpit text m → SpellsUpit text n → m ≡ n
 model_once text m n s t = ok_is m n (sym (models.reads (count_of_lines text) (rows_of text) m s) ∙ models.reads (count_of_lines text) (rows_of text) n t)
 
-pairs_once : (n : ℕ) (text : List ℕ) (ps qs : List (ℕ × ℕ)) → SpellsPrec n text ps → SpellsPrec n text qs → ps ≡ qs
+pub pairs_once : (n : ℕ) (text : List ℕ) (ps qs : List (ℕ × ℕ)) → SpellsPrec n text ps → SpellsPrec n text qs → ps ≡ qs
 pairs_once n text ps qs s t = ok_is ps qs (sym (precedences.reads n 0 0 (rows_of text) ps s) ∙ precedences.reads n 0 0 (rows_of text) qs t)
 
 table_once : (text : List ℕ) (s t : Table) → SpellsTable text s → SpellsTable text t → s ≡ t
@@ -69,12 +60,12 @@ pairs_given n k t u ps qs count same s v = pairs_once n u ps qs (subst (λ x. Sp
 -- ---- the mine that two readers gave
 
 module _ (model prec other_model other_prec : Reading) (same : GaveAlike model other_model) (same_prec : GaveAlike prec other_prec) where
-  one_model : (u v : Upit) (ps qs : List (ℕ × ℕ)) → GaveMine model prec u ps → GaveMine other_model other_prec v qs → u ≡ v
+  pub one_model : (u v : Upit) (ps qs : List (ℕ × ℕ)) → GaveMine model prec u ps → GaveMine other_model other_prec v qs → u ≡ v
   one_model u v ps qs one other =
       let text = same one.model_text other.model_text one.model_given other.model_given in
       model_once other.model_text u v (subst (λ t. SpellsUpit t u) text one.model_spelled) other.model_spelled
 
-  one_precedence : (u v : Upit) (ps qs : List (ℕ × ℕ)) → GaveMine model prec u ps → GaveMine other_model other_prec v qs → ps ≡ qs
+  pub one_precedence : (u v : Upit) (ps qs : List (ℕ × ℕ)) → GaveMine model prec u ps → GaveMine other_model other_prec v qs → ps ≡ qs
   one_precedence u v ps qs one other =
       let n : v.n ≡ u.n = ap (λ (m : Upit). m.n) (sym (one_model u v ps qs one other)) in
       let text = same_prec one.prec_text other.prec_text one.prec_given other.prec_given in
@@ -119,40 +110,6 @@ solves_once model prec other_model other_prec before after other_before other_af
     let mine = one_mine model prec other_model other_prec same same_prec a.upit b.upit a.pairs b.pairs a.given b.given in
     let text = one_text (mine_of b.upit b.pairs) done.text other.text (subst (λ m. IsPitText m done.text) mine a.solved) b.solved in
     record { text = other.text; taken = done.written ∙ ap (λ t. before.bytes ++ t) text; taken_too = other.written }
-
--- where a mine was given, the texts have no fault
-module _ (model prec other_model other_prec : Reading) (same : GaveAlike model other_model) (same_prec : GaveAlike prec other_prec)
-    (u : Upit) (ps : List (ℕ × ℕ)) (one : GaveMine model prec u ps) (acyclic : IsAcyclic ps) where
-  no_fault : (fault : Fault) → FirstFault fault other_model other_prec → fault ≡ no_memory
-  no_fault fault (in_model text given is) =
-      let alike = same one.model_text text one.model_given given in
-      let read = models.reads (count_of_lines text) (rows_of text) u (subst (λ t. SpellsUpit t u) alike one.model_spelled) in
-      let none : upit_fault_at text is.place ≡ None = model_faults.clear_where_read (count_of_lines text) (rows_of text) u read is.place in
-      let some = is.here in
-      absurd cc
-  no_fault fault (in_prec text behind upit given spelled prec_given is) =
-      let alike = same one.model_text text one.model_given given in
-      let n : u.n ≡ upit.n = ap (λ (m : Upit). m.n) (model_once text u upit (subst (λ t. SpellsUpit t u) alike one.model_spelled) spelled) in
-      let alike_prec = same_prec one.prec_text behind one.prec_given prec_given in
-      let read = precedences.reads upit.n 0 0 (rows_of behind) ps (subst (λ k. SpellsPrec k behind ps) n (subst (λ t. SpellsPrec u.n t ps) alike_prec one.prec_spelled)) in
-      let none : prec_fault_at upit.n behind is.place ≡ None = precedence_faults.clear_where_read upit.n 0 0 (rows_of behind) ps read is.place in
-      let some = is.here in
-      absurd cc
-  no_fault fault (in_pairs upit pairs gave is) =
-      only_memory pairs upit.n fault (subst IsAcyclic (one_precedence model prec other_model other_prec same same_prec u upit ps pairs one gave) acyclic) is
-
-  only_passing : (r : Refusal) (fault : Fault) → fault.refusal ≡ r → RefusesMine r fault other_model other_prec → (r ≡ NoMemory) ⊎ (r ≡ ReadFailed)
-  only_passing NoMemory fault is h = inl refl
-  only_passing ReadFailed fault is h = inr refl
-  only_passing WriteFailed fault is h = absurd h
-  only_passing NoSeat fault is h = absurd h
-  only_passing (Exhausted count) fault is h = absurd h
-  only_passing r fault is h = inl (sym is ∙ ap (λ (f : Fault). f.refusal) (no_fault fault h))
-
-pub never_faulty : (model prec other_model other_prec : Reading) → NeverFaulty model prec other_model other_prec
-never_faulty model prec other_model other_prec before after status fault same same_prec done h =
-    let a = done.solves in
-    only_passing model prec other_model other_prec same same_prec a.upit a.pairs a.given a.acyclic fault.refusal fault refl h
 
 -- ---- `shells`
 

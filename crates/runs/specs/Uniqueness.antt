@@ -1,12 +1,14 @@
 -- Two runs over the same texts end alike: what they write is the same, whatever their readers and writers, modes and workers.
-use Rattle.std.specs.Prelude.{◌≡◌, ◌⊎◌, ℕ, ◌++◌, Bool, true, List}
+use Rattle.std.specs.Prelude.{◌≡◌, ◌≢◌, ◌⊎◌, ℕ, ◌++◌, Bool, true, List}
 use Rattle.minelib_reader.specs.Device.{Progress}
+use Rattle.minelib_reader.specs.Refused.{no_memory}
 use Rattle.minelib_reader.specs.declared.fault.Fault.{Fault}
 use Rattle.minelib_reader.specs.declared.fault.Refusal.TheVariants.{NoMemory, ReadFailed}
 use Rattle.pit_model.specs.Graph.{IsGraph}
 use Rattle.pit_model.specs.Mine.{Instance}
 use Rattle.report.specs.AnswerText.{answer_text}
-use Rattle.runs.specs.Solve.{Reading, Gave, IsDone, RefusesMine}
+use Rattle.report.specs.FaultText.{fault_text}
+use Rattle.runs.specs.Solve.{Reading, Gave, IsDone, FirstFault, RefusesMine}
 use Rattle.runs.specs.ShellsRun.{IsShellsDone}
 use Rattle.runs.specs.Certified.{IsCertified}
 use Rattle.runs.specs.Check.{AnswersText, IsChecked}
@@ -45,6 +47,14 @@ NeverFaulty model prec other_model other_prec =
     → GaveAlike model other_model → GaveAlike prec other_prec
     → IsDone model prec before after status → RefusesMine fault.refusal fault other_model other_prec
     → (fault.refusal ≡ NoMemory) ⊎ (fault.refusal ≡ ReadFailed)
+
+-- two runs over the same texts that their first fault refuses name the same fault: its text is the same
+abbrev pub FaultsOnce : (model prec other_model other_prec : Reading) → Type 0
+FaultsOnce model prec other_model other_prec =
+    (fault other : Fault)
+    → GaveAlike model other_model → GaveAlike prec other_prec
+    → fault ≢ no_memory → other ≢ no_memory → FirstFault fault model prec → FirstFault other other_model other_prec
+    → fault_text fault ≡ fault_text other
 
 -- two runs of `shells` over the same texts, with the same columns and factors, both done, wrote the same text
 abbrev pub NestsOnce : (blocks prec other_blocks other_prec : Reading) → Type 0

@@ -1,7 +1,7 @@
 //! Laws: two runs over the same texts end alike. Each is a function with an empty body whose contract is the law, over any
 //! readers: a run's reading is a reader's state before it and its state after.
 ghost use Rattle.runs.specs.Solve.{reading};
-ghost use Rattle.runs.specs.Uniqueness.{SolvesOnce, NeverFaulty, NestsOnce, AnswerIsOne, ChecksOnce, PassesCheck};
+ghost use Rattle.runs.specs.Uniqueness.{SolvesOnce, NeverFaulty, FaultsOnce, NestsOnce, AnswerIsOne, ChecksOnce, PassesCheck};
 
 use minelib_reader::InBytes;
 
@@ -18,6 +18,15 @@ pub fn solve_writes_one_text<M: InBytes, P: InBytes, N: InBytes, Q: InBytes>()
 /// meets a failed read.
 pub fn done_texts_have_no_fault<M: InBytes, P: InBytes, N: InBytes, Q: InBytes>()
     ensures { (model model_end : M) (prec prec_end : P) (other_model other_model_end : N) (other_prec other_prec_end : Q) → NeverFaulty
+        (reading (M.progress model) (M.progress model_end) (M.IsAtEnd model_end))
+        (reading (P.progress prec) (P.progress prec_end) (P.IsAtEnd prec_end))
+        (reading (N.progress other_model) (N.progress other_model_end) (N.IsAtEnd other_model_end))
+        (reading (Q.progress other_prec) (Q.progress other_prec_end) (Q.IsAtEnd other_prec_end)) }
+{}
+
+/// Two runs over the same texts, each refused by their first fault, name the same fault: its text is the same.
+pub fn texts_have_one_fault<M: InBytes, P: InBytes, N: InBytes, Q: InBytes>()
+    ensures { (model model_end : M) (prec prec_end : P) (other_model other_model_end : N) (other_prec other_prec_end : Q) → FaultsOnce
         (reading (M.progress model) (M.progress model_end) (M.IsAtEnd model_end))
         (reading (P.progress prec) (P.progress prec_end) (P.IsAtEnd prec_end))
         (reading (N.progress other_model) (N.progress other_model_end) (N.IsAtEnd other_model_end))

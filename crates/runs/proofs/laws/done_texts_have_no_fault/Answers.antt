@@ -1,5 +1,5 @@
 use Rattle.runs.specs.Solve.{reading}
-use Rattle.runs.proofs.Uniqueness.{never_faulty}
+use Rattle.runs.proofs.OneFault.{never_faulty}
 use Rattle.runs.proofs.laws.done_texts_have_no_fault.Goals as goal
 
 pub returns : goal.returns
