@@ -13,6 +13,8 @@ mod graph_tests;
 #[cfg(test)]
 mod label_tests;
 #[cfg(test)]
+mod line_tests;
+#[cfg(test)]
 mod made_tests;
 #[cfg(test)]
 mod norm_tree_tests;

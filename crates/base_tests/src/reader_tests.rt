@@ -129,7 +129,12 @@ fn is_model(alloc: Global, text: &[u8], told: &str) -> Result<bool, AllocError> 
 }
 
 /// Whether a short text is the pairs that are told so, or refused so, read whole and byte by byte.
-fn are_pairs(alloc: Global, text: &[u8], n: u32, told: &str) -> Result<bool, AllocError> {
+pub(crate) fn are_pairs(
+    alloc: Global,
+    text: &[u8],
+    n: u32,
+    told: &str,
+) -> Result<bool, AllocError> {
     if text.len() > 1000 {
         return Ok(false);
     }

@@ -1,5 +1,5 @@
 -- A line is its front and then its predecessors.
-use Rattle.std.proofs.Common.{[], sym, ◌∙◌, ◌≡◌, length}
+use Rattle.std.proofs.Common.{[], ◌≡◌, length, sym, arith}
 use Rattle.std.proofs.lemmas.Result.{err_from_is_err_and}
 use Rattle.minelib_reader.specs.Text.{row, fields_of}
 use Rattle.minelib_reader.specs.Prec.{needs_from, front_of, needs_line}
@@ -19,13 +19,13 @@ pub returns-then-named-front-clause-err : goal.returns-then-named-front-clause-e
 returns-then-named-front-clause-err c =
     let b = c.args.before in
     let r = row c.args.r.line (fields_of c.args.r.text.now) in
-    rw c.in_precedence.ensures (front_stops _ c.args.n b.from b.total r (c.in_ok-front.ensures.miscounted (λ same. c.if-named-front.true (c.in-Ok.ensures.named ∙ same))))
+    rw c.in_precedence.ensures (front_stops _ c.args.n b.from b.total r (c.in_ok-front.ensures.miscounted (λ same. omega (arith, c.in-Ok.ensures.named, c.if-named-front.true, same))))
 
 pub returns-then-count_fields-front-clause-err : goal.returns-then-count_fields-front-clause-err
 returns-then-count_fields-front-clause-err c =
     let b = c.args.before in
     let r = row c.args.r.line (fields_of c.args.r.text.now) in
-    rw c.in_precedence-then-count_fields-front.ensures (front_stops _ c.args.n b.from b.total r (c.in_ok-front.ensures.miscounted (λ same. c.if-count_fields-front.true (c.count_fields.ensures ∙ same))))
+    rw c.in_precedence-then-count_fields-front.ensures (front_stops _ c.args.n b.from b.total r (c.in_ok-front.ensures.miscounted (λ same. omega (arith, c.count_fields.ensures, c.if-count_fields-front.true, same))))
 
 pub returns-else-count_fields-front-clause-err : goal.returns-else-count_fields-front-clause-err
 returns-else-count_fields-front-clause-err c =
@@ -33,7 +33,7 @@ returns-else-count_fields-front-clause-err c =
     let b = c.args.before in
     let f = c.in_ok-front.front in
     let r = row c.args.r.line (fields_of c.args.r.text.now) in
-    let same : length (fields_of f.rest.now) ≡ f.count = sym c.count_fields.ensures ∙ c.if-count_fields-front.false in
+    let same : length (fields_of f.rest.now) ≡ f.count = omega (arith, c.count_fields.ensures, c.if-count_fields-front.false) in
     fails_map e.refusal e (needs_from c.args.n f.id c.args.r.line [] (fields_of f.rest.now)) (needs_line c.args.n b.from b.total r)
     (needs_stop e c.args.n b.from b.total r (f.id, f.count, fields_of f.rest.now) (c.in_ok-front.ensures.counted same)) c.in-Err.ensures.err
 
@@ -42,5 +42,5 @@ returns-else-named-front-clause-ok c =
     let b = c.args.before in
     let f = c.in_ok-front.front in
     let done = c.in-Ok.ensures.ok in
-    let same : length (fields_of f.rest.now) ≡ f.count = sym c.in-Ok.ensures.named ∙ c.if-named-front.false in
+    let same : length (fields_of f.rest.now) ≡ f.count = omega (arith, c.in-Ok.ensures.named, c.if-named-front.false) in
     line_added c.args.n b.from b.total (row c.args.r.line (fields_of c.args.r.text.now)) (f.id, f.count, fields_of f.rest.now) done.0 _ _ (c.in_ok-front.ensures.counted same) done.1 (sym same) done.2
