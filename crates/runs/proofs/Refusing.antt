@@ -1,5 +1,6 @@
--- Where one step of reading a mine is refused, the mine is refused so: by cases on the refusal.
+-- Where one step of a run is refused, the run is refused so: by cases on the refusal.
 use Rattle.std.proofs.Common.{◌≡◌, ℕ, List, inl, inr, refl, sym, subst}
+use Rattle.std.specs.Prelude.{Err}
 use Rattle.minelib_reader.specs.Refused.{write_failed}
 use Rattle.minelib_reader.specs.Device.{Progress}
 use Rattle.minelib_reader.specs.Answer.{Refuses, ReadsText}
@@ -16,7 +17,9 @@ use Rattle.runs.specs.Solve.{Reading, Gave, NeverFailed, GaveMine, in_model, in_
 use Rattle.runs.specs.Mine.{HoldsMine}
 use Rattle.solver.specs.Modes.{RefusesSolve}
 use Rattle.runs.specs.Chosen.{Chosen, IsLeft}
-use Rattle.runs.specs.Run.{RefusesRun, WasCutShort}
+use Rattle.runs.specs.Run.{RefusesPit, RefusesRun, WasCutShort, in_certificate}
+use Rattle.runs.specs.Certified.{PutsCertificate}
+use Rattle.runs.proofs.Certifying.{certificate_cut}
 use Rattle.solver.specs.declared.mode.Mode.{Mode}
 use Rattle.pit_model.specs.Mine.{Instance}
 use Rattle.minelib_reader.proofs.TextFaults.{IsOfText, upit_fault_of_text, prec_fault_of_text}
@@ -68,6 +71,22 @@ solve_refused mode NoMemory e model prec mine left out is holds h = ((h, holds.g
 solve_refused mode NoSeat e model prec mine left out is holds h = ((mine, holds, h), (is, refl))
 solve_refused mode (Exhausted count) e model prec mine left out is holds h = ((mine, holds, h), (is, refl))
 solve_refused mode _ e model prec mine left out is holds h = absurd h
+
+-- a refused solve, before anything was written, finds no pit
+pub solve_finds_none : (mode : Mode) (mine : Instance) (r : Refusal) (e : Fault) (c : Chosen) → IsLeft c → RefusesSolve mode mine r e → RefusesPit mode mine r e c
+solve_finds_none mode mine WriteFailed e c is h = absurd h
+solve_finds_none mode mine _ e c is h = (h, is)
+
+-- nor does a write that failed in the certificate
+pub cut_finds_none : (mode : Mode) (mine : Instance) (e : Fault) (c : Chosen) → PutsCertificate mine c (Err e) → RefusesPit mode mine e.refusal e c
+cut_finds_none mode mine e c cut = subst (λ f. RefusesPit mode mine f.refusal f c) (sym cut.1) (subst (λ f. PutsCertificate mine c (Err f)) cut.1 cut)
+
+-- and so is a refusal to find the pit
+pub pit_refused :
+    (mode : Mode) (r : Refusal) (e : Fault) (model prec : Reading) (mine : Instance) (c : Chosen) (out : Progress) → HoldsMine model prec mine
+    → RefusesPit mode mine r e c → RefusesRun mode r e model prec c out out
+pit_refused mode WriteFailed e model prec mine c out holds h = (h.1, in_certificate (certificate_cut model prec mine e c holds h.0) refl)
+pit_refused mode r e model prec mine c out holds h = solve_refused mode r e model prec mine c out h.1 holds h.0
 
 pub write_refused :
     (mode : Mode) (e : Fault) (model prec : Reading) (certificate : Chosen) (before after : Progress) → e ≡ write_failed → WasCutShort model prec certificate before after

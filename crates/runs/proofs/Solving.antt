@@ -1,43 +1,38 @@
--- A certificate of the mine that was read gives the text of its pit: the certificate shows the pit of the instance, whose
--- pairs stand in another order than in the file, and that order does not matter.
-use Rattle.std.proofs.Common.{◌≡◌, ℕ, refl, sym, ap, ◌∙◌, subst, Bool, List, get_or, length, ◌≤◌, ◌<◌}
-use Rattle.std.specs.Prelude.{ℤ, pos, Ok, Err}
+-- The pit of the mine that was read gives its text: it is the pit of the instance, whose pairs stand in another order than
+-- in the file, and that order does not matter.
+use Rattle.std.proofs.Common.{◌≡◌, ℕ, refl, sym, ap, ◌∙◌, subst, Bool, List, length, ◌≤◌, ◌<◌}
+use Rattle.std.specs.Prelude.{ℤ, Ok, Err}
 use Rattle.std.specs.List.{All}
 use Rattle.minelib_reader.specs.Device.{Progress, Writes}
 use Rattle.minelib_reader.specs.declared.fault.Fault.{Fault}
 use Rattle.pit_model.specs.Graph.{AreSamePairs}
 use Rattle.pit_model.specs.Mine.{Instance, instance_of, members, worth}
-use Rattle.pit_model.specs.Limits.{IsInstance}
-use Rattle.pit_model.specs.Certificate.{IsCertificate}
 use Rattle.pit_model.specs.PitText.{pit_text}
-use Rattle.pit_model.proofs.Simple.{instance_is_simple}
-use Rattle.pit_model.proofs.Duality.{certificate_gives_pit}
 use Rattle.pit_model.proofs.SamePairs.{turned, pit_knows_no_order}
 use Rattle.pit_model.proofs.Members.{members_few, members_below}
+use Rattle.certificate.specs.Check.{ShowsPit}
 use Rattle.runs.specs.Solve.{Reading, IsPitText, Solves, IsDone, IsCutShort}
 use Rattle.runs.specs.Mine.{HoldsMine}
 use Rattle.runs.specs.declared.status.Status.TheVariants.{Done}
 
-pub certified_few : (mine : Instance) (pit listed : List ℕ) (flow : List ℤ) → listed ≡ pit → IsCertificate mine pit flow → length listed ≤ mine.blocks
-certified_few mine pit listed flow same shown =
-    subst (λ xs. length xs ≤ mine.blocks) (sym (same ∙ shown.listed)) (members_few mine.blocks shown.set)
+pub shown_few : (mine : Instance) (pit : List ℕ) → ShowsPit mine pit → length pit ≤ mine.blocks
+shown_few mine pit shown = subst (λ xs. length xs ≤ mine.blocks) (sym shown.listed) (members_few mine.blocks shown.set)
 
-pub certified_below : (mine : Instance) (pit listed : List ℕ) (flow : List ℤ) → listed ≡ pit → IsCertificate mine pit flow → All (λ u. u < mine.blocks) listed
-certified_below mine pit listed flow same shown =
-    subst (λ xs. All (λ u. u < mine.blocks) xs) (sym (same ∙ shown.listed)) (members_below mine.blocks shown.set)
+pub shown_below : (mine : Instance) (pit : List ℕ) → ShowsPit mine pit → All (λ u. u < mine.blocks) pit
+shown_below mine pit shown = subst (λ xs. All (λ u. u < mine.blocks) xs) (sym shown.listed) (members_below mine.blocks shown.set)
 
--- what a certificate lists, with its summed value, is the text of a pit
-pub certified_text :
-    (mine : Instance) (pit listed written : List ℕ) (flow : List ℤ) (n : ℕ) (sum : ℤ) → IsInstance mine → n ≡ mine.blocks → listed ≡ pit → written ≡ pit
-    → IsCertificate mine pit flow → ((set : ℕ → Bool) → listed ≡ members mine.blocks set → sum ≡ worth mine set)
-    → IsPitText mine (pit_text n written sum)
-certified_text mine pit listed written flow n sum is count same same2 shown summed = record {
+-- the blocks of a pit, with their summed value, are its text
+pub shown_text :
+    (mine : Instance) (pit : List ℕ) (n : ℕ) (sum : ℤ) → n ≡ mine.blocks → ShowsPit mine pit
+    → ((set : ℕ → Bool) → pit ≡ members mine.blocks set → sum ≡ worth mine set)
+    → IsPitText mine (pit_text n pit sum)
+shown_text mine pit n sum count shown summed = record {
   pit = shown.set;
-  is_pit = certificate_gives_pit mine shown.set (λ k. get_or flow k (pos 0)) (instance_is_simple mine is).in_range shown.certifies;
+  is_pit = shown.is_pit;
   is_text =
-      ap (λ m. pit_text m written sum) count
-      ∙ ap (λ p. pit_text mine.blocks p sum) (same2 ∙ shown.listed)
-      ∙ ap (pit_text mine.blocks (members mine.blocks shown.set)) (summed shown.set (same ∙ shown.listed));
+      ap (λ m. pit_text m pit sum) count
+      ∙ ap (λ p. pit_text mine.blocks p sum) shown.listed
+      ∙ ap (pit_text mine.blocks (members mine.blocks shown.set)) (summed shown.set shown.listed);
 }
 
 -- the pit and its text do not depend on the order of the pairs

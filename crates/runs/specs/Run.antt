@@ -1,5 +1,5 @@
 -- How a run of `solve` ends, over the bytes that went through its readers and its writers.
-use Rattle.std.specs.Prelude.{◌≡◌}
+use Rattle.std.specs.Prelude.{◌≡◌, Err}
 use Rattle.minelib_reader.specs.Device.{Progress}
 use Rattle.minelib_reader.specs.Refused.{write_failed}
 use Rattle.minelib_reader.specs.declared.fault.Fault.{Fault}
@@ -10,7 +10,7 @@ use Rattle.solver.specs.declared.mode.Mode.{Mode}
 use Rattle.runs.specs.Solve.{Reading, RefusesMine, IsCutShort}
 use Rattle.runs.specs.Mine.{HoldsMine}
 use Rattle.runs.specs.Chosen.{Chosen, IsLeft, OfWriter, OfWriterIfAny}
-use Rattle.runs.specs.Certified.{IsCertified, IsCertificateCut}
+use Rattle.runs.specs.Certified.{PutsCertificate, IsCertified, IsCertificateCut}
 use Rattle.solver.specs.Modes.{RefusesSolve}
 
 -- this holds of the mine that the readers gave
@@ -26,6 +26,11 @@ IsUnwritten certificate before after = IsLeft certificate × (after ≡ before)
 pub data WasCutShort (model prec : Reading) (certificate : Chosen) (before after : Progress) : Type 0 where
   in_certificate : OfWriter certificate (IsCertificateCut model prec) → after ≡ before → WasCutShort model prec certificate before after
   in_pit : OfWriterIfAny certificate (IsCertified model prec) → IsCutShort model prec before after → WasCutShort model prec certificate before after
+
+-- why no pit of a mine was found: the solve was refused, and nothing was written; or a write failed in the certificate
+abbrev pub RefusesPit : Mode → Instance → Refusal → Fault → Chosen → Type 0
+RefusesPit mode mine WriteFailed fault certificate = PutsCertificate mine certificate (Err fault)
+RefusesPit mode mine refusal fault certificate = RefusesSolve mode mine refusal fault × IsLeft certificate
 
 -- why a run ended without a pit: nothing was written, but where a write failed
 abbrev pub RefusesRun : Mode → Refusal → Fault → Reading → Reading → Chosen → Progress → Progress → Type 0

@@ -1,11 +1,12 @@
 //! `solve`: from the bytes of a model and a precedence file to the bytes of the pit, and of the certificate that shows it.
-ghost use Rattle.std.specs.Prelude.{◌≡◌, ◌<◌, ◌≤◌, ◌^◌, IfOk, IfErr};
+ghost use Rattle.std.specs.Prelude.{◌≡◌, ◌<◌, ◌≤◌, ◌^◌, Ok, IfOk, IfErr};
 ghost use Rattle.minelib_reader.specs.Refused.{write_failed};
 ghost use Rattle.certificate.specs.Certificate.{IsCertificateOf};
+ghost use Rattle.certificate.specs.Check.{ShowsPit};
 ghost use Rattle.runs.specs.Certified.{IsCertified, PutsCertificate};
 ghost use Rattle.runs.specs.Chosen.{chosen, progress_of, IsCountable, OfWriterIfAny};
 ghost use Rattle.solver.specs.Modes.{EndsWithin};
-ghost use Rattle.runs.specs.Run.{HoldsOfMine, RefusesRun};
+ghost use Rattle.runs.specs.Run.{HoldsOfMine, RefusesPit, RefusesRun};
 ghost use Rattle.runs.specs.Solve.{reading, IsDone, WritesPit};
 
 use crate::mine::read_mine;
@@ -14,7 +15,7 @@ use certificate::{Certificate, write};
 use mine_graph::Instance;
 use minelib_reader::{Fault, InBytes, OutBytes};
 use report::write_pit;
-use solver::{Mode, OpenGate, find_pit};
+use solver::{Mode, OpenGate, find_certificate, find_pit};
 use std::alloc::Global;
 use std::sync::Wait;
 use std::thread::Threads;
@@ -36,20 +37,39 @@ fn put_certificate<C: OutBytes>(
     }
 }
 
-/// Writes the text of the pit that a certificate shows.
-fn put_pit<W: OutBytes>(
-    out: &mut W,
+/// The pit of a mine. Where there is a writer for a certificate, the one that shows the pit goes there; else none is made.
+fn solve_mine<C: OutBytes, R: Threads + Wait + Sync>(
+    rt: &R,
+    alloc: Global,
     mine: &Instance,
-    certificate: &Certificate,
-) -> Result<(), Fault>
+    mode: &Mode,
+    certificate: &mut Option<C>,
+) -> Result<Vec<u32>, Fault>
+    requires countable { IsCountable (progress_of C.progress certificate.old) }
+    ensures shown { IfOk result (λ pit. ShowsPit mine.now pit.items) }
+    ensures certified { IfOk result (λ _. PutsCertificate mine.now (chosen C.progress certificate.old certificate.new) (Ok tt)) }
+    ensures within { IfOk result (λ _. EndsWithin mode.now mine.now) }
+    ensures refused { IfErr result (λ e. RefusesPit mode.now mine.now e.refusal e (chosen C.progress certificate.old certificate.new)) }
+{
+    if certificate.is_none() {
+        return find_pit(rt, alloc, mine, mode, &OpenGate);
+    }
+    mine.law();
+    let shown = find_certificate(rt, alloc, mine, mode, &OpenGate)?;
+    put_certificate(certificate, mine, &shown)?;
+    Ok(shown.pit)
+}
+
+/// Writes the text of a pit.
+fn put_pit<W: OutBytes>(out: &mut W, mine: &Instance, pit: &[u32]) -> Result<(), Fault>
     requires countable { (W.progress out.old).failures < 2 ^ 63 }
-    requires shown { IsCertificateOf mine.now certificate.now }
+    requires shown { ShowsPit mine.now pit.now }
     ensures written { WritesPit mine.now (W.progress out.old) (W.progress out.new) result }
     ensures refused { IfErr result (λ e. e ≡ write_failed) }
 {
     mine.law();
-    let worth = mine.worth(&certificate.pit);
-    write_pit(out, mine.graph().n(), &certificate.pit, worth)
+    let worth = mine.worth(pit);
+    write_pit(out, mine.graph().n(), pit, worth)
 }
 
 /// Reads a model and then a precedence file, and writes the text of the pit: of the smallest closed set of greatest worth,
@@ -92,8 +112,7 @@ pub fn run_solve<R: Threads + Wait + Sync, M: InBytes, P: InBytes, C: OutBytes, 
         (W.progress out.old) (W.progress out.new)) }
 {
     let mine = read_mine(alloc, model, prec)?;
-    let shown = find_pit(rt, alloc, &mine, &mode, &OpenGate)?;
-    put_certificate(certificate, &mine, &shown)?;
-    put_pit(out, &mine, &shown)?;
+    let pit = solve_mine(rt, alloc, &mine, &mode, certificate)?;
+    put_pit(out, &mine, &pit)?;
     Ok(Status::Done)
 }

@@ -9,11 +9,7 @@ use Rattle.std.proofs.lemmas.List.FromFn.{get_or-range_with_len, length-range_wi
 use Rattle.pit_model.specs.Sum.{total, when}
 use Rattle.pit_model.specs.Graph.{Graph, first_of, second_of, IsGraph}
 use Rattle.pit_model.specs.Mine.{Instance, members, value, worth, IsPit}
-use Rattle.pit_model.specs.Limits.{IsInstance}
-use Rattle.pit_model.specs.Certificate.{IsCertificate}
 use Rattle.pit_model.specs.Part.{IsPart}
-use Rattle.pit_model.proofs.Simple.{instance_is_simple}
-use Rattle.pit_model.proofs.Duality.{certificate_gives_pit}
 use Rattle.minelib_reader.specs.Number.{IsWithin}
 use Rattle.minelib_reader.specs.declared.fault.Fault.{Fault}
 use Rattle.minelib_reader.specs.declared.fault.Refusal.{Refusal}
@@ -28,7 +24,8 @@ use Rattle.pit_model.proofs.MemberSums.{summed-members}
 use Rattle.pit_model.proofs.Sums.{total-same}
 use Rattle.pit_model.proofs.Shells.{not_true, value_at_is, rest_gives_shell}
 use Rattle.shells.specs.Prices.{Prices, price_of, deposit_of, ArePrices}
-use Rattle.shells.specs.Grown.{marked, rest_at, IsFound, IsGrown, RefusesShells}
+use Rattle.certificate.specs.Check.{ShowsPit}
+use Rattle.shells.specs.Grown.{marked, rest_at, IsGrown, RefusesShells}
 use Rattle.shells.proofs.PriceBounds.{each_small}
 
 -- a deposit of prices and a graph with as many blocks
@@ -136,7 +133,7 @@ joins_none deposit marks blocks found part outside none =
 pub grows : (prices : Prices) (graph part next : Graph) (factors : List ℕ) (k : ℕ) (old new : List Bool) (blocks others found : List ℕ)
     → IsPriced (deposit_of prices graph) → AreFactors factors → k < length factors
     → IsGrown (deposit_of prices graph) factors k old blocks part
-    → (shown : IsFound (rest_at prices (factor_of factors k) blocks part) found)
+    → (shown : ShowsPit (rest_at prices (factor_of factors k) blocks part) found)
     → ((test : ℕ → Bool) → found ≡ members (length blocks) test → IsJoined (marked old) blocks test (marked new))
     → length new ≡ graph.blocks → IsOutside (deposit_of prices graph) (marked new) others next
     → IsGrown (deposit_of prices graph) factors (suc k) new others next
@@ -211,16 +208,7 @@ same_instance i prices factor blocks part same_n same_v same_p =
     let with_p : List (ℕ × ℕ) → Instance = λ ps. record { blocks = part.blocks; values = map (price_of prices factor) blocks; pairs = ps } in
     ap with_n same_n ∙ ap with_v same_v ∙ ap with_p same_p
 
--- what a certificate shows is found
-pub is_found : (i rest : Instance) (pit : List ℕ) (flow : List ℤ) → IsInstance i → i ≡ rest → IsCertificate i pit flow → IsFound rest pit
-is_found i rest pit flow is same shown =
-    subst (λ (m : Instance). IsFound m pit) same (record {
-      set = shown.set;
-      listed = shown.listed;
-      is_pit = certificate_gives_pit i shown.set (λ k. get_or flow k (pos 0)) (instance_is_simple i is).in_range shown.certifies;
-    })
-
-pub found_below : (prices : Prices) (factor : ℕ) (blocks found : List ℕ) (part : Graph) → part.blocks ≡ length blocks → IsFound (rest_at prices factor blocks part) found → (j : ℕ) → j < length found → get_or found j 0 < length blocks
+pub found_below : (prices : Prices) (factor : ℕ) (blocks found : List ℕ) (part : Graph) → part.blocks ≡ length blocks → ShowsPit (rest_at prices factor blocks part) found → (j : ℕ) → j < length found → get_or found j 0 < length blocks
 found_below prices factor blocks found part count shown j l =
     let each = members_each part.blocks shown.set j (subst (λ (xs : List ℕ). j < length xs) shown.listed l) in
     let at : get_or found j 0 ≡ get_or (members part.blocks shown.set) j 0 = ap (λ (xs : List ℕ). get_or xs j 0) shown.listed in

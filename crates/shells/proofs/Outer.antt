@@ -15,7 +15,8 @@ use Rattle.pit_model.proofs.Members.{members_each}
 use Rattle.pit_model.proofs.Shells.{rest_gives_shell}
 use Rattle.mine_graph.proofs.Renumbering.{part_ext}
 use Rattle.shells.specs.Prices.{Prices, deposit_of}
-use Rattle.shells.specs.Grown.{marked, rest_at, IsFound, IsGrown}
+use Rattle.certificate.specs.Check.{ShowsPit}
+use Rattle.shells.specs.Grown.{marked, rest_at, IsGrown}
 use Rattle.shells.specs.Outermost.{amounts_of, AreLifted, IsOutermost, IsPlacedIn}
 use Rattle.shells.proofs.Joining.{joins}
 use Rattle.shells.proofs.Lifting.{lifted_is_shell}
@@ -27,7 +28,7 @@ twice_not false = refl
 
 pub is_outermost : (prices inner : Prices) (graph whole part other : Graph) (factor : ℕ) (old new ms : List Bool) (all found blocks : List ℕ)
     → IsPriced (deposit_of prices graph) → AreInRange graph.pairs graph.blocks → IsGrown (deposit_of prices graph) (factor ∷ []) 0 old all whole
-    → IsFound (rest_at prices factor all whole) found
+    → ShowsPit (rest_at prices factor all whole) found
     → ((u : ℕ) → marked old u ≡ true → marked new u ≡ true)
     → ((j : ℕ) → j < length found → marked new (get_or all (get_or found j 0) 0) ≡ true)
     → ((u : ℕ) → marked new u ≡ true → (marked old u ≡ true) ⊎ ((j : ℕ) × (j < length found) × (get_or all (get_or found j 0) 0 ≡ u)))

@@ -5,7 +5,7 @@ use Rattle.minelib_reader.specs.declared.fault.Refusal.{Refusal}
 use Rattle.minelib_reader.specs.declared.fault.Refusal.TheVariants.{NoMemory}
 use Rattle.minelib_reader.specs.Refused.{no_memory}
 use Rattle.pit_model.specs.Graph.{Graph}
-use Rattle.pit_model.specs.Mine.{Instance, members, IsPit}
+use Rattle.pit_model.specs.Mine.{Instance}
 use Rattle.pit_model.specs.Deposit.{Deposit, mine_on}
 use Rattle.pit_model.specs.Shells.{IsShellBefore, IsOutside, IsRest}
 use Rattle.shells.specs.Prices.{Prices, deposit_of}
@@ -26,12 +26,6 @@ pub record IsGrown (deposit : Deposit) (factors : List ℕ) (k : ℕ) (marks : L
 -- the instance at a factor on what is left
 abbrev pub rest_at : Prices → ℕ → List ℕ → Graph → Instance
 rest_at prices factor blocks part = mine_on (deposit_of prices part) factor blocks part
-
--- the blocks of the pit of an instance, rising
-pub record IsFound (mine : Instance) (pit : List ℕ) : Type 0 where
-  pub set : ℕ → Bool
-  pub listed : pit ≡ members mine.blocks set
-  pub is_pit : IsPit mine set
 
 -- the budget, where there is one, does not end the solve of the rest of the factor with number k
 abbrev pub RestEndsWithin : Mode → Deposit → List ℕ → ℕ → Type 0

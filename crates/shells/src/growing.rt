@@ -6,9 +6,10 @@ ghost use Rattle.minelib_reader.specs.Refused.{no_memory};
 ghost use Rattle.pit_model.specs.Mine.{members, IsPit};
 ghost use Rattle.pit_model.specs.Deposit.{mine_on};
 ghost use Rattle.pit_model.specs.Shells.{factor_of, IsJoined, IsOutside, IsShell};
+ghost use Rattle.certificate.specs.Check.{ShowsPit};
 ghost use Rattle.solver.specs.Modes.{EndsWithin, RefusesSolve};
 ghost use Rattle.shells.specs.Prices.{deposit_of, Prices};
-ghost use Rattle.shells.specs.Grown.{marked, rest_at, IsFound, IsGrown, RefusesShells, RestEndsWithin};
+ghost use Rattle.shells.specs.Grown.{marked, rest_at, IsGrown, RefusesShells, RestEndsWithin};
 
 use crate::columns::Columns;
 use crate::factors::Factors;
@@ -73,7 +74,7 @@ pub fn solve_rest<G: Gate + Sync, R: Threads + Wait + Sync>(
     requires factor { factor ≤ 100000 }
     requires rows { (i : ℕ) → i < length growing.now.blocks.items → get_or growing.now.blocks.items i 0 < length columns.now.revenues }
     requires count { growing.now.graph.value.blocks ≡ length growing.now.blocks.items }
-    ensures found { IfOk result (λ pit. IsFound (rest_at columns.now factor growing.now.blocks.items growing.now.graph.value) pit.items) }
+    ensures found { IfOk result (λ pit. ShowsPit (rest_at columns.now factor growing.now.blocks.items growing.now.graph.value) pit.items) }
     ensures within { IfOk result (λ _. EndsWithin mode.now (rest_at columns.now factor growing.now.blocks.items growing.now.graph.value)) }
     ensures refused { IfErr result (λ e. RefusesSolve mode.now (rest_at columns.now factor growing.now.blocks.items growing.now.graph.value) e.refusal e) }
 {
@@ -81,9 +82,7 @@ pub fn solve_rest<G: Gate + Sync, R: Threads + Wait + Sync>(
     let values = columns.values(alloc, &growing.blocks, factor)?;
     let graph = Arc::try_clone(&growing.graph)?;
     let rest = Instance::new(graph, values);
-    rest.law();
-    let certificate = find_pit(rt, alloc, &rest, mode, gate)?;
-    Ok(certificate.pit)
+    find_pit(rt, alloc, &rest, mode, gate)
 }
 
 /// Marks the blocks of the rest that were found, by their numbers there.

@@ -6,4 +6,5 @@ pub mod Ordering
 pub mod Joining
 pub mod Gathered
 pub mod SolvedPart
+pub mod Shown
 mod FirstFound

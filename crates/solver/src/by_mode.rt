@@ -1,14 +1,15 @@
 //! One call for all ways to solve: what calls it knows modes and no more.
 ghost use Rattle.std.specs.Prelude.{IfOk, IfErr};
 ghost use Rattle.certificate.specs.Certificate.{IsCertificateOf};
+ghost use Rattle.certificate.specs.Check.{ShowsPit};
 ghost use Rattle.solver.specs.Modes.{EndsIn, EndsWithin, RefusesSolve};
 
 use crate::gate::Gate;
 use crate::mode::Mode;
 use crate::outcome::Outcome;
-use crate::parts::solve_parts;
+use crate::parts::{pit_by_parts, solve_parts};
 use crate::shared::solve_shared;
-use crate::single::solve_single;
+use crate::single::{pit_of, solve_single};
 use certificate::Certificate;
 use mine_graph::Instance;
 use minelib_reader::Fault;
@@ -45,7 +46,7 @@ pub fn solve<G: Gate + Sync, R: Threads + Wait + Sync>(
 
 /// The pit of an instance with its certificate. Refused as `solve` is, and where the budget is used up with a merger arc
 /// left (20).
-pub fn find_pit<G: Gate + Sync, R: Threads + Wait + Sync>(
+pub fn find_certificate<G: Gate + Sync, R: Threads + Wait + Sync>(
     rt: &R,
     alloc: Global,
     instance: &Instance,
@@ -59,5 +60,26 @@ pub fn find_pit<G: Gate + Sync, R: Threads + Wait + Sync>(
     match solve(rt, alloc, instance, mode, gate)? {
         Outcome::Pit(certificate) => Ok(certificate),
         Outcome::Exhausted(count) => Err(Fault::exhausted(count)),
+    }
+}
+
+/// The pit of an instance: the smallest closed set of greatest worth, rising. By one thread without a budget, and of an
+/// instance that is one part, no flow is made. Refused as `find_certificate` is.
+pub fn find_pit<G: Gate + Sync, R: Threads + Wait + Sync>(
+    rt: &R,
+    alloc: Global,
+    instance: &Instance,
+    mode: &Mode,
+    gate: &G,
+) -> Result<Vec<u32>, Fault>
+    ensures shown { IfOk result (λ pit. ShowsPit instance.now pit.items) }
+    ensures within { IfOk result (λ _. EndsWithin mode.now instance.now) }
+    ensures refused { IfErr result (λ e. RefusesSolve mode.now instance.now e.refusal e) }
+{
+    instance.law();
+    match *mode {
+        Mode::Single { budget: None } => pit_of(alloc, instance),
+        Mode::Parts => pit_by_parts(rt, alloc, instance),
+        _ => Ok(find_certificate(rt, alloc, instance, mode, gate)?.pit),
     }
 }

@@ -15,6 +15,7 @@ use std::sync::Arc;
 use std::thread::Threads;
 use tree_lock::{Site, Version};
 
+/// The order in which a sweep goes over the arcs, and the distances by which it passes over most of them.
 #[derive(Drop)]
 pub struct Guide {
     graph: Arc<Graph>,
@@ -25,6 +26,13 @@ pub struct Guide {
     next: Vec<u32>,
     /// Whether the next sweep asks for each merger arc that it sees.
     is_free: bool,
+}
+
+/// A merger arc that a version shows, and its place in the order of the sweep.
+#[derive(Clone, Copy)]
+pub struct Sighting {
+    pub place: usize,
+    pub arc: u32,
 }
 
 // 1 for each strong block, and 0 for the others.
@@ -115,15 +123,15 @@ impl Guide {
         version: &Version<S>,
         place: usize,
         end: usize,
-    ) -> Option<(usize, u32)>
-        ensures { IfSome result (λ found. (place ≤ found.0) × (found.0 < end)) }
+    ) -> Option<Sighting>
+        ensures { IfSome result (λ found. (place ≤ found.place) × (found.place < end)) }
     {
         for at in place..end {
             let Some(&arc) = self.arcs.get(at) else {
                 return None;
             };
             if self.wants(arc) && version.is_merger(arc) {
-                return Some((at, arc));
+                return Some(Sighting { place: at, arc });
             }
         }
         None

@@ -21,7 +21,7 @@ mod sweeps;
 mod waiting;
 mod worker;
 
-pub use by_mode::{find_pit, solve};
+pub use by_mode::{find_certificate, find_pit, solve};
 pub use gate::{Gate, OpenGate};
 pub use mode::Mode;
 pub use outcome::Outcome;
@@ -30,6 +30,8 @@ pub use shared::solve_shared;
 pub use single::solve_single;
 pub use tree_lock::{Entry, Verdict};
 
+#[cfg(test)]
+mod by_mode_tests;
 #[cfg(test)]
 mod parts_tests;
 #[cfg(test)]

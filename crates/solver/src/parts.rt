@@ -2,15 +2,16 @@
 //! written where their blocks and pairs stand in the whole: each condition of a certificate speaks of one block and its
 //! pairs, so the certificates of the parts are together one of the whole (Picard 1976: a closed set of a graph is one of each
 //! of its parts).
-ghost use Rattle.std.specs.Prelude.{◌≡◌, ◌<◌, ℕ, false, pos, length, get_or, IfOk, IfErr, MatchResult};
+ghost use Rattle.std.specs.Prelude.{◌≡◌, ◌<◌, ℕ, false, pos, length, get_or, IfOk, IfErr, IfSome, MatchResult};
 ghost use Rattle.std.specs.List.{All, AllZip};
 ghost use Rattle.minelib_reader.specs.Refused.{no_memory};
 ghost use Rattle.pit_model.specs.Mine.{value};
 ghost use Rattle.certificate.specs.Certificate.{IsCertificateOf};
+ghost use Rattle.certificate.specs.Check.{ShowsPit};
 ghost use Rattle.solver.specs.Parts.{graph_of, IsPartOf, IsSolvedPart};
 
 use crate::joined::join_parts;
-use crate::single::certificate_of;
+use crate::single::{certificate_of, pit_of};
 use crate::solved_part::SolvedPart;
 use certificate::Certificate;
 use mine_graph::{Graph, Instance, Part};
@@ -73,6 +74,26 @@ fn solve_each<R: Threads + Sync>(
     solved
 }
 
+// The certificates of the parts, joined; None where there are fewer than two parts.
+fn join_of_parts<R: Threads + Sync>(
+    rt: &R,
+    alloc: Global,
+    instance: &Instance,
+) -> Result<Option<Certificate>, Fault>
+    ensures answer { IfOk result (λ joined. IfSome joined (IsCertificateOf instance.now)) }
+    ensures refused { IfErr result (λ e. e ≡ no_memory) }
+{
+    instance.law();
+    let graph: &Graph = instance.graph();
+    let classes = graph.classes()?;
+    if classes.count < 2 {
+        return Ok(None);
+    }
+    let parts = graph.parts_by(&classes)?;
+    let solved = solve_each(rt, alloc, instance, parts)?;
+    Ok(Some(join_parts(alloc, instance, &solved)?))
+}
+
 /// The smallest closed set of greatest worth, with its certificate, by its parts: each class of blocks that pairs join is
 /// solved by itself, several at once in threads. Refused for want of memory alone, also that of a single part.
 pub fn solve_parts<R: Threads + Sync>(
@@ -83,13 +104,25 @@ pub fn solve_parts<R: Threads + Sync>(
     ensures solved { IfOk result (IsCertificateOf instance.now) }
     ensures refused { IfErr result (λ e. e ≡ no_memory) }
 {
-    instance.law();
-    let graph: &Graph = instance.graph();
-    let classes = graph.classes()?;
-    if classes.count < 2 {
-        return certificate_of(alloc, instance);
+    match join_of_parts(rt, alloc, instance)? {
+        Some(joined) => Ok(joined),
+        None => certificate_of(alloc, instance),
     }
-    let parts = graph.parts_by(&classes)?;
-    let solved = solve_each(rt, alloc, instance, parts)?;
-    join_parts(alloc, instance, &solved)
+}
+
+/// The smallest closed set of greatest worth by its parts. Of an instance that is one part no flow is made.
+/// Refused for want of memory alone, also that of a single part.
+pub(crate) fn pit_by_parts<R: Threads + Sync>(
+    rt: &R,
+    alloc: Global,
+    instance: &Instance,
+) -> Result<Vec<u32>, Fault>
+    ensures shown { IfOk result (λ pit. ShowsPit instance.now pit.items) }
+    ensures refused { IfErr result (λ e. e ≡ no_memory) }
+{
+    instance.law();
+    match join_of_parts(rt, alloc, instance)? {
+        Some(joined) => Ok(joined.pit),
+        None => pit_of(alloc, instance),
+    }
 }

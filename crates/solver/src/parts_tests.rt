@@ -9,7 +9,7 @@ use std::test::*;
 use std::thread::Threads;
 
 // Two mines of four blocks, numbered by turns, and a block by itself: of each mine its second and third block are dug.
-fn three_parts(alloc: Global) -> Result<Instance, Fault> {
+pub fn three_parts(alloc: Global) -> Result<Instance, Fault> {
     let pairs = vec![in alloc; (0, 2), (0, 6), (4, 2), (1, 3), (1, 7), (5, 3)]?;
     let graph = Arc::new(alloc, Graph::new(alloc, 9, pairs)?)?;
     let values = vec![in alloc; 1, 1, -2, -2, 5, 5, -2, -2, 7]?;

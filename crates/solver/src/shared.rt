@@ -21,6 +21,14 @@ use std::sync::Wait;
 use std::thread::Threads;
 use tree_lock::{Entry, SharedTree, Site, UnnamedList};
 
+// What a solve begins with: the opening tree and its budget, and the list of mergers and the board, which have no name yet.
+struct Beginning {
+    tree: NormTree,
+    budget: Option<u64>,
+    list: UnnamedList,
+    unnamed: UnnamedBoard,
+}
+
 // A worker for each seat at the board, with a seat to look from.
 fn workers_of<S: Site, R: Wait + Drop>(
     alloc: Global,
@@ -41,22 +49,25 @@ fn workers_of<S: Site, R: Wait + Drop>(
 fn solve_at<S: Site + Send + Sync, G: Gate + Sync, R: Threads + Wait + Sync>(
     rt: &R,
     alloc: Global,
-    tree: NormTree,
-    list: UnnamedList,
-    unnamed: UnnamedBoard,
-    budget: Option<u64>,
+    begun: Beginning,
     chunk: u32,
     gate: &G,
 ) -> Result<(Outcome, Vec<Entry>), Fault>
-    requires book { list ≡ S.book }
-    requires opening { tree.tree ≡ opening tree.mine }
-    requires mine { tree.mine ≡ S.mine }
-    requires budget { budget ≡ S.budget }
-    requires board { unnamed.cells.shared.table_id ≡ S.board }
-    requires workers { unnamed.workers ≡ S.workers }
+    requires book { begun.list ≡ S.book }
+    requires opening { begun.tree.tree ≡ opening begun.tree.mine }
+    requires mine { begun.tree.mine ≡ S.mine }
+    requires budget { begun.budget ≡ S.budget }
+    requires board { begun.unnamed.cells.shared.table_id ≡ S.board }
+    requires workers { begun.unnamed.workers ≡ S.workers }
     ensures solved { IfOk result (λ r. IsSolvedTogether S.mine S.workers S.budget r.0 r.1.items) }
     ensures refused { IfErr result IsNoRoom }
 {
+    let Beginning {
+        tree,
+        budget,
+        list,
+        unnamed,
+    } = begun;
     let guide = Guide::new(alloc, &tree)?;
     let (board, seats, holder_seat) = Board::<S>::new(alloc, unnamed)?;
     let mut shared = SharedTree::<S, &R>::new(alloc, rt, list, tree, budget, &board, holder_seat)?;
@@ -92,8 +103,11 @@ pub fn solve_shared<G: Gate + Sync, R: Threads + Wait + Sync>(
     ensures solved { IfOk result (λ r. IsSolvedTogether instance.now workers budget r.0 r.1.items) }
     ensures refused { IfErr result IsNoRoom }
 {
-    let tree = NormTree::start(alloc, instance)?;
-    let unnamed = UnnamedBoard::new(alloc, workers)?;
-    let list = UnnamedList::new()?;
-    solve_at::<Brand, G, R>(rt, alloc, tree, list, unnamed, budget, chunk, gate)
+    let begun = Beginning {
+        tree: NormTree::start(alloc, instance)?,
+        budget,
+        list: UnnamedList::new()?,
+        unnamed: UnnamedBoard::new(alloc, workers)?,
+    };
+    solve_at::<Brand, G, R>(rt, alloc, begun, chunk, gate)
 }

@@ -1,7 +1,9 @@
 //! One thread solves the whole instance.
-ghost use Rattle.std.specs.Prelude.{◌≡◌, Some, None, IfOk, IfErr};
+ghost use Rattle.std.specs.Prelude.{◌≡◌, ℕ, false, Some, None, IfOk, IfErr};
 ghost use Rattle.minelib_reader.specs.Refused.{no_memory};
+ghost use Rattle.pit_model.specs.Tree.{is_merger};
 ghost use Rattle.certificate.specs.Certificate.{IsCertificateOf};
+ghost use Rattle.certificate.specs.Check.{ShowsPit};
 ghost use Rattle.solver.specs.Solved.{IsSolvedAlone};
 
 use crate::closing::merge_rest;
@@ -14,18 +16,37 @@ use minelib_reader::Fault;
 use norm_tree::{BareTree, NormTree};
 use std::alloc::Global;
 
-/// The pit with its certificate, by mergers in whatever order.
-pub(crate) fn certificate_of(alloc: Global, instance: &Instance) -> Result<Certificate, Fault>
-    ensures answer { IfOk result (IsCertificateOf instance.now) }
+// The tree with no merger arc left, by mergers in whatever order.
+fn solved_tree(alloc: Global, instance: &Instance) -> Result<NormTree, Fault>
+    ensures mine { IfOk result (λ t. t.mine ≡ instance.now) }
+    ensures none_left { IfOk result (λ t. (k : ℕ) → is_merger t.mine t.tree k ≡ false) }
     ensures refused { IfErr result (λ e. e ≡ no_memory) }
 {
     let mut bare = BareTree::start(alloc, instance)?;
     merge_by_lowest_label(alloc, &mut bare)?;
-    let tree = merge_rest(NormTree::from_bare(bare)?)?;
+    merge_rest(NormTree::from_bare(bare)?)
+}
+
+/// The pit with its certificate. Refused for want of memory alone.
+pub(crate) fn certificate_of(alloc: Global, instance: &Instance) -> Result<Certificate, Fault>
+    ensures answer { IfOk result (IsCertificateOf instance.now) }
+    ensures refused { IfErr result (λ e. e ≡ no_memory) }
+{
+    let tree = solved_tree(alloc, instance)?;
     match of_tree(&tree)? {
         Some(certificate) => Ok(certificate),
         None => unreachable!(),
     }
+}
+
+/// The pit alone: the flow that shows it stays in the tree. Refused for want of memory alone.
+pub(crate) fn pit_of(alloc: Global, instance: &Instance) -> Result<Vec<u32>, Fault>
+    ensures shown { IfOk result (λ pit. ShowsPit instance.now pit.items) }
+    ensures refused { IfErr result (λ e. e ≡ no_memory) }
+{
+    let tree = solved_tree(alloc, instance)?;
+    tree.law();
+    tree.pit()
 }
 
 // The pit, by mergers in whatever order.

@@ -3,7 +3,7 @@
 ghost use Rattle.std.specs.Prelude.{◌≡◌, ◌≤◌, ◌<◌, IfSome};
 
 use crate::gate::Gate;
-use crate::guide::Guide;
+use crate::guide::{Guide, Sighting};
 use proposals::{Board, DrawSeat, Draws, Lot, WorkerSeat};
 use std::sync::Wait;
 use tree_lock::{LookSeat, SharedTree, Site, Verdict};
@@ -38,8 +38,8 @@ impl<S: Site> Worker<S> {
 
     // The first place whose arc is worth an ask by the version that is published now. None also where there is no version.
     // It does not look where nothing is wanted.
-    fn look(&mut self, guide: &Guide, place: usize, end: usize) -> Option<(usize, u32)>
-        ensures { IfSome result (λ found. (place ≤ found.0) × (found.0 < end)) }
+    fn look(&mut self, guide: &Guide, place: usize, end: usize) -> Option<Sighting>
+        ensures { IfSome result (λ found. (place ≤ found.place) × (found.place < end)) }
     {
         let Some(first) = guide.first_wanted(place, end) else {
             return None;
@@ -90,13 +90,13 @@ impl<S: Site> Worker<S> {
     ) -> bool {
         let mut place = start;
         'asks: while place < end {
-            let Some((found, arc)) = self.look(sweep.guide, place, end) else {
+            let Some(found) = self.look(sweep.guide, place, end) else {
                 return true;
             };
-            if !self.propose(rt, sweep, arc) {
+            if !self.propose(rt, sweep, found.arc) {
                 return false;
             }
-            place = found + 1;
+            place = found.place + 1;
         }
         true
     }

@@ -3,10 +3,10 @@
 use Rattle.std.proofs.Common.{refl}
 use Rattle.std.proofs.lemmas.Result.{err_from_is_err_and}
 use Rattle.runs.specs.Chosen.{chosen}
-use Rattle.runs.specs.Run.{in_certificate, in_pit}
+use Rattle.runs.specs.Run.{in_pit}
 use Rattle.runs.specs.Solve.{reading}
-use Rattle.runs.proofs.Certifying.{certified, certificate_cut}
-use Rattle.runs.proofs.Refusing.{read_refused, write_refused}
+use Rattle.runs.proofs.Certifying.{certified}
+use Rattle.runs.proofs.Refusing.{read_refused, pit_refused, write_refused}
 use Rattle.runs.proofs.Solving.{done, cut_short}
 use Rattle.runs.proofs.solve.run_solve.Goals as goal
 
@@ -19,17 +19,14 @@ returns-in_err-mine-clause-refused g c =
     let left = chosen g.C.OutBytes.progress c.args.certificate.now c.args.certificate.now in
     rw (p.1, p.2) (read_refused c.args.mode e.refusal e model prec left (g.W.OutBytes.progress c.args.out.now) refl c.in_err-mine.ensures.refused)
 
-pub returns-in_err-put_certificate-clause-refused : goal.returns-in_err-put_certificate-clause-refused
-returns-in_err-put_certificate-clause-refused g c =
-    let p = err_from_is_err_and c.from_residual-in_err-put_certificate.result c.from_residual-in_err-put_certificate.ensures.1 in
-    let e = c.in_err-put_certificate.field-0.0 in
+pub returns-in_err-pit-clause-refused : goal.returns-in_err-pit-clause-refused
+returns-in_err-pit-clause-refused g c =
+    let p = err_from_is_err_and c.from_residual-in_err-pit.result c.from_residual-in_err-pit.ensures.1 in
+    let e = c.in_err-pit.field-0.0 in
     let model = reading (g.M.InBytes.progress c.args.model.now) (g.M.InBytes.progress c.read_mine.new.model) (g.M.InBytes.IsAtEnd c.read_mine.new.model) in
     let prec = reading (g.P.InBytes.progress c.args.prec.now) (g.P.InBytes.progress c.read_mine.new.prec) (g.P.InBytes.IsAtEnd c.read_mine.new.prec) in
-    let chose = chosen g.C.OutBytes.progress c.args.certificate.now c.put_certificate.new.out in
-    let out = g.W.OutBytes.progress c.args.out.now in
-    let put = c.in_err-put_certificate.ensures.puts in
-    rw (p.1, p.2) (write_refused c.args.mode e model prec chose out out put.1
-    (in_certificate (certificate_cut model prec c.in_ok-mine.mine e chose c.in_ok-mine.ensures.mine put.0) refl))
+    let chose = chosen g.C.OutBytes.progress c.args.certificate.now c.solve_mine.new.certificate in
+    rw (p.1, p.2) (pit_refused c.args.mode e.refusal e model prec c.in_ok-mine.mine chose (g.W.OutBytes.progress c.args.out.now) c.in_ok-mine.ensures.mine c.in_err-pit.ensures.refused)
 
 pub returns-in_err-put_pit-clause-refused : goal.returns-in_err-put_pit-clause-refused
 returns-in_err-put_pit-clause-refused g c =
@@ -37,13 +34,13 @@ returns-in_err-put_pit-clause-refused g c =
     let e = c.in_err-put_pit.field-0.0 in
     let model = reading (g.M.InBytes.progress c.args.model.now) (g.M.InBytes.progress c.read_mine.new.model) (g.M.InBytes.IsAtEnd c.read_mine.new.model) in
     let prec = reading (g.P.InBytes.progress c.args.prec.now) (g.P.InBytes.progress c.read_mine.new.prec) (g.P.InBytes.IsAtEnd c.read_mine.new.prec) in
-    let chose = chosen g.C.OutBytes.progress c.args.certificate.now c.put_certificate.new.out in
+    let chose = chosen g.C.OutBytes.progress c.args.certificate.now c.solve_mine.new.certificate in
     let old = g.W.OutBytes.progress c.args.out.now in
     let new = g.W.OutBytes.progress c.put_pit.new.out in
     let wrote = c.in_err-put_pit.ensures.written in
     let holds = c.in_ok-mine.ensures.mine in
     rw (p.1, p.2) (write_refused c.args.mode e model prec chose old new c.in_err-put_pit.ensures.refused
-    (in_pit (certified model prec c.in_ok-mine.mine chose holds c.in_ok-put_certificate.ensures.puts)
+    (in_pit (certified model prec c.in_ok-mine.mine chose holds c.in_ok-pit.ensures.certified)
     (cut_short model prec c.in_ok-mine.mine old new e holds wrote.0 wrote.1 wrote.2)))
 
 pub returns-clause-done : goal.returns-clause-done
@@ -57,4 +54,4 @@ pub returns-clause-certified : goal.returns-clause-certified
 returns-clause-certified g c =
     let model = reading (g.M.InBytes.progress c.args.model.now) (g.M.InBytes.progress c.read_mine.new.model) (g.M.InBytes.IsAtEnd c.read_mine.new.model) in
     let prec = reading (g.P.InBytes.progress c.args.prec.now) (g.P.InBytes.progress c.read_mine.new.prec) (g.P.InBytes.IsAtEnd c.read_mine.new.prec) in
-    certified model prec c.in_ok-mine.mine (chosen g.C.OutBytes.progress c.args.certificate.now c.put_certificate.new.out) c.in_ok-mine.ensures.mine c.in_ok-put_certificate.ensures.puts
+    certified model prec c.in_ok-mine.mine (chosen g.C.OutBytes.progress c.args.certificate.now c.solve_mine.new.certificate) c.in_ok-mine.ensures.mine c.in_ok-pit.ensures.certified

@@ -10,7 +10,8 @@ use Rattle.std.proofs.lemmas.Result.{err_from_is_err_and}
 use Rattle.solver.specs.Modes.{EndsWithin, RefusesSolve}
 use Rattle.pit_model.specs.Shells.{factor_of, IsJoined}
 use Rattle.shells.specs.Prices.{deposit_of, price_of}
-use Rattle.shells.specs.Grown.{marked, rest_at, IsFound}
+use Rattle.certificate.specs.Check.{ShowsPit}
+use Rattle.shells.specs.Grown.{marked, rest_at}
 use Rattle.shells.proofs.Joining.{found_below, grows, is_priced, is_rest, is_shell, left_over, marked_below, marked_few, solve_refuses}
 use Rattle.shells.proofs.Ends.{rest_ends}
 use Rattle.shells.proofs.growing.next_shell.Goals as goal
@@ -60,7 +61,7 @@ returns-clause-grown g c =
     let columns = c.args.priced.now.columns.now in
     let growing = c.args.growing.now in
     let next = c.join.new.growing in
-    let found = subst (λ f. IsFound (rest_at columns f growing.blocks.items growing.graph.value) c.in_ok-found.found.items) c.get-factor.ensures c.in_ok-found.ensures.found in
+    let found = subst (λ f. ShowsPit (rest_at columns f growing.blocks.items growing.graph.value) c.in_ok-found.found.items) c.get-factor.ensures c.in_ok-found.ensures.found in
     let joined = subst (λ (xs : List ℕ). (test : ℕ → Bool) → xs ≡ members (length growing.blocks.items) test → IsJoined (marked growing.marks.items) growing.blocks.items test (marked next.marks.items)) c.deref.ensures.value c.in_ok-join.ensures.joined in
     grows columns c.args.priced.now.graph.now growing.graph.value next.graph.value c.args.priced.now.factors.now c.args.k growing.marks.items next.marks.items growing.blocks.items next.blocks.items c.in_ok-found.found.items
     (is_priced columns c.args.priced.now.graph.now c.law-2.ensures c.requires.rows) c.law.ensures c.requires.known c.requires.grown found joined c.in_ok-join.ensures.size (c.in_ok-join.ensures.outside columns)
@@ -71,7 +72,7 @@ returns-clause-shell g c =
     let growing = c.args.growing.now in
     let next = c.join.new.growing in
     let factors = c.args.priced.now.factors.now in
-    let found = subst (λ f. IsFound (rest_at columns f growing.blocks.items growing.graph.value) c.in_ok-found.found.items) c.get-factor.ensures c.in_ok-found.ensures.found in
+    let found = subst (λ f. ShowsPit (rest_at columns f growing.blocks.items growing.graph.value) c.in_ok-found.found.items) c.get-factor.ensures c.in_ok-found.ensures.found in
     let joined = subst (λ (xs : List ℕ). (test : ℕ → Bool) → xs ≡ members (length growing.blocks.items) test → IsJoined (marked growing.marks.items) growing.blocks.items test (marked next.marks.items)) c.deref.ensures.value c.in_ok-join.ensures.joined in
     let grown = grows columns c.args.priced.now.graph.now growing.graph.value next.graph.value factors c.args.k growing.marks.items next.marks.items growing.blocks.items next.blocks.items c.in_ok-found.found.items
     (is_priced columns c.args.priced.now.graph.now c.law-2.ensures c.requires.rows) c.law.ensures c.requires.known c.requires.grown found joined c.in_ok-join.ensures.size (c.in_ok-join.ensures.outside columns) in

@@ -1,12 +1,11 @@
--- The rest is an instance, and what the certificate of its solve shows is found.
+-- The rest is an instance, and its pit is what is found.
 use Rattle.std.proofs.Common.{◌≡◌, ◌∙◌, ◌<◌, length, map, ap, subst, rules}
-use Rattle.std.proofs.lemmas.Result.{err_from_is_err_and}
 use Rattle.pit_model.specs.Graph.{Graph}
 use Rattle.pit_model.specs.Mine.{Instance}
 use Rattle.solver.specs.Modes.{RefusesSolve}
 use Rattle.shells.specs.Prices.{price_of}
 use Rattle.shells.specs.Grown.{rest_at}
-use Rattle.shells.proofs.Joining.{is_found, same_instance, values_small}
+use Rattle.shells.proofs.Joining.{same_instance, values_small}
 use Rattle.shells.proofs.growing.solve_rest.Goals as goal
 
 pub new-rest-requires-clause-low : goal.new-rest-requires-clause-low
@@ -22,25 +21,3 @@ new-rest-requires-clause-high g c u l =
     let values : c.in_ok-values.values.items ≡ map (price_of c.args.columns.now c.args.factor) blocks = c.in_ok-values.ensures ∙ ap (map (price_of c.args.columns.now c.args.factor)) c.deref.ensures.value in
     let inside : u < length blocks = search rules in
     (values_small c.args.columns.now c.args.factor u blocks c.in_ok-values.values.items c.law.ensures c.requires.factor c.requires.rows values inside).1
-
-pub returns-in_err-certificate-clause-refused : goal.returns-in_err-certificate-clause-refused
-returns-in_err-certificate-clause-refused g c =
-    let p = err_from_is_err_and c.from_residual-in_err-certificate.result c.from_residual-in_err-certificate.ensures.1 in
-    let e = c.in_err-certificate.field-0.0 in
-    let columns = c.args.columns.now in
-    let blocks = c.args.growing.now.blocks.items in
-    let part = c.args.growing.now.graph.value in
-    let values : c.in_ok-values.values.items ≡ map (price_of columns c.args.factor) blocks = c.in_ok-values.ensures ∙ ap (map (price_of columns c.args.factor)) c.deref.ensures.value in
-    let same : c.new-rest.result ≡ rest_at columns c.args.factor blocks part = same_instance c.new-rest.result columns c.args.factor blocks part
-    (c.new-rest.ensures.blocks ∙ ap (λ (h : Graph). h.blocks) c.in_ok-graph.ensures) (c.new-rest.ensures.values ∙ values) (c.new-rest.ensures.pairs ∙ ap (λ (h : Graph). h.pairs) c.in_ok-graph.ensures) in
-    rw (p.1, p.2) (subst (λ (i : Instance). RefusesSolve c.args.mode.now i e.refusal e) same c.in_err-certificate.ensures.refused)
-
-pub returns-clause-found : goal.returns-clause-found
-returns-clause-found g c =
-    let columns = c.args.columns.now in
-    let blocks = c.args.growing.now.blocks.items in
-    let part = c.args.growing.now.graph.value in
-    let values : c.in_ok-values.values.items ≡ map (price_of columns c.args.factor) blocks = c.in_ok-values.ensures ∙ ap (map (price_of columns c.args.factor)) c.deref.ensures.value in
-    let same : c.new-rest.result ≡ rest_at columns c.args.factor blocks part = same_instance c.new-rest.result columns c.args.factor blocks part
-    (c.new-rest.ensures.blocks ∙ ap (λ (h : Graph). h.blocks) c.in_ok-graph.ensures) (c.new-rest.ensures.values ∙ values) (c.new-rest.ensures.pairs ∙ ap (λ (h : Graph). h.pairs) c.in_ok-graph.ensures) in
-    is_found c.new-rest.result (rest_at columns c.args.factor blocks part) c.in_ok-certificate.certificate.pit.items c.in_ok-certificate.certificate.flow.items c.law-2.ensures same c.in_ok-certificate.ensures.shown.certifies
