@@ -3,7 +3,8 @@ ghost use Rattle.std.specs.Prelude.{◌≤◌, ◌^◌, length};
 
 use certificate::{check, of_tree, parse_certificate, write};
 use mine_graph::{Graph, Instance};
-use minelib_reader::{Fault, MemoryWriter, parse_prec, parse_upit};
+use faults::Fault;
+use minelib_reader::{MemoryWriter, parse_prec, parse_upit};
 use norm_tree::NormTree;
 use std::alloc::Global;
 use std::sync::Arc;

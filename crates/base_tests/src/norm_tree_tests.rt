@@ -3,7 +3,7 @@
 ghost use Rattle.std.specs.Prelude.{◌≡◌, ℕ, ◌<◌, ◌^◌, IfOk, ℤ, pos, neg_ℤ, ◌≤ℤ◌, length, get_or};
 
 use mine_graph::{Graph, Instance};
-use minelib_reader::Fault;
+use faults::Fault;
 use norm_tree::NormTree;
 use std::alloc::Global;
 use std::sync::Arc;

@@ -2,7 +2,7 @@
 ghost use Rattle.std.specs.Prelude.{◌≡◌, IfOk};
 
 use mine_graph::{Graph, Part};
-use minelib_reader::Fault;
+use faults::Fault;
 use std::alloc::Global;
 use std::test::*;
 

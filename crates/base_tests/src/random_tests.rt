@@ -2,7 +2,8 @@
 //! that the bare tree sees, which climbs to roots, arc by arc. So two bodies of one thing are held against each other.
 
 use mine_graph::{Graph, Instance};
-use minelib_reader::{Fault, MemoryReader, read_prec, read_upit};
+use faults::Fault;
+use minelib_reader::{MemoryReader, read_prec, read_upit};
 use norm_tree::{BareTree, NormTree};
 use std::alloc::Global;
 use std::sync::Arc;

@@ -3,11 +3,8 @@
 ghost use Rattle.std.specs.Prelude.{◌≡◌, ◌≤◌, ◌<◌, ◌-◌, ◌^◌, length, take, IfOk};
 ghost use Rattle.minelib_reader.specs.Device.{Progress};
 
-use minelib_reader::{
-    BlockTable, DeviceFailed, Fault, FileReader, InBytes, MemoryReader, MemoryWriter, Model,
-    OutBytes, Rows, Source, StreamWriter, column, decimal, digits, next_field, parse_blocks,
-    parse_prec, parse_upit, read_all, read_blocks, read_prec, read_upit, two_fields, write_all,
-};
+use faults::{Fault, Source};
+use minelib_reader::{BlockTable, DeviceFailed, FileReader, InBytes, MemoryReader, MemoryWriter, Model, OutBytes, Rows, StreamWriter, column, decimal, digits, next_field, parse_blocks, parse_prec, parse_upit, read_all, read_blocks, read_prec, read_upit, two_fields, write_all};
 use std::alloc::{AllocError, Global};
 use std::fs::File;
 use std::test::*;

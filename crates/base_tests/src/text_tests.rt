@@ -4,7 +4,8 @@ ghost use Rattle.std.specs.Prelude.{◌≡◌, ◌≤◌, ◌<◌, ℕ, ℤ, pos
 
 use certificate::{Certificate, check, parse_certificate, read, write};
 use mine_graph::{Graph, Instance};
-use minelib_reader::{Fault, MemoryReader, MemoryWriter};
+use faults::Fault;
+use minelib_reader::{MemoryReader, MemoryWriter};
 use report::write_fault;
 use std::alloc::Global;
 use std::sync::Arc;

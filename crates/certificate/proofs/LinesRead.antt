@@ -4,7 +4,7 @@ use Rattle.std.specs.Prelude.{ℤ, pos, codes}
 use Rattle.std.specs.Str.{bytes_eq}
 use Rattle.std.proofs.lemmas.Bool.{eqb-true, leb-true, ltb-true, le-leb, lt-ltb, and_parts, and_from}
 use Rattle.std.proofs.lemmas.Slice.Eq.{bytes_eq-Decides}
-use Rattle.minelib_reader.specs.declared.fault.Refusal.TheVariants.{WrongHeader, OverLimit, NotWhole, IdOutOfPlace, WrongFieldCount, CountsDiffer}
+use Rattle.faults.specs.declared.refusal.Refusal.TheVariants.{WrongHeader, OverLimit, NotWhole, IdOutOfPlace, WrongFieldCount, CountsDiffer}
 use Rattle.minelib_reader.specs.Steps.{◌>>=◌, or_fault, check}
 use Rattle.minelib_reader.specs.Text.{Row, two_of}
 use Rattle.minelib_reader.specs.Number.{whole_of, digits_of}

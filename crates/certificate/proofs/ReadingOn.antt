@@ -1,6 +1,6 @@
 -- Reading the lines of a certificate one after the other, as a loop does.
 use Rattle.std.proofs.Common.{◌≡◌, List, [], ◌∷◌, Ok, Err, Result, refl, sym, ◌∙◌, ℕ}
-use Rattle.minelib_reader.specs.declared.fault.Fault.{Fault}
+use Rattle.faults.specs.declared.fault.Fault.{Fault}
 use Rattle.minelib_reader.specs.Text.{Row}
 use Rattle.pit_model.specs.Graph.{Graph}
 use Rattle.certificate.specs.CertificateLines.{State, PitAndFlow, step_at, end_at, certificate_from}

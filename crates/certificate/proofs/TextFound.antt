@@ -2,7 +2,7 @@
 use Rattle.std.proofs.Common.{◌≡◌, ℕ, zero, suc, ◌+◌, ◌<◌, ◌≤◌, List, [], ◌∷◌, ◌++◌, set, length, Result, Ok, refl, sym, ap, subst, ◌∙◌, arith, append_assoc}
 use Rattle.std.specs.Prelude.{ℤ, pos, codes, replicate}
 use Rattle.std.proofs.lemmas.List.{append-nil, get_or-set_same, get_or-set_other, length-set, length-replicate}
-use Rattle.minelib_reader.specs.declared.fault.Fault.{Fault}
+use Rattle.faults.specs.declared.fault.Fault.{Fault}
 use Rattle.minelib_reader.specs.Text.{Row}
 use Rattle.minelib_reader.proofs.StepLemmas.{bind_ok, done, ok_is}
 use Rattle.pit_model.specs.Graph.{Graph}

@@ -1,7 +1,7 @@
 -- The first fault of the text of a certificate: that of the least line that breaks a check, and on it the first check.
 use Rattle.std.specs.Prelude.{ℕ, List, [], ◌∷◌, take, Option, Some, None, Result, Ok, Err}
 use Rattle.std.specs.List.{slice_get}
-use Rattle.minelib_reader.specs.declared.fault.Fault.{Fault}
+use Rattle.faults.specs.declared.fault.Fault.{Fault}
 use Rattle.minelib_reader.specs.Steps.{fault_of, IsFirstFault}
 use Rattle.minelib_reader.specs.Text.{Row, rows_of, count_of_lines}
 use Rattle.pit_model.specs.Graph.{Graph}

@@ -1,11 +1,12 @@
 -- The text of a certificate: the checks of each line in their order, and the reading of all lines by them.
 use Rattle.std.specs.Prelude.{ℕ, zero, suc, ℤ, pos, ◌+◌, ◌^◌, nat_lt, nat_le, ◌==◌, ◌&&◌, List, [], ◌∷◌, ◌++◌, length, set, Option, Some, None, Result, Ok, Err, codes, replicate, if◌then◌else◌}
 use Rattle.std.specs.Str.{bytes_eq}
-use Rattle.minelib_reader.specs.declared.fault.Fault.{Fault}
-use Rattle.minelib_reader.specs.declared.fault.Refusal.{Refusal}
-use Rattle.minelib_reader.specs.declared.fault.Refusal.TheVariants.{WrongHeader, OverLimit, NotWhole, IdOutOfPlace, WrongFieldCount, EndsEarly, AfterEnd, CountsDiffer}
-use Rattle.minelib_reader.specs.declared.fault.Source.TheVariants.{Certificate}
-use Rattle.minelib_reader.specs.Steps.{◌>>=◌, at_line, or_fault, check}
+use Rattle.faults.specs.declared.fault.Fault.{Fault}
+use Rattle.faults.specs.declared.refusal.Refusal.{Refusal}
+use Rattle.faults.specs.declared.refusal.Refusal.TheVariants.{WrongHeader, OverLimit, NotWhole, IdOutOfPlace, WrongFieldCount, EndsEarly, AfterEnd, CountsDiffer}
+use Rattle.faults.specs.declared.source.Source.TheVariants.{Certificate}
+use Rattle.minelib_reader.specs.Steps.{◌>>=◌, or_fault, check}
+use Rattle.faults.specs.Refused.{at_line}
 use Rattle.minelib_reader.specs.Text.{Row, rows_of, count_of_lines, two_of}
 use Rattle.minelib_reader.specs.Number.{whole_of, digits_of}
 use Rattle.minelib_reader.specs.Upit.{is_pair}

@@ -2,7 +2,7 @@
 //! pairs and one over the blocks once the excesses and the reached blocks are known. It knows nothing of the tree.
 ghost use Rattle.std.specs.Prelude.{◌≡◌, ◌<◌, ◌↔◌, ℕ, pos, ◌≤ℤ◌, IsTrue, length, IfOk, IfErr};
 ghost use Rattle.std.specs.List.{All};
-ghost use Rattle.minelib_reader.specs.Refused.{no_memory};
+ghost use Rattle.faults.specs.Refused.{no_memory};
 ghost use Rattle.pit_model.specs.Mine.{arcs, members};
 ghost use Rattle.pit_model.specs.Certificate.{Certifies, IsCertificate};
 ghost use Rattle.certificate.specs.Check.{amount, has, AreAmounts, AreExcesses, AreReached, AreRising, BlockAllows, BlocksAllow, IsCandidate, PairAllows, PairsAllow, ShowsPit};
@@ -10,8 +10,8 @@ ghost use Rattle.certificate.specs.Check.{amount, has, AreAmounts, AreExcesses, 
 use crate::excess::excesses_of;
 use crate::pit_with_flow::Certificate;
 use crate::reach::reached_of;
+use faults::Fault;
 use mine_graph::{Graph, Instance};
-use minelib_reader::Fault;
 use std::alloc::{AllocError, Global};
 
 /// A mark for each of n blocks: whether it is on the list.

@@ -7,19 +7,16 @@ ghost use Rattle.minelib_reader.specs.Text.{row, fields_of};
 ghost use Rattle.certificate.specs.CertificateLines.{in_certificate, one_of, three_of, arc_of, title_line, number_line, same_line, count_line, id_line, arc_line};
 
 use crate::amount::amount_digits;
+use faults::{Fault, Refusal, Source};
 use mine_graph::Graph;
-use minelib_reader::{Fault, Refusal, Row, Source, digits, next_field, two_fields};
+use minelib_reader::{Row, digits, next_field, two_fields};
 
 const MOST_AMOUNT: u128 = 1_000_000_000_000_000_000_000_000_000_000;
 
 pub fn in_certificate(refusal: Refusal, line: u64) -> Fault
     ensures { result ≡ in_certificate refusal line }
 {
-    Fault {
-        refusal,
-        source: Source::Certificate,
-        line,
-    }
+    Fault::at_line(Source::Certificate, refusal, line)
 }
 
 /// The field of a line of one.

@@ -1,10 +1,10 @@
 //! The certificate of a tree. This file alone of the crate knows the tree: what checks a certificate knows the graph alone.
 ghost use Rattle.std.specs.Prelude.{◌≡◌, IfOk, IfErr};
-ghost use Rattle.minelib_reader.specs.Refused.{no_memory};
+ghost use Rattle.faults.specs.Refused.{no_memory};
 ghost use Rattle.certificate.specs.Certificate.{AnswersTree};
 
 use crate::pit_with_flow::Certificate;
-use minelib_reader::Fault;
+use faults::Fault;
 use norm_tree::NormTree;
 
 /// The strong blocks of a tree and its flow, where no merger arc is left; None exactly where one is.

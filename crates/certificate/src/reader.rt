@@ -1,8 +1,8 @@
 //! The text of a certificate: a head of four lines, the blocks of the pit, how many arcs carry something, and these.
 //! Each line is the one that is `Due`, checked by a function of `lines`; the first fault ends the reading.
 ghost use Rattle.std.specs.Prelude.{◌≡◌, ◌↔◌, ℕ, ℤ, List, Ok, Err, ◌≤◌, ◌<◌, ◌^◌, length, IfOk, IfErr};
-ghost use Rattle.minelib_reader.specs.declared.fault.Fault.{Fault as AnyFault};
-ghost use Rattle.minelib_reader.specs.declared.fault.Source.TheVariants as sources;
+ghost use Rattle.faults.specs.declared.fault.Fault.{Fault as AnyFault};
+ghost use Rattle.faults.specs.declared.source.Source.TheVariants as sources;
 ghost use Rattle.minelib_reader.specs.Answer.{Gives, Answers, AnswersBy, FailsBy, FailsAt};
 ghost use Rattle.minelib_reader.specs.Text.{row, fields_of};
 ghost use Rattle.pit_model.specs.Graph.{AreRising, Graph as AnyGraph};
@@ -14,8 +14,9 @@ ghost use Rattle.certificate.specs.CertificateGrammar.{SpellsCertificate};
 use crate::due::Due;
 use crate::lines::{check_count, check_title, in_certificate, read_arc, read_count, read_id};
 use crate::pit_with_flow::Certificate;
+use faults::{Fault, Refusal, Source};
 use mine_graph::Graph;
-use minelib_reader::{Fault, InBytes, Refusal, Row, Rows, Source, read_all};
+use minelib_reader::{InBytes, Row, Rows, read_all};
 use std::alloc::Global;
 
 /// The line of a block, while some are left; then how many arcs follow.

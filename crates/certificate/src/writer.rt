@@ -3,7 +3,7 @@
 ghost use Rattle.std.specs.Prelude.{◌≡◌, ◌<◌, ◌^◌, pos, int_lt, length, IfErr};
 ghost use Rattle.std.specs.List.{flat_map};
 ghost use Rattle.minelib_reader.specs.Device.{Writes};
-ghost use Rattle.minelib_reader.specs.Refused.{write_failed};
+ghost use Rattle.faults.specs.Refused.{write_failed};
 ghost use Rattle.pit_model.specs.PitText.{line_of};
 ghost use Rattle.report.specs.Puts.{IsReady, Puts};
 ghost use Rattle.certificate.specs.Check.{amount, IsCandidate};
@@ -12,8 +12,9 @@ ghost use Rattle.certificate.specs.CertificateLines.{pit_and_flow};
 ghost use Rattle.certificate.specs.CertificateText.{carrying, certificate_head, certificate_text, flow_head, flow_line};
 
 use crate::pit_with_flow::Certificate;
+use faults::Fault;
 use mine_graph::Graph;
-use minelib_reader::{Fault, OutBytes};
+use minelib_reader::OutBytes;
 use report::{Out, end_line, finish, put, put_line, put_number};
 
 /// Writes the lines before the first block: how many blocks and arcs the graph has, and how many blocks are in the pit.

@@ -1,11 +1,11 @@
 -- Why pairs are no graph.
 use Rattle.std.specs.Prelude.{◌≡◌, ℕ, List}
 use Rattle.pit_model.specs.Cycle.{IsCycleList}
-use Rattle.minelib_reader.specs.declared.fault.Fault.{Fault}
-use Rattle.minelib_reader.specs.declared.fault.Refusal.{Refusal}
-use Rattle.minelib_reader.specs.declared.fault.Refusal.TheVariants.{NoMemory, Cycle}
-use Rattle.minelib_reader.specs.declared.fault.Source.TheVariants.{Precedence}
-use Rattle.minelib_reader.specs.Refused.{no_memory}
+use Rattle.faults.specs.declared.fault.Fault.{Fault}
+use Rattle.faults.specs.declared.refusal.Refusal.{Refusal}
+use Rattle.faults.specs.declared.refusal.Refusal.TheVariants.{NoMemory, Cycle}
+use Rattle.faults.specs.declared.source.Source.TheVariants.{Precedence}
+use Rattle.faults.specs.Refused.{no_memory}
 
 -- no memory; or the cycle of the pairs, which lies in the precedence file and on no line of it
 abbrev pub RefusesPairs : List (ℕ × ℕ) → ℕ → Refusal → Fault → Type 0

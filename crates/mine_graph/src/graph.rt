@@ -8,7 +8,7 @@ ghost use Rattle.mine_graph.specs.Faults.{IsGraphFault};
 use crate::no_cycle::check_acyclic;
 use crate::rising::in_order;
 use crate::sort::number_by_second;
-use minelib_reader::Fault;
+use faults::Fault;
 use std::alloc::Global;
 use std::marker::Model;
 use std::ops::Range;

@@ -8,7 +8,7 @@ ghost use Rattle.mine_graph.specs.Rows.{AreStarts};
 use crate::count_down::{arcs_left, first_left};
 use crate::cycle::cycle_of;
 use crate::sort::sort_by_second;
-use minelib_reader::{Fault, Refusal, Source};
+use faults::{Fault, Refusal, Source};
 use std::alloc::Global;
 
 /// Refused by the cycle that the pairs have, where they have one, and for want of memory.
@@ -25,11 +25,11 @@ fn refuse_cycle(alloc: Global, n: u32, pairs: &[(u32, u32)], starts: &[u32]) -> 
     let left = arcs_left(alloc, n, &turned, &turned_starts)?;
     match first_left(&left) {
         None => Ok(()),
-        Some(first) => Err(Fault {
-            refusal: Refusal::Cycle(cycle_of(alloc, pairs, starts, &left, first)?),
-            source: Source::Precedence,
-            line: 0,
-        }),
+        Some(first) => Err(Fault::at_line(
+            Source::Precedence,
+            Refusal::Cycle(cycle_of(alloc, pairs, starts, &left, first)?),
+            0,
+        )),
     }
 }
 

@@ -1,14 +1,14 @@
 //! A part of a graph: some of its blocks, renumbered in rising order, with the pairs among them as a graph of its own.
 //! The blocks of a part are those with one label; `without` labels the blocks of a set, and takes the others.
 ghost use Rattle.std.specs.Prelude.{◌≡◌, ◌<◌, ◌≤◌, ◌^◌, ◌==◌, ◌+◌, ℕ, true, false, not, map, length, get_or, IfOk, IfErr};
-ghost use Rattle.minelib_reader.specs.Refused.{no_memory};
+ghost use Rattle.faults.specs.Refused.{no_memory};
 ghost use Rattle.pit_model.specs.Graph.{first_of, second_of, AreInRange};
 ghost use Rattle.pit_model.specs.Mine.{members};
 ghost use Rattle.pit_model.specs.Part.{IsPart};
 ghost use Rattle.mine_graph.specs.Renumbered.{has_label, placed_pair, is_inside, is_inside_before, IsPlaced};
 
 use crate::graph::Graph;
-use minelib_reader::Fault;
+use faults::Fault;
 use std::alloc::{AllocError, Global};
 
 /// Some blocks of a graph, rising, and the graph of the pairs among them, in which block i is `blocks[i]`.

@@ -2,8 +2,8 @@
 -- Its idea: each line is checked by its place and the width alone, and the width is known where the first line passes.
 use Rattle.std.proofs.Common.{◌≡◌, ℕ, zero, suc, ◌+◌, ◌-◌, ◌<◌, leb, List, [], ◌∷◌, ◌++◌, length, Option, Some, None, Result, Ok, Err, refl, ap, ◌∙◌, arith, inl, inr, ℤ}
 use Rattle.std.specs.List.{slice_get}
-use Rattle.minelib_reader.specs.declared.fault.Fault.{Fault}
-use Rattle.minelib_reader.specs.declared.fault.Refusal.TheVariants.{OverLimit, WrongFieldCount}
+use Rattle.faults.specs.declared.fault.Fault.{Fault}
+use Rattle.faults.specs.declared.refusal.Refusal.TheVariants.{OverLimit, WrongFieldCount}
 use Rattle.minelib_reader.specs.Steps.{◌>>=◌, check, fault_of, IsFirstFault}
 use Rattle.minelib_reader.specs.Text.{Row}
 use Rattle.minelib_reader.specs.Table.{Place, Table, table}

@@ -6,7 +6,7 @@ use Rattle.std.proofs.lemmas.List.{length-map}
 use Rattle.std.proofs.lemmas.List.Folds.{list_any-append}
 use Rattle.std.proofs.lemmas.List.Elements.{All-nil, All-cons, All-head, All-tail}
 use Rattle.std.specs.List.{All}
-use Rattle.minelib_reader.specs.declared.fault.Refusal.TheVariants.{NotWhole, PredecessorOutOfRange, NeedsItself, PredecessorTwice}
+use Rattle.faults.specs.declared.refusal.Refusal.TheVariants.{NotWhole, PredecessorOutOfRange, NeedsItself, PredecessorTwice}
 use Rattle.minelib_reader.specs.Steps.{◌>>=◌, or_fault, check}
 use Rattle.minelib_reader.specs.Text.{Row}
 use Rattle.minelib_reader.specs.Number.{whole_of}

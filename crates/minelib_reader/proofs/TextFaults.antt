@@ -5,9 +5,9 @@ use Rattle.std.specs.Str.{bytes_eq}
 use Rattle.minelib_reader.specs.Number.{whole_of, decimal_of}
 use Rattle.std.specs.List.{slice_get}
 use Rattle.std.proofs.Common.{take}
-use Rattle.minelib_reader.specs.declared.fault.Fault.{Fault}
-use Rattle.minelib_reader.specs.declared.fault.Refusal.{Refusal}
-use Rattle.minelib_reader.specs.declared.fault.Refusal.TheVariants.{NoSeat, Exhausted}
+use Rattle.faults.specs.declared.fault.Fault.{Fault}
+use Rattle.faults.specs.declared.refusal.Refusal.{Refusal}
+use Rattle.faults.specs.declared.refusal.Refusal.TheVariants.{NoSeat, Exhausted}
 use Rattle.minelib_reader.specs.Steps.{◌>>=◌, check, fault_of}
 use Rattle.minelib_reader.specs.Text.{two_of, two_and_more, Row, rows_of, count_of_lines}
 use Rattle.minelib_reader.specs.Upit.{most_blocks, name_line, type_line, blocks_line, objective_line, value_line}

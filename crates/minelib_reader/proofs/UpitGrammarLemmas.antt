@@ -3,8 +3,8 @@ use Rattle.std.proofs.Common.{◌≡◌, ℕ, ℤ, zero, suc, ◌+◌, ◌≤◌
 use Rattle.std.proofs.lemmas.Bool.{eqb-true, leb-true, le-leb, and_parts}
 use Rattle.std.specs.Str.{bytes_eq}
 use Rattle.std.specs.Prelude.{codes}
-use Rattle.minelib_reader.specs.declared.fault.Refusal.TheVariants.{WrongHeader, OverLimit, NotWhole, NotDecimal, IdOutOfPlace, WrongFieldCount}
-use Rattle.minelib_reader.specs.declared.fault.Fault.{Fault}
+use Rattle.faults.specs.declared.refusal.Refusal.TheVariants.{WrongHeader, OverLimit, NotWhole, NotDecimal, IdOutOfPlace, WrongFieldCount}
+use Rattle.faults.specs.declared.fault.Fault.{Fault}
 use Rattle.minelib_reader.specs.Steps.{◌>>=◌, or_fault, check}
 use Rattle.minelib_reader.specs.Text.{Row, two_of}
 use Rattle.minelib_reader.specs.Number.{whole_of, decimal_of}

@@ -1,12 +1,11 @@
 -- What a function answers that reads a text, or takes the reading of one from a device.
 use Rattle.std.specs.Prelude.{◌≡◌, ℕ, ◌+◌, ◌++◌, List, Result, Ok, Err}
-use Rattle.minelib_reader.specs.declared.fault.Fault.{Fault}
-use Rattle.minelib_reader.specs.declared.fault.Refusal.{Refusal}
-use Rattle.minelib_reader.specs.declared.fault.Refusal.TheVariants.{NoMemory, ReadFailed, WriteFailed}
-use Rattle.minelib_reader.specs.declared.fault.Source.{Source}
+use Rattle.faults.specs.declared.fault.Fault.{Fault}
+use Rattle.faults.specs.declared.refusal.Refusal.{Refusal}
+use Rattle.faults.specs.declared.refusal.Refusal.TheVariants.{NoMemory, ReadFailed, WriteFailed}
+use Rattle.faults.specs.declared.source.Source.{Source}
 use Rattle.minelib_reader.specs.Device.{Progress}
-use Rattle.minelib_reader.specs.Refused.{no_memory}
-use Rattle.minelib_reader.specs.Steps.{at_line}
+use Rattle.faults.specs.Refused.{at_line, no_memory}
 
 -- the fault is that of the reading, unless memory was refused; a text fails neither to be read nor to be written
 abbrev pub FailsBy : {Y : Type 0} → Refusal → Fault → Result Y Fault → Type 0

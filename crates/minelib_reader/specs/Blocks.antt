@@ -1,10 +1,11 @@
 -- The block model file: the checks of each line in their order, and the reading of all lines by them.
 use Rattle.std.specs.Prelude.{ℕ, ◌+◌, ◌-◌, ℤ, pos, neg_ℤ, Bool, int_le, nat_lt, nat_le, ◌==◌, ◌&&◌, List, [], ◌∷◌, ◌++◌, length, Result, Ok}
-use Rattle.minelib_reader.specs.declared.fault.Fault.{Fault}
-use Rattle.minelib_reader.specs.declared.fault.Refusal.{Refusal}
-use Rattle.minelib_reader.specs.declared.fault.Refusal.TheVariants.{OverLimit, NotWhole, NotDecimal, IdOutOfPlace, WrongFieldCount}
-use Rattle.minelib_reader.specs.declared.fault.Source.TheVariants.{Blocks}
-use Rattle.minelib_reader.specs.Steps.{◌>>=◌, at_line, or_fault, check}
+use Rattle.faults.specs.declared.fault.Fault.{Fault}
+use Rattle.faults.specs.declared.refusal.Refusal.{Refusal}
+use Rattle.faults.specs.declared.refusal.Refusal.TheVariants.{OverLimit, NotWhole, NotDecimal, IdOutOfPlace, WrongFieldCount}
+use Rattle.faults.specs.declared.source.Source.TheVariants.{Blocks}
+use Rattle.minelib_reader.specs.Steps.{◌>>=◌, or_fault, check}
+use Rattle.faults.specs.Refused.{at_line}
 use Rattle.minelib_reader.specs.Text.{Row, rows_of, four_and_more}
 use Rattle.minelib_reader.specs.Number.{whole_of, signed_of, decimal_of}
 use Rattle.minelib_reader.specs.Table.{Place, Table, table}

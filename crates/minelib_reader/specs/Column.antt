@@ -1,13 +1,12 @@
 -- One column of a table: the attribute with one number, of each block.
 use Rattle.std.specs.Prelude.{◌≡◌, ℕ, ◌<◌, ◌≤◌, ◌^◌, ℤ, pos, ◌≤ℤ◌, ◌<ℤ◌, List, length, get_or}
 use Rattle.std.specs.List.{All}
-use Rattle.minelib_reader.specs.declared.fault.Fault.{Fault}
-use Rattle.minelib_reader.specs.declared.fault.Refusal.{Refusal}
-use Rattle.minelib_reader.specs.declared.fault.Refusal.TheVariants.{NoMemory, NegativeColumn, NoSuchColumn}
-use Rattle.minelib_reader.specs.declared.fault.Source.TheVariants.{Blocks}
+use Rattle.faults.specs.declared.fault.Fault.{Fault}
+use Rattle.faults.specs.declared.refusal.Refusal.{Refusal}
+use Rattle.faults.specs.declared.refusal.Refusal.TheVariants.{NoMemory, NegativeColumn, NoSuchColumn}
+use Rattle.faults.specs.declared.source.Source.TheVariants.{Blocks}
 use Rattle.minelib_reader.specs.Number.{IsWithin}
-use Rattle.minelib_reader.specs.Refused.{no_memory}
-use Rattle.minelib_reader.specs.Steps.{at_line}
+use Rattle.faults.specs.Refused.{at_line, no_memory}
 use Rattle.minelib_reader.specs.Table.{Table, attribute_in}
 
 -- column k of the blocks before n is not negative

@@ -7,7 +7,6 @@ pub mod Upit
 pub mod UpitGrammar
 pub mod UpitFault
 pub mod UpitLimits
-pub mod Refused
 pub mod Prec
 pub mod Marks
 pub mod PrecGrammar

@@ -1,11 +1,12 @@
 -- The precedence file: the checks of each line in their order, and the reading of all lines by them.
 use Rattle.std.specs.Prelude.{ℕ, ◌+◌, Bool, not, nat_lt, nat_le, ◌==◌, ◌&&◌, List, [], ◌∷◌, ◌++◌, length, map, Result, Ok}
 use Rattle.std.specs.List.{list_any}
-use Rattle.minelib_reader.specs.declared.fault.Fault.{Fault}
-use Rattle.minelib_reader.specs.declared.fault.Refusal.{Refusal}
-use Rattle.minelib_reader.specs.declared.fault.Refusal.TheVariants.{OverLimit, NotWhole, IdOutOfPlace, PredecessorOutOfRange, NeedsItself, PredecessorTwice, WrongFieldCount}
-use Rattle.minelib_reader.specs.declared.fault.Source.TheVariants.{Precedence}
-use Rattle.minelib_reader.specs.Steps.{◌>>=◌, at_line, or_fault, check}
+use Rattle.faults.specs.declared.fault.Fault.{Fault}
+use Rattle.faults.specs.declared.refusal.Refusal.{Refusal}
+use Rattle.faults.specs.declared.refusal.Refusal.TheVariants.{OverLimit, NotWhole, IdOutOfPlace, PredecessorOutOfRange, NeedsItself, PredecessorTwice, WrongFieldCount}
+use Rattle.faults.specs.declared.source.Source.TheVariants.{Precedence}
+use Rattle.minelib_reader.specs.Steps.{◌>>=◌, or_fault, check}
+use Rattle.faults.specs.Refused.{at_line}
 use Rattle.minelib_reader.specs.Text.{Row, rows_of, two_and_more}
 use Rattle.minelib_reader.specs.Number.{whole_of}
 

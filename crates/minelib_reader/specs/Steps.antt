@@ -1,17 +1,11 @@
 -- The checks of a text as steps: each gives a value or a fault, and the first fault ends them.
 use Rattle.std.specs.Prelude.{◌≡◌, ℕ, ◌<◌, Bool, true, false, Option, Some, None, Result, Ok, Err}
-use Rattle.minelib_reader.specs.declared.fault.Fault.{Fault}
-use Rattle.minelib_reader.specs.declared.fault.Refusal.{Refusal}
-use Rattle.minelib_reader.specs.declared.fault.Source.{Source}
+use Rattle.faults.specs.declared.fault.Fault.{Fault}
 
 infixl 10 ◌>>=◌
 abbrev pub ◌>>=◌ : {A B : Type 0} → Result A Fault → (A → Result B Fault) → Result B Fault
 (Ok x) >>= f = f x
 (Err e) >>= f = Err e
-
--- the fault of a line of a file
-abbrev pub at_line : Source → Refusal → ℕ → Fault
-at_line source refusal line = record { refusal = refusal; source = source; line = line }
 
 -- a value, or else this fault
 abbrev pub or_fault : {X : Type 0} → Fault → Option X → Result X Fault

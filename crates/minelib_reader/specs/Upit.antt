@@ -1,11 +1,12 @@
 -- An optimisation model: the checks of each line in their order, and the reading of all lines by them.
 use Rattle.std.specs.Prelude.{ℕ, zero, suc, ℤ, ◌+◌, Bool, false, nat_le, ◌==◌, ◌&&◌, List, [], ◌∷◌, Option, Some, None, Result, Ok, Err, codes}
 use Rattle.std.specs.Str.{bytes_eq}
-use Rattle.minelib_reader.specs.declared.fault.Fault.{Fault}
-use Rattle.minelib_reader.specs.declared.fault.Refusal.{Refusal}
-use Rattle.minelib_reader.specs.declared.fault.Refusal.TheVariants.{WrongHeader, OverLimit, NotWhole, NotDecimal, IdOutOfPlace, WrongFieldCount, EndsEarly, AfterEnd}
-use Rattle.minelib_reader.specs.declared.fault.Source.TheVariants.{Model}
-use Rattle.minelib_reader.specs.Steps.{◌>>=◌, at_line, or_fault, check}
+use Rattle.faults.specs.declared.fault.Fault.{Fault}
+use Rattle.faults.specs.declared.refusal.Refusal.{Refusal}
+use Rattle.faults.specs.declared.refusal.Refusal.TheVariants.{WrongHeader, OverLimit, NotWhole, NotDecimal, IdOutOfPlace, WrongFieldCount, EndsEarly, AfterEnd}
+use Rattle.faults.specs.declared.source.Source.TheVariants.{Model}
+use Rattle.minelib_reader.specs.Steps.{◌>>=◌, or_fault, check}
+use Rattle.faults.specs.Refused.{at_line}
 use Rattle.minelib_reader.specs.Text.{Row, rows_of, count_of_lines, two_of}
 use Rattle.minelib_reader.specs.Number.{whole_of, decimal_of}
 

@@ -1,8 +1,8 @@
 -- The first fault of the text of a model: that of the least line that breaks a check, and on it the first check.
 use Rattle.std.specs.Prelude.{ℕ, zero, suc, ◌+◌, nat_lt, if◌then◌else◌, List, Option, Some, None, Result, Ok, Err}
 use Rattle.std.specs.List.{slice_get}
-use Rattle.minelib_reader.specs.declared.fault.Fault.{Fault}
-use Rattle.minelib_reader.specs.declared.fault.Refusal.TheVariants.{EndsEarly, AfterEnd}
+use Rattle.faults.specs.declared.fault.Fault.{Fault}
+use Rattle.faults.specs.declared.refusal.Refusal.TheVariants.{EndsEarly, AfterEnd}
 use Rattle.minelib_reader.specs.Steps.{fault_of, IsFirstFault}
 use Rattle.minelib_reader.specs.Text.{Row, rows_of, count_of_lines}
 use Rattle.minelib_reader.specs.Upit.{in_model, name_line, type_line, blocks_line, objective_line, value_line}

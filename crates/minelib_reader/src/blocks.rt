@@ -3,8 +3,8 @@
 //! The first line says how many attributes the blocks have, so its fields are counted before the lines are read.
 ghost use Rattle.std.specs.Prelude.{◌≡◌, ◌↔◌, ℕ, ℤ, List, Ok, Err, ◌≤◌, ◌<◌, ◌^◌, ◌++◌, length, IfOk, IfErr};
 ghost use Rattle.std.specs.List.{All};
-ghost use Rattle.minelib_reader.specs.declared.fault.Fault.{Fault as AnyFault};
-ghost use Rattle.minelib_reader.specs.declared.fault.Source.TheVariants as sources;
+ghost use Rattle.faults.specs.declared.fault.Fault.{Fault as AnyFault};
+ghost use Rattle.faults.specs.declared.source.Source.TheVariants as sources;
 ghost use Rattle.minelib_reader.specs.Added.{AddsBlock};
 ghost use Rattle.minelib_reader.specs.Answer.{Gives, Answers, AnswersBy, FailsBy, FailsAt};
 ghost use Rattle.minelib_reader.specs.Blocks.{in_blocks, width_line, width_of, coordinate_of, front_of, attribute_of, attributes_of, block_line, blocks_from, as_table, table_of};
@@ -15,12 +15,12 @@ ghost use Rattle.minelib_reader.specs.Table.{Table};
 ghost use Rattle.minelib_reader.specs.Text.{row, rows_of, fields_of};
 
 use crate::device::InBytes;
-use crate::fault::{Fault, Refusal, Source};
 use crate::input::read_all;
 use crate::lines::{count_fields, first_four, next_field};
 use crate::number::{decimal, digits, signed};
 use crate::rows::{Row, Rows};
 use crate::table::BlockTable;
+use faults::{Fault, Refusal, Source};
 use std::alloc::Global;
 
 const MOST_BLOCKS: u64 = 4_194_304;
@@ -37,11 +37,7 @@ struct Front<'a> {
 pub(crate) fn in_blocks(refusal: Refusal, line: u64) -> Fault
     ensures { result ≡ in_blocks refusal line }
 {
-    Fault {
-        refusal,
-        source: Source::Blocks,
-        line,
-    }
+    Fault::at_line(Source::Blocks, refusal, line)
 }
 
 /// How many attributes the first line has.

@@ -3,8 +3,8 @@ ghost use Rattle.std.specs.Prelude.{IfOk, IfErr};
 ghost use Rattle.minelib_reader.specs.Column.{IsColumn, RefusesColumn};
 
 use crate::blocks::in_blocks;
-use crate::fault::{Fault, Refusal};
 use crate::table::BlockTable;
+use faults::{Fault, Refusal};
 use std::alloc::Global;
 
 /// Column k of a table, in millionths. Refused by `NoSuchColumn` where the table has fewer columns, by `NegativeColumn` with

@@ -5,8 +5,8 @@ ghost use Rattle.minelib_reader.specs.Device.{Progress, unread};
 ghost use Rattle.minelib_reader.specs.Answer.{IsRead, Refuses};
 
 use crate::device::{DeviceFailed, InBytes, MOST_TRIES};
-use crate::fault::{Fault, Refusal, Source};
 use crate::history::History;
+use faults::{Fault, Refusal, Source};
 use std::alloc::Global;
 use std::fs::File;
 use std::io;
@@ -126,11 +126,7 @@ pub fn read_all<R: InBytes>(alloc: Global, reader: &mut R, source: Source) -> Re
             Ok(0) => return Ok(text),
             Ok(n) => text.extend_from_slice(&chunk[..n])?,
             Err(DeviceFailed) => {
-                return Err(Fault {
-                    refusal: Refusal::ReadFailed,
-                    source,
-                    line: 0,
-                });
+                return Err(Fault::at_line(source, Refusal::ReadFailed, 0));
             }
         }
     }

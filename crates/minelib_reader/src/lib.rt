@@ -4,7 +4,6 @@
 mod blocks;
 mod columns;
 mod device;
-mod fault;
 mod history;
 mod input;
 mod lines;
@@ -18,7 +17,7 @@ mod upit;
 pub use blocks::{blocks_law, parse_blocks, read_blocks};
 pub use columns::column;
 pub use device::{DeviceFailed, InBytes, OutBytes};
-pub use fault::{Fault, Refusal, Source};
+pub use faults::{Fault, Refusal, Source};
 pub use input::{FileReader, MemoryReader, read_all};
 pub use lines::{next_field, next_whole, two_fields};
 pub use number::{Decimal, cut, decimal, digits};

@@ -3,9 +3,9 @@
 //! Blocks seen on a line are marked by its id plus one, so that ids, which rise, need no clearing of the marks.
 ghost use Rattle.std.specs.Prelude.{◌≡◌, ◌≢◌, ◌==◌, if◌then◌else◌, ◌↔◌, ℕ, List, ◌≤◌, ◌+◌, ◌<◌, ◌^◌, ◌++◌, [], length, IfOk, IfErr, Ok, Err};
 ghost use Rattle.std.specs.List.{All};
-ghost use Rattle.minelib_reader.specs.declared.fault.Fault.{Fault as AnyFault};
-ghost use Rattle.minelib_reader.specs.declared.fault.Refusal.TheVariants.{OverLimit, WrongFieldCount};
-ghost use Rattle.minelib_reader.specs.declared.fault.Source.TheVariants as sources;
+ghost use Rattle.faults.specs.declared.fault.Fault.{Fault as AnyFault};
+ghost use Rattle.faults.specs.declared.refusal.Refusal.TheVariants.{OverLimit, WrongFieldCount};
+ghost use Rattle.faults.specs.declared.source.Source.TheVariants as sources;
 ghost use Rattle.minelib_reader.specs.Answer.{Gives, Answers, AnswersBy, FailsBy, FailsAt};
 ghost use Rattle.minelib_reader.specs.Marks.{AreMarked, AddsLine};
 ghost use Rattle.minelib_reader.specs.Number.{whole_of};
@@ -16,11 +16,11 @@ ghost use Rattle.minelib_reader.specs.PrecLimits.{ArePrecedences};
 ghost use Rattle.minelib_reader.specs.Text.{row, fields_of};
 
 use crate::device::InBytes;
-use crate::fault::{Fault, Refusal, Source};
 use crate::input::read_all;
 use crate::lines::{count_fields, first_two, next_whole};
 use crate::number::digits;
 use crate::rows::{Row, Rows};
+use faults::{Fault, Refusal, Source};
 use std::alloc::Global;
 
 const MOST_PAIRS: u64 = 67_108_864;
@@ -43,11 +43,7 @@ struct Front<'a> {
 fn in_precedence(refusal: Refusal, line: u64) -> Fault
     ensures { result ≡ in_precedence refusal line }
 {
-    Fault {
-        refusal,
-        source: Source::Precedence,
-        line,
-    }
+    Fault::at_line(Source::Precedence, refusal, line)
 }
 
 /// One predecessor of a block, by the whole number of its field, where the marks tell those that were seen on its line.

@@ -1,8 +1,8 @@
 //! The text of an optimisation model (`.upit`): a header of four lines, then a value for each block.
 //! Each line is checked by a function of its own, in the order of `specs/Upit.antt`; the first fault ends the reading.
 ghost use Rattle.std.specs.Prelude.{◌≡◌, ◌↔◌, ℕ, List, Ok, Err, ◌≤◌, ◌+◌, ◌<◌, ◌^◌, length, IfOk, IfErr};
-ghost use Rattle.minelib_reader.specs.declared.fault.Fault.{Fault as AnyFault};
-ghost use Rattle.minelib_reader.specs.declared.fault.Source.TheVariants as sources;
+ghost use Rattle.faults.specs.declared.fault.Fault.{Fault as AnyFault};
+ghost use Rattle.faults.specs.declared.source.Source.TheVariants as sources;
 ghost use Rattle.minelib_reader.specs.Answer.{Gives, Answers, AnswersBy, FailsAt};
 ghost use Rattle.minelib_reader.specs.Number.{IsWithin};
 ghost use Rattle.minelib_reader.specs.Text.{Row as TextRow, row, rows_at, lines_at, fields_of};
@@ -12,11 +12,11 @@ ghost use Rattle.minelib_reader.specs.UpitGrammar.{SpellsUpit};
 ghost use Rattle.minelib_reader.specs.UpitLimits.{AreSmall, IsSmallModel};
 
 use crate::device::InBytes;
-use crate::fault::{Fault, Refusal, Source};
 use crate::input::read_all;
 use crate::lines::{next_field, two_fields};
 use crate::number::{Decimal, decimal, digits};
 use crate::rows::{Row, Rows};
+use faults::{Fault, Refusal, Source};
 use std::alloc::Global;
 
 const MOST_BLOCKS: u64 = 4_194_304;
@@ -31,11 +31,7 @@ pub struct Model {
 fn in_model(refusal: Refusal, line: u64) -> Fault
     ensures { result ≡ in_model refusal line }
 {
-    Fault {
-        refusal,
-        source: Source::Model,
-        line,
-    }
+    Fault::at_line(Source::Model, refusal, line)
 }
 
 #[tactic(auto, unfolding(crate::specs::Upit::name_line))]

@@ -1,12 +1,12 @@
 //! The flow of a tree by arc, gathered from its links: that of the link over the arc, and none where there is no link.
 ghost use Rattle.std.specs.Prelude.{◌≡◌, ◌<◌, IfOk, IfErr, map};
 ghost use Rattle.std.specs.List.{range_with_len};
-ghost use Rattle.minelib_reader.specs.Refused.{no_memory};
+ghost use Rattle.faults.specs.Refused.{no_memory};
 ghost use Rattle.pit_model.specs.Mine.{arcs};
 ghost use Rattle.pit_model.specs.Tree.{flow};
 
 use crate::bare::BareTree;
-use minelib_reader::Fault;
+use faults::Fault;
 
 impl BareTree {
     /// The flow on an arc.

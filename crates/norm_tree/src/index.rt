@@ -1,13 +1,13 @@
 //! What finds the first merger arc by labels: for each block the count of the weak blocks that it needs, and a mark on each
 //! strong block whose count is not 0. A change of a label goes to the users of its block.
 ghost use Rattle.std.specs.Prelude.{◌≡◌, ℕ, ◌^◌, ◌<◌, ◌≤◌, true, false, length, get_or, set, IsTrue, IfOk, IfErr, IfSome, IsNone, not};
-ghost use Rattle.minelib_reader.specs.Refused.{no_memory};
+ghost use Rattle.faults.specs.Refused.{no_memory};
 ghost use Rattle.pit_model.specs.Graph.{first_of, second_of};
 ghost use Rattle.norm_tree.specs.Labelled.{is_open, label, labelled, AreCounted, AreMarked, IsIndexed};
 
 use crate::marks::Marks;
 use mine_graph::Graph;
-use minelib_reader::Fault;
+use faults::Fault;
 use std::alloc::Global;
 
 /// The index of a graph's labels, which stand elsewhere.

@@ -1,11 +1,11 @@
 //! The label of each block, strong or weak, and the first merger arc by them: by an index, or by a look at each pair.
 ghost use Rattle.std.specs.Prelude.{◌≡◌, ℕ, ◌<◌, false, length, set, IsTrue, IfOk, IfErr, IfSome, IsNone};
-ghost use Rattle.minelib_reader.specs.Refused.{no_memory};
+ghost use Rattle.faults.specs.Refused.{no_memory};
 ghost use Rattle.norm_tree.specs.Labelled.{is_open, label, labelled};
 
 use crate::index::Index;
 use mine_graph::Graph;
-use minelib_reader::Fault;
+use faults::Fault;
 use std::alloc::Global;
 use std::marker::Model;
 use std::sync::Arc;

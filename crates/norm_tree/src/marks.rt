@@ -1,10 +1,10 @@
 //! Marks on blocks, and the least marked block in a few steps. The marks are the last level of a heap in which each node
 //! is marked where one of the two below it is: setting a mark climbs until nothing changes, the search descends.
 ghost use Rattle.std.specs.Prelude.{◌≡◌, ℕ, ◌+◌, ◌*◌, ◌^◌, ◌<◌, ◌≤◌, false, length, get_or, IsTrue, IfOk, IfErr, IfSome, IsNone};
-ghost use Rattle.minelib_reader.specs.Refused.{no_memory};
+ghost use Rattle.faults.specs.Refused.{no_memory};
 ghost use Rattle.norm_tree.specs.Heap.{AreEither};
 
-use minelib_reader::Fault;
+use faults::Fault;
 use std::alloc::Global;
 use std::marker::Model;
 

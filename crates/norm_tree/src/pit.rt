@@ -1,11 +1,11 @@
 //! The strong blocks of a tree, which are the pit where no merger arc is left.
 ghost use Rattle.std.specs.Prelude.{◌≡◌, IfOk, IfErr};
-ghost use Rattle.minelib_reader.specs.Refused.{no_memory};
+ghost use Rattle.faults.specs.Refused.{no_memory};
 ghost use Rattle.pit_model.specs.Mine.{members};
 ghost use Rattle.pit_model.specs.Tree.{is_strong};
 
 use crate::tree::NormTree;
-use minelib_reader::Fault;
+use faults::Fault;
 
 impl NormTree {
     /// The strong blocks, rising.

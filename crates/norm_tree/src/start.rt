@@ -2,10 +2,10 @@
 ghost use Rattle.std.specs.Prelude.{◌≡◌, IfOk, IfErr, map};
 ghost use Rattle.std.specs.List.{range_with_len};
 ghost use Rattle.pit_model.specs.Mine.{value};
-ghost use Rattle.minelib_reader.specs.Refused.{no_memory};
+ghost use Rattle.faults.specs.Refused.{no_memory};
 
 use mine_graph::Instance;
-use minelib_reader::Fault;
+use faults::Fault;
 use std::alloc::Global;
 use std::sync::Arc;
 

@@ -3,10 +3,9 @@
 #![tactic(auto)]
 
 ghost use Rattle.std.specs.Prelude.{◌≡◌, ◌^◌, IfOk, IfErr};
-ghost use Rattle.minelib_reader.specs.Steps.{at_line};
-ghost use Rattle.minelib_reader.specs.declared.fault.Refusal.TheVariants.{ReadFailed};
+ghost use Rattle.faults.specs.Refused.{at_line, write_failed};
+ghost use Rattle.faults.specs.declared.refusal.Refusal.TheVariants.{ReadFailed};
 ghost use Rattle.minelib_reader.specs.Device.{unread};
-ghost use Rattle.minelib_reader.specs.Refused.{write_failed};
 ghost use Rattle.runs.specs.Chosen.{progress_of, IsCountable};
 
 mod command_line;
@@ -14,7 +13,8 @@ mod options;
 
 use clap::error::ErrorKind;
 use command_line::command;
-use minelib_reader::{Fault, FileReader, InBytes, OutBytes, Refusal, Source, StreamWriter};
+use faults::{Fault, Refusal, Source};
+use minelib_reader::{FileReader, InBytes, OutBytes, StreamWriter};
 use options::{CheckOptions, Options, ShellsOptions, SolveOptions};
 use report::write_fault;
 use runs::{Status, exit_code, run_check, run_shells, run_solve};
@@ -33,11 +33,7 @@ fn open(rt: &HostRuntime, path: &str, source: Source) -> Result<FileReader, Faul
 {
     match File::open(rt, path) {
         Ok(file) => Ok(FileReader::new(file)),
-        Err(_) => Err(Fault {
-            refusal: Refusal::ReadFailed,
-            source,
-            line: 0,
-        }),
+        Err(_) => Err(Fault::at_line(source, Refusal::ReadFailed, 0)),
     }
 }
 

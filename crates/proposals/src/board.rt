@@ -2,14 +2,14 @@
 //! It is made without a name, and named by a type; its calls stand in `ask`, `serve` and `settle`.
 ghost use Rattle.std.specs.Prelude.{◌≡◌, ◌<◌, [], length, IfOk, IfErr, replicate};
 ghost use Rattle.proposals.specs.Ledger.{opener, nothing, desks};
-ghost use Rattle.minelib_reader.specs.Refused.{no_memory, IsNoRoom};
+ghost use Rattle.faults.specs.Refused.{no_memory, IsNoRoom};
 
 use crate::knows::Knows;
 use crate::room::Room;
 use crate::seats::{HolderSeat, WorkerSeat};
 use crate::steps::{Asks, Deal};
 use atomic_table::{Seat, Table};
-use minelib_reader::Fault;
+use faults::Fault;
 use std::alloc::Global;
 use std::marker::PhantomData;
 

@@ -2,13 +2,13 @@
 //! It has one kind of step. Workers draw the chunks that they go over, and whoever has all seats again closes it.
 ghost use Rattle.std.specs.Prelude.{◌≡◌, ◌<◌, ◌≤◌, [], length, IfOk, IfErr, MatchOption};
 ghost use Rattle.proposals.specs.Drawn.{batch, whole, new_seats, Gets, GetsNone, all_drawn, IsEachBelowOnce};
-ghost use Rattle.minelib_reader.specs.Refused.{no_memory, no_seat};
+ghost use Rattle.faults.specs.Refused.{no_memory, no_seat};
 
 use crate::draw_seats::{DrawSeat, Lot};
 use crate::draw_steps::{Counts, Deal, Draw, Gather, Sit};
 use crate::hand::{Batch, Hand};
 use atomic_table::{Seat, Table};
-use minelib_reader::Fault;
+use faults::Fault;
 use std::alloc::Global;
 use std::marker::PhantomData;
 

@@ -5,7 +5,7 @@ ghost use Rattle.std.specs.Prelude.{◌≡◌, ◌<◌, ◌≤◌, length};
 use crate::{
     Board, Draws, HolderSeat, Lot, Reply, Room, UnnamedBoard, UnnamedDraws, Verdict, WorkerSeat,
 };
-use minelib_reader::Fault;
+use faults::Fault;
 use std::alloc::Global;
 use std::marker::Brand;
 use std::test::Fail;

@@ -3,7 +3,7 @@ ghost use Rattle.std.specs.Prelude.{◌≡◌, ◌<◌};
 
 use crate::tests::{answer_one, return_one};
 use crate::{Board, HolderSeat, Reply, Room, UnnamedBoard, Verdict, WorkerSeat};
-use minelib_reader::Fault;
+use faults::Fault;
 use std::alloc::Global;
 use std::marker::Brand;
 use std::test::Fail;

@@ -1,59 +1,11 @@
 -- The text of a fault: `error `, the number, `: `, the words, the input and the line or item, where there is one.
 use Rattle.std.specs.Prelude.{ℕ, zero, suc, List, [], ◌++◌, codes, decimal}
 use Rattle.std.specs.List.{flat_map}
-use Rattle.minelib_reader.specs.declared.fault.Fault.{Fault}
-use Rattle.minelib_reader.specs.declared.fault.Refusal.{Refusal}
-use Rattle.minelib_reader.specs.declared.fault.Refusal.TheVariants.{NoMemory, ReadFailed, WrongHeader, OverLimit, NotWhole, NotDecimal, IdOutOfPlace, PredecessorOutOfRange, NeedsItself, PredecessorTwice, WrongFieldCount, EndsEarly, AfterEnd, Cycle, NegativeColumn, NoSuchColumn, CountsDiffer, WriteFailed, FactorsNotRising, Exhausted, NoSeat}
-use Rattle.minelib_reader.specs.declared.fault.Source.{Source}
-use Rattle.minelib_reader.specs.declared.fault.Source.TheVariants.{None, Model, Precedence, Blocks, Certificate, Journal, Factors}
-
--- the number of a refusal
-abbrev pub number_of : Refusal → ℕ
-number_of NoMemory = 1
-number_of ReadFailed = 2
-number_of WrongHeader = 3
-number_of OverLimit = 4
-number_of NotWhole = 5
-number_of NotDecimal = 6
-number_of IdOutOfPlace = 7
-number_of PredecessorOutOfRange = 8
-number_of NeedsItself = 9
-number_of PredecessorTwice = 10
-number_of WrongFieldCount = 11
-number_of EndsEarly = 12
-number_of AfterEnd = 13
-number_of (Cycle list) = 14
-number_of (NegativeColumn block) = 15
-number_of (NoSuchColumn column) = 16
-number_of CountsDiffer = 17
-number_of WriteFailed = 18
-number_of FactorsNotRising = 19
-number_of (Exhausted mergers) = 20
-number_of NoSeat = 22
-
--- its words, up to what differs from fault to fault
-abbrev pub words_of : Refusal → List ℕ
-words_of NoMemory = codes "no memory"
-words_of ReadFailed = codes "read failed"
-words_of WrongHeader = codes "wrong header"
-words_of OverLimit = codes "over the limit"
-words_of NotWhole = codes "not a whole number"
-words_of NotDecimal = codes "not a decimal"
-words_of IdOutOfPlace = codes "id out of place"
-words_of PredecessorOutOfRange = codes "predecessor out of range"
-words_of NeedsItself = codes "block needs itself"
-words_of PredecessorTwice = codes "predecessor named twice"
-words_of WrongFieldCount = codes "wrong number of fields"
-words_of EndsEarly = codes "ends early"
-words_of AfterEnd = codes "line after the end"
-words_of (Cycle list) = codes "cycle"
-words_of (NegativeColumn block) = codes "negative value at block "
-words_of (NoSuchColumn column) = codes "no column "
-words_of CountsDiffer = codes "counts differ"
-words_of WriteFailed = codes "write failed"
-words_of FactorsNotRising = codes "factors not rising"
-words_of (Exhausted mergers) = codes "exhausted after "
-words_of NoSeat = codes "no seat"
+use Rattle.faults.specs.Words.{number_of, words_of, source_text, place_word}
+use Rattle.faults.specs.declared.fault.Fault.{Fault}
+use Rattle.faults.specs.declared.refusal.Refusal.{Refusal}
+use Rattle.faults.specs.declared.refusal.Refusal.TheVariants.{Cycle, NegativeColumn, NoSuchColumn, Exhausted}
+use Rattle.faults.specs.declared.source.Source.{Source}
 
 -- a block of a cycle
 abbrev pub cycle_block : ℕ → List ℕ
@@ -66,21 +18,6 @@ detail_of (NegativeColumn block) = decimal block
 detail_of (NoSuchColumn column) = decimal column
 detail_of (Exhausted mergers) = decimal mergers ++ codes " mergers"
 detail_of _ = []
-
--- the input
-abbrev pub source_text : Source → List ℕ
-source_text None = []
-source_text Model = codes " in model"
-source_text Precedence = codes " in precedence"
-source_text Blocks = codes " in blocks"
-source_text Certificate = codes " in certificate"
-source_text Journal = codes " in journal"
-source_text Factors = codes " in factors"
-
--- the word before a line's number, or an item's
-abbrev pub place_word : Source → List ℕ
-place_word Factors = codes " item "
-place_word _ = codes " line "
 
 -- the line or item, where there is one
 unfoldable pub place_text : Source → ℕ → List ℕ

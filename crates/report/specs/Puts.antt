@@ -1,8 +1,8 @@
 -- Writing piece by piece through a buffer, where nothing is written behind a write that failed.
 use Rattle.std.specs.Prelude.{◌≡◌, ℕ, ◌+◌, ◌<◌, ◌^◌, Bool, true, false, List, ◌++◌, Result, Ok, Err}
-use Rattle.minelib_reader.specs.declared.fault.Fault.{Fault}
+use Rattle.faults.specs.declared.fault.Fault.{Fault}
 use Rattle.minelib_reader.specs.Device.{Progress, Begins}
-use Rattle.minelib_reader.specs.Refused.{write_failed}
+use Rattle.faults.specs.Refused.{write_failed}
 
 -- the bytes that wait in the buffer, and whether a write failed
 pub record Waiting : Type 0 where

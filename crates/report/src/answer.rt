@@ -1,10 +1,11 @@
 //! The text of a yes or a no, as one line.
 ghost use Rattle.std.specs.Prelude.{◌≡◌, ◌<◌, ◌^◌, IfErr};
 ghost use Rattle.minelib_reader.specs.Device.{Writes};
-ghost use Rattle.minelib_reader.specs.Refused.{write_failed};
+ghost use Rattle.faults.specs.Refused.{write_failed};
 ghost use Rattle.report.specs.AnswerText.{answer_text};
 
-use minelib_reader::{Fault, OutBytes, write_all};
+use faults::Fault;
+use minelib_reader::{OutBytes, write_all};
 
 fn word_of(answer: bool) -> &'static [u8]
     ensures { result.now ≡ answer_text answer }

@@ -3,7 +3,8 @@
 ghost use Rattle.std.specs.Prelude.{◌≡◌, ◌+◌, ◌≤◌, [], ◌++◌, false, codes, length};
 ghost use Rattle.report.specs.Puts.{Answers, IsReady, Puts};
 
-use minelib_reader::{Fault, OutBytes, write_all};
+use faults::Fault;
+use minelib_reader::{OutBytes, write_all};
 use std::marker::Model;
 
 const SIZE: usize = 65536;

@@ -1,13 +1,14 @@
 //! The text of a pit: its head, and a line for each block.
 ghost use Rattle.std.specs.Prelude.{◌≡◌, ◌<◌, ◌^◌, IfErr};
 ghost use Rattle.minelib_reader.specs.Device.{Writes};
-ghost use Rattle.minelib_reader.specs.Refused.{write_failed};
+ghost use Rattle.faults.specs.Refused.{write_failed};
 ghost use Rattle.pit_model.specs.PitText.{line_of, pit_head, pit_text};
 ghost use Rattle.report.specs.Puts.{IsReady, Puts};
 
 use crate::number::{put_millionths, put_number};
 use crate::out::{Out, end_line, finish, put};
-use minelib_reader::{Fault, OutBytes};
+use faults::Fault;
+use minelib_reader::OutBytes;
 
 /// Writes the lines before the first block: how many blocks there are, how many are in the pit, and its worth.
 fn put_head<W: OutBytes>(writer: &mut W, out: &mut Out, n: u32, count: usize, worth: i128)

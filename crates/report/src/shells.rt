@@ -4,7 +4,7 @@ ghost use Rattle.std.specs.Prelude.{◌≡◌, ◌<◌, ◌≤◌, ◌^◌, ℕ,
 ghost use Rattle.std.specs.List.{flat_map, All, AllPairs};
 ghost use Rattle.std.specs.List.Sorted.{IsStrictlyIncreasing};
 ghost use Rattle.minelib_reader.specs.Device.{Writes};
-ghost use Rattle.minelib_reader.specs.Refused.{write_failed};
+ghost use Rattle.faults.specs.Refused.{write_failed};
 ghost use Rattle.pit_model.specs.Shells.{IsWithin};
 ghost use Rattle.pit_model.specs.ShellText.{block_line, first_factor, has_block, last_pit, shell_line, shells_head, shells_text};
 ghost use Rattle.report.specs.FirstWith.{IsFirstWith};
@@ -12,7 +12,8 @@ ghost use Rattle.report.specs.Puts.{IsReady, Puts};
 
 use crate::number::{put_billionths, put_number};
 use crate::out::{Out, end_line, finish, put};
-use minelib_reader::{Fault, OutBytes};
+use faults::Fault;
+use minelib_reader::OutBytes;
 use pit_model::{Shell, ShellList};
 
 /// Writes the lines before the first shell: how many blocks there are, and how many factors.

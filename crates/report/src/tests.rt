@@ -1,6 +1,7 @@
 //! The texts of small pits and of faults, byte for byte, and what stands written where a writer takes no more.
 use super::*;
-use minelib_reader::{Fault, MemoryWriter, Refusal, Source};
+use faults::{Fault, Refusal, Source};
+use minelib_reader::MemoryWriter;
 use std::alloc::Global;
 use std::test::*;
 
@@ -81,11 +82,7 @@ fn fault_text(
     line: u64,
 ) -> Result<Vec<u8>, Fault> {
     let mut writer = MemoryWriter::new(alloc, 1 << 20);
-    let fault = Fault {
-        refusal,
-        source,
-        line,
-    };
+    let fault = Fault::at_line(source, refusal, line);
     write_fault(&mut writer, &fault)?;
     Ok(writer.text)
 }

@@ -2,8 +2,8 @@
 use Rattle.std.proofs.Common.{◌≡◌, ℕ, List, inl, inr, ⊎_elim, refl}
 use Rattle.std.specs.Prelude.{Option, Some, None, Result, Ok, Err, IfErr, true}
 use Rattle.minelib_reader.specs.Device.{Progress, Writes}
-use Rattle.minelib_reader.specs.Refused.{write_failed}
-use Rattle.minelib_reader.specs.declared.fault.Fault.{Fault}
+use Rattle.faults.specs.Refused.{write_failed}
+use Rattle.faults.specs.declared.fault.Fault.{Fault}
 use Rattle.pit_model.specs.Mine.{Instance}
 use Rattle.pit_model.specs.Certificate.{IsCertificate}
 use Rattle.certificate.specs.CertificateGrammar.{SpellsCertificate}

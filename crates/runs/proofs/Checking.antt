@@ -4,11 +4,11 @@ use Rattle.std.proofs.Common.{◌≡◌, ℕ, Bool, List, refl, sym, subst, Ok, 
 use Rattle.std.specs.Prelude.{ℤ, ◌↔◌, IsTrue, IfOk}
 use Rattle.minelib_reader.specs.Device.{Progress, Writes}
 use Rattle.minelib_reader.specs.Answer.{Refuses, ReadsText}
-use Rattle.minelib_reader.specs.Refused.{no_memory, write_failed}
-use Rattle.minelib_reader.specs.declared.fault.Fault.{Fault}
-use Rattle.minelib_reader.specs.declared.fault.Refusal.{Refusal}
-use Rattle.minelib_reader.specs.declared.fault.Refusal.TheVariants.{NoMemory, ReadFailed, WriteFailed}
-use Rattle.minelib_reader.specs.declared.fault.Source.TheVariants as sources
+use Rattle.faults.specs.Refused.{no_memory, write_failed}
+use Rattle.faults.specs.declared.fault.Fault.{Fault}
+use Rattle.faults.specs.declared.refusal.Refusal.{Refusal}
+use Rattle.faults.specs.declared.refusal.Refusal.TheVariants.{NoMemory, ReadFailed, WriteFailed}
+use Rattle.faults.specs.declared.source.Source.TheVariants as sources
 use Rattle.pit_model.specs.Graph.{AreSamePairs}
 use Rattle.pit_model.specs.Mine.{Instance, instance_of}
 use Rattle.pit_model.specs.Limits.{IsInstance}

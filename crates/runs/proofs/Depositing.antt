@@ -1,17 +1,17 @@
 -- Where one step of reading a deposit is refused, the deposit is refused so: by cases on the refusal.
 use Rattle.std.proofs.Common.{◌≡◌, ℕ, List, inl, inr, refl, sym, subst, ⊎_elim}
 use Rattle.std.specs.Prelude.{ℤ}
-use Rattle.minelib_reader.specs.Refused.{no_memory}
+use Rattle.faults.specs.Refused.{no_memory}
 use Rattle.minelib_reader.specs.Answer.{Refuses, ReadsText}
 use Rattle.minelib_reader.specs.Table.{Table}
 use Rattle.minelib_reader.specs.Column.{IsColumn, RefusesColumn}
 use Rattle.minelib_reader.specs.BlocksGrammar.{SpellsTable}
 use Rattle.minelib_reader.specs.BlocksFault.{IsFirstTableFault}
 use Rattle.minelib_reader.specs.PrecFault.{IsFirstPrecFault}
-use Rattle.minelib_reader.specs.declared.fault.Fault.{Fault}
-use Rattle.minelib_reader.specs.declared.fault.Refusal.{Refusal}
-use Rattle.minelib_reader.specs.declared.fault.Refusal.TheVariants.{NoMemory, ReadFailed, WriteFailed, NoSeat, Exhausted, NegativeColumn, NoSuchColumn}
-use Rattle.minelib_reader.specs.declared.fault.Source.TheVariants as sources
+use Rattle.faults.specs.declared.fault.Fault.{Fault}
+use Rattle.faults.specs.declared.refusal.Refusal.{Refusal}
+use Rattle.faults.specs.declared.refusal.Refusal.TheVariants.{NoMemory, ReadFailed, WriteFailed, NoSeat, Exhausted, NegativeColumn, NoSuchColumn}
+use Rattle.faults.specs.declared.source.Source.TheVariants as sources
 use Rattle.minelib_reader.proofs.TextFaults.{IsOfText, table_fault_of_text, prec_fault_of_text}
 use Rattle.mine_graph.specs.Faults.{RefusesPairs, IsGraphFault}
 use Rattle.pit_model.specs.Graph.{IsAcyclic}

@@ -9,11 +9,11 @@ use Rattle.minelib_reader.specs.UpitGrammar.{SpellsUpit}
 use Rattle.minelib_reader.specs.UpitFault.{upit_fault_at, IsFirstUpitFault}
 use Rattle.minelib_reader.specs.PrecGrammar.{SpellsPrec}
 use Rattle.minelib_reader.specs.PrecFault.{prec_fault_at, IsFirstPrecFault}
-use Rattle.minelib_reader.specs.Refused.{no_memory}
-use Rattle.minelib_reader.specs.declared.fault.Fault.{Fault}
-use Rattle.minelib_reader.specs.declared.fault.Refusal.{Refusal}
-use Rattle.minelib_reader.specs.declared.fault.Refusal.TheVariants.{NoMemory, ReadFailed, WriteFailed, NoSeat, Exhausted, Cycle}
-use Rattle.minelib_reader.specs.declared.fault.Source.TheVariants.{Precedence}
+use Rattle.faults.specs.Refused.{no_memory}
+use Rattle.faults.specs.declared.fault.Fault.{Fault}
+use Rattle.faults.specs.declared.refusal.Refusal.{Refusal}
+use Rattle.faults.specs.declared.refusal.Refusal.TheVariants.{NoMemory, ReadFailed, WriteFailed, NoSeat, Exhausted, Cycle}
+use Rattle.faults.specs.declared.source.Source.TheVariants.{Precedence}
 use Rattle.minelib_reader.proofs.StepLemmas.{one_first}
 use Rattle.minelib_reader.proofs.UpitGrammarLemmas as models
 use Rattle.minelib_reader.proofs.PrecGrammarLemmas as precedences

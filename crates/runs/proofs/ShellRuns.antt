@@ -6,10 +6,10 @@ use Rattle.std.specs.List.{range_with_len, All}
 use Rattle.std.specs.List.Sorted.{IsStrictlyIncreasing}
 use Rattle.pit_model.proofs.Members.{members_rise}
 use Rattle.minelib_reader.specs.Device.{Progress, Writes}
-use Rattle.minelib_reader.specs.Refused.{write_failed}
-use Rattle.minelib_reader.specs.declared.fault.Fault.{Fault}
-use Rattle.minelib_reader.specs.declared.fault.Refusal.{Refusal}
-use Rattle.minelib_reader.specs.declared.fault.Refusal.TheVariants.{NoMemory, NoSeat, Exhausted, WriteFailed}
+use Rattle.faults.specs.Refused.{write_failed}
+use Rattle.faults.specs.declared.fault.Fault.{Fault}
+use Rattle.faults.specs.declared.refusal.Refusal.{Refusal}
+use Rattle.faults.specs.declared.refusal.Refusal.TheVariants.{NoMemory, NoSeat, Exhausted, WriteFailed}
 use Rattle.pit_model.specs.declared.shell.Shell.{Shell}
 use Rattle.pit_model.specs.Graph.{Graph, AreSamePairs}
 use Rattle.pit_model.specs.Mine.{Instance, IsPit}

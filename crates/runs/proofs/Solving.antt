@@ -4,7 +4,7 @@ use Rattle.std.proofs.Common.{◌≡◌, ℕ, refl, sym, ap, ◌∙◌, subst, B
 use Rattle.std.specs.Prelude.{ℤ, Ok, Err}
 use Rattle.std.specs.List.{All}
 use Rattle.minelib_reader.specs.Device.{Progress, Writes}
-use Rattle.minelib_reader.specs.declared.fault.Fault.{Fault}
+use Rattle.faults.specs.declared.fault.Fault.{Fault}
 use Rattle.pit_model.specs.Graph.{AreSamePairs}
 use Rattle.pit_model.specs.Mine.{Instance, instance_of, members, worth}
 use Rattle.pit_model.specs.PitText.{pit_text}

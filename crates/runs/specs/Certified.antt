@@ -1,8 +1,8 @@
 -- The certificate that a run of `solve` writes, in the words in which `check` answers to it.
 use Rattle.std.specs.Prelude.{◌≡◌, ℕ, ◌+◌, ◌++◌, true, List, Result, Ok, Err}
 use Rattle.minelib_reader.specs.Device.{Progress, Begins, Writes}
-use Rattle.minelib_reader.specs.Refused.{write_failed}
-use Rattle.minelib_reader.specs.declared.fault.Fault.{Fault}
+use Rattle.faults.specs.Refused.{write_failed}
+use Rattle.faults.specs.declared.fault.Fault.{Fault}
 use Rattle.pit_model.specs.Mine.{Instance}
 use Rattle.runs.specs.Solve.{Reading}
 use Rattle.runs.specs.Check.{AnswersText, GaveInOrder}

@@ -1,11 +1,11 @@
 -- What a run of `check` writes, and what it refuses, over the bytes that went through its readers and its writer.
 use Rattle.std.specs.Prelude.{◌≡◌, ℕ, ◌+◌, ◌++◌, ◌↔◌, Bool, true, false, IsTrue, List}
 use Rattle.minelib_reader.specs.Device.{Progress, Begins}
-use Rattle.minelib_reader.specs.Refused.{no_memory, write_failed}
-use Rattle.minelib_reader.specs.declared.fault.Fault.{Fault}
-use Rattle.minelib_reader.specs.declared.fault.Refusal.{Refusal}
-use Rattle.minelib_reader.specs.declared.fault.Refusal.TheVariants.{NoMemory, ReadFailed, WriteFailed}
-use Rattle.minelib_reader.specs.declared.fault.Source.TheVariants as sources
+use Rattle.faults.specs.Refused.{no_memory, write_failed}
+use Rattle.faults.specs.declared.fault.Fault.{Fault}
+use Rattle.faults.specs.declared.refusal.Refusal.{Refusal}
+use Rattle.faults.specs.declared.refusal.Refusal.TheVariants.{NoMemory, ReadFailed, WriteFailed}
+use Rattle.faults.specs.declared.source.Source.TheVariants as sources
 use Rattle.pit_model.specs.Graph.{IsGraph}
 use Rattle.pit_model.specs.Mine.{Instance}
 use Rattle.pit_model.specs.Certificate.{IsCertificate}

@@ -1,15 +1,15 @@
 -- The deposit that a table of blocks, precedence pairs and two columns spell, and why none was read.
 use Rattle.std.specs.Prelude.{◌≡◌, ◌⊎◌, ℕ, List, length}
-use Rattle.minelib_reader.specs.Refused.{no_memory}
+use Rattle.faults.specs.Refused.{no_memory}
 use Rattle.minelib_reader.specs.Table.{Table}
 use Rattle.minelib_reader.specs.BlocksGrammar.{SpellsTable}
 use Rattle.minelib_reader.specs.BlocksFault.{IsFirstTableFault}
 use Rattle.minelib_reader.specs.PrecGrammar.{SpellsPrec}
 use Rattle.minelib_reader.specs.PrecFault.{IsFirstPrecFault}
-use Rattle.minelib_reader.specs.declared.fault.Fault.{Fault}
-use Rattle.minelib_reader.specs.declared.fault.Refusal.{Refusal}
-use Rattle.minelib_reader.specs.declared.fault.Refusal.TheVariants.{NoMemory, ReadFailed, WriteFailed, NoSeat, Exhausted}
-use Rattle.minelib_reader.specs.declared.fault.Source.TheVariants as sources
+use Rattle.faults.specs.declared.fault.Fault.{Fault}
+use Rattle.faults.specs.declared.refusal.Refusal.{Refusal}
+use Rattle.faults.specs.declared.refusal.Refusal.TheVariants.{NoMemory, ReadFailed, WriteFailed, NoSeat, Exhausted}
+use Rattle.faults.specs.declared.source.Source.TheVariants as sources
 use Rattle.mine_graph.specs.Faults.{IsGraphFault}
 use Rattle.pit_model.specs.Graph.{Graph, AreSamePairs, IsAcyclic}
 use Rattle.pit_model.specs.Deposit.{Deposit}

@@ -1,10 +1,10 @@
 -- How a run of `solve` ends, over the bytes that went through its readers and its writers.
 use Rattle.std.specs.Prelude.{◌≡◌, Err}
 use Rattle.minelib_reader.specs.Device.{Progress}
-use Rattle.minelib_reader.specs.Refused.{write_failed}
-use Rattle.minelib_reader.specs.declared.fault.Fault.{Fault}
-use Rattle.minelib_reader.specs.declared.fault.Refusal.{Refusal}
-use Rattle.minelib_reader.specs.declared.fault.Refusal.TheVariants.{NoSeat, Exhausted, WriteFailed}
+use Rattle.faults.specs.Refused.{write_failed}
+use Rattle.faults.specs.declared.fault.Fault.{Fault}
+use Rattle.faults.specs.declared.refusal.Refusal.{Refusal}
+use Rattle.faults.specs.declared.refusal.Refusal.TheVariants.{NoSeat, Exhausted, WriteFailed}
 use Rattle.pit_model.specs.Mine.{Instance}
 use Rattle.solver.specs.declared.mode.Mode.{Mode}
 use Rattle.runs.specs.Solve.{Reading, RefusesMine, IsCutShort}

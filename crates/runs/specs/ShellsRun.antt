@@ -1,10 +1,10 @@
 -- What a run of `shells` writes, and what it refuses, over the bytes that went through its readers and its writer.
 use Rattle.std.specs.Prelude.{◌≡◌, ℕ, ◌+◌, ◌++◌, List}
 use Rattle.minelib_reader.specs.Device.{Progress, Begins}
-use Rattle.minelib_reader.specs.Refused.{write_failed}
-use Rattle.minelib_reader.specs.declared.fault.Fault.{Fault}
-use Rattle.minelib_reader.specs.declared.fault.Refusal.{Refusal}
-use Rattle.minelib_reader.specs.declared.fault.Refusal.TheVariants.{NoSeat, Exhausted, WriteFailed}
+use Rattle.faults.specs.Refused.{write_failed}
+use Rattle.faults.specs.declared.fault.Fault.{Fault}
+use Rattle.faults.specs.declared.refusal.Refusal.{Refusal}
+use Rattle.faults.specs.declared.refusal.Refusal.TheVariants.{NoSeat, Exhausted, WriteFailed}
 use Rattle.pit_model.specs.declared.shell.Shell.{Shell}
 use Rattle.pit_model.specs.Deposit.{Deposit}
 use Rattle.pit_model.specs.Shells.{AreShells}

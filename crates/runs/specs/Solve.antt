@@ -2,18 +2,17 @@
 use Rattle.std.specs.Prelude.{◌≡◌, ℕ, ◌+◌, ◌++◌, ◌⊎◌, Bool, List, Result}
 use Rattle.minelib_reader.specs.Device.{Progress, Begins, Writes}
 use Rattle.minelib_reader.specs.Answer.{IsRead}
-use Rattle.minelib_reader.specs.Refused.{no_memory}
-use Rattle.minelib_reader.specs.Steps.{at_line}
+use Rattle.faults.specs.Refused.{at_line, no_memory}
 use Rattle.minelib_reader.specs.Upit.{Upit}
 use Rattle.minelib_reader.specs.UpitGrammar.{SpellsUpit}
 use Rattle.minelib_reader.specs.UpitFault.{IsFirstUpitFault}
 use Rattle.minelib_reader.specs.PrecGrammar.{SpellsPrec}
 use Rattle.minelib_reader.specs.PrecFault.{IsFirstPrecFault}
-use Rattle.minelib_reader.specs.declared.fault.Fault.{Fault}
-use Rattle.minelib_reader.specs.declared.fault.Refusal.{Refusal}
-use Rattle.minelib_reader.specs.declared.fault.Refusal.TheVariants.{NoMemory, ReadFailed, WriteFailed, NoSeat, Exhausted}
-use Rattle.minelib_reader.specs.declared.fault.Source.{Source}
-use Rattle.minelib_reader.specs.declared.fault.Source.TheVariants as sources
+use Rattle.faults.specs.declared.fault.Fault.{Fault}
+use Rattle.faults.specs.declared.refusal.Refusal.{Refusal}
+use Rattle.faults.specs.declared.refusal.Refusal.TheVariants.{NoMemory, ReadFailed, WriteFailed, NoSeat, Exhausted}
+use Rattle.faults.specs.declared.source.Source.{Source}
+use Rattle.faults.specs.declared.source.Source.TheVariants as sources
 use Rattle.mine_graph.specs.Faults.{IsGraphFault}
 use Rattle.pit_model.specs.Graph.{IsAcyclic}
 use Rattle.pit_model.specs.Mine.{Instance, instance_of, members, worth, IsPit}

@@ -1,9 +1,9 @@
 -- Two runs over the same texts end alike: what they write is the same, whatever their readers and writers, modes and workers.
 use Rattle.std.specs.Prelude.{◌≡◌, ◌≢◌, ◌⊎◌, ℕ, ◌++◌, Bool, true, List}
 use Rattle.minelib_reader.specs.Device.{Progress}
-use Rattle.minelib_reader.specs.Refused.{no_memory}
-use Rattle.minelib_reader.specs.declared.fault.Fault.{Fault}
-use Rattle.minelib_reader.specs.declared.fault.Refusal.TheVariants.{NoMemory, ReadFailed}
+use Rattle.faults.specs.Refused.{no_memory}
+use Rattle.faults.specs.declared.fault.Fault.{Fault}
+use Rattle.faults.specs.declared.refusal.Refusal.TheVariants.{NoMemory, ReadFailed}
 use Rattle.pit_model.specs.Graph.{IsGraph}
 use Rattle.pit_model.specs.Mine.{Instance}
 use Rattle.report.specs.AnswerText.{answer_text}

@@ -2,7 +2,8 @@
 //! and that `check` says yes to it.
 
 use super::*;
-use minelib_reader::{Fault, MemoryReader, MemoryWriter};
+use faults::Fault;
+use minelib_reader::{MemoryReader, MemoryWriter};
 use solver::Mode;
 use std::sync::Wait;
 use std::test::*;

@@ -7,7 +7,8 @@ use crate::mine::read_mine;
 use crate::status::Status;
 use certificate::{check, read};
 use mine_graph::Instance;
-use minelib_reader::{Fault, InBytes, OutBytes};
+use faults::Fault;
+use minelib_reader::{InBytes, OutBytes};
 use report::write_answer;
 use std::alloc::Global;
 

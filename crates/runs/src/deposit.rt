@@ -4,7 +4,8 @@ ghost use Rattle.runs.specs.Solve.{reading};
 ghost use Rattle.runs.specs.Deposit.{HoldsDeposit, RefusesDeposit};
 
 use mine_graph::Graph;
-use minelib_reader::{Fault, InBytes, read_blocks, read_prec};
+use faults::Fault;
+use minelib_reader::{InBytes, read_blocks, read_prec};
 use shells::Columns;
 use std::alloc::Global;
 use std::sync::Arc;

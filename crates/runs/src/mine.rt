@@ -4,7 +4,8 @@ ghost use Rattle.runs.specs.Solve.{reading, RefusesMine};
 ghost use Rattle.runs.specs.Mine.{HoldsMine};
 
 use mine_graph::{Graph, Instance};
-use minelib_reader::{Fault, InBytes, read_prec, read_upit};
+use faults::Fault;
+use minelib_reader::{InBytes, read_prec, read_upit};
 use std::alloc::Global;
 use std::sync::Arc;
 

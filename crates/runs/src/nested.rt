@@ -6,7 +6,8 @@ ghost use Rattle.runs.specs.ShellsRun.{HoldsOfDeposit, IsShellsDone, RefusesShel
 
 use crate::deposit::read_deposit;
 use crate::status::Status;
-use minelib_reader::{Fault, InBytes, OutBytes};
+use faults::Fault;
+use minelib_reader::{InBytes, OutBytes};
 use report::write_shells;
 use shells::{Factors, shells};
 use solver::{Mode, OpenGate};

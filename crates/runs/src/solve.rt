@@ -1,6 +1,6 @@
 //! `solve`: from the bytes of a model and a precedence file to the bytes of the pit, and of the certificate that shows it.
 ghost use Rattle.std.specs.Prelude.{◌≡◌, ◌<◌, ◌≤◌, ◌^◌, Ok, IfOk, IfErr};
-ghost use Rattle.minelib_reader.specs.Refused.{write_failed};
+ghost use Rattle.faults.specs.Refused.{write_failed};
 ghost use Rattle.certificate.specs.Certificate.{IsCertificateOf};
 ghost use Rattle.certificate.specs.Check.{ShowsPit};
 ghost use Rattle.runs.specs.Certified.{IsCertified, PutsCertificate};
@@ -13,7 +13,8 @@ use crate::mine::read_mine;
 use crate::status::Status;
 use certificate::{Certificate, write};
 use mine_graph::Instance;
-use minelib_reader::{Fault, InBytes, OutBytes};
+use faults::Fault;
+use minelib_reader::{InBytes, OutBytes};
 use report::write_pit;
 use solver::{Mode, OpenGate, find_certificate, find_pit};
 use std::alloc::Global;

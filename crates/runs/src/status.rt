@@ -2,7 +2,7 @@
 ghost use Rattle.std.specs.Prelude.{◌≡◌};
 ghost use Rattle.runs.specs.Exit.{status_of};
 
-use minelib_reader::{Fault, Refusal};
+use faults::{Fault, Refusal};
 
 /// How a run without a fault ended.
 #[derive(Clone, Copy, Debug, PartialEq, Eq)]

@@ -3,7 +3,8 @@
 
 use super::*;
 use crate::small_mines::{mines_of_four_blocks_and_more, mines_of_three_blocks_at_most};
-use minelib_reader::{Fault, MemoryReader, MemoryWriter, Refusal};
+use faults::{Fault, Refusal};
+use minelib_reader::{MemoryReader, MemoryWriter};
 use report::write_fault;
 use solver::Mode;
 use std::sync::Wait;

@@ -6,11 +6,11 @@ use Rattle.std.proofs.lemmas.Option.{none-some}
 use Rattle.std.proofs.lemmas.List.{append-nil, get_or-map, get_or_at, length-append, length-map}
 use Rattle.minelib_reader.specs.Answer.{FailsAt}
 use Rattle.minelib_reader.specs.Number.{whole_of}
-use Rattle.minelib_reader.specs.declared.fault.Refusal.TheVariants.{OverLimit, FactorsNotRising}
+use Rattle.faults.specs.declared.refusal.Refusal.TheVariants.{OverLimit, FactorsNotRising}
 use Rattle.std.proofs.lemmas.List.Elements.{All-from_get_or}
 use Rattle.std.proofs.lemmas.List.Splits.{slice_split_first}
 use Rattle.std.proofs.lemmas.List.Sums.{prefix_len-le-length}
-use Rattle.minelib_reader.specs.declared.fault.Fault.{Fault}
+use Rattle.faults.specs.declared.fault.Fault.{Fault}
 use Rattle.minelib_reader.specs.Number.{cut_at}
 use Rattle.minelib_reader.proofs.TextLemmas.{whole}
 use Rattle.minelib_reader.proofs.LineLemmas.{cut_none_by, cut_some_by}

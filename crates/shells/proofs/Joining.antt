@@ -11,9 +11,9 @@ use Rattle.pit_model.specs.Graph.{Graph, first_of, second_of, IsGraph}
 use Rattle.pit_model.specs.Mine.{Instance, members, value, worth, IsPit}
 use Rattle.pit_model.specs.Part.{IsPart}
 use Rattle.minelib_reader.specs.Number.{IsWithin}
-use Rattle.minelib_reader.specs.declared.fault.Fault.{Fault}
-use Rattle.minelib_reader.specs.declared.fault.Refusal.{Refusal}
-use Rattle.minelib_reader.specs.declared.fault.Refusal.TheVariants.{NoMemory}
+use Rattle.faults.specs.declared.fault.Fault.{Fault}
+use Rattle.faults.specs.declared.refusal.Refusal.{Refusal}
+use Rattle.faults.specs.declared.refusal.Refusal.TheVariants.{NoMemory}
 use Rattle.solver.specs.declared.mode.Mode.{Mode}
 use Rattle.solver.specs.Modes.{RefusesSolve}
 use Rattle.pit_model.specs.Deposit.{Deposit, mine_at, IsPriced}

@@ -2,12 +2,13 @@
 -- whole number, whether it is within the limit, and whether it rises.
 use Rattle.std.specs.Prelude.{◌≡◌, ℕ, zero, suc, ◌<◌, ◌==◌, nat_lt, nat_le, Bool, true, if◌then◌else◌, List, [], length, get_or, map, Option, Some, None}
 use Rattle.std.specs.List.{slice_split}
-use Rattle.minelib_reader.specs.declared.fault.Fault.{Fault}
-use Rattle.minelib_reader.specs.declared.fault.Refusal.{Refusal}
-use Rattle.minelib_reader.specs.declared.fault.Refusal.TheVariants.{OverLimit, NotWhole, FactorsNotRising}
-use Rattle.minelib_reader.specs.declared.fault.Source.TheVariants.{Factors}
+use Rattle.faults.specs.declared.fault.Fault.{Fault}
+use Rattle.faults.specs.declared.refusal.Refusal.{Refusal}
+use Rattle.faults.specs.declared.refusal.Refusal.TheVariants.{OverLimit, NotWhole, FactorsNotRising}
+use Rattle.faults.specs.declared.source.Source.TheVariants.{Factors}
 use Rattle.minelib_reader.specs.Number.{whole_of}
-use Rattle.minelib_reader.specs.Steps.{at_line, IsFirstFault}
+use Rattle.minelib_reader.specs.Steps.{IsFirstFault}
+use Rattle.faults.specs.Refused.{at_line}
 
 abbrev pub is_comma : ℕ → Bool
 is_comma b = b == 44

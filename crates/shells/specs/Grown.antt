@@ -1,9 +1,9 @@
 -- Shells that grow from factor to factor: which blocks are taken so far, and what is left.
 use Rattle.std.specs.Prelude.{◌≡◌, ◌<◌, ℕ, false, Bool, List, length, get_or, Some, None}
-use Rattle.minelib_reader.specs.declared.fault.Fault.{Fault}
-use Rattle.minelib_reader.specs.declared.fault.Refusal.{Refusal}
-use Rattle.minelib_reader.specs.declared.fault.Refusal.TheVariants.{NoMemory}
-use Rattle.minelib_reader.specs.Refused.{no_memory}
+use Rattle.faults.specs.declared.fault.Fault.{Fault}
+use Rattle.faults.specs.declared.refusal.Refusal.{Refusal}
+use Rattle.faults.specs.declared.refusal.Refusal.TheVariants.{NoMemory}
+use Rattle.faults.specs.Refused.{no_memory}
 use Rattle.pit_model.specs.Graph.{Graph}
 use Rattle.pit_model.specs.Mine.{Instance}
 use Rattle.pit_model.specs.Deposit.{Deposit, mine_on}

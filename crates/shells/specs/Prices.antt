@@ -1,6 +1,6 @@
 -- What two columns of a table of blocks say: the revenue and the cost of each block.
 use Rattle.std.specs.Prelude.{◌⊎◌, ◌≤◌, ◌^◌, ℕ, ℤ, pos, List, length, get_or}
-use Rattle.minelib_reader.specs.declared.fault.Fault.{Fault}
+use Rattle.faults.specs.declared.fault.Fault.{Fault}
 use Rattle.minelib_reader.specs.Table.{Table}
 use Rattle.minelib_reader.specs.Column.{IsColumn, RefusesColumn}
 use Rattle.pit_model.specs.Graph.{Graph}

@@ -7,7 +7,8 @@ ghost use Rattle.pit_model.specs.Sum.{total};
 ghost use Rattle.shells.specs.Outermost.{amounts_of};
 ghost use Rattle.shells.specs.Prices.{price_of, AreColumns, ArePrices, RefusesColumns};
 
-use minelib_reader::{BlockTable, Fault, column};
+use faults::Fault;
+use minelib_reader::{BlockTable, column};
 use std::alloc::{AllocError, Global};
 use std::marker::Model;
 

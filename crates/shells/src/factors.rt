@@ -5,7 +5,8 @@ ghost use Rattle.pit_model.specs.Shells.{AreFactors, factor_of};
 ghost use Rattle.shells.specs.FactorList.{numbers_of, IsFirstItemFault, SpellsFactors};
 
 use crate::items::{check_item, next_item};
-use minelib_reader::{Fault, digits};
+use faults::Fault;
+use minelib_reader::digits;
 use std::alloc::Global;
 use std::marker::Model;
 

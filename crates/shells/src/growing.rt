@@ -2,7 +2,7 @@
 //! what is found there is joined with that shell (pits nest by factor: Lerchs and Grossmann 1965).
 ghost use Rattle.std.specs.Prelude.{◌≡◌, ◌<◌, ◌≤◌, ◌⊎◌, ◌^◌, ℕ, suc, true, Bool, List, length, get_or, IfOk, IfErr};
 ghost use Rattle.std.specs.List.{range_with_len};
-ghost use Rattle.minelib_reader.specs.Refused.{no_memory};
+ghost use Rattle.faults.specs.Refused.{no_memory};
 ghost use Rattle.pit_model.specs.Mine.{members, IsPit};
 ghost use Rattle.pit_model.specs.Deposit.{mine_on};
 ghost use Rattle.pit_model.specs.Shells.{factor_of, IsJoined, IsOutside, IsShell};
@@ -13,8 +13,8 @@ ghost use Rattle.shells.specs.Grown.{marked, rest_at, IsGrown, RefusesShells, Re
 
 use crate::columns::Columns;
 use crate::factors::Factors;
+use faults::Fault;
 use mine_graph::{Graph, Instance};
-use minelib_reader::Fault;
 use pit_model::Shell;
 use solver::{Gate, Mode, find_pit};
 use std::alloc::{AllocError, Global};

@@ -4,7 +4,8 @@ ghost use Rattle.std.specs.List.{slice_split};
 ghost use Rattle.std.specs.Option.{option_map};
 ghost use Rattle.shells.specs.FactorList.{at_item, fault_behind, is_comma, items_behind};
 
-use minelib_reader::{Fault, Refusal, Source, cut};
+use faults::{Fault, Refusal, Source};
+use minelib_reader::cut;
 
 /// The most that a factor may be, in per mille.
 const MOST_FACTOR: u64 = 100_000;
@@ -16,11 +17,7 @@ const MOST_FACTORS: usize = 1000;
 fn at_item(refusal: Refusal, item: usize) -> Fault
     ensures { result ≡ at_item refusal item }
 {
-    Fault {
-        refusal,
-        source: Source::Factors,
-        line: item as u64,
-    }
+    Fault::at_line(Source::Factors, refusal, item as u64)
 }
 
 /// The factor of the item behind so many others, given the factor before it and its own number, None where it is no whole

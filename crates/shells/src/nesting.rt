@@ -1,6 +1,6 @@
 //! The shells of a mine: the pit at each factor, one within the next.
 ghost use Rattle.std.specs.Prelude.{◌≡◌, ◌<◌, length, IfOk, IfErr};
-ghost use Rattle.minelib_reader.specs.Refused.{no_memory};
+ghost use Rattle.faults.specs.Refused.{no_memory};
 ghost use Rattle.pit_model.specs.Shells.{AreShells};
 ghost use Rattle.shells.specs.Prices.{deposit_of};
 ghost use Rattle.shells.specs.Grown.{EachEndsWithin, IsFree, RefusesShells};
@@ -9,8 +9,8 @@ use crate::columns::Columns;
 use crate::factors::Factors;
 use crate::growing::{Priced, next_shell, start};
 use crate::outermost::{is_free, lift_all, outermost_shell};
+use faults::Fault;
 use mine_graph::Graph;
-use minelib_reader::Fault;
 use pit_model::{Shell, ShellList};
 use solver::{Gate, Mode};
 use std::alloc::Global;

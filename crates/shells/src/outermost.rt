@@ -1,15 +1,15 @@
 //! The outermost shell as a deposit of its own. All shells lie within that of the greatest factor (Lerchs and Grossmann
 //! 1965), and it is closed: so where no budget counts mergers, it is found first, and the others among its blocks alone.
 ghost use Rattle.std.specs.Prelude.{◌≡◌, ◌<◌, ◌≤◌, ◌^◌, ℕ, not, map, length, get_or, IsTrue, IfOk, IfErr};
-ghost use Rattle.minelib_reader.specs.Refused.{no_memory};
+ghost use Rattle.faults.specs.Refused.{no_memory};
 ghost use Rattle.shells.specs.Grown.{IsFree};
 ghost use Rattle.shells.specs.Outermost.{IsOutermost, IsLiftedShell, AreLifted, IsPlacedIn};
 ghost use Rattle.std.specs.List.{All};
 
 use crate::columns::Columns;
 use crate::growing::{mark, marked_blocks, solve_rest, start};
+use faults::Fault;
 use mine_graph::Graph;
-use minelib_reader::Fault;
 use pit_model::Shell;
 use solver::{Gate, Mode};
 use std::alloc::{AllocError, Global};

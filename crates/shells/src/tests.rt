@@ -1,7 +1,8 @@
 //! Small mines whose shells were worked out by hand.
 use super::*;
+use faults::{Fault, Refusal, Source};
 use mine_graph::Graph;
-use minelib_reader::{Fault, Refusal, Source, parse_blocks};
+use minelib_reader::parse_blocks;
 use solver::{Mode, OpenGate};
 use std::alloc::Global;
 use std::sync::{Arc, Wait};

@@ -3,8 +3,8 @@ use Rattle.std.proofs.Common.{Vec, Global, ◌≡◌, ℕ, zero, suc, ◌<◌, s
 use Rattle.std.specs.Prelude.{MatchResult}
 use Rattle.std.specs.List.{AllZip, Contains}
 use Rattle.pit_model.specs.Mine.{Instance}
-use Rattle.minelib_reader.specs.declared.fault.Fault.{Fault}
-use Rattle.minelib_reader.specs.Refused.{no_memory}
+use Rattle.faults.specs.declared.fault.Fault.{Fault}
+use Rattle.faults.specs.Refused.{no_memory}
 use Rattle.mine_graph.specs.declared.part.Part.{Part}
 use Rattle.solver.specs.declared.solved_part.SolvedPart.{SolvedPart}
 use Rattle.solver.specs.Parts.{IsSolvedPart}

@@ -1,7 +1,7 @@
 -- What shows the pit: the strong blocks of a tree with no merger arc left, and a certificate.
 use Rattle.std.proofs.Common.{Vec, Global, ◌≡◌, ℕ, refl, false, subst, List, Result, Ok, Err}
 use Rattle.std.specs.Prelude.{IfOk}
-use Rattle.minelib_reader.specs.declared.fault.Fault.{Fault}
+use Rattle.faults.specs.declared.fault.Fault.{Fault}
 use Rattle.pit_model.specs.Mine.{Instance, members}
 use Rattle.pit_model.specs.Limits.{IsInstance}
 use Rattle.pit_model.specs.Tree.{MineTree, is_strong, is_merger, IsNormalised}

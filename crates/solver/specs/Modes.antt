@@ -1,9 +1,9 @@
 -- How a solve in a mode ends, and why one is refused.
 use Rattle.std.specs.Prelude.{◌≡◌, ℕ, List, Some}
-use Rattle.minelib_reader.specs.Refused.{no_memory, no_seat, exhausted}
-use Rattle.minelib_reader.specs.declared.fault.Fault.{Fault}
-use Rattle.minelib_reader.specs.declared.fault.Refusal.{Refusal}
-use Rattle.minelib_reader.specs.declared.fault.Refusal.TheVariants as refusals
+use Rattle.faults.specs.Refused.{no_memory, no_seat, exhausted}
+use Rattle.faults.specs.declared.fault.Fault.{Fault}
+use Rattle.faults.specs.declared.refusal.Refusal.{Refusal}
+use Rattle.faults.specs.declared.refusal.Refusal.TheVariants as refusals
 use Rattle.pit_model.specs.declared.journal.Entry.{Entry}
 use Rattle.pit_model.specs.Mine.{Instance}
 use Rattle.pit_model.specs.Journal.{applied_count, IsLawful, replay}

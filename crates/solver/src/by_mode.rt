@@ -12,7 +12,7 @@ use crate::shared::solve_shared;
 use crate::single::{pit_of, solve_single};
 use certificate::Certificate;
 use mine_graph::Instance;
-use minelib_reader::Fault;
+use faults::Fault;
 use std::alloc::Global;
 use std::sync::Wait;
 use std::thread::Threads;

@@ -4,7 +4,7 @@ use crate::parts_tests::three_parts;
 use crate::tests::cut_once;
 use certificate::check;
 use mine_graph::Instance;
-use minelib_reader::{Fault, Refusal};
+use faults::{Fault, Refusal};
 use std::alloc::Global;
 use std::sync::Wait;
 use std::test::*;

@@ -1,10 +1,10 @@
 //! The closing loop: a merger over the first merger arc, until none is left. It ends every solve without a budget, so that
 //! whatever an order of mergers left over, the tree that is answered has no merger arc.
 ghost use Rattle.std.specs.Prelude.{◌≡◌, false, ℕ, IfOk, IfErr};
-ghost use Rattle.minelib_reader.specs.Refused.{no_memory};
+ghost use Rattle.faults.specs.Refused.{no_memory};
 ghost use Rattle.pit_model.specs.Tree.{is_merger};
 
-use minelib_reader::Fault;
+use faults::Fault;
 use norm_tree::NormTree;
 
 // Merges until no merger arc is left. Each merger lowers the tree's rank, so they end.

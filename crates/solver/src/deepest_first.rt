@@ -1,10 +1,10 @@
 //! The order in which workers go over the arcs: those of the deepest blocks first, since what is asked for there leads up
 //! through the others. No answer depends on it.
 ghost use Rattle.std.specs.Prelude.{◌≡◌, ◌<◌, IfOk, IfErr, length};
-ghost use Rattle.minelib_reader.specs.Refused.{no_memory};
+ghost use Rattle.faults.specs.Refused.{no_memory};
 
 use mine_graph::Graph;
-use minelib_reader::Fault;
+use faults::Fault;
 use std::alloc::Global;
 
 // Puts the users of a block that wait for no other block behind the list.

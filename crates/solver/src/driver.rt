@@ -1,13 +1,13 @@
 //! What the driver does between sweeps and at the end: it decides the first merger arc, and answers by the tree that is left.
 ghost use Rattle.std.specs.Prelude.{◌≡◌, filter, nat_lt, IfOk, IfErr};
-ghost use Rattle.minelib_reader.specs.Refused.{no_memory};
+ghost use Rattle.faults.specs.Refused.{no_memory};
 ghost use Rattle.pit_model.specs.Tree.{is_merger};
 ghost use Rattle.pit_model.specs.FirstRun.{IsFirstMerger};
 ghost use Rattle.solver.specs.Solved.{EndsBy, DecidesFirst, IsEnded, IsSolvedTogether};
 
 use crate::outcome::Outcome;
 use certificate::of_tree;
-use minelib_reader::Fault;
+use faults::Fault;
 use norm_tree::NormTree;
 use rayon::prelude::*;
 use std::sync::Wait;

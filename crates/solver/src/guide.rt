@@ -2,11 +2,11 @@
 //! arcs (the labels of Hochbaum's lowest-label order). It is only read in a sweep. No answer depends on it: it says what is
 //! looked at, and what is asked for is decided under the lock.
 ghost use Rattle.std.specs.Prelude.{◌≡◌, ◌<◌, ◌≤◌, length, IfOk, IfErr, IfSome};
-ghost use Rattle.minelib_reader.specs.Refused.{no_memory};
+ghost use Rattle.faults.specs.Refused.{no_memory};
 
 use crate::deepest_first::arcs_deepest_first;
 use mine_graph::Graph;
-use minelib_reader::Fault;
+use faults::Fault;
 use norm_tree::NormTree;
 use rayon::prelude::*;
 use std::alloc::Global;

@@ -1,6 +1,6 @@
 //! The answers of the parts, written where their blocks and pairs stand in the whole.
 ghost use Rattle.std.specs.Prelude.{◌≡◌, ◌<◌, ℕ, Bool, false, length, get_or, IfOk, IfErr};
-ghost use Rattle.minelib_reader.specs.Refused.{no_memory};
+ghost use Rattle.faults.specs.Refused.{no_memory};
 ghost use Rattle.pit_model.specs.Mine.{arcs, members};
 ghost use Rattle.pit_model.specs.Part.{IsPart, IsRenumbered};
 ghost use Rattle.certificate.specs.Check.{has};
@@ -10,7 +10,7 @@ ghost use Rattle.solver.specs.Parts.{graph_of, AreSolved, AreMarked, AreCarried,
 use crate::solved_part::SolvedPart;
 use certificate::Certificate;
 use mine_graph::{Graph, Instance};
-use minelib_reader::Fault;
+use faults::Fault;
 use std::alloc::{AllocError, Global};
 
 // Marks the blocks of a part's pit.

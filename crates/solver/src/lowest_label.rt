@@ -5,14 +5,14 @@
 //! A turn takes a strong root of the lowest label and looks, in its branch, for a pair to a block one label lower. Where
 //! it finds one the branches merge; else the blocks of that label in the branch get the next one.
 ghost use Rattle.std.specs.Prelude.{◌≡◌, ◌<◌, ◌≤◌, ◌+◌, length, IfOk, IfErr, IfSome};
-ghost use Rattle.minelib_reader.specs.Refused.{no_memory};
+ghost use Rattle.faults.specs.Refused.{no_memory};
 ghost use Rattle.forest.specs.Forest.{size};
 ghost use Rattle.solver.specs.Order.{AreBelow};
 
 use crate::waiting::Waiting;
 use forest::Forest;
 use mine_graph::Graph;
-use minelib_reader::Fault;
+use faults::Fault;
 use norm_tree::BareTree;
 use std::alloc::{AllocError, Global};
 use std::marker::Model;

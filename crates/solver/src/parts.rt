@@ -4,7 +4,7 @@
 //! of its parts).
 ghost use Rattle.std.specs.Prelude.{◌≡◌, ◌<◌, ℕ, false, pos, length, get_or, IfOk, IfErr, IfSome, MatchResult};
 ghost use Rattle.std.specs.List.{All, AllZip};
-ghost use Rattle.minelib_reader.specs.Refused.{no_memory};
+ghost use Rattle.faults.specs.Refused.{no_memory};
 ghost use Rattle.pit_model.specs.Mine.{value};
 ghost use Rattle.certificate.specs.Certificate.{IsCertificateOf};
 ghost use Rattle.certificate.specs.Check.{ShowsPit};
@@ -15,7 +15,7 @@ use crate::single::{certificate_of, pit_of};
 use crate::solved_part::SolvedPart;
 use certificate::Certificate;
 use mine_graph::{Graph, Instance, Part};
-use minelib_reader::Fault;
+use faults::Fault;
 use rayon::prelude::*;
 use std::alloc::{AllocError, Global};
 use std::sync::Arc;

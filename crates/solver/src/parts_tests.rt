@@ -2,7 +2,7 @@
 use super::*;
 use certificate::check;
 use mine_graph::{Graph, Instance};
-use minelib_reader::Fault;
+use faults::Fault;
 use std::alloc::Global;
 use std::sync::Arc;
 use std::test::*;

@@ -1,7 +1,7 @@
 //! Many workers solve one instance at one tree: each asks for merger arcs on the board, and whoever holds the lock decides what
 //! stands there (flat combining: Hendler, Incze, Shavit and Tzafrir 2010). The driver makes what they left over.
 ghost use Rattle.std.specs.Prelude.{◌≡◌, IfOk, IfErr};
-ghost use Rattle.minelib_reader.specs.Refused.{no_seat, IsNoRoom};
+ghost use Rattle.faults.specs.Refused.{no_seat, IsNoRoom};
 ghost use Rattle.pit_model.specs.Tree.{opening};
 ghost use Rattle.solver.specs.Solved.{IsSolvedTogether};
 
@@ -12,7 +12,7 @@ use crate::outcome::Outcome;
 use crate::sweeps::Crew;
 use crate::worker::Worker;
 use mine_graph::Instance;
-use minelib_reader::Fault;
+use faults::Fault;
 use norm_tree::NormTree;
 use proposals::{Board, UnnamedBoard, WorkerSeat};
 use std::alloc::Global;

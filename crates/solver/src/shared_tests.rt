@@ -3,7 +3,8 @@
 use super::*;
 use crate::tests::{cut_once, dug_whole, is_answer};
 use mine_graph::{Graph, Instance};
-use minelib_reader::{Fault, MemoryReader, read_prec, read_upit};
+use faults::Fault;
+use minelib_reader::{MemoryReader, read_prec, read_upit};
 use norm_tree::NormTree;
 use std::alloc::Global;
 use std::sync::atomic::{AtomicBool, Ordering};

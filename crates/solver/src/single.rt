@@ -1,6 +1,6 @@
 //! One thread solves the whole instance.
 ghost use Rattle.std.specs.Prelude.{◌≡◌, ℕ, false, Some, None, IfOk, IfErr};
-ghost use Rattle.minelib_reader.specs.Refused.{no_memory};
+ghost use Rattle.faults.specs.Refused.{no_memory};
 ghost use Rattle.pit_model.specs.Tree.{is_merger};
 ghost use Rattle.certificate.specs.Certificate.{IsCertificateOf};
 ghost use Rattle.certificate.specs.Check.{ShowsPit};
@@ -12,7 +12,7 @@ use crate::lowest_label::merge_by_lowest_label;
 use crate::outcome::Outcome;
 use certificate::{Certificate, of_tree};
 use mine_graph::Instance;
-use minelib_reader::Fault;
+use faults::Fault;
 use norm_tree::{BareTree, NormTree};
 use std::alloc::Global;
 

@@ -1,13 +1,13 @@
 //! The sweeps of mode shared: in each, the workers go over all arcs, each in a thread of its own; between two of them the
 //! driver has the tree alone, and decides the first merger arc that they left.
 ghost use Rattle.std.specs.Prelude.{◌≡◌, IfOk, IfErr};
-ghost use Rattle.minelib_reader.specs.Refused.{no_seat, IsNoRoom};
+ghost use Rattle.faults.specs.Refused.{no_seat, IsNoRoom};
 
 use crate::driver::decide_first;
 use crate::gate::Gate;
 use crate::guide::Guide;
 use crate::worker::{Sweep, Worker};
-use minelib_reader::Fault;
+use faults::Fault;
 use proposals::{Board, DrawSeat, Draws, Lot, UnnamedDraws};
 use std::alloc::Global;
 use std::marker::Brand;

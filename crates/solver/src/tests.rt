@@ -3,7 +3,7 @@
 use super::*;
 use crate::lowest_label::merge_by_lowest_label;
 use mine_graph::{Graph, Instance};
-use minelib_reader::Fault;
+use faults::Fault;
 use norm_tree::{BareTree, NormTree};
 use std::alloc::Global;
 use std::sync::Arc;

@@ -1,9 +1,9 @@
 //! The strong roots that wait for their turn, by label: a first-in-first-out list for each label, through one link a block.
 ghost use Rattle.std.specs.Prelude.{◌≡◌, ◌<◌, ◌≤◌, ◌^◌, ◌+◌, length, IfOk, IfErr, IfSome};
-ghost use Rattle.minelib_reader.specs.Refused.{no_memory};
+ghost use Rattle.faults.specs.Refused.{no_memory};
 ghost use Rattle.solver.specs.Order.{AreWaiting};
 
-use minelib_reader::Fault;
+use faults::Fault;
 use std::alloc::Global;
 use std::marker::Model;
 

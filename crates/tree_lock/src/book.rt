@@ -2,14 +2,14 @@
 //! `holder` says which budget it is of, and adds the seat at the board.
 ghost use Rattle.std.specs.Prelude.{◌≡◌, [], true, ◌<◌, ◌^◌, IfOk, IfErr, IsTrue};
 ghost use mathlib.Core.List.{IsPrefix};
-ghost use Rattle.minelib_reader.specs.Refused.{no_memory};
+ghost use Rattle.faults.specs.Refused.{no_memory};
 ghost use Rattle.pit_model.specs.Tree.{is_merger};
 ghost use Rattle.pit_model.specs.Journal.{count_after, is_applied, IsLawful};
 ghost use Rattle.pit_model.specs.Version.{applied_arcs, arcs_after, version_tree};
 ghost use Rattle.versions.specs.Published.{tree_over};
 ghost use Rattle.tree_lock.specs.Kept.{kept, verdict_for, Keeps};
 
-use minelib_reader::Fault;
+use faults::Fault;
 use norm_tree::NormTree;
 use pit_model::{Entry, Verdict};
 use std::alloc::Global;

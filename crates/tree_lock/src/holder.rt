@@ -3,7 +3,7 @@
 //! under a mutex.
 ghost use Rattle.std.specs.Prelude.{◌≡◌, ℕ, ◌+◌, ◌<◌, suc, true, [], None, IfOk, IfErr, pos, ◌+ℤ◌, ◌*ℤ◌, ◌≤ℤ◌};
 ghost use mathlib.Core.List.{IsPrefix};
-ghost use Rattle.minelib_reader.specs.Refused.{no_memory};
+ghost use Rattle.faults.specs.Refused.{no_memory};
 ghost use Rattle.pit_model.specs.Mine.{arcs};
 ghost use Rattle.pit_model.specs.Tree.{IsNormalised};
 ghost use Rattle.pit_model.specs.Rank.{positive_worth};
@@ -16,7 +16,7 @@ ghost use Rattle.tree_lock.specs.Served.{replies_under, AreUnderSeats, IsFresh, 
 
 use crate::book::Book;
 use crate::site::Site;
-use minelib_reader::Fault;
+use faults::Fault;
 use norm_tree::NormTree;
 use pit_model::{Entry, Verdict};
 use proposals::{Board, HolderSeat, WorkerSeat};

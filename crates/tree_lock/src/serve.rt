@@ -1,12 +1,12 @@
 //! The pass of the holder over the board: each ask that stands there is decided, with an entry under its worker's seat,
 //! and answered (flat combining: Hendler, Incze, Shavit and Tzafrir 2010).
 ghost use Rattle.std.specs.Prelude.{◌≡◌, ℕ, ◌<◌, IfOk, IfErr};
-ghost use Rattle.minelib_reader.specs.Refused.{no_memory};
+ghost use Rattle.faults.specs.Refused.{no_memory};
 ghost use Rattle.tree_lock.specs.Served.{Serves, ServesOne};
 
 use crate::holder::Holder;
 use crate::site::Site;
-use minelib_reader::Fault;
+use faults::Fault;
 use proposals::Board;
 use std::sync::Wait;
 

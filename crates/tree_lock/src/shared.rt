@@ -1,13 +1,13 @@
 //! The holder under a mutex, so that each thread takes its turn, and beside it what gives seats to look from without the lock.
 ghost use Rattle.std.specs.Prelude.{◌≡◌, true, IfErr};
 ghost use mathlib.Core.List.{IsPrefix};
-ghost use Rattle.minelib_reader.specs.Refused.{no_memory, no_seat, IsNoRoom};
+ghost use Rattle.faults.specs.Refused.{no_memory, no_seat, IsNoRoom};
 ghost use Rattle.pit_model.specs.Tree.{opening};
 ghost use Rattle.tree_lock.specs.Served.{IsFresh};
 
 use crate::holder::Holder;
 use crate::site::Site;
-use minelib_reader::Fault;
+use faults::Fault;
 use norm_tree::NormTree;
 use proposals::{Board, HolderSeat};
 use std::alloc::Global;

@@ -4,7 +4,7 @@ ghost use Rattle.pit_model.specs.Tree.{opening};
 
 use super::*;
 use mine_graph::{Graph, Instance};
-use minelib_reader::Fault;
+use faults::Fault;
 use norm_tree::NormTree;
 use proposals::{Board, UnnamedBoard};
 use std::alloc::Global;

@@ -2,7 +2,7 @@
 //! A seat remembers what it saw and was told of, so that no later look shows less.
 ghost use Rattle.std.specs.Prelude.{◌≡◌, ◌<◌, IfOk, IfErr, MatchResult};
 ghost use mathlib.Core.List.{IsPrefix};
-ghost use Rattle.minelib_reader.specs.Refused.{no_seat};
+ghost use Rattle.faults.specs.Refused.{no_seat};
 ghost use Rattle.pit_model.specs.Tree.{is_merger, is_strong};
 ghost use Rattle.pit_model.specs.Version.{version_tree, IsVersion};
 
@@ -12,7 +12,7 @@ use crate::tree_copy::TreeCopy;
 use crossbeam_utils::rule::Unruled;
 use left_right::reader::{Factory, Reader, Reading};
 use mine_graph::Instance;
-use minelib_reader::Fault;
+use faults::Fault;
 use std::marker::Model;
 
 /// What gives seats to look from. Threads may share it. To a contract it is the arcs that each new seat is told of.

@@ -2,7 +2,7 @@
 //! Each arc is published at once, so that nothing is ever left pending.
 ghost use Rattle.std.specs.Prelude.{◌≡◌, ◌<◌, [], ◌∷◌, ◌++◌, true, drop, fold, IsTrue, IfOk, IfErr};
 ghost use mathlib.Core.List.{IsPrefix};
-ghost use Rattle.minelib_reader.specs.Refused.{no_memory, no_seat, IsNoRoom};
+ghost use Rattle.faults.specs.Refused.{no_memory, no_seat, IsNoRoom};
 ghost use Rattle.pit_model.specs.Tree.{is_merger, opening};
 ghost use Rattle.pit_model.specs.Version.{version_tree, IsVersion};
 ghost use Rattle.versions.specs.Published.{taken_in, tree_over};
@@ -16,7 +16,7 @@ use core::mem::replace_with;
 use crossbeam_utils::rule::Unruled;
 use left_right::Absorb;
 use left_right::writer::Writer;
-use minelib_reader::Fault;
+use faults::Fault;
 use norm_tree::NormTree;
 use std::alloc::{AllocError, Global};
 use std::marker::Model;

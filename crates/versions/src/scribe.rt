@@ -3,7 +3,7 @@
 ghost use Rattle.std.specs.Prelude.{◌≡◌, ◌<◌, ◌^◌, [], ◌∷◌, ◌++◌, length, IfOk, IfErr};
 ghost use mathlib.Core.List.{IsPrefix};
 ghost use Rattle.logbook.specs.Pages.{nib, may_write};
-ghost use Rattle.minelib_reader.specs.Refused.{no_memory, no_seat};
+ghost use Rattle.faults.specs.Refused.{no_memory, no_seat};
 ghost use Rattle.versions.specs.ArcList.{link, head_of};
 
 use crate::beginning::Beginning;
@@ -12,7 +12,7 @@ use crate::link::Link;
 use crate::origin::Origin;
 use crate::steps::{Begin, Confirm, ListRule, Look, NextLink, Nothing, Widen, Write};
 use logbook::{Offer, Pen, Seen, Start, Word};
-use minelib_reader::Fault;
+use faults::Fault;
 use std::alloc::Global;
 use std::marker::{Model, PhantomData};
 use std::sync::Arc;

@@ -5,7 +5,7 @@ ghost use Rattle.pit_model.specs.Tree.{opening};
 
 use crate::{LookSeat, LookSeats, Origin, Publisher, UnnamedList};
 use mine_graph::{Graph, Instance};
-use minelib_reader::Fault;
+use faults::Fault;
 use norm_tree::NormTree;
 use std::alloc::Global;
 use std::marker::Brand;

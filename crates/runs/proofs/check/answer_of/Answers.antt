@@ -2,7 +2,7 @@
 use Rattle.std.proofs.Common.{◌≡◌, ap, ◌∙◌, subst}
 use Rattle.std.proofs.lemmas.Result.{err_from_is_err_and}
 use Rattle.minelib_reader.specs.Answer.{Refuses, ReadsText}
-use Rattle.minelib_reader.specs.declared.fault.Source.TheVariants as sources
+use Rattle.faults.specs.declared.source.Source.TheVariants as sources
 use Rattle.pit_model.specs.Graph.{Graph}
 use Rattle.certificate.specs.CertificateFault.{IsFirstCertificateFault}
 use Rattle.certificate.specs.CertificateGrammar.{SpellsCertificate}
