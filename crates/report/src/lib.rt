@@ -14,8 +14,3 @@ pub use number::put_number;
 pub use out::{Out, end_line, finish, put};
 pub use pit::{put_line, write_pit};
 pub use shells::write_shells;
-
-#[cfg(test)]
-mod shells_tests;
-#[cfg(test)]
-mod tests;

@@ -20,16 +20,3 @@ pub use mode_words::{mode_fault, mode_of};
 pub use nested::run_shells;
 pub use solve::run_solve;
 pub use status::{Status, exit_code};
-
-#[cfg(test)]
-mod certificate_tests;
-#[cfg(test)]
-mod check_tests;
-#[cfg(test)]
-mod copies_tests;
-#[cfg(test)]
-mod nested_tests;
-#[cfg(test)]
-mod small_mines;
-#[cfg(test)]
-mod tests;

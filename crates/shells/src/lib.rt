@@ -12,6 +12,3 @@ pub use columns::Columns;
 pub use factors::Factors;
 pub use nesting::shells;
 pub use pit_model::{Shell, ShellList};
-
-#[cfg(test)]
-mod tests;

@@ -1,9 +1,10 @@
 //! Small deposits, run over memory in each mode: what is written, what is refused, and the exit status. The expected texts
 //! were worked out by hand.
 
-use super::*;
+use crate::modes::{EACH_MODE, ONE_THREAD};
 use minelib_reader::{MemoryReader, MemoryWriter};
 use report::write_fault;
+use runs::{exit_code, run_shells};
 use shells::Factors;
 use solver::Mode;
 use std::sync::Wait;
@@ -93,14 +94,6 @@ fn holds<R: AllocGlobal + Threads + Wait + Sync>(
     )
 }
 
-const ONE_THREAD: Mode = Mode::Single { budget: None };
-
-const TWO_WORKERS: Mode = Mode::Shared {
-    workers: 2,
-    budget: None,
-    chunk: 1,
-};
-
 /// An ore that yields 10 and costs 1, below a block that costs 3.
 const ONE_ORE: &str = "0 0 0 0 0 3\n1 0 0 1 10 1\n";
 
@@ -126,8 +119,8 @@ fn shells_nest_in_each_mode(rt: HostRuntime) -> Result<(), Fail> {
         written(TWO_ORES, "1 1 0\n2 1 0\n", "500,800,900", TWO_ORES_TEXT),
     ];
     for row in rows {
-        for mode in [ONE_THREAD, Mode::Parts, TWO_WORKERS] {
-            assert!(rt; holds(&rt, mode, row)?);
+        for mode in EACH_MODE {
+            assert!(rt; holds(&rt, mode, row)?, "{}", row.factors);
         }
     }
     Ok(())
@@ -156,7 +149,11 @@ fn a_budget_counts_anew_for_each_rest(rt: HostRuntime) -> Result<(), Fail> {
         let mode = Mode::Single {
             budget: Some(budget),
         };
-        assert!(rt; holds(&rt, mode, row)?);
+        assert!(rt;
+            holds(&rt, mode, row)?,
+            "{budget} mergers at {}",
+            row.factors
+        );
     }
     Ok(())
 }

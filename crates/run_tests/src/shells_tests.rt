@@ -1,15 +1,15 @@
 //! Small mines whose shells were worked out by hand.
-use super::*;
+use crate::modes::{EACH_MODE, ONE_THREAD};
 use faults::{Fault, Refusal, Source};
 use mine_graph::Graph;
 use minelib_reader::parse_blocks;
+use pit_model::ShellList;
+use shells::{Columns, Factors, shells};
 use solver::{Mode, OpenGate};
 use std::alloc::Global;
 use std::sync::{Arc, Wait};
 use std::test::*;
 use std::thread::Threads;
-
-const SINGLE: Mode = Mode::Single { budget: None };
 
 /// Whether a list of factors is refused by this, at this item.
 fn is_refused(answer: Result<Factors, Fault>, refusal: &str, item: u64) -> bool {
@@ -152,12 +152,7 @@ const TWO_HILLS: [(u32, &[u32], i128); 2] = [
 #[test]
 fn each_mode_gives_the_shells(rt: HostRuntime) -> Result<(), Fail> {
     let alloc = rt.alloc();
-    let shared = Mode::Shared {
-        workers: 2,
-        budget: None,
-        chunk: 1,
-    };
-    for mode in [SINGLE, Mode::Parts, shared] {
+    for mode in EACH_MODE {
         let one = ending_of(
             &rt,
             alloc,
@@ -219,7 +214,7 @@ fn no_factors_have_no_shells(rt: HostRuntime) -> Result<(), Fail> {
             &columns,
             &graph,
             &factors,
-            &SINGLE,
+            &ONE_THREAD,
             &OpenGate,
         )?;
         assert_eq!(rt; list.n, 2);

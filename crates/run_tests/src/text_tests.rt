@@ -1,7 +1,7 @@
 //! The texts of small pits and of faults, byte for byte, and what stands written where a writer takes no more.
-use super::*;
 use faults::{Fault, Refusal, Source};
 use minelib_reader::MemoryWriter;
+use report::{write_answer, write_fault, write_pit};
 use std::alloc::Global;
 use std::test::*;
 

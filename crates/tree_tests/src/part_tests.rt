@@ -1,8 +1,8 @@
 //! Parts of the mine with the pairs (0, 1), (0, 3) and (2, 1), worked out by hand.
 ghost use Rattle.std.specs.Prelude.{◌≡◌, IfOk};
 
-use mine_graph::{Graph, Part};
 use faults::Fault;
+use mine_graph::{Graph, Part};
 use std::alloc::Global;
 use std::test::*;
 

@@ -2,15 +2,12 @@
 //! answers were worked out by hand.
 ghost use Rattle.std.specs.Prelude.{◌≤◌, ◌^◌, length};
 
-use super::*;
 use minelib_reader::{MemoryReader, MemoryWriter};
 use report::write_fault;
+use runs::{exit_code, run_check};
+use small_mines::{FOUR_BLOCKS, TIE};
 use std::process::Abort;
 use std::test::*;
-
-const FOUR: &str = "NAME: t\nTYPE: UPIT\nNBLOCKS: 4\nOBJECTIVE_FUNCTION:\n0 1\n1 -2\n2 5\n3 -2\n";
-
-const TWO: &str = "NAME: t\nTYPE: UPIT\nNBLOCKS: 2\nOBJECTIVE_FUNCTION:\n0 -5\n1 5\n";
 
 /// Runs `check` over three texts, and compares standard output, standard error and the exit status.
 fn expect_check<R: Abort + AllocGlobal>(
@@ -41,7 +38,7 @@ fn expect_check<R: Abort + AllocGlobal>(
     if let Err(refused) = &result {
         write_fault(&mut fault, refused)?;
     }
-    assert_eq!(rt; exit_code(&result), status);
+    assert_eq!(rt; exit_code(&result), status, "{out}{err}");
     assert_eq!(rt; written.text.as_slice(), out.as_bytes());
     assert_eq!(rt; fault.text.as_slice(), err.as_bytes());
     Ok(())
@@ -64,7 +61,15 @@ fn answers_by_the_flow(rt: HostRuntime) -> Result<(), Fail> {
         )?;
         let text = certificate.as_str();
         assert!(rt; text.len() <= 1000);
-        expect_check(&rt, FOUR, "0 2 1 3\n2 1 1\n", text, out, "", status)?;
+        expect_check(
+            &rt,
+            FOUR_BLOCKS.model,
+            FOUR_BLOCKS.prec,
+            text,
+            out,
+            "",
+            status,
+        )?;
     }
     Ok(())
 }
@@ -73,8 +78,8 @@ fn answers_by_the_flow(rt: HostRuntime) -> Result<(), Fail> {
 fn answers_by_the_set(rt: HostRuntime) -> Result<(), Fail> {
     expect_check(
         &rt,
-        TWO,
-        "1 1 0\n",
+        TIE.model,
+        TIE.prec,
         "PITCERT 1\nBLOCKS: 2\nARCS: 1\nIN: 2\n0\n1\nFLOW: 1\n1 0 5000000\n",
         "no\n",
         "",
@@ -82,8 +87,8 @@ fn answers_by_the_set(rt: HostRuntime) -> Result<(), Fail> {
     )?;
     expect_check(
         &rt,
-        TWO,
-        "1 1 0\n",
+        TIE.model,
+        TIE.prec,
         "PITCERT 1\nBLOCKS: 2\nARCS: 1\nIN: 0\nFLOW: 1\n1 0 5000000\n",
         "yes\n",
         "",
@@ -95,8 +100,8 @@ fn answers_by_the_set(rt: HostRuntime) -> Result<(), Fail> {
 fn refuses_in_the_order_of_the_files(rt: HostRuntime) -> Result<(), Fail> {
     expect_check(
         &rt,
-        FOUR,
-        "0 2 1 3\n2 1 1\n",
+        FOUR_BLOCKS.model,
+        FOUR_BLOCKS.prec,
         "PITCERT 1\nBLOCKS: 4\nARCS: 2\nIN: 2\n1\n2\nFLOW: 0\n",
         "",
         "error 17: counts differ in certificate line 3\n",
@@ -113,7 +118,7 @@ fn refuses_in_the_order_of_the_files(rt: HostRuntime) -> Result<(), Fail> {
     )?;
     expect_check(
         &rt,
-        TWO,
+        TIE.model,
         "0 1 0\n",
         "PITCERT 2\n",
         "",
@@ -122,7 +127,7 @@ fn refuses_in_the_order_of_the_files(rt: HostRuntime) -> Result<(), Fail> {
     )?;
     expect_check(
         &rt,
-        TWO,
+        TIE.model,
         "0 1 1\n1 1 0\n",
         "PITCERT 2\n",
         "",

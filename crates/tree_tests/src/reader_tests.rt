@@ -4,7 +4,11 @@ ghost use Rattle.std.specs.Prelude.{◌≡◌, ◌≤◌, ◌<◌, ◌-◌, ◌^
 ghost use Rattle.minelib_reader.specs.Device.{Progress};
 
 use faults::{Fault, Source};
-use minelib_reader::{BlockTable, DeviceFailed, FileReader, InBytes, MemoryReader, MemoryWriter, Model, OutBytes, Rows, StreamWriter, column, decimal, digits, next_field, parse_blocks, parse_prec, parse_upit, read_all, read_blocks, read_prec, read_upit, two_fields, write_all};
+use minelib_reader::{
+    BlockTable, DeviceFailed, FileReader, InBytes, MemoryReader, MemoryWriter, Model, OutBytes,
+    Rows, StreamWriter, column, decimal, digits, next_field, parse_blocks, parse_prec, parse_upit,
+    read_all, read_blocks, read_prec, read_upit, two_fields, write_all,
+};
 use std::alloc::{AllocError, Global};
 use std::fs::File;
 use std::test::*;
@@ -310,12 +314,12 @@ fn faults_of_tables_whole_and_by_bytes(rt: HostRuntime) -> Result<(), Fail> {
 }
 
 const COLUMNS: [(&str, u32, &str); 6] = [
-    ("", 0, "no column 0 in blocks line 0"),
-    ("0 0 0 -2147483648\n", 0, "no column 0 in blocks line 0"),
+    ("", 0, "no column 0 in blocks"),
+    ("0 0 0 -2147483648\n", 0, "no column 0 in blocks"),
     (
         "0 0 0 0 4\n1 0 0 0 -1\n2 0 0 0 -2\n",
         0,
-        "negative value at block 1 in blocks line 0",
+        "negative value at block 1 in blocks",
     ),
     (
         "0 0 0 0 4 1\n1 0 0 0 -1 0\n2 0 0 0 -2 2.5\n",
@@ -325,7 +329,7 @@ const COLUMNS: [(&str, u32, &str); 6] = [
     (
         "0 0 0 0 4 1\n1 0 0 0 -1 0\n",
         2,
-        "no column 2 in blocks line 0",
+        "no column 2 in blocks",
     ),
     ("0 0 0 0 x\n", 0, "not a decimal in blocks line 1"),
 ];
@@ -345,7 +349,7 @@ fn each_read_fails_in_turn(rt: HostRuntime) -> Result<(), Fail> {
         let read = read_upit(rt.alloc(), &mut SlowReader::new(model, calls));
         assert_eq!(rt;
             model_told(rt.alloc(), read)?.as_str(),
-            "read failed in model line 0"
+            "read failed in model"
         );
     }
     let pairs = b"0 1 1\nx";
@@ -353,7 +357,7 @@ fn each_read_fails_in_turn(rt: HostRuntime) -> Result<(), Fail> {
         let read = read_prec(rt.alloc(), &mut SlowReader::new(pairs, calls), 2);
         assert_eq!(rt;
             pairs_told(rt.alloc(), read)?.as_str(),
-            "read failed in precedence line 0"
+            "read failed in precedence"
         );
     }
     let blocks = b"0 0 0 0 1\nx";
@@ -361,7 +365,7 @@ fn each_read_fails_in_turn(rt: HostRuntime) -> Result<(), Fail> {
         let read = read_blocks(rt.alloc(), &mut SlowReader::new(blocks, calls));
         assert_eq!(rt;
             table_told(rt.alloc(), read)?.as_str(),
-            "read failed in blocks line 0"
+            "read failed in blocks"
         );
     }
     Ok(())
@@ -381,7 +385,7 @@ fn writers(rt: HostRuntime) -> Result<(), Fail> {
     );
     assert_eq!(rt;
         format!(in rt.alloc(); "{}", Fault::write_failed())?.as_str(),
-        "write failed in none line 0"
+        "write failed"
     );
     Ok(())
 }
@@ -407,7 +411,7 @@ fn a_folder_fails_to_read(rt: HostRuntime) -> Result<(), Fail> {
     let mut folder = FileReader::new(File::open(&rt, "/")?);
     let read = read_upit(rt.alloc(), &mut folder);
     let told = model_told(rt.alloc(), read)?;
-    assert_eq!(rt; told.as_str(), "read failed in model line 0");
+    assert_eq!(rt; told.as_str(), "read failed in model");
     Ok(())
 }
 

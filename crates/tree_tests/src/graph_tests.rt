@@ -1,7 +1,7 @@
 //! The happy path of each call on the mine with values 4, -2, 2, -6, 5 and pit 1, 2, 4, worth 5; and the cycle lists of
 //! small pair sets: the blocks from which a walk leads into a cycle are not of its list.
-use mine_graph::{Graph, Instance, acyclic_has_no_needy};
 use faults::{Fault, Refusal, Source};
+use mine_graph::{Graph, Instance, acyclic_has_no_needy};
 use std::sync::Arc;
 use std::test::*;
 

@@ -2,10 +2,11 @@
 ghost use Rattle.std.specs.Prelude.{◌≤◌, ◌^◌, length};
 
 use certificate::{check, of_tree, parse_certificate, write};
-use mine_graph::{Graph, Instance};
 use faults::Fault;
+use mine_graph::{Graph, Instance};
 use minelib_reader::{MemoryWriter, parse_prec, parse_upit};
 use norm_tree::NormTree;
+use small_mines::{SMALL_MINES, SmallMine};
 use std::alloc::Global;
 use std::sync::Arc;
 use std::test::*;
@@ -47,53 +48,23 @@ fn is_shown(alloc: Global, tree: &NormTree) -> Result<bool, Fault> {
     check(alloc, tree.instance(), &read)
 }
 
-fn is_solved(alloc: Global, values: &str, prec: &[u8]) -> Result<bool, Fault>
-    requires prec { length prec.now ≤ 2 ^ 40 }
-{
-    let model = format!(in alloc; "NAME: t\nTYPE: UPIT\nNBLOCKS: {values}")?;
-    let text = model.as_bytes();
-    if text.len() > 1000 {
+/// Whether the mine's certificate is made, written, read and answered yes.
+fn is_solved(alloc: Global, mine: SmallMine) -> Result<bool, Fault> {
+    let model = mine.model.as_bytes();
+    let prec = mine.prec.as_bytes();
+    if model.len() > 1000 || prec.len() > 1000 {
         return Ok(false);
     }
-    let mine = mine_of(alloc, text, prec)?;
-    let mut tree = NormTree::start(alloc, &mine)?;
+    let instance = mine_of(alloc, model, prec)?;
+    let mut tree = NormTree::start(alloc, &instance)?;
     merge_all(&mut tree);
     is_shown(alloc, &tree)
 }
 
 #[test]
 fn certificates_of_small_mines(rt: HostRuntime) -> Result<(), Fail> {
-    for (values, prec) in [
-        ("0\nOBJECTIVE_FUNCTION:\n", ""),
-        (
-            "5\nOBJECTIVE_FUNCTION:\n0 4\n1 -2\n2 2\n3 -6\n4 5\n",
-            "0 2 1 3\n2 1 1\n4 1 1\n",
-        ),
-        ("1\nOBJECTIVE_FUNCTION:\n0 0\n", ""),
-        ("2\nOBJECTIVE_FUNCTION:\n0 -3\n1 5\n", "1 1 0\n"),
-        ("2\nOBJECTIVE_FUNCTION:\n0 -5\n1 5\n", "1 1 0\n"),
-        ("3\nOBJECTIVE_FUNCTION:\n0 -8\n1 5\n2 4\n", "1 1 0\n2 1 0\n"),
-        (
-            "4\nOBJECTIVE_FUNCTION:\n0 -3\n1 -4\n2 10\n3 2\n",
-            "2 1 0\n3 2 0 1\n",
-        ),
-        (
-            "4\nOBJECTIVE_FUNCTION:\n0 1\n1 -2\n2 5\n3 -2\n",
-            "0 2 1 3\n2 1 1\n",
-        ),
-        (
-            "4\nOBJECTIVE_FUNCTION:\n0 4\n1 -2\n2 5\n3 -2\n",
-            "0 2 1 3\n2 1 1\n",
-        ),
-        (
-            "4\nOBJECTIVE_FUNCTION:\n0 4\n1 -2\n2 2\n3 -2\n",
-            "0 2 1 3\n2 1 1\n",
-        ),
-        ("1\nOBJECTIVE_FUNCTION:\n0 999999999999.999999\n", ""),
-    ] {
-        let prec = prec.as_bytes();
-        assert!(rt; prec.len() <= 1000);
-        assert!(rt; is_solved(rt.alloc(), values, prec)?, "at {values}");
+    for mine in SMALL_MINES {
+        assert!(rt; is_solved(rt.alloc(), mine)?, "{:?}", mine);
     }
     Ok(())
 }

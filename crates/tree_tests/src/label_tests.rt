@@ -2,8 +2,8 @@
 //! hand: the first merger leaves nothing to either block, the second carries 1 to block 1, and the third all of it to block 3.
 ghost use Rattle.std.specs.Prelude.{◌≡◌, IfOk};
 
-use mine_graph::{Graph, Instance};
 use faults::Fault;
+use mine_graph::{Graph, Instance};
 use norm_tree::NormTree;
 use std::alloc::Global;
 use std::process::Abort;

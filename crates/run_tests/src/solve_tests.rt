@@ -1,11 +1,14 @@
 //! The worked rows, run over memory in each mode: what is written, what is refused, and the exit status. The expected texts
 //! were worked out by hand.
 
-use super::*;
-use crate::small_mines::{mines_of_four_blocks_and_more, mines_of_three_blocks_at_most};
+use crate::modes::{EACH_MODE, ONE_THREAD, TWO_WORKERS};
 use faults::{Fault, Refusal};
 use minelib_reader::{MemoryReader, MemoryWriter};
 use report::write_fault;
+use runs::{Status, exit_code, mode_fault, mode_of, run_solve};
+use small_mines::{
+    FOUR_BLOCKS, FOUR_BLOCKS_THAT_PAY, PAYING_ORE, SMALL_MINES, SmallMine, WORTHLESS_BLOCK,
+};
 use solver::Mode;
 use std::sync::Wait;
 use std::test::*;
@@ -13,7 +16,7 @@ use std::thread::Threads;
 
 /// A model, a precedence file, and what `solve` then writes.
 #[derive(Clone, Copy)]
-pub(crate) struct Row {
+struct Row {
     model: &'static str,
     prec: &'static str,
     out: &'static str,
@@ -21,18 +24,18 @@ pub(crate) struct Row {
     status: u8,
 }
 
-/// A row that is solved.
-pub(crate) fn solved(model: &'static str, prec: &'static str, out: &'static str) -> Row {
+/// A mine that is solved.
+fn solved(mine: SmallMine) -> Row {
     Row {
-        model,
-        prec,
-        out,
+        model: mine.model,
+        prec: mine.prec,
+        out: mine.pit,
         err: "",
         status: 0,
     }
 }
 
-/// A row that is refused.
+/// Texts that are refused, or whose budget is used up.
 fn refused(model: &'static str, prec: &'static str, err: &'static str, status: u8) -> Row {
     Row {
         model,
@@ -76,33 +79,12 @@ fn holds<R: AllocGlobal + Threads + Wait + Sync>(
     )
 }
 
-const ONE_THREAD: Mode = Mode::Single { budget: None };
-
-const TWO_WORKERS: Mode = Mode::Shared {
-    workers: 2,
-    budget: None,
-    chunk: 1,
-};
-
-/// Whether each small mine is solved in this mode.
-fn solves_small_mines<R: AllocGlobal + Threads + Wait + Sync>(
-    rt: &R,
-    mode: Mode,
-) -> Result<bool, Fail> {
-    let mut good = true;
-    for row in mines_of_three_blocks_at_most() {
-        good = holds(rt, mode, row)? && good;
-    }
-    for row in mines_of_four_blocks_and_more() {
-        good = holds(rt, mode, row)? && good;
-    }
-    Ok(good)
-}
-
 #[test]
 fn solves_small_mines_in_each_mode(rt: HostRuntime) -> Result<(), Fail> {
     for mode in [ONE_THREAD, Mode::Parts] {
-        assert!(rt; solves_small_mines(&rt, mode)?);
+        for mine in SMALL_MINES {
+            assert!(rt; holds(&rt, mode, solved(mine))?, "{:?}", mine);
+        }
     }
     Ok(())
 }
@@ -116,7 +98,13 @@ fn solves_small_mines_with_any_crew(rt: HostRuntime) -> Result<(), Fail> {
                 budget: None,
                 chunk,
             };
-            assert!(rt; solves_small_mines(&rt, mode)?);
+            for mine in SMALL_MINES {
+                assert!(rt;
+                    holds(&rt, mode, solved(mine))?,
+                    "{workers} workers, chunks of {chunk}: {:?}",
+                    mine
+                );
+            }
         }
     }
     Ok(())
@@ -169,8 +157,8 @@ fn refuses_the_first_fault_in_each_mode(rt: HostRuntime) -> Result<(), Fail> {
         ),
     ];
     for row in rows {
-        for mode in [ONE_THREAD, Mode::Parts, TWO_WORKERS] {
-            assert!(rt; holds(&rt, mode, row)?);
+        for mode in EACH_MODE {
+            assert!(rt; holds(&rt, mode, row)?, "{}", row.err);
         }
     }
     Ok(())
@@ -202,60 +190,27 @@ fn stops_at_the_budget(rt: HostRuntime) -> Result<(), Fail> {
     let none = "error 20: exhausted after 0 mergers\n";
     let two = "error 20: exhausted after 2 mergers\n";
     let rows = [
-        (
-            0,
-            refused(
-                "NAME: t\nTYPE: UPIT\nNBLOCKS: 2\nOBJECTIVE_FUNCTION:\n0 -3\n1 5\n",
-                "1 1 0\n",
-                none,
-                3,
-            ),
-        ),
-        (
-            0,
-            solved(
-                "NAME: t\nTYPE: UPIT\nNBLOCKS: 1\nOBJECTIVE_FUNCTION:\n0 0\n",
-                "",
-                "PIT\nBLOCKS: 1\nIN: 0\nWORTH: 0.000000\n",
-            ),
-        ),
+        (0, refused(PAYING_ORE.model, PAYING_ORE.prec, none, 3)),
+        (0, solved(WORTHLESS_BLOCK)),
+        (2, refused(FOUR_BLOCKS.model, FOUR_BLOCKS.prec, two, 3)),
+        (3, solved(FOUR_BLOCKS)),
         (
             2,
             refused(
-                "NAME: t\nTYPE: UPIT\nNBLOCKS: 4\nOBJECTIVE_FUNCTION:\n0 1\n1 -2\n2 5\n3 -2\n",
-                "0 2 1 3\n2 1 1\n",
+                FOUR_BLOCKS_THAT_PAY.model,
+                FOUR_BLOCKS_THAT_PAY.prec,
                 two,
                 3,
             ),
         ),
-        (
-            3,
-            solved(
-                "NAME: t\nTYPE: UPIT\nNBLOCKS: 4\nOBJECTIVE_FUNCTION:\n0 1\n1 -2\n2 5\n3 -2\n",
-                "0 2 1 3\n2 1 1\n",
-                "PIT\nBLOCKS: 4\nIN: 2\nWORTH: 3.000000\n1\n2\n",
-            ),
-        ),
-        (
-            2,
-            refused(
-                "NAME: t\nTYPE: UPIT\nNBLOCKS: 4\nOBJECTIVE_FUNCTION:\n0 4\n1 -2\n2 5\n3 -2\n",
-                "0 2 1 3\n2 1 1\n",
-                two,
-                3,
-            ),
-        ),
-        (
-            3,
-            solved(
-                "NAME: t\nTYPE: UPIT\nNBLOCKS: 4\nOBJECTIVE_FUNCTION:\n0 4\n1 -2\n2 5\n3 -2\n",
-                "0 2 1 3\n2 1 1\n",
-                "PIT\nBLOCKS: 4\nIN: 4\nWORTH: 5.000000\n0\n1\n2\n3\n",
-            ),
-        ),
+        (3, solved(FOUR_BLOCKS_THAT_PAY)),
     ];
     for (most, row) in rows {
-        assert!(rt; holds_within(&rt, most, row)?);
+        assert!(rt;
+            holds_within(&rt, most, row)?,
+            "{most} mergers in {}",
+            row.model
+        );
     }
     Ok(())
 }
@@ -267,10 +222,8 @@ fn is_cut<R: AllocGlobal + Threads + Wait + Sync>(
     text: &str,
     room: usize,
 ) -> Result<bool, Fail> {
-    let mut model = MemoryReader::new(
-        b"NAME: t\nTYPE: UPIT\nNBLOCKS: 2\nOBJECTIVE_FUNCTION:\n0 -3\n1 5\n",
-    );
-    let mut prec = MemoryReader::new(b"1 1 0\n");
+    let mut model = MemoryReader::new(PAYING_ORE.model.as_bytes());
+    let mut prec = MemoryReader::new(PAYING_ORE.prec.as_bytes());
     let mut out = MemoryWriter::new(rt.alloc(), room);
     let mut unwanted: Option<MemoryWriter> = None;
     let result = run_solve(
@@ -297,10 +250,9 @@ fn is_cut<R: AllocGlobal + Threads + Wait + Sync>(
 
 #[test]
 fn leaves_a_beginning_where_writing_fails(rt: HostRuntime) -> Result<(), Fail> {
-    let text = "PIT\nBLOCKS: 2\nIN: 2\nWORTH: 2.000000\n0\n1\n";
-    for room in 0..text.len() {
+    for room in 0..PAYING_ORE.pit.len() {
         for mode in [ONE_THREAD, TWO_WORKERS] {
-            assert!(rt; is_cut(&rt, mode, text, room)?);
+            assert!(rt; is_cut(&rt, mode, PAYING_ORE.pit, room)?, "room for {room}");
         }
     }
     Ok(())

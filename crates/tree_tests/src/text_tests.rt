@@ -3,8 +3,8 @@
 ghost use Rattle.std.specs.Prelude.{◌≡◌, ◌≤◌, ◌<◌, ℕ, ℤ, pos, neg_ℤ, ◌^◌, ◌≤ℤ◌, get_or, length, IfOk};
 
 use certificate::{Certificate, check, parse_certificate, read, write};
-use mine_graph::{Graph, Instance};
 use faults::Fault;
+use mine_graph::{Graph, Instance};
 use minelib_reader::{MemoryReader, MemoryWriter};
 use report::write_fault;
 use std::alloc::Global;

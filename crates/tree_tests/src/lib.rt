@@ -1,4 +1,4 @@
-//! Tests of `minelib_reader`, `mine_graph`, `forest`, `norm_tree` and `certificate` by their public calls. They stand apart,
+//! Tests of `faults`, `minelib_reader`, `mine_graph`, `forest`, `norm_tree` and `certificate` by their public calls. They stand apart,
 //! so that none of those crates is proved twice for its tests' sake.
 #![tactic(auto)]
 
@@ -6,6 +6,8 @@
 mod bare_tests;
 #[cfg(test)]
 mod certificate_tests;
+#[cfg(test)]
+mod fault_tests;
 #[cfg(test)]
 mod forest_tests;
 #[cfg(test)]

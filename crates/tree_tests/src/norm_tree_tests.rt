@@ -2,8 +2,8 @@
 //! where it cuts between two strong branches, and where a residual is used up exactly and the link stays.
 ghost use Rattle.std.specs.Prelude.{◌≡◌, ℕ, ◌<◌, ◌^◌, IfOk, ℤ, pos, neg_ℤ, ◌≤ℤ◌, length, get_or};
 
-use mine_graph::{Graph, Instance};
 use faults::Fault;
+use mine_graph::{Graph, Instance};
 use norm_tree::NormTree;
 use std::alloc::Global;
 use std::sync::Arc;

@@ -2,9 +2,9 @@
 //! 400 per mille nothing is dug, and at 1000 both are, for 10 - 1 - 3.
 ghost use Rattle.std.specs.Prelude.{◌≡◌, []};
 
-use super::*;
 use minelib_reader::MemoryWriter;
 use pit_model::{Shell, ShellList};
+use report::write_shells;
 use std::alloc::Global;
 use std::test::*;
 

@@ -1,8 +1,8 @@
 //! Random small mines: after each merger, and after each arc that is none, the kept labels and the first merger arc are those
 //! that the bare tree sees, which climbs to roots, arc by arc. So two bodies of one thing are held against each other.
 
-use mine_graph::{Graph, Instance};
 use faults::Fault;
+use mine_graph::{Graph, Instance};
 use minelib_reader::{MemoryReader, read_prec, read_upit};
 use norm_tree::{BareTree, NormTree};
 use std::alloc::Global;

@@ -1,6 +1,7 @@
 //! 5,000 copies of a mine of four blocks, numbered four at a time: of each copy the second and the third block are dug, for 3.
-use super::*;
+use crate::modes::EACH_MODE;
 use minelib_reader::{MemoryReader, MemoryWriter};
+use runs::run_solve;
 use solver::Mode;
 use std::alloc::{AllocError, Global};
 use std::sync::Wait;
@@ -74,13 +75,9 @@ fn finds_the_pit<R: AllocGlobal + Threads + Wait + Sync>(rt: &R, mode: Mode) -> 
 
 #[test]
 fn many_parts_have_one_pit_in_each_mode(rt: HostRuntime) -> Result<(), Fail> {
-    assert!(rt; finds_the_pit(&rt, Mode::Single { budget: None })?);
-    assert!(rt; finds_the_pit(&rt, Mode::Parts)?);
-    let shared = Mode::Shared {
-        workers: 2,
-        budget: None,
-        chunk: 1,
-    };
-    assert!(rt; finds_the_pit(&rt, shared)?);
+    for mode in EACH_MODE {
+        let found = finds_the_pit(&rt, mode)?;
+        assert!(rt; found);
+    }
     Ok(())
 }

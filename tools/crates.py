@@ -1,0 +1,30 @@
+"""What crates.txt says: the crates of the repository and which of them each stands on."""
+import pathlib
+import re
+
+TOP = pathlib.Path(__file__).resolve().parent.parent
+
+
+def crates() -> dict[str, list[str]]:
+    """The crates that each crate of the repository names, without the libraries of the toolchain."""
+    lines = (TOP / "crates.txt").read_text().splitlines()
+    named = {}
+    for line in lines:
+        found = re.fullmatch(r"([a-z_0-9]+)[^:#]*:(.*)", line)
+        if found:
+            named[found[1]] = found[2].split()
+    return {name: [it for it in uses if it in named] for name, uses in named.items()}
+
+
+def in_order(name: str) -> list[str]:
+    """A crate and all that it stands on, lowest first."""
+    uses, order = crates(), []
+
+    def visit(crate: str) -> None:
+        for below in uses[crate]:
+            if below not in order:
+                visit(below)
+        order.append(crate)
+
+    visit(name)
+    return order
