@@ -8,7 +8,7 @@ use Rattle.pit_model.specs.Flow.{HasResidual, excess}
 use Rattle.pit_model.specs.Certificate.{IsReached}
 use Rattle.pit_model.proofs.Members.{members_each}
 use Rattle.certificate.specs.Check.{has, amount, AreExcesses}
-use Rattle.certificate.specs.Queue.{IsTrail, IsExtended, IsSpread}
+use Rattle.certificate.specs.Queue.{IsExtended, IsSpread}
 use Rattle.certificate.proofs.Found.{members_found}
 
 pub lt_from : (x y : ℤ) → int_lt x y ≡ true → x <ℤ y
@@ -16,15 +16,6 @@ lt_from x y h = grind (arith, ints)
 
 pub lt_to : (x y : ℤ) → x <ℤ y → int_lt x y ≡ true
 lt_to x y h = grind (arith, ints)
-
-pub trail_none : (seen : List Bool) (queue : List ℕ) → length queue ≡ length seen → ((u : ℕ) → has seen u ≡ false) → IsTrail seen queue 0
-trail_none seen queue same none = record {
-  room = omega arith;
-  size = same;
-  marked = λ i h. absurd (omega arith);
-  apart = λ i j h l. absurd (omega arith);
-  found = λ u e. absurd (false≢true (sym (none u) ∙ e));
-}
 
 module _ (mine : Instance) (inside : List Bool) (flow : List ℤ) where
   -- a step more

@@ -1,14 +1,11 @@
 -- The steps of marking and queueing.
 use Rattle.std.proofs.Common.{◌≡◌, ℕ, ◌+◌, ◌<◌, ◌≤◌, Bool, true, false, refl, sym, ap, ◌∙◌, arith, inl, inr, ⊎_elim, List, set, get_or, length}
 use Rattle.std.specs.Prelude.{◌⊎◌}
-use Rattle.std.proofs.lemmas.Bool.{cases_eq, cases_lt, false≢true}
-use Rattle.std.proofs.lemmas.List.{get_or-set_same, get_or-set_other, length-set, get_or_past}
+use Rattle.std.proofs.lemmas.Bool.{cases_eq, false≢true}
+use Rattle.std.proofs.lemmas.List.{get_or-set_same, get_or-set_other, length-set}
 use Rattle.certificate.specs.Check.{has}
 use Rattle.certificate.specs.Queue.{IsTrail, IsExtended}
 use Rattle.mine_graph.proofs.Counts.{pigeon_more}
-
-pub has-below : (seen : List Bool) (u : ℕ) → has seen u ≡ true → u < length seen
-has-below seen u e = ⊎_elim (λ (l : u < length seen). l) (λ (l : length seen ≤ u). absurd (false≢true (sym (get_or_past seen u false l) ∙ e))) (cases_lt u (length seen))
 
 -- a block more
 module _ (seen : List Bool) (queue : List ℕ) (tail block : ℕ) (below : block < length seen) (fresh : has seen block ≡ false) (was : IsTrail seen queue tail) where
@@ -72,30 +69,6 @@ visited inside seen queue tail block below within fresh was = record {
   only = λ u e. ⊎_elim (λ (h : has seen u ≡ true). inl h) (λ (s : u ≡ block). inr (0, omega arith, omega arith, refl, sym s, ap (has inside) s ∙ within)) (mark-only seen queue tail block below fresh was u e);
   all = λ x h l t i. mark-here seen queue tail block below fresh was;
   kept = old seen queue tail block below fresh was;
-  more = omega arith;
-}
-
-pub passed_by : (inside seen : List Bool) (queue : List ℕ) (tail block : ℕ) → (has inside block ≡ true → has seen block ≡ true) → IsTrail seen queue tail
-    → IsExtended inside (λ x. true) (λ x. block) 0 1 seen queue tail seen queue tail
-passed_by inside seen queue tail block skip was = record {
-  trail = was;
-  size = refl;
-  grows = λ u e. e;
-  only = λ u e. inl e;
-  all = λ x h l t i. skip i;
-  kept = λ i h. refl;
-  more = omega arith;
-}
-
--- over more slots
-pub extended_none : (inside : List Bool) (test : ℕ → Bool) (block : ℕ → ℕ) (begin : ℕ) (seen : List Bool) (queue : List ℕ) (tail : ℕ) → IsTrail seen queue tail → IsExtended inside test block begin begin seen queue tail seen queue tail
-extended_none inside test block begin seen queue tail was = record {
-  trail = was;
-  size = refl;
-  grows = λ u e. e;
-  only = λ u e. inl e;
-  all = λ x h l. absurd (omega arith);
-  kept = λ i h. refl;
   more = omega arith;
 }
 

@@ -68,28 +68,6 @@ module _ (labels queue : List ℕ) (label tail block : ℕ) (below : block < len
     more = omega arith;
   }
 
-pub passed_by : (labels queue : List ℕ) (label tail block : ℕ) → (IsFree labels block → ⊥) → AreQueued labels label queue tail
-    → AreTaken label (λ x. block) 0 1 labels queue tail labels queue tail
-passed_by labels queue label tail block taken was = record {
-  queued = was;
-  size = refl;
-  only = λ u l. inl refl;
-  all = λ x h l. taken;
-  kept = λ i h. refl;
-  more = omega arith;
-}
-
--- over more slots
-pub taken_none : (label : ℕ) (block : ℕ → ℕ) (begin : ℕ) (labels queue : List ℕ) (tail : ℕ) → AreQueued labels label queue tail → AreTaken label block begin begin labels queue tail labels queue tail
-taken_none label block begin labels queue tail was = record {
-  queued = was;
-  size = refl;
-  only = λ u l. inl refl;
-  all = λ x h l. absurd (omega arith);
-  kept = λ i h. refl;
-  more = omega arith;
-}
-
 -- what has the label keeps it
 pub label_stays : (label : ℕ) (block : ℕ → ℕ) (begin end : ℕ) (labels0 queue0 : List ℕ) (tail0 : ℕ) (labels queue : List ℕ) (tail : ℕ)
     → AreTaken label block begin end labels0 queue0 tail0 labels queue tail → (u : ℕ) → u < length labels0 → (IsFree labels0 u → ⊥) → label_of labels u ≡ label_of labels0 u
@@ -401,19 +379,6 @@ module _ (graph : Graph) (before : List ℕ) (label root : ℕ) (range : AreInRa
           (v.0, v.1, held v.0 (omega (arith, v.1)) (omega (arith, v.2)) ∙ v.2))
           (cases_eq (label_of labels u) label);
     }
-
--- at the start no block has a class
-pub no_class_yet : (graph : Graph) (labels : List ℕ) → AreInRange graph.pairs graph.blocks → length labels ≡ graph.blocks → ((u : ℕ) → u < graph.blocks → IsFree labels u)
-    → AreClasses graph labels 0 0
-no_class_yet graph labels range size free = record {
-  size = size;
-  few = omega arith;
-  passed = λ u h. absurd (omega arith);
-  either = λ u l. inl (free u l);
-  together = λ k l. let r = range k l in free (first_of graph.pairs k) r.0 ∙ sym (free (second_of graph.pairs k) r.1);
-  rooted = λ i l. absurd (omega arith);
-  rising = λ i u low l few. absurd (omega arith);
-}
 
 -- a block that has its class already is passed over
 pub class_passed : (graph : Graph) (labels : List ℕ) (count next : ℕ) → AreClasses graph labels count next → next < graph.blocks → (IsFree labels next → ⊥)

@@ -180,59 +180,6 @@ pub record IsQueuing (left order : List ℕ) (tail u : ℕ) : Type 0 where
   pub apart : (i j : ℕ) → i < j → j < tail → get_or order i 0 ≡ get_or order j 0 → ⊥
   pub waits : (v : ℕ) → v < u → get_or left v 0 ≡ 0 → (i : ℕ) × (i < tail) × (get_or order i 0 ≡ v)
 
-pub queuing_none : (left order : List ℕ) → IsQueuing left order 0 0
-queuing_none left order = record {
-  small = omega arith;
-  free = λ i h. absurd (omega arith);
-  apart = λ i j h l. absurd (omega arith);
-  waits = λ v h. absurd (omega arith);
-}
-
-pub queuing_skip : (left order : List ℕ) (tail u : ℕ) → (get_or left u 0 ≡ 0 → ⊥) → IsQueuing left order tail u → IsQueuing left order tail (u + 1)
-queuing_skip left order tail u some was = record {
-  small = (let s = was.small in omega arith);
-  free = λ i h. (let f = (was.free i h).0 in omega arith, (was.free i h).1);
-  apart = was.apart;
-  waits = λ v h z. ⊎_elim
-      (λ (e : v ≡ u). absurd (some (ap (λ k. get_or left k 0) (sym e) ∙ z)))
-      (λ (ne : v ≡ u → ⊥). was.waits v (omega arith) z)
-      (cases_eq v u);
-}
-
-pub queuing_more : (left order : List ℕ) (tail u : ℕ) → u < length order → get_or left u 0 ≡ 0 → IsQueuing left order tail u → IsQueuing left (set order tail u) (tail + 1) (u + 1)
-queuing_more left order tail u room none was =
-    let fits : tail < length order = (let s = was.small in omega arith) in
-    let old : (i : ℕ) → i < tail → get_or (set order tail u) i 0 ≡ get_or order i 0 = λ i m. get_or-set_other order tail i u 0 (λ e. omega arith) in
-    let new : get_or (set order tail u) tail 0 ≡ u = get_or-set_same order tail u 0 fits in
-    record {
-      small = (let s = was.small in omega arith);
-      free = λ i m. ⊎_elim
-          (λ (e : i ≡ tail).
-          let is : get_or (set order tail u) i 0 ≡ u = ap (λ x. get_or (set order tail u) x 0) e ∙ new in
-          (omega arith, ap (λ x. get_or left x 0) is ∙ none))
-          (λ (ne : i ≡ tail → ⊥).
-          let b : i < tail = omega arith in
-          let is = old i b in
-          (let f = (was.free i b).0 in omega arith, ap (λ x. get_or left x 0) is ∙ (was.free i b).1))
-          (cases_eq i tail);
-      apart = λ i j m b e. ⊎_elim
-          (λ (s : j ≡ tail). let c : i < tail = omega arith in let f = (was.free i c).0 in let z : get_or order i 0 ≡ u = sym (old i c) ∙ e ∙ ap (λ x. get_or (set order tail u) x 0) s ∙ new in omega arith)
-          (λ (ne : j ≡ tail → ⊥). was.apart i j m (omega arith) (sym (old i (omega arith)) ∙ e ∙ old j (omega arith)))
-          (cases_eq j tail);
-      waits = λ v m z. ⊎_elim
-          (λ (e : v ≡ u). (tail, omega arith, new ∙ sym e))
-          (λ (ne : v ≡ u → ⊥). let w = was.waits v (omega arith) z in (w.0, omega (arith, w.1), old w.0 w.1 ∙ w.2))
-          (cases_eq v u);
-    }
-
-pub queuing_all : (left order : List ℕ) (tail u : ℕ) → u ≡ length left → length order ≡ length left → IsQueuing left order tail u → IsQueue left order tail
-queuing_all left order tail u e same was = record {
-  room = (let s = was.small in omega arith);
-  free = λ i h. (let f = (was.free i h).0 in omega arith, (was.free i h).1);
-  apart = was.apart;
-  waits = λ v h z. was.waits v (omega arith) z;
-}
-
 open_all : (b : Bool) → b ≡ b && true
 open_all true = refl
 open_all false = refl

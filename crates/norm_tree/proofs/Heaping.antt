@@ -1,13 +1,10 @@
 -- A heap of marks while one mark is put: all nodes agree with the two below them, but for the one above where the climb is.
-use Rattle.std.proofs.Common.{◌≡◌, ℕ, zero, suc, ◌+◌, ◌*◌, ◌^◌, ◌/◌, ◌<◌, ◌≤◌, Bool, true, false, ◌||◌, refl, sym, ap, ◌∙◌, arith, ⊎_elim, List, set, length, get_or}
+use Rattle.std.proofs.Common.{◌≡◌, ℕ, zero, suc, ◌+◌, ◌*◌, ◌^◌, ◌/◌, ◌<◌, ◌≤◌, Bool, true, false, ◌||◌, refl, sym, ap, ◌∙◌, arith, ⊎_elim, List, length, get_or}
 use Rattle.std.proofs.lemmas.Bool.{cases_eq, cases_lt, true≢false}
-use Rattle.std.proofs.lemmas.List.{get_or-set_same, get_or-set_other, get_or_past, length-set}
+use Rattle.std.proofs.lemmas.List.{get_or_past}
 use Rattle.std.proofs.Math.Nat.{two-pow-succ}
 use Rattle.std.proofs.lemmas.Nat.{pow_pos}
 use Rattle.norm_tree.specs.Heap.{AreEither}
-
-pub half_of : (n i : ℕ) → (i ≡ n / 2 → ⊥) → (2 * i ≡ n → ⊥) × (2 * i + 1 ≡ n → ⊥)
-half_of n i ne = (λ e. ne (omega arith), λ e. ne (omega arith))
 
 -- one node above the climb may differ
 pub record IsClimbing (start : List Bool) (size : ℕ) (nodes : List Bool) (node : ℕ) : Type 0 where
@@ -16,58 +13,6 @@ pub record IsClimbing (start : List Bool) (size : ℕ) (nodes : List Bool) (node
   pub high : node < length start
   pub either : (i : ℕ) → 1 ≤ i → i < size → (i ≡ node / 2 → ⊥) → get_or nodes i false ≡ (get_or nodes (2 * i) false || get_or nodes (2 * i + 1) false)
   pub last : (i : ℕ) → size ≤ i → get_or nodes i false ≡ get_or start i false
-
-pub climbing_begins : (before : List Bool) (size place : ℕ) (marked : Bool) → 1 ≤ size → size ≤ place → place < length before → AreEither before size
-    → IsClimbing (set before place marked) size (set before place marked) place
-climbing_begins before size place marked some low high either = record {
-  count = refl;
-  low = omega arith;
-  high = omega (arith, length-set before place marked);
-  either = λ i l m ne.
-      let off = half_of place i ne in
-      let here : get_or (set before place marked) i false ≡ get_or before i false = get_or-set_other before place i marked false (λ e. omega arith) in
-      let left : get_or (set before place marked) (2 * i) false ≡ get_or before (2 * i) false = get_or-set_other before place (2 * i) marked false off.0 in
-      let right : get_or (set before place marked) (2 * i + 1) false ≡ get_or before (2 * i + 1) false = get_or-set_other before place (2 * i + 1) marked false off.1 in
-      rw (here, left, right) (either i l m);
-  last = λ i l. refl;
-}
-
--- the node above takes its mark from the two below it
-pub climbing_on : (start : List Bool) (size : ℕ) (nodes : List Bool) (node : ℕ) → 1 < node → length start ≡ size + size → IsClimbing start size nodes node
-    → IsClimbing start size (set nodes (node / 2) (get_or nodes (2 * (node / 2)) false || get_or nodes (2 * (node / 2) + 1) false)) (node / 2)
-climbing_on start size nodes node more room c =
-    let up : ℕ = node / 2 in
-    let mark : Bool = get_or nodes (2 * up) false || get_or nodes (2 * up + 1) false in
-    let after : List Bool = set nodes up mark in
-    let at : up < length nodes = omega (arith, c.high, c.count) in
-    let high = c.high in
-    record {
-      count = length-set nodes up mark ∙ c.count;
-      low = omega arith;
-      high = omega arith;
-      either = λ i l m ne.
-          let off = half_of up i ne in
-          let left : get_or after (2 * i) false ≡ get_or nodes (2 * i) false = get_or-set_other nodes up (2 * i) mark false off.0 in
-          let right : get_or after (2 * i + 1) false ≡ get_or nodes (2 * i + 1) false = get_or-set_other nodes up (2 * i + 1) mark false off.1 in
-          ⊎_elim
-          (λ (e : i ≡ up).
-          ap (λ k. get_or after k false) e ∙ get_or-set_same nodes up mark false at
-          ∙ ap (λ k. get_or nodes (2 * k) false || get_or nodes (2 * k + 1) false) (sym e)
-          ∙ ap (λ b. b || get_or nodes (2 * i + 1) false) (sym left) ∙ ap (λ b. get_or after (2 * i) false || b) (sym right))
-          (λ (other : i ≡ up → ⊥).
-          let here : get_or after i false ≡ get_or nodes i false = get_or-set_other nodes up i mark false other in
-          rw (here, left, right) (c.either i l m other))
-          (cases_eq i up);
-      last = λ i l. get_or-set_other nodes up i mark false (λ e. omega arith) ∙ c.last i l;
-    }
-
--- the climb is over where a node has its mark already, and at the top
-pub climbed : (start : List Bool) (size : ℕ) (nodes : List Bool) (node : ℕ) → IsClimbing start size nodes node
-    → (1 < node → get_or nodes (node / 2) false ≡ (get_or nodes (2 * (node / 2)) false || get_or nodes (2 * (node / 2) + 1) false)) → AreEither nodes size
-climbed start size nodes node c here i l m = ⊎_elim
-    (λ (e : i ≡ node / 2). let more : 1 < node = omega arith in ap (λ k. get_or nodes k false) e ∙ here more ∙ ap (λ k. get_or nodes (2 * k) false || get_or nodes (2 * k + 1) false) (sym e))
-    (λ (ne : i ≡ node / 2 → ⊥). c.either i l m ne)
-    (cases_eq i (node / 2))
 
 -- a marked node of a level, the first of it
 pub record IsDescending (nodes : List Bool) (level node : ℕ) : Type 0 where

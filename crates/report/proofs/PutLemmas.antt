@@ -5,7 +5,7 @@ use Rattle.std.proofs.lemmas.List.{append-nil}
 use Rattle.std.specs.Prelude.{Result, Ok, Err}
 use Rattle.faults.specs.declared.fault.Fault.{Fault}
 use Rattle.minelib_reader.specs.Device.{Progress, Begins, Writes}
-use Rattle.report.specs.Puts.{Waiting, Answers, PutCases, Puts, IsReadyCases, IsReady}
+use Rattle.report.specs.Puts.{Waiting, Answers, PutCases, Puts}
 
 -- sent, then waiting: first x with y behind it, then more
 joined : (x y a b c : List ℕ) (z : List ℕ) → x ++ y ≡ a ++ b → z ≡ y ++ c → x ++ z ≡ a ++ (b ++ c)
@@ -43,17 +43,8 @@ cases_then p q r false false false before between after a b x y =
       y.1 ∙ x.1,
     )
 
-cases_ready : (p q : Progress) (f g : Bool) (before between a : List ℕ) → IsReadyCases p f → PutCases p f before q g between a → IsReadyCases q g
-cases_ready p q true true before between a r x = tt
-cases_ready p q true false before between a r x = absurd x
-cases_ready p q false true before between a r x = tt
-cases_ready p q false false before between a r x = omega (arith, x.1, r)
-
 pub puts_then : (p q r : Progress) (o s t : Waiting) (a b : List ℕ) → Puts p o q s a → Puts q s r t b → Puts p o r t (a ++ b)
 puts_then p q r o s t a b x y = record { cases = cases_then p q r o.failed s.failed t.failed o.bytes s.bytes t.bytes a b x.cases y.cases }
-
-pub puts_ready : (p q : Progress) (o s : Waiting) (a : List ℕ) → IsReady p o → Puts p o q s a → IsReady q s
-puts_ready p q o s a r x = cases_ready p q o.failed s.failed o.bytes s.bytes a r x.cases
 
 pub puts_as : {p q : Progress} {o s : Waiting} {a b : List ℕ} → a ≡ b → Puts p o q s a → Puts p o q s b
 puts_as {p} {q} {o} {s} e x = subst (λ (t : List ℕ). Puts p o q s t) e x

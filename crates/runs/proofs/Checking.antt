@@ -94,9 +94,6 @@ reading_refused ReadFailed e mine certificate h = h
 reading_refused WriteFailed e mine certificate h = h
 reading_refused _ e mine certificate h = h
 
-pub no_room : (e : Fault) (mine : Instance) (certificate : Reading) → certificate.after.failures ≡ certificate.before.failures → e ≡ no_memory → RefusesCertificate e.refusal e mine certificate
-no_room e mine certificate still is = subst (λ f. RefusesCertificate f.refusal f mine certificate) (sym is) (refl, still)
-
 pub is_answered : (mine : Instance) (certificate : Reading) (answer : Result Bool Fault) (text : List ℕ) (shown : PitAndFlow) → Gave certificate text → SpellsCertificate (graph_of mine) text shown
     → IfOk answer (λ b. IsTrue b ↔ IsCertificate mine shown.pit shown.flow) → IfOk answer (IsAnswered mine certificate)
 is_answered mine certificate (Ok b) text shown given spelled exact = record { text = text; given = given; answers = record { shown = shown; spelled = spelled; exact = exact } }

@@ -72,15 +72,6 @@ solve_refused mode NoSeat e model prec mine left out is holds h = ((mine, holds,
 solve_refused mode (Exhausted count) e model prec mine left out is holds h = ((mine, holds, h), (is, refl))
 solve_refused mode _ e model prec mine left out is holds h = absurd h
 
--- a refused solve, before anything was written, finds no pit
-pub solve_finds_none : (mode : Mode) (mine : Instance) (r : Refusal) (e : Fault) (c : Chosen) → IsLeft c → RefusesSolve mode mine r e → RefusesPit mode mine r e c
-solve_finds_none mode mine WriteFailed e c is h = absurd h
-solve_finds_none mode mine _ e c is h = (h, is)
-
--- nor does a write that failed in the certificate
-pub cut_finds_none : (mode : Mode) (mine : Instance) (e : Fault) (c : Chosen) → PutsCertificate mine c (Err e) → RefusesPit mode mine e.refusal e c
-cut_finds_none mode mine e c cut = subst (λ f. RefusesPit mode mine f.refusal f c) (sym cut.1) (subst (λ f. PutsCertificate mine c (Err f)) cut.1 cut)
-
 -- and so is a refusal to find the pit
 pub pit_refused :
     (mode : Mode) (r : Refusal) (e : Fault) (model prec : Reading) (mine : Instance) (c : Chosen) (out : Progress) → HoldsMine model prec mine

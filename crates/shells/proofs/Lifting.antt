@@ -204,20 +204,3 @@ module _ (prices inner : Prices) (graph part : Graph) (lesser greater : ℕ) (bl
 -- one shell more
 pub none_lifted : (n : ℕ) (blocks : List ℕ) (inner outer : List Shell) → outer ≡ [] → AreLifted n blocks inner outer 0
 none_lifted n blocks inner outer none = record { size = ap (λ (xs : List Shell). length xs) none; each = λ i d l. absurd (omega arith) }
-
-pub one_more_lifted : (n : ℕ) (blocks : List ℕ) (inner outer : List Shell) (count : ℕ) (shell next : Shell) → AreLifted n blocks inner outer count → count < length inner
-    → ((d : Shell) → get_or inner count d ≡ shell) → IsLiftedShell n blocks shell next → AreLifted n blocks inner (outer ++ next ∷ []) (count + 1)
-one_more_lifted n blocks inner outer count shell next so_far l here is = record {
-  size = length_push outer next ∙ ap (λ k. k + 1) so_far.size;
-  each = λ i d low. ⊎_elim
-      (λ (e : i ≡ length outer).
-      let last : get_or (outer ++ next ∷ []) i d ≡ next = get_or_at outer next [] d i (sym e) in
-      let place : i ≡ count = e ∙ so_far.size in
-      subst (λ (t : Shell). IsLiftedShell n blocks (get_or inner i d) t) (sym last)
-      (subst (λ (s : Shell). IsLiftedShell n blocks s next) (sym (ap (λ k. get_or inner k d) place ∙ here d)) is))
-      (λ (ne : i ≡ length outer → ⊥).
-      let size = so_far.size in
-      let inside : i < length outer = omega arith in
-      subst (λ (t : Shell). IsLiftedShell n blocks (get_or inner i d) t) (sym (get_or_append_left outer (next ∷ []) d i inside)) (so_far.each i d (omega arith)))
-      (cases_eq i (length outer));
-}

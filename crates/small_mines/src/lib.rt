@@ -93,8 +93,15 @@ pub const FOUR_BLOCKS_WITH_AN_EQUAL_RESIDUAL: SmallMine = SmallMine {
     pit: "PIT\nBLOCKS: 4\nIN: 4\nWORTH: 2.000000\n0\n1\n2\n3\n",
 };
 
+/// The same pairs, with blocks worth 1 and -1 in turn: nothing is worth digging.
+pub const FOUR_EQUAL_BLOCKS: SmallMine = SmallMine {
+    model: "NAME: t\nTYPE: UPIT\nNBLOCKS: 4\nOBJECTIVE_FUNCTION:\n0 1\n1 -1\n2 1\n3 -1\n",
+    prec: "0 2 1 3\n2 1 1\n",
+    pit: "PIT\nBLOCKS: 4\nIN: 0\nWORTH: 0.000000\n",
+};
+
 /// All of them.
-pub const SMALL_MINES: [SmallMine; 12] = [
+pub const SMALL_MINES: [SmallMine; 13] = [
     NO_BLOCK,
     WORTHLESS_BLOCK,
     PAYING_ORE,
@@ -107,4 +114,5 @@ pub const SMALL_MINES: [SmallMine; 12] = [
     FOUR_BLOCKS,
     FOUR_BLOCKS_THAT_PAY,
     FOUR_BLOCKS_WITH_AN_EQUAL_RESIDUAL,
+    FOUR_EQUAL_BLOCKS,
 ];

@@ -1,28 +1,47 @@
-//! Four blocks, of which block 0 needs 1 and 3, and block 2 needs 1: the certificate comes only once no merger arc is left.
-ghost use Rattle.std.specs.Prelude.{◌≡◌, ◌≤◌, ◌<◌, ℕ, ℤ, pos, neg_ℤ, ◌^◌, ◌≤ℤ◌, get_or, IfOk};
-
+//! The certificate comes only once no merger arc is left.
+use crate::mines::instance_of;
 use certificate::of_tree;
-use mine_graph::{Graph, Instance};
+use faults::Fault;
 use norm_tree::NormTree;
-use std::sync::Arc;
+use small_mines::FOUR_BLOCKS;
 use std::test::*;
+
+/// Each of the arcs is a merger arc in its turn.
+fn merges(tree: &mut NormTree, arcs: &[u32]) -> bool {
+    for &arc in arcs {
+        if !tree.try_merge(arc) {
+            return false;
+        }
+    }
+    true
+}
+
+/// The tree has no certificate yet.
+fn has_none(tree: &NormTree) -> Result<bool, Fault> {
+    Ok(of_tree(tree)?.is_none())
+}
+
+/// The tree's certificate holds this pit, and this flow in millionths.
+fn certifies(tree: &NormTree, pit: &[u32], flow: &[i128]) -> Result<bool, Fault> {
+    match of_tree(tree)? {
+        Some(certificate) => {
+            Ok(certificate.pit.as_slice() == pit && certificate.flow.as_slice() == flow)
+        }
+        None => Ok(false),
+    }
+}
 
 #[test]
 fn comes_once_no_merger_arc_is_left(rt: HostRuntime) -> Result<(), Fail> {
-    let pairs = vec![in rt.alloc(); (0, 1), (0, 3), (2, 1)]?;
-    let graph = Arc::new(rt.alloc(), Graph::new(rt.alloc(), 4, pairs)?)?;
-    let values = vec![in rt.alloc(); 1, -2, 5, -2]?;
-    let instance = Instance::new(graph, values);
-    let mut tree = NormTree::start(rt.alloc(), &instance)?;
-    assert!(rt; of_tree(&tree)?.is_none());
-    assert!(rt; tree.try_merge(0));
-    assert!(rt; tree.try_merge(2));
-    assert!(rt; of_tree(&tree)?.is_none());
-    assert!(rt; tree.try_merge(1));
-    let Some(certificate) = of_tree(&tree)? else {
-        return Err(Fail::from("a merger arc is left"));
-    };
-    assert_eq!(rt; certificate.pit.as_slice(), [1, 2].as_slice());
-    assert_eq!(rt; certificate.flow.as_slice(), [0, 1, 5].as_slice());
+    let mine = instance_of(rt.alloc(), FOUR_BLOCKS)?;
+    let mut tree = NormTree::start(rt.alloc(), &mine)?;
+    assert!(rt; has_none(&tree)?, "the opening tree");
+    assert!(rt; merges(&mut tree, &[0, 2]), "two mergers");
+    assert!(rt; has_none(&tree)?, "arc 1 is left");
+    assert!(rt; merges(&mut tree, &[1]), "the last merger");
+    assert!(rt;
+        certifies(&tree, &[1, 2], &[0, 1_000_000, 5_000_000])?,
+        "none is left"
+    );
     Ok(())
 }

@@ -1,30 +1,51 @@
 //! The happy path of each call on the mine with values 4, -2, 2, -6, 5 and pit 1, 2, 4, worth 5; and the cycle lists of
 //! small pair sets: the blocks from which a walk leads into a cycle are not of its list.
+use crate::mines::instance_of;
 use faults::{Fault, Refusal, Source};
 use mine_graph::{Graph, Instance, acyclic_has_no_needy};
-use std::sync::Arc;
+use small_mines::TWO_OF_THREE_ORES;
 use std::test::*;
+
+/// The pairs of a graph are these, in this order, and each is found by its two blocks.
+fn lists(graph: &Graph, pairs: &[(u32, u32)]) -> bool {
+    graph.arcs() as usize == pairs.len()
+        && (0..graph.arcs()).all(|k| {
+            let (from, to) = pairs[k as usize];
+            graph.arc(k) == (from, to) && graph.arc_of(from, to) == Some(k)
+        })
+}
+
+/// The arcs of each block of a graph begin and end with these.
+fn has_arcs(graph: &Graph, arcs: &[(u32, u32)]) -> bool {
+    graph.n() as usize == arcs.len()
+        && (0..graph.n()).all(|u| {
+            let own = graph.arcs_of(u);
+            (own.start, own.end) == arcs[u as usize]
+        })
+}
 
 #[test]
 fn sorts_pairs_and_finds_them(rt: HostRuntime) -> Result<(), Fail> {
     let pairs = vec![in rt.alloc(); (2, 1), (0, 3), (4, 1), (0, 1)]?;
     let graph = Graph::new(rt.alloc(), 5, pairs)?;
-    graph.law();
-    assert_eq!(rt; graph.n(), 5);
-    assert_eq!(rt; graph.arcs(), 4);
-    assert_eq!(rt; graph.arc(0), (0, 1));
-    assert_eq!(rt; graph.arc(1), (0, 3));
-    assert_eq!(rt; graph.arc(2), (2, 1));
-    assert_eq!(rt; graph.arc(3), (4, 1));
-    assert_eq!(rt; graph.arc_of(0, 1), Some(0));
-    assert_eq!(rt; graph.arc_of(0, 3), Some(1));
-    assert_eq!(rt; graph.arc_of(4, 1), Some(3));
+    assert!(rt; lists(&graph, &[(0, 1), (0, 3), (2, 1), (4, 1)]));
     assert_eq!(rt; graph.arc_of(0, 2), None);
     assert_eq!(rt; graph.arc_of(1, 0), None);
-    assert_eq!(rt; graph.arcs_of(0), 0..2);
-    assert_eq!(rt; graph.arcs_of(4), 3..4);
-    assert_eq!(rt; graph.users(1), [0, 2, 3].as_slice());
-    assert_eq!(rt; graph.users(0), [].as_slice());
+    Ok(())
+}
+
+/// The arcs that lead to a block of a graph are these.
+fn is_needed_by(graph: &Graph, block: u32, arcs: &[u32]) -> bool {
+    block < graph.n() && graph.users(block) == arcs
+}
+
+#[test]
+fn tells_the_arcs_of_a_block(rt: HostRuntime) -> Result<(), Fail> {
+    let pairs = vec![in rt.alloc(); (2, 1), (0, 3), (4, 1), (0, 1)]?;
+    let graph = Graph::new(rt.alloc(), 5, pairs)?;
+    assert!(rt; has_arcs(&graph, &[(0, 2), (2, 2), (2, 3), (3, 3), (3, 4)]));
+    assert!(rt; is_needed_by(&graph, 1, &[0, 2, 3]));
+    assert!(rt; is_needed_by(&graph, 0, &[]));
     Ok(())
 }
 
@@ -32,28 +53,24 @@ fn sorts_pairs_and_finds_them(rt: HostRuntime) -> Result<(), Fail> {
 fn takes_pairs_that_rise_already(rt: HostRuntime) -> Result<(), Fail> {
     let pairs = vec![in rt.alloc(); (0, 1), (0, 3), (2, 1), (4, 1)]?;
     let graph = Graph::new(rt.alloc(), 6, pairs)?;
-    assert_eq!(rt; graph.arcs_of(0), 0..2);
-    assert_eq!(rt; graph.arcs_of(1), 2..2);
-    assert_eq!(rt; graph.arcs_of(2), 2..3);
-    assert_eq!(rt; graph.arcs_of(3), 3..3);
-    assert_eq!(rt; graph.arcs_of(4), 3..4);
-    assert_eq!(rt; graph.arcs_of(5), 4..4);
+    assert!(rt; has_arcs(&graph, &[(0, 2), (2, 2), (2, 3), (3, 3), (3, 4), (4, 4)]));
     assert_eq!(rt; graph.arc_of(2, 1), Some(2));
-    assert_eq!(rt; graph.users(3), [1].as_slice());
+    assert!(rt; is_needed_by(&graph, 3, &[1]));
     Ok(())
+}
+
+/// Whether these blocks of a mine are worth so much together, in millionths.
+fn are_worth(mine: &Instance, blocks: &[u32], worth: i128) -> bool {
+    blocks.iter().all(|&u| u < mine.graph().n()) && mine.worth(blocks) == worth
 }
 
 #[test]
 fn sums_values(rt: HostRuntime) -> Result<(), Fail> {
-    let pairs = vec![in rt.alloc(); (0, 1), (0, 3), (2, 1), (4, 1)]?;
-    let graph = Graph::new(rt.alloc(), 5, pairs)?;
-    let values = vec![in rt.alloc(); 4_000_000, -2_000_000, 2_000_000, -6_000_000, 5_000_000]?;
-    let mine = Instance::new(Arc::new(rt.alloc(), graph)?, values);
-    mine.law();
+    let mine = instance_of(rt.alloc(), TWO_OF_THREE_ORES)?;
     assert_eq!(rt; mine.graph().arcs(), 4);
-    assert_eq!(rt; mine.value(3), -6_000_000);
-    assert_eq!(rt; mine.worth(&[1, 2, 4]), 5_000_000);
-    assert_eq!(rt; mine.worth(&[]), 0);
+    assert!(rt; are_worth(&mine, &[3], -6_000_000), "one block");
+    assert!(rt; are_worth(&mine, &[1, 2, 4], 5_000_000), "the pit");
+    assert!(rt; are_worth(&mine, &[], 0), "no block");
     Ok(())
 }
 

@@ -19,6 +19,8 @@ mod line_tests;
 #[cfg(test)]
 mod made_tests;
 #[cfg(test)]
+mod mines;
+#[cfg(test)]
 mod norm_tree_tests;
 #[cfg(test)]
 mod part_tests;

@@ -110,20 +110,24 @@ fn the_first_fault_of_a_line(rt: HostRuntime) -> Result<(), Fail> {
     Ok(())
 }
 
+/// The first number of a line, None where the field is no whole number of ten digits, and what stands behind it.
+fn starts_with(line: &[u8], number: Option<u64>, rest: &[u8]) -> bool {
+    next_whole(line) == Some((number, rest))
+}
+
 #[test]
 fn whole_numbers_off_the_front(rt: HostRuntime) -> Result<(), Fail> {
-    assert_eq!(rt; next_whole(b" 7\t8"), Some((Some(7), b"\t8".as_slice())));
-    assert_eq!(rt; next_whole(b"0000000042"), Some((Some(42), b"".as_slice())));
-    assert_eq!(rt;
-        next_whole(b"9999999999 "),
-        Some((Some(9_999_999_999), b" ".as_slice()))
-    );
-    assert_eq!(rt;
-        next_whole(b"00000000042 2"),
-        Some((None, b" 2".as_slice()))
-    );
-    assert_eq!(rt; next_whole(b"\t-1 2"), Some((None, b" 2".as_slice())));
-    assert_eq!(rt; next_whole(b"4x2\t"), Some((None, b"\t".as_slice())));
+    assert!(rt; starts_with(b" 7\t8", Some(7), b"\t8"));
+    assert!(rt; starts_with(b"0000000042", Some(42), b""));
+    assert!(rt; starts_with(b"9999999999 ", Some(9_999_999_999), b" "));
     assert_eq!(rt; next_whole(b" \t"), None);
+    Ok(())
+}
+
+#[test]
+fn fields_that_are_no_whole_numbers(rt: HostRuntime) -> Result<(), Fail> {
+    assert!(rt; starts_with(b"00000000042 2", None, b" 2"));
+    assert!(rt; starts_with(b"\t-1 2", None, b" 2"));
+    assert!(rt; starts_with(b"4x2\t", None, b"\t"));
     Ok(())
 }

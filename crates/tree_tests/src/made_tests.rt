@@ -1,25 +1,12 @@
 //! The worked mines, solved: the certificate of the last tree, written and read again, is answered yes.
-ghost use Rattle.std.specs.Prelude.{◌≤◌, ◌^◌, length};
-
+use crate::mines::instance_of;
 use certificate::{check, of_tree, parse_certificate, write};
 use faults::Fault;
-use mine_graph::{Graph, Instance};
-use minelib_reader::{MemoryWriter, parse_prec, parse_upit};
+use minelib_reader::MemoryWriter;
 use norm_tree::NormTree;
 use small_mines::{SMALL_MINES, SmallMine};
 use std::alloc::Global;
-use std::sync::Arc;
 use std::test::*;
-
-fn mine_of(alloc: Global, model: &[u8], prec: &[u8]) -> Result<Instance, Fault>
-    requires model { length model.now ≤ 2 ^ 40 }
-    requires prec { length prec.now ≤ 2 ^ 40 }
-{
-    let mine = parse_upit(alloc, model)?;
-    let pairs = parse_prec(alloc, prec, mine.n)?;
-    let graph = Graph::new(alloc, mine.n, pairs)?;
-    Ok(Instance::new(Arc::new(alloc, graph)?, mine.values))
-}
 
 /// Merges over the first merger arc until none is left, a thousand times at most.
 fn merge_all(tree: &mut NormTree) {
@@ -50,13 +37,7 @@ fn is_shown(alloc: Global, tree: &NormTree) -> Result<bool, Fault> {
 
 /// Whether the mine's certificate is made, written, read and answered yes.
 fn is_solved(alloc: Global, mine: SmallMine) -> Result<bool, Fault> {
-    let model = mine.model.as_bytes();
-    let prec = mine.prec.as_bytes();
-    if model.len() > 1000 || prec.len() > 1000 {
-        return Ok(false);
-    }
-    let instance = mine_of(alloc, model, prec)?;
-    let mut tree = NormTree::start(alloc, &instance)?;
+    let mut tree = NormTree::start(alloc, &instance_of(alloc, mine)?)?;
     merge_all(&mut tree);
     is_shown(alloc, &tree)
 }

@@ -1,24 +1,17 @@
 //! Three traces over the pairs (0, 1), (0, 3), (2, 1), worked by hand: where a merger cuts the path within a branch,
 //! where it cuts between two strong branches, and where a residual is used up exactly and the link stays.
-ghost use Rattle.std.specs.Prelude.{◌≡◌, ℕ, ◌<◌, ◌^◌, IfOk, ℤ, pos, neg_ℤ, ◌≤ℤ◌, length, get_or};
-
+use crate::mines::instance_of;
 use faults::Fault;
-use mine_graph::{Graph, Instance};
 use norm_tree::NormTree;
+use small_mines::{
+    FOUR_BLOCKS, FOUR_BLOCKS_THAT_PAY, FOUR_BLOCKS_WITH_AN_EQUAL_RESIDUAL, SmallMine,
+};
 use std::alloc::Global;
-use std::sync::Arc;
 use std::test::*;
 
-/// The opening tree of the four blocks with these values, in millionths.
-fn opening(alloc: Global, values: Vec<i128>) -> Result<NormTree, Fault>
-    requires count { length values.items ≡ 4 }
-    requires low { (u : ℕ) → u < 4 → neg_ℤ (pos (10 ^ 23)) ≤ℤ get_or values.items u (pos 0) }
-    requires high { (u : ℕ) → u < 4 → get_or values.items u (pos 0) ≤ℤ pos (10 ^ 23) }
-    ensures { IfOk result (λ tree. tree.mine.blocks ≡ 4) }
-{
-    let pairs = vec![in alloc; (0, 1), (0, 3), (2, 1)]?;
-    let graph = Arc::new(alloc, Graph::new(alloc, 4, pairs)?)?;
-    NormTree::start(alloc, &Instance::new(graph, values))
+/// The opening tree of a small mine.
+fn opening(alloc: Global, mine: SmallMine) -> Result<NormTree, Fault> {
+    NormTree::start(alloc, &instance_of(alloc, mine)?)
 }
 
 /// The parents and the roots are these.
@@ -58,13 +51,14 @@ fn ends(tree: &NormTree, pit: &[u32]) -> Result<bool, Fault> {
 
 #[test]
 fn opens(rt: HostRuntime) -> Result<(), Fail> {
-    let values = vec![in rt.alloc(); 1_000_000, -2_000_000, 5_000_000, -2_000_000]?;
-    let mut tree = opening(rt.alloc(), values)?;
-    tree.law();
+    let mut tree = opening(rt.alloc(), FOUR_BLOCKS)?;
     assert!(rt; stands(&tree, &[None; 4], &[0, 1, 2, 3]));
+    assert!(rt;
+        tree.labels() == [true, false, true, false].as_slice(),
+        "blocks 0 and 2 are strong"
+    );
     assert_eq!(rt; tree.find_merger(), Some(0));
     assert_eq!(rt; tree.rank(), 30_000_002);
-    assert!(rt; tree.is_strong(2));
     assert!(rt; stays(&mut tree, 3));
     assert!(rt; stays(&mut tree, u32::MAX));
     Ok(())
@@ -72,8 +66,7 @@ fn opens(rt: HostRuntime) -> Result<(), Fail> {
 
 #[test]
 fn cuts_within_a_branch(rt: HostRuntime) -> Result<(), Fail> {
-    let values = vec![in rt.alloc(); 1_000_000, -2_000_000, 5_000_000, -2_000_000]?;
-    let mut tree = opening(rt.alloc(), values)?;
+    let mut tree = opening(rt.alloc(), FOUR_BLOCKS)?;
     assert!(rt;
         merges(
             &mut tree,
@@ -108,8 +101,7 @@ fn cuts_within_a_branch(rt: HostRuntime) -> Result<(), Fail> {
 
 #[test]
 fn cuts_between_strong_branches(rt: HostRuntime) -> Result<(), Fail> {
-    let values = vec![in rt.alloc(); 4_000_000, -2_000_000, 5_000_000, -2_000_000]?;
-    let mut tree = opening(rt.alloc(), values)?;
+    let mut tree = opening(rt.alloc(), FOUR_BLOCKS_THAT_PAY)?;
     assert!(rt;
         merges(
             &mut tree,
@@ -144,8 +136,7 @@ fn cuts_between_strong_branches(rt: HostRuntime) -> Result<(), Fail> {
 
 #[test]
 fn keeps_a_link_that_is_used_up_exactly(rt: HostRuntime) -> Result<(), Fail> {
-    let values = vec![in rt.alloc(); 4_000_000, -2_000_000, 2_000_000, -2_000_000]?;
-    let mut tree = opening(rt.alloc(), values)?;
+    let mut tree = opening(rt.alloc(), FOUR_BLOCKS_WITH_AN_EQUAL_RESIDUAL)?;
     assert!(rt;
         merges(
             &mut tree,
@@ -184,8 +175,7 @@ fn flips(tree: &mut NormTree, arc: u32, labels: [bool; 4]) -> bool {
 
 #[test]
 fn labels_flip_beside_the_path(rt: HostRuntime) -> Result<(), Fail> {
-    let values = vec![in rt.alloc(); 1_000_000, -2_000_000, 5_000_000, -2_000_000]?;
-    let mut tree = opening(rt.alloc(), values)?;
+    let mut tree = opening(rt.alloc(), FOUR_BLOCKS)?;
     assert_eq!(rt; tree.labels(), [true, false, true, false].as_slice());
     assert!(rt; flips(&mut tree, 0, [false, false, true, false]));
     // Block 0 is not on the path 2, 1.
@@ -211,8 +201,7 @@ fn copies(tree: &mut NormTree) -> Result<bool, Fault> {
 
 #[test]
 fn a_copy_stays(rt: HostRuntime) -> Result<(), Fail> {
-    let values = vec![in rt.alloc(); 1_000_000, -2_000_000, 5_000_000, -2_000_000]?;
-    let mut tree = opening(rt.alloc(), values)?;
+    let mut tree = opening(rt.alloc(), FOUR_BLOCKS)?;
     assert!(rt; copies(&mut tree)?);
     Ok(())
 }

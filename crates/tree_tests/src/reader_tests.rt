@@ -326,11 +326,7 @@ const COLUMNS: [(&str, u32, &str); 6] = [
         1,
         "[1000000, 0, 2500000]",
     ),
-    (
-        "0 0 0 0 4 1\n1 0 0 0 -1 0\n",
-        2,
-        "no column 2 in blocks",
-    ),
+    ("0 0 0 0 4 1\n1 0 0 0 -1 0\n", 2, "no column 2 in blocks"),
     ("0 0 0 0 x\n", 0, "not a decimal in blocks line 1"),
 ];
 

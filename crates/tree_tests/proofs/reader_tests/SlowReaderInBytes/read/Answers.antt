@@ -1,7 +1,7 @@
 -- The one byte at the front of the buffer is the next of the text.
 use Rattle.std.proofs.Common.{◌≡◌, ℕ, ◌<◌, List, [], ◌∷◌, ◌++◌, length, get_or, set, take, refl, sym, ap, ◌∙◌, arith}
 use Rattle.std.proofs.lemmas.List.{take_more, length-set}
-use Rattle.base_tests.proofs.reader_tests.SlowReaderInBytes.read.Goals as goal
+use Rattle.tree_tests.proofs.reader_tests.SlowReaderInBytes.read.Goals as goal
 
 first_of : (buf : List ℕ) (x : ℕ) → 0 < length buf → take 1 (set buf 0 x) ≡ x ∷ []
 first_of [] x some = absurd (omega (arith, some))
