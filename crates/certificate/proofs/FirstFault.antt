@@ -3,9 +3,10 @@
 use Rattle.std.proofs.Common.{◌≡◌, ℕ, zero, suc, ◌<◌, List, [], ◌∷◌, take, None, Result, Ok, Err, ap, ◌∙◌, arith, inl, inr}
 use Rattle.std.specs.List.{slice_get}
 use Rattle.faults.specs.declared.fault.Fault.{Fault}
-use Rattle.minelib_reader.specs.Steps.{IsFirstFault}
+use Rattle.minelib_reader.specs.FirstFault.{IsFirstFault}
 use Rattle.minelib_reader.specs.Text.{Row}
-use Rattle.minelib_reader.proofs.StepLemmas.{bind_ok, bind_err, no_fault, that_fault}
+use Rattle.minelib_reader.proofs.CheckLemmas.{passed, stopped}
+use Rattle.minelib_reader.proofs.FirstFaultLemmas.{no_fault, that_fault}
 use Rattle.pit_model.specs.Graph.{Graph}
 use Rattle.certificate.specs.CertificateLines.{State, PitAndFlow, step_at, end_at, certificate_from}
 use Rattle.certificate.specs.CertificateFault.{state_or, state_behind, line_fault, fault_behind}
@@ -18,14 +19,14 @@ module _ (graph : Graph) (count : ℕ) where
   pub fails_first : (s : State) (rows : List Row) (e : Fault) → certificate_from graph count s rows ≡ Err e → IsFirstFault (fault_behind graph count s rows) e
   unfolding certificate_from
   fails_first s [] e h = record { place = 0; none_before = λ k l. absurd (omega (arith, l)); here = that_fault (end_at count s.due s.pit s.flow) e h }
-  fails_first s (r ∷ rows) e h = elim (bind_err (step_at graph s.due s.pit s.flow r) (λ t. certificate_from graph count t rows) e h) [
+  fails_first s (r ∷ rows) e h = elim (stopped (step_at graph s.due s.pit s.flow r) (λ t. certificate_from graph count t rows) e h) [
     | inl stop ↦ record { place = 0; none_before = λ k l. absurd (omega (arith, l)); here = that_fault (step_at graph s.due s.pit s.flow r) e stop }
     | inr go ↦
-        let later = fails_first go.0 rows e go.2 in
+        let later = fails_first go.value rows e go.behind in
         record {
           place = suc later.place;
-          none_before = before s r rows go.0 go.1 later.place later.none_before;
-          here = behind s go.0 r rows later.place go.1 ∙ later.here;
+          none_before = before s r rows go.value go.here later.place later.none_before;
+          here = behind s go.value r rows later.place go.here ∙ later.here;
         }
   ] where
     before : (s : State) (r : Row) (rows : List Row) (t : State) → step_at graph s.due s.pit s.flow r ≡ Ok t → (place : ℕ) → ((k : ℕ) → k < place → fault_behind graph count t rows k ≡ None)
@@ -38,8 +39,8 @@ module _ (graph : Graph) (count : ℕ) where
   clear_where_read s [] c h zero = no_fault (end_at count s.due s.pit s.flow) c h
   clear_where_read s [] c h (suc k) = no_fault (end_at count s.due s.pit s.flow) c h
   clear_where_read s (r ∷ rows) c h zero =
-      let a = bind_ok (step_at graph s.due s.pit s.flow r) (λ t. certificate_from graph count t rows) c h in
-      no_fault (step_at graph s.due s.pit s.flow r) a.0 a.1
+      let a = passed (step_at graph s.due s.pit s.flow r) (λ t. certificate_from graph count t rows) c h in
+      no_fault (step_at graph s.due s.pit s.flow r) a.value a.here
   clear_where_read s (r ∷ rows) c h (suc k) =
-      let a = bind_ok (step_at graph s.due s.pit s.flow r) (λ t. certificate_from graph count t rows) c h in
-      behind s a.0 r rows k a.1 ∙ clear_where_read a.0 rows c a.2 k
+      let a = passed (step_at graph s.due s.pit s.flow r) (λ t. certificate_from graph count t rows) c h in
+      behind s a.value r rows k a.here ∙ clear_where_read a.value rows c a.behind k

@@ -4,7 +4,7 @@ use Rattle.std.specs.Prelude.{ℤ, pos, codes, replicate}
 use Rattle.std.proofs.lemmas.List.{append-nil, get_or-set_same, get_or-set_other, length-set, length-replicate}
 use Rattle.faults.specs.declared.fault.Fault.{Fault}
 use Rattle.minelib_reader.specs.Text.{Row}
-use Rattle.minelib_reader.proofs.StepLemmas.{bind_ok, done, ok_is}
+use Rattle.minelib_reader.proofs.CheckLemmas.{passed, passing, same_value}
 use Rattle.pit_model.specs.Graph.{Graph}
 use Rattle.certificate.specs.declared.due.Due.TheVariants.{Title, Blocks, Arcs, Count, Block, Arc}
 use Rattle.certificate.specs.Check.{amount}
@@ -41,11 +41,11 @@ module _ (graph : Graph) (count : ℕ) where
   step_back : (s : State) (r : Row) (rows : List Row) (c : PitAndFlow) → certificate_from graph count s (r ∷ rows) ≡ Ok c
       → (t : State) × (step_at graph s.due s.pit s.flow r ≡ Ok t) × (certificate_from graph count t rows ≡ Ok c)
   unfolding certificate_from
-  step_back s r rows c e = bind_ok (step_at graph s.due s.pit s.flow r) (λ t. certificate_from graph count t rows) c e
+  step_back s r rows c e = passed (step_at graph s.due s.pit s.flow r) (λ t. certificate_from graph count t rows) c e
 
   end_back : (from : ℕ) (pit : List ℕ) (now : List ℤ) (c : PitAndFlow) → certificate_from graph count (state (Arc 0 from) pit now) [] ≡ Ok c → pit_and_flow pit now ≡ c
   unfolding certificate_from end_at
-  end_back from pit now c e = ok_is (pit_and_flow pit now) c e
+  end_back from pit now c e = same_value (pit_and_flow pit now) c e
 
   no_end : (left from : ℕ) (pit : List ℕ) (now : List ℤ) (c : PitAndFlow) → certificate_from graph count (state (Arc (suc left) from) pit now) [] ≡ Ok c → ⊥
   unfolding certificate_from end_at
@@ -63,23 +63,23 @@ module _ (graph : Graph) (count : ℕ) where
       → (arc : ℕ × ℕ) × SpellsArc graph.pairs from r arc.0 (pos arc.1) × (state (Arc left (arc.0 + 1)) pit (set now arc.0 (pos arc.1)) ≡ t)
   unfolding step_at arc_step
   arc_back left from pit now r t e =
-      let a = bind_ok (arc_line graph.pairs from r) (λ arc. done (state (Arc left (arc.0 + 1)) pit (set now arc.0 (pos arc.1)))) t e in
-      (a.0, arc_line_found graph.pairs from r a.0 a.1, ok_is (state (Arc left (a.0.0 + 1)) pit (set now a.0.0 (pos a.0.1))) t a.2)
+      let a = passed (arc_line graph.pairs from r) (λ arc. passing (state (Arc left (arc.0 + 1)) pit (set now arc.0 (pos arc.1)))) t e in
+      (a.value, arc_line_found graph.pairs from r a.value a.here, same_value (state (Arc left (a.value.0 + 1)) pit (set now a.value.0 (pos a.value.1))) t a.behind)
 
   block_back : (left from : ℕ) (pit : List ℕ) (now : List ℤ) (r : Row) (t : State) → step_at graph (Block (suc left) from) pit now r ≡ Ok t
       → (id : ℕ) × SpellsBlock graph.blocks from r id × (state (Block left (id + 1)) (pit ++ id ∷ []) now ≡ t)
   unfolding step_at block_step
   block_back left from pit now r t e =
-      let a = bind_ok (id_line graph.blocks from r) (λ id. done (state (Block left (id + 1)) (pit ++ id ∷ []) now)) t e in
-      (a.0, id_found graph.blocks from r a.0 a.1, ok_is (state (Block left (a.0 + 1)) (pit ++ a.0 ∷ []) now) t a.2)
+      let a = passed (id_line graph.blocks from r) (λ id. passing (state (Block left (id + 1)) (pit ++ id ∷ []) now)) t e in
+      (a.value, id_found graph.blocks from r a.value a.here, same_value (state (Block left (a.value + 1)) (pit ++ a.value ∷ []) now) t a.behind)
 
   carrying_back : (from : ℕ) (pit : List ℕ) (now : List ℤ) (r : Row) (t : State) → step_at graph (Block 0 from) pit now r ≡ Ok t
       → (n : ℕ) × SpellsNumber (codes "FLOW:") n r × (n ≤ length graph.pairs) × (state (Arc n 0) pit now ≡ t)
   unfolding step_at block_step
   carrying_back from pit now r t e =
-      let a = bind_ok (count_line (codes "FLOW:") (length graph.pairs) r) (λ n. done (state (Arc n 0) pit now)) t e in
-      let f = count_found (codes "FLOW:") (length graph.pairs) r a.0 a.1 in
-      (a.0, f.0, f.1, ok_is (state (Arc a.0 0) pit now) t a.2)
+      let a = passed (count_line (codes "FLOW:") (length graph.pairs) r) (λ n. passing (state (Arc n 0) pit now)) t e in
+      let f = count_found (codes "FLOW:") (length graph.pairs) r a.value a.here in
+      (a.value, f.0, f.1, same_value (state (Arc a.value 0) pit now) t a.behind)
 
   flow_found : (left from : ℕ) (pit : List ℕ) (now : List ℤ) (rows : List Row) (c : PitAndFlow) → length now ≡ length graph.pairs → ((k : ℕ) → from ≤ k → amount now k ≡ pos 0)
       → certificate_from graph count (state (Arc left from) pit now) rows ≡ Ok c → FlowFound graph left from pit now rows c
@@ -159,28 +159,28 @@ module _ (graph : Graph) (count : ℕ) where
   title_back : (pit : List ℕ) (now : List ℤ) (r : Row) (t : State) → step_at graph Title pit now r ≡ Ok t → (r.fields ≡ codes "PITCERT" ∷ codes "1" ∷ []) × (state Blocks pit now ≡ t)
   unfolding step_at
   title_back pit now r t e =
-      let a = bind_ok (title_line r) (λ title. done (state Blocks pit now)) t e in
-      (title_found r a.0 a.1, ok_is (state Blocks pit now) t a.2)
+      let a = passed (title_line r) (λ title. passing (state Blocks pit now)) t e in
+      (title_found r a.value a.here, same_value (state Blocks pit now) t a.behind)
 
   blocks_back : (pit : List ℕ) (now : List ℤ) (r : Row) (t : State) → step_at graph Blocks pit now r ≡ Ok t → SpellsNumber (codes "BLOCKS:") graph.blocks r × (state Arcs pit now ≡ t)
   unfolding step_at
   blocks_back pit now r t e =
-      let a = bind_ok (same_line (codes "BLOCKS:") graph.blocks r) (λ same. done (state Arcs pit now)) t e in
-      (same_found (codes "BLOCKS:") graph.blocks r a.0 a.1, ok_is (state Arcs pit now) t a.2)
+      let a = passed (same_line (codes "BLOCKS:") graph.blocks r) (λ same. passing (state Arcs pit now)) t e in
+      (same_found (codes "BLOCKS:") graph.blocks r a.value a.here, same_value (state Arcs pit now) t a.behind)
 
   arcs_back : (pit : List ℕ) (now : List ℤ) (r : Row) (t : State) → step_at graph Arcs pit now r ≡ Ok t → SpellsNumber (codes "ARCS:") (length graph.pairs) r × (state Count pit now ≡ t)
   unfolding step_at
   arcs_back pit now r t e =
-      let a = bind_ok (same_line (codes "ARCS:") (length graph.pairs) r) (λ same. done (state Count pit now)) t e in
-      (same_found (codes "ARCS:") (length graph.pairs) r a.0 a.1, ok_is (state Count pit now) t a.2)
+      let a = passed (same_line (codes "ARCS:") (length graph.pairs) r) (λ same. passing (state Count pit now)) t e in
+      (same_found (codes "ARCS:") (length graph.pairs) r a.value a.here, same_value (state Count pit now) t a.behind)
 
   inside_back : (pit : List ℕ) (now : List ℤ) (r : Row) (t : State) → step_at graph Count pit now r ≡ Ok t
       → (n : ℕ) × SpellsNumber (codes "IN:") n r × (n ≤ graph.blocks) × (state (Block n 0) pit now ≡ t)
   unfolding step_at
   inside_back pit now r t e =
-      let a = bind_ok (count_line (codes "IN:") graph.blocks r) (λ n. done (state (Block n 0) pit now)) t e in
-      let f = count_found (codes "IN:") graph.blocks r a.0 a.1 in
-      (a.0, f.0, f.1, ok_is (state (Block a.0 0) pit now) t a.2)
+      let a = passed (count_line (codes "IN:") graph.blocks r) (λ n. passing (state (Block n 0) pit now)) t e in
+      let f = count_found (codes "IN:") graph.blocks r a.value a.here in
+      (a.value, f.0, f.1, same_value (state (Block a.value 0) pit now) t a.behind)
 
   -- a text that ends in the head is not read
   no_head : (s : State) (c : PitAndFlow) → (end_at count s.due s.pit s.flow ≡ Ok c → ⊥) → certificate_from graph count s [] ≡ Ok c → ⊥

@@ -2,7 +2,8 @@
 use Rattle.std.specs.Prelude.{ℕ, List, [], ◌∷◌, take, Option, Some, None, Result, Ok, Err}
 use Rattle.std.specs.List.{slice_get}
 use Rattle.faults.specs.declared.fault.Fault.{Fault}
-use Rattle.minelib_reader.specs.Steps.{fault_of, IsFirstFault}
+use Rattle.std.specs.Result.{result_err}
+use Rattle.minelib_reader.specs.FirstFault.{IsFirstFault}
 use Rattle.minelib_reader.specs.Text.{Row, rows_of, count_of_lines}
 use Rattle.pit_model.specs.Graph.{Graph}
 use Rattle.certificate.specs.CertificateLines.{State, step_at, end_at, first_state}
@@ -18,8 +19,8 @@ state_behind graph s (r ∷ rows) = state_behind graph (state_or s (step_at grap
 
 -- the first check that a line breaks in a state, or the end of the text where there is no line
 abbrev pub line_fault : Graph → ℕ → State → Option Row → Option Fault
-line_fault graph count s None = fault_of (end_at count s.due s.pit s.flow)
-line_fault graph count s (Some r) = fault_of (step_at graph s.due s.pit s.flow r)
+line_fault graph count s None = result_err (end_at count s.due s.pit s.flow)
+line_fault graph count s (Some r) = result_err (step_at graph s.due s.pit s.flow r)
 
 abbrev pub fault_behind : Graph → ℕ → State → List Row → ℕ → Option Fault
 fault_behind graph count s rows k = line_fault graph count (state_behind graph s (take k rows)) (slice_get rows k)

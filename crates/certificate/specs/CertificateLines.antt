@@ -5,7 +5,8 @@ use Rattle.faults.specs.declared.fault.Fault.{Fault}
 use Rattle.faults.specs.declared.refusal.Refusal.{Refusal}
 use Rattle.faults.specs.declared.refusal.Refusal.TheVariants.{WrongHeader, OverLimit, NotWhole, IdOutOfPlace, WrongFieldCount, EndsEarly, AfterEnd, CountsDiffer}
 use Rattle.faults.specs.declared.source.Source.TheVariants.{Certificate}
-use Rattle.minelib_reader.specs.Steps.{◌>>=◌, or_fault, check}
+use Rattle.minelib_reader.specs.Checks.{◌>>=◌, ok_if}
+use Rattle.std.specs.Option.{ok_or}
 use Rattle.faults.specs.Refused.{at_line}
 use Rattle.minelib_reader.specs.Text.{Row, rows_of, count_of_lines, two_of}
 use Rattle.minelib_reader.specs.Number.{whole_of, digits_of}
@@ -35,47 +36,47 @@ abbrev pub arc_of : List (ℕ × ℕ) → ℕ → ℕ → Option ℕ
 arc_of pairs u p = arc_from 0 pairs u p
 
 unfoldable pub title_line : Row → Result (Unit {0}) Fault
-title_line r = check (in_certificate WrongHeader r.line) (is_pair (codes "PITCERT") (codes "1") (two_of r.fields))
+title_line r = ok_if (is_pair (codes "PITCERT") (codes "1") (two_of r.fields)) (in_certificate WrongHeader r.line)
 
 -- this word, and a whole number
 unfoldable pub number_line : List ℕ → Row → Result ℕ Fault
 number_line word r = do
-  pair ← or_fault (in_certificate WrongHeader r.line) (two_of r.fields)
-  header ← check (in_certificate WrongHeader r.line) (bytes_eq pair.0 word)
-  or_fault (in_certificate NotWhole r.line) (whole_of pair.1)
+  pair ← ok_or (two_of r.fields) (in_certificate WrongHeader r.line)
+  header ← ok_if (bytes_eq pair.0 word) (in_certificate WrongHeader r.line)
+  ok_or (whole_of pair.1) (in_certificate NotWhole r.line)
 
 -- a count that is the graph's
 unfoldable pub same_line : List ℕ → ℕ → Row → Result (Unit {0}) Fault
 same_line word count r = do
   n ← number_line word r
-  check (in_certificate CountsDiffer r.line) (n == count)
+  ok_if (n == count) (in_certificate CountsDiffer r.line)
 
 -- how many lines of a kind follow
 unfoldable pub count_line : List ℕ → ℕ → Row → Result ℕ Fault
 count_line word most r = do
   n ← number_line word r
-  few ← check (in_certificate OverLimit r.line) (nat_le n most)
+  few ← ok_if (nat_le n most) (in_certificate OverLimit r.line)
   Ok n
 
 -- a block of n, which is at least from
 unfoldable pub id_line : ℕ → ℕ → Row → Result ℕ Fault
 id_line n from r = do
-  field ← or_fault (in_certificate WrongFieldCount r.line) (one_of r.fields)
-  id ← or_fault (in_certificate NotWhole r.line) (whole_of field)
-  place ← check (in_certificate IdOutOfPlace r.line) (nat_lt id n && nat_le from id)
+  field ← ok_or (one_of r.fields) (in_certificate WrongFieldCount r.line)
+  id ← ok_or (whole_of field) (in_certificate NotWhole r.line)
+  place ← ok_if (nat_lt id n && nat_le from id) (in_certificate IdOutOfPlace r.line)
   Ok id
 
 -- the arc of a pair of the graph, which is at least from (so the pair is greater than the ones before, since arcs are
 -- numbered in the order of pairs), and the amount on it
 unfoldable pub arc_line : List (ℕ × ℕ) → ℕ → Row → Result (ℕ × ℕ) Fault
 arc_line pairs from r = do
-  parts ← or_fault (in_certificate WrongFieldCount r.line) (three_of r.fields)
-  u ← or_fault (in_certificate NotWhole r.line) (whole_of parts.0)
-  p ← or_fault (in_certificate NotWhole r.line) (whole_of parts.1)
-  arc ← or_fault (in_certificate IdOutOfPlace r.line) (arc_of pairs u p)
-  place ← check (in_certificate IdOutOfPlace r.line) (nat_le from arc)
-  amount ← or_fault (in_certificate NotWhole r.line) (digits_of 31 parts.2)
-  limit ← check (in_certificate OverLimit r.line) (nat_lt 0 amount && nat_le amount (10 ^ 30))
+  parts ← ok_or (three_of r.fields) (in_certificate WrongFieldCount r.line)
+  u ← ok_or (whole_of parts.0) (in_certificate NotWhole r.line)
+  p ← ok_or (whole_of parts.1) (in_certificate NotWhole r.line)
+  arc ← ok_or (arc_of pairs u p) (in_certificate IdOutOfPlace r.line)
+  place ← ok_if (nat_le from arc) (in_certificate IdOutOfPlace r.line)
+  amount ← ok_or (digits_of 31 parts.2) (in_certificate NotWhole r.line)
+  limit ← ok_if (nat_lt 0 amount && nat_le amount (10 ^ 30)) (in_certificate OverLimit r.line)
   Ok (arc, amount)
 
 -- what the lines so far give, and which line is due

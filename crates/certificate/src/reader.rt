@@ -1,6 +1,7 @@
 //! The text of a certificate: a head of four lines, the blocks of the pit, how many arcs carry something, and these.
 //! Each line is the one that is `Due`, checked by a function of `lines`; the first fault ends the reading.
 ghost use Rattle.std.specs.Prelude.{◌≡◌, ◌↔◌, ℕ, ℤ, List, Ok, Err, ◌≤◌, ◌<◌, ◌^◌, length, IfOk, IfErr};
+ghost use Rattle.std.specs.Io.KnownBytes.{Keeps};
 ghost use Rattle.faults.specs.declared.fault.Fault.{Fault as AnyFault};
 ghost use Rattle.faults.specs.declared.source.Source.TheVariants as sources;
 ghost use Rattle.minelib_reader.specs.Answer.{Gives, Answers, AnswersBy, FailsBy, FailsAt};
@@ -152,7 +153,7 @@ pub fn read<R: InBytes>(alloc: Global, reader: &mut R, graph: &Graph) -> Result<
     requires bounded { (R.progress reader.old).allowance ≤ 2 ^ 40 }
     ensures answers { AnswersBy (λ c. pit_and_flow c.pit.items c.flow.items) (SpellsCertificate graph.now) (IsFirstCertificateFault graph.now) sources.Certificate (R.progress reader.old) (R.progress reader.new) (R.IsAtEnd reader.new) result }
     ensures candidate { IfOk result (λ c. IsCandidate graph.now.blocks (length graph.now.pairs) c.pit.items c.flow.items) }
-    ensures same { R.known_text reader.new ≡ R.known_text reader.old }
+    ensures known { Keeps (R.known_text reader.old) (R.known_text reader.new) }
 
     // The same by what is read of a text.
     ensures exact { Answers (λ c. pit_and_flow c.pit.items c.flow.items) (certificate_of graph.now) sources.Certificate (R.progress reader.old) (R.progress reader.new) (R.IsAtEnd reader.new) result }

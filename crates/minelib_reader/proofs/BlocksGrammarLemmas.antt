@@ -7,14 +7,16 @@ use Rattle.std.proofs.lemmas.Bool.{eqb-true, ltb-true, leb-true, lt-ltb, le-leb,
 use Rattle.std.proofs.lemmas.List.{length-map}
 use Rattle.faults.specs.declared.fault.Fault.{Fault}
 use Rattle.faults.specs.declared.refusal.Refusal.TheVariants.{OverLimit, NotWhole, NotDecimal, IdOutOfPlace, WrongFieldCount}
-use Rattle.minelib_reader.specs.Steps.{◌>>=◌, or_fault, check}
+use Rattle.minelib_reader.specs.Checks.{◌>>=◌, ok_if}
+use Rattle.std.specs.Option.{ok_or}
 use Rattle.minelib_reader.specs.Text.{Row, four_and_more}
 use Rattle.minelib_reader.specs.Number.{whole_of, signed_of, decimal_of}
 use Rattle.minelib_reader.specs.Table.{Place, Table, table}
 use Rattle.minelib_reader.specs.Upit.{most_blocks}
 use Rattle.minelib_reader.specs.Blocks.{most_columns, in_blocks, width_line, is_coordinate, coordinate_of, front_of, attribute_of, attributes_of, block_line, blocks_from, as_table, table_of_rows}
 use Rattle.minelib_reader.specs.BlocksGrammar.{SpellsCoordinate, SpellsBlock, SpellsBlocks, SpellsRows}
-use Rattle.minelib_reader.proofs.StepLemmas.{bind_ok, done, ok_is, given, tested, some_is}
+use Rattle.minelib_reader.proofs.CheckLemmas.{passed, passing, same_value, value_there, test_holds}
+use Rattle.std.proofs.lemmas.Option.{same_Some}
 use Rattle.minelib_reader.proofs.BlocksLineLemmas.{length_attributes}
 use Rattle.minelib_reader.proofs.BlocksFaultLemmas.{width_is}
 
@@ -60,11 +62,11 @@ reads_block width i r place own s =
 
 reads_blocks : (width i : ℕ) (rows : List Row) (places : List Place) (attributes : List ℤ) → SpellsBlocks width i rows places attributes → blocks_from width i rows ≡ Ok (places, attributes)
 unfolding blocks_from
-reads_blocks width i [] places attributes s = ap (λ (ps : List Place). done (ps, [])) (sym s.0) ∙ ap (λ (vs : List ℤ). done (places, vs)) (sym s.1)
+reads_blocks width i [] places attributes s = ap (λ (ps : List Place). passing (ps, [])) (sym s.0) ∙ ap (λ (vs : List ℤ). passing (places, vs)) (sym s.1)
 reads_blocks width i (r ∷ rows) places attributes s =
     let one = reads_block width i r s.0 s.1 s.4 in
     let behind = reads_blocks width (i + 1) rows s.2 s.3 s.7 in
-    rw (one, behind) (ap (λ (ps : List Place). done (ps, s.1 ++ s.3)) (sym s.5) ∙ ap (λ (vs : List ℤ). done (places, vs)) (sym s.6))
+    rw (one, behind) (ap (λ (ps : List Place). passing (ps, s.1 ++ s.3)) (sym s.5) ∙ ap (λ (vs : List ℤ). passing (places, vs)) (sym s.6))
 
 -- the first line says how wide the table is
 reads_width : (width : ℕ) (r : Row) (place : Place) (own : List ℤ) → width ≤ most_columns → SpellsBlock width 0 r place own → width_line r ≡ Ok width
@@ -78,7 +80,7 @@ reads_width width r place own narrow s =
 
 pub reads : (rows : List Row) (t : Table) → SpellsRows rows t → table_of_rows rows ≡ Ok t
 unfolding table_of_rows blocks_from
-reads [] t s = ap (λ (x : Table). done x) (sym s)
+reads [] t s = ap (λ (x : Table). passing x) (sym s)
 reads (r ∷ rows) t s =
     let first = s.1 in
     let width = reads_width t.width r first.0 first.1 s.0 first.4 in
@@ -90,25 +92,25 @@ reads (r ∷ rows) t s =
 coordinate_spelled : (line : ℕ) (field : List ℕ) (c : ℤ) → coordinate_of line field ≡ Ok c → SpellsCoordinate field c
 unfolding coordinate_of
 coordinate_spelled line field c e =
-    let a = bind_ok (or_fault (in_blocks NotWhole line) (signed_of field)) (λ v. check (in_blocks OverLimit line) (is_coordinate v) >>= λ fits. done v) c e in
-    let b = bind_ok (check (in_blocks OverLimit line) (is_coordinate a.0)) (λ fits. done a.0) c a.2 in
-    let within = and_parts (int_le (neg_ℤ (pos 2147483648)) a.0) (int_le a.0 (pos 2147483647)) (tested (in_blocks OverLimit line) (is_coordinate a.0) b.0 b.1) in
-    let all : SpellsCoordinate field a.0 = record {
-      is = given (in_blocks NotWhole line) (signed_of field) a.0 a.1;
-      low = le_is (neg_ℤ (pos 2147483648)) a.0 within.0;
-      high = le_is a.0 (pos 2147483647) within.1;
+    let a = passed (ok_or (signed_of field) (in_blocks NotWhole line)) (λ v. ok_if (is_coordinate v) (in_blocks OverLimit line) >>= λ fits. passing v) c e in
+    let b = passed (ok_if (is_coordinate a.value) (in_blocks OverLimit line)) (λ fits. passing a.value) c a.behind in
+    let within = and_parts (int_le (neg_ℤ (pos 2147483648)) a.value) (int_le a.value (pos 2147483647)) (test_holds (is_coordinate a.value) (in_blocks OverLimit line) b.value b.here) in
+    let all : SpellsCoordinate field a.value = record {
+      is = value_there (signed_of field) (in_blocks NotWhole line) a.value a.here;
+      low = le_is (neg_ℤ (pos 2147483648)) a.value within.0;
+      high = le_is a.value (pos 2147483647) within.1;
     } in
-    subst (λ (x : ℤ). SpellsCoordinate field x) (ok_is a.0 c b.2) all
+    subst (λ (x : ℤ). SpellsCoordinate field x) (same_value a.value c b.behind) all
 
 attributes_spelled : (line : ℕ) (fields : List (List ℕ)) (vs : List ℤ) → attributes_of line fields ≡ Ok vs → map decimal_of fields ≡ map Some vs
 unfolding attributes_of attribute_of
-attributes_spelled line [] vs e = ap (map Some) (ok_is [] vs e)
+attributes_spelled line [] vs e = ap (map Some) (same_value [] vs e)
 attributes_spelled line (f ∷ fields) vs e =
-    let a = bind_ok (attribute_of line f) (λ v. attributes_of line fields >>= λ others. done (v ∷ others)) vs e in
-    let b = bind_ok (attributes_of line fields) (λ others. done (a.0 ∷ others)) vs a.2 in
-    let is = given (in_blocks NotDecimal line) (decimal_of f) a.0 a.1 in
-    ap (λ (x : Option ℤ). x ∷ map decimal_of fields) is ∙ ap (λ (xs : List (Option ℤ)). Some a.0 ∷ xs) (attributes_spelled line fields b.0 b.1)
-    ∙ ap (map Some) (ok_is (a.0 ∷ b.0) vs b.2)
+    let a = passed (attribute_of line f) (λ v. attributes_of line fields >>= λ others. passing (v ∷ others)) vs e in
+    let b = passed (attributes_of line fields) (λ others. passing (a.value ∷ others)) vs a.behind in
+    let is = value_there (decimal_of f) (in_blocks NotDecimal line) a.value a.here in
+    ap (λ (x : Option ℤ). x ∷ map decimal_of fields) is ∙ ap (λ (xs : List (Option ℤ)). Some a.value ∷ xs) (attributes_spelled line fields b.value b.here)
+    ∙ ap (map Some) (same_value (a.value ∷ b.value) vs b.behind)
 
 -- what the checks of a line's front tell, where it passes them
 record FrontFound (width i : ℕ) (r : Row) (front : Place × List (List ℕ)) : Type 0 where
@@ -132,101 +134,101 @@ five [] p e = absurd cc
 five (a ∷ []) p e = absurd cc
 five (a ∷ b ∷ []) p e = absurd cc
 five (a ∷ b ∷ c ∷ []) p e = absurd cc
-five (a ∷ b ∷ c ∷ d ∷ fs) p e = ap (λ (x : Parts). x.0 ∷ x.1 ∷ x.2 ∷ x.3 ∷ x.4) (some_is (a, b, c, d, fs) p e)
+five (a ∷ b ∷ c ∷ d ∷ fs) p e = ap (λ (x : Parts). x.0 ∷ x.1 ∷ x.2 ∷ x.3 ∷ x.4) (same_Some (a, b, c, d, fs) p e)
 
 front_found : (width i : ℕ) (r : Row) (front : Place × List (List ℕ)) → front_of width i r ≡ Ok front → FrontFound width i r front
 unfolding front_of
 front_found width i r front e =
-    let third = λ (p : Parts) (x y : ℤ). coordinate_of r.line p.3 >>= λ z. done ((x, y, z), p.4) in
+    let third = λ (p : Parts) (x y : ℤ). coordinate_of r.line p.3 >>= λ z. passing ((x, y, z), p.4) in
     let second = λ (p : Parts) (x : ℤ). coordinate_of r.line p.2 >>= third p x in
     let first = λ (p : Parts) (u : Unit {0}). coordinate_of r.line p.1 >>= second p in
-    let few = λ (p : Parts) (id : ℕ) (u : Unit {0}). check (in_blocks OverLimit r.line) (ltb id most_blocks) >>= first p in
-    let placed = λ (p : Parts) (id : ℕ). check (in_blocks IdOutOfPlace r.line) (eqb id i) >>= few p id in
-    let named = λ (p : Parts) (u : Unit {0}). or_fault (in_blocks NotWhole r.line) (whole_of p.0) >>= placed p in
-    let wide = λ (p : Parts). check (in_blocks WrongFieldCount r.line) (eqb (length p.4) width) >>= named p in
-    let a = bind_ok (or_fault (in_blocks WrongFieldCount r.line) (four_and_more r.fields)) wide front e in
-    let b = bind_ok (check (in_blocks WrongFieldCount r.line) (eqb (length a.0.4) width)) (named a.0) front a.2 in
-    let c = bind_ok (or_fault (in_blocks NotWhole r.line) (whole_of a.0.0)) (placed a.0) front b.2 in
-    let d = bind_ok (check (in_blocks IdOutOfPlace r.line) (eqb c.0 i)) (few a.0 c.0) front c.2 in
-    let f = bind_ok (check (in_blocks OverLimit r.line) (ltb c.0 most_blocks)) (first a.0) front d.2 in
-    let x = bind_ok (coordinate_of r.line a.0.1) (second a.0) front f.2 in
-    let y = bind_ok (coordinate_of r.line a.0.2) (third a.0 x.0) front x.2 in
-    let z = bind_ok (coordinate_of r.line a.0.3) (λ v. done ((x.0, y.0, v), a.0.4)) front y.2 in
-    let here : c.0 ≡ i = eqb-true c.0 i (tested (in_blocks IdOutOfPlace r.line) (eqb c.0 i) d.0 d.1) in
-    let below : c.0 < most_blocks = ltb-true c.0 most_blocks (tested (in_blocks OverLimit r.line) (ltb c.0 most_blocks) f.0 f.1) in
-    let all : FrontFound width i r ((x.0, y.0, z.0), a.0.4) = record {
-      id = a.0.0;
-      x = a.0.1;
-      y = a.0.2;
-      z = a.0.3;
-      fields = five r.fields a.0 (given (in_blocks WrongFieldCount r.line) (four_and_more r.fields) a.0 a.1);
-      is_id = given (in_blocks NotWhole r.line) (whole_of a.0.0) c.0 c.1 ∙ ap (λ (k : ℕ). Some k) here;
+    let few = λ (p : Parts) (id : ℕ) (u : Unit {0}). ok_if (ltb id most_blocks) (in_blocks OverLimit r.line) >>= first p in
+    let placed = λ (p : Parts) (id : ℕ). ok_if (eqb id i) (in_blocks IdOutOfPlace r.line) >>= few p id in
+    let named = λ (p : Parts) (u : Unit {0}). ok_or (whole_of p.0) (in_blocks NotWhole r.line) >>= placed p in
+    let wide = λ (p : Parts). ok_if (eqb (length p.4) width) (in_blocks WrongFieldCount r.line) >>= named p in
+    let a = passed (ok_or (four_and_more r.fields) (in_blocks WrongFieldCount r.line)) wide front e in
+    let b = passed (ok_if (eqb (length a.value.4) width) (in_blocks WrongFieldCount r.line)) (named a.value) front a.behind in
+    let c = passed (ok_or (whole_of a.value.0) (in_blocks NotWhole r.line)) (placed a.value) front b.behind in
+    let d = passed (ok_if (eqb c.value i) (in_blocks IdOutOfPlace r.line)) (few a.value c.value) front c.behind in
+    let f = passed (ok_if (ltb c.value most_blocks) (in_blocks OverLimit r.line)) (first a.value) front d.behind in
+    let x = passed (coordinate_of r.line a.value.1) (second a.value) front f.behind in
+    let y = passed (coordinate_of r.line a.value.2) (third a.value x.value) front x.behind in
+    let z = passed (coordinate_of r.line a.value.3) (λ v. passing ((x.value, y.value, v), a.value.4)) front y.behind in
+    let here : c.value ≡ i = eqb-true c.value i (test_holds (eqb c.value i) (in_blocks IdOutOfPlace r.line) d.value d.here) in
+    let below : c.value < most_blocks = ltb-true c.value most_blocks (test_holds (ltb c.value most_blocks) (in_blocks OverLimit r.line) f.value f.here) in
+    let all : FrontFound width i r ((x.value, y.value, z.value), a.value.4) = record {
+      id = a.value.0;
+      x = a.value.1;
+      y = a.value.2;
+      z = a.value.3;
+      fields = five r.fields a.value (value_there (four_and_more r.fields) (in_blocks WrongFieldCount r.line) a.value a.here);
+      is_id = value_there (whole_of a.value.0) (in_blocks NotWhole r.line) c.value c.here ∙ ap (λ (k : ℕ). Some k) here;
       known = subst (λ (k : ℕ). k < most_blocks) here below;
-      is_x = coordinate_spelled r.line a.0.1 x.0 x.1;
-      is_y = coordinate_spelled r.line a.0.2 y.0 y.1;
-      is_z = coordinate_spelled r.line a.0.3 z.0 z.1;
-      wide = eqb-true (length a.0.4) width (tested (in_blocks WrongFieldCount r.line) (eqb (length a.0.4) width) b.0 b.1);
+      is_x = coordinate_spelled r.line a.value.1 x.value x.here;
+      is_y = coordinate_spelled r.line a.value.2 y.value y.here;
+      is_z = coordinate_spelled r.line a.value.3 z.value z.here;
+      wide = eqb-true (length a.value.4) width (test_holds (eqb (length a.value.4) width) (in_blocks WrongFieldCount r.line) b.value b.here);
     } in
-    subst (λ (v : Place × List (List ℕ)). FrontFound width i r v) {x = ((x.0, y.0, z.0), a.0.4)} (ok_is ((x.0, y.0, z.0), a.0.4) front z.2) all
+    subst (λ (v : Place × List (List ℕ)). FrontFound width i r v) {x = ((x.value, y.value, z.value), a.value.4)} (same_value ((x.value, y.value, z.value), a.value.4) front z.behind) all
 
 block_spelled : (width i : ℕ) (r : Row) (block : Place × List ℤ) → block_line width i r ≡ Ok block → SpellsBlock width i r block.0 block.1
 unfolding block_line
 block_spelled width i r block e =
-    let a = bind_ok (front_of width i r) (λ front. attributes_of r.line front.1 >>= λ own. done (front.0, own)) block e in
-    let b = bind_ok (attributes_of r.line a.0.1) (λ own. done (a.0.0, own)) block a.2 in
-    let f = front_found width i r a.0 a.1 in
-    let all : SpellsBlock width i r a.0.0 b.0 = record {
+    let a = passed (front_of width i r) (λ front. attributes_of r.line front.1 >>= λ own. passing (front.0, own)) block e in
+    let b = passed (attributes_of r.line a.value.1) (λ own. passing (a.value.0, own)) block a.behind in
+    let f = front_found width i r a.value a.here in
+    let all : SpellsBlock width i r a.value.0 b.value = record {
       id = f.id;
       x = f.x;
       y = f.y;
       z = f.z;
-      others = a.0.1;
+      others = a.value.1;
       fields = f.fields;
       is_id = f.is_id;
       known = f.known;
       is_x = f.is_x;
       is_y = f.is_y;
       is_z = f.is_z;
-      are_attributes = attributes_spelled r.line a.0.1 b.0 b.1;
-      wide = length_attributes r.line a.0.1 b.0 b.1 ∙ f.wide;
+      are_attributes = attributes_spelled r.line a.value.1 b.value b.here;
+      wide = length_attributes r.line a.value.1 b.value b.here ∙ f.wide;
     } in
-    subst (λ (v : Place × List ℤ). SpellsBlock width i r v.0 v.1) (ok_is (a.0.0, b.0) block b.2) all
+    subst (λ (v : Place × List ℤ). SpellsBlock width i r v.0 v.1) (same_value (a.value.0, b.value) block b.behind) all
 
 abbrev onto : Place × List ℤ → List Place × List ℤ → Result (List Place × List ℤ) Fault
-onto block others = done (block.0 ∷ others.0, block.1 ++ others.1)
+onto block others = passing (block.0 ∷ others.0, block.1 ++ others.1)
 
 blocks_spelled : (width i : ℕ) (rows : List Row) (b : List Place × List ℤ) → blocks_from width i rows ≡ Ok b → SpellsBlocks width i rows b.0 b.1
 unfolding blocks_from
 blocks_spelled width i [] b e =
-    let none = ok_is ([], []) b e in
+    let none = same_value ([], []) b e in
     (sym (ap (λ (x : List Place × List ℤ). x.0) none), sym (ap (λ (x : List Place × List ℤ). x.1) none))
 blocks_spelled width i (r ∷ rows) b e =
-    let a = bind_ok (block_line width i r) (λ block. blocks_from width (i + 1) rows >>= onto block) b e in
-    let d = bind_ok (blocks_from width (i + 1) rows) (onto a.0) b a.2 in
-    let is = ok_is (a.0.0 ∷ d.0.0, a.0.1 ++ d.0.1) b d.2 in (
-      a.0.0,
-      a.0.1,
-      d.0.0,
-      d.0.1,
-      block_spelled width i r a.0 a.1,
+    let a = passed (block_line width i r) (λ block. blocks_from width (i + 1) rows >>= onto block) b e in
+    let d = passed (blocks_from width (i + 1) rows) (onto a.value) b a.behind in
+    let is = same_value (a.value.0 ∷ d.value.0, a.value.1 ++ d.value.1) b d.behind in (
+      a.value.0,
+      a.value.1,
+      d.value.0,
+      d.value.1,
+      block_spelled width i r a.value a.here,
       sym (ap (λ (x : List Place × List ℤ). x.0) is),
       sym (ap (λ (x : List Place × List ℤ). x.1) is),
-      blocks_spelled width (i + 1) rows d.0 d.1,
+      blocks_spelled width (i + 1) rows d.value d.here,
     )
 
 width_narrow : (r : Row) (w : ℕ) → width_line r ≡ Ok w → w ≤ most_columns
 unfolding width_line
 width_narrow r w e =
-    let few = λ (u : Unit {0}). check (in_blocks OverLimit r.line) (leb (length r.fields - 4) most_columns) >>= λ v. done (length r.fields - 4) in
-    let a = bind_ok (check (in_blocks WrongFieldCount r.line) (leb 4 (length r.fields))) few w e in
-    let b = bind_ok (check (in_blocks OverLimit r.line) (leb (length r.fields - 4) most_columns)) (λ v. done (length r.fields - 4)) w a.2 in
-    subst (λ (k : ℕ). k ≤ most_columns) (width_is r w e) (leb-true (length r.fields - 4) most_columns (tested (in_blocks OverLimit r.line) (leb (length r.fields - 4) most_columns) b.0 b.1))
+    let few = λ (u : Unit {0}). ok_if (leb (length r.fields - 4) most_columns) (in_blocks OverLimit r.line) >>= λ v. passing (length r.fields - 4) in
+    let a = passed (ok_if (leb 4 (length r.fields)) (in_blocks WrongFieldCount r.line)) few w e in
+    let b = passed (ok_if (leb (length r.fields - 4) most_columns) (in_blocks OverLimit r.line)) (λ v. passing (length r.fields - 4)) w a.behind in
+    subst (λ (k : ℕ). k ≤ most_columns) (width_is r w e) (leb-true (length r.fields - 4) most_columns (test_holds (leb (length r.fields - 4) most_columns) (in_blocks OverLimit r.line) b.value b.here))
 
 pub spelled : (rows : List Row) (t : Table) → table_of_rows rows ≡ Ok t → SpellsRows rows t
 unfolding table_of_rows blocks_from
-spelled [] t e = sym (ok_is (table 0 [] []) t e)
+spelled [] t e = sym (same_value (table 0 [] []) t e)
 spelled (r ∷ rows) t e =
-    let a = bind_ok (width_line r) (λ w. as_table w (blocks_from w 0 (r ∷ rows))) t e in
-    let b = bind_ok (blocks_from a.0 0 (r ∷ rows)) (λ blocks. done (table a.0 blocks.0 blocks.1)) t a.2 in
-    let all : SpellsRows (r ∷ rows) (table a.0 b.0.0 b.0.1) = (width_narrow r a.0 a.1, blocks_spelled a.0 0 (r ∷ rows) b.0 b.1) in
-    subst (λ (x : Table). SpellsRows (r ∷ rows) x) (ok_is (table a.0 b.0.0 b.0.1) t b.2) all
+    let a = passed (width_line r) (λ w. as_table w (blocks_from w 0 (r ∷ rows))) t e in
+    let b = passed (blocks_from a.value 0 (r ∷ rows)) (λ blocks. passing (table a.value blocks.0 blocks.1)) t a.behind in
+    let all : SpellsRows (r ∷ rows) (table a.value b.value.0 b.value.1) = (width_narrow r a.value a.here, blocks_spelled a.value 0 (r ∷ rows) b.value b.here) in
+    subst (λ (x : Table). SpellsRows (r ∷ rows) x) (same_value (table a.value b.value.0 b.value.1) t b.behind) all

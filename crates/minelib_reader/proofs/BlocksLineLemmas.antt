@@ -2,14 +2,14 @@
 use Rattle.std.proofs.Common.{◌≡◌, ℕ, ℤ, suc, ◌+◌, ◌*◌, ◌^◌, ◌<◌, arith, length-append, List, [], ◌∷◌, ◌++◌, length, Result, Ok, Err, refl, sym, ap, ◌∙◌, append_assoc}
 use Rattle.std.proofs.lemmas.List.{append-nil}
 use Rattle.faults.specs.declared.fault.Fault.{Fault}
-use Rattle.minelib_reader.specs.Steps.{◌>>=◌}
+use Rattle.minelib_reader.specs.Checks.{◌>>=◌}
 use Rattle.minelib_reader.specs.Text.{Row}
 use Rattle.std.specs.List.{All}
 use Rattle.minelib_reader.specs.Number.{IsWithin}
 use Rattle.minelib_reader.specs.Table.{Place, IsWhole}
 use Rattle.minelib_reader.specs.Added.{AddsBlock}
 use Rattle.minelib_reader.specs.Blocks.{attribute_of, attributes_of, front_of, block_line, blocks_from}
-use Rattle.minelib_reader.proofs.StepLemmas.{bind_ok, ok_is}
+use Rattle.minelib_reader.proofs.CheckLemmas.{passed, same_value}
 
 abbrev Attributes : Type 0
 Attributes = Result (List ℤ) Fault
@@ -54,11 +54,11 @@ ends line total old now s = sym s.read ∙ ap (λ (xs : List ℤ). Ok xs) (appen
 -- as many attributes are read as fields write them
 pub length_attributes : (line : ℕ) (fields : List (List ℕ)) (vs : List ℤ) → attributes_of line fields ≡ Ok vs → length vs ≡ length fields
 unfolding attributes_of
-length_attributes line [] vs h = ap length (sym (ok_is [] vs h))
+length_attributes line [] vs h = ap length (sym (same_value [] vs h))
 length_attributes line (f ∷ fields) vs h =
-    let a = bind_ok (attribute_of line f) (λ v. attributes_of line fields >>= λ others. Ok (v ∷ others)) vs h in
-    let b = bind_ok (attributes_of line fields) (λ others. Ok (a.0 ∷ others)) vs a.2 in
-    ap length (sym (ok_is (a.0 ∷ b.0) vs b.2)) ∙ ap suc (length_attributes line fields b.0 b.1)
+    let a = passed (attribute_of line f) (λ v. attributes_of line fields >>= λ others. Ok (v ∷ others)) vs h in
+    let b = passed (attributes_of line fields) (λ others. Ok (a.value ∷ others)) vs a.behind in
+    ap length (sym (same_value (a.value ∷ b.value) vs b.behind)) ∙ ap suc (length_attributes line fields b.value b.here)
 
 pub front_stops : (e : Fault) (width i : ℕ) (r : Row) → front_of width i r ≡ Err e → block_line width i r ≡ Err e
 unfolding block_line

@@ -3,8 +3,11 @@ pub mod WholeLemmas
 pub mod Numbers
 pub mod TextLemmas
 pub mod LineLemmas
-pub mod UpitLemmas
-pub mod StepLemmas
+pub mod Continues
+pub mod ValueLemmas
+pub mod CheckLemmas
+pub mod FirstFaultLemmas
+pub mod AnswerLemmas
 pub mod UpitGrammarLemmas
 pub mod UpitFaultLemmas
 pub mod PrecLemmas

@@ -6,12 +6,16 @@ use Rattle.std.proofs.lemmas.Bool.{eqb-true, leb-true, ltb-true, and_parts}
 use Rattle.std.specs.List.{slice_get}
 use Rattle.faults.specs.declared.fault.Fault.{Fault}
 use Rattle.faults.specs.declared.refusal.Refusal.TheVariants.{OverLimit, NotWhole, IdOutOfPlace, WrongFieldCount}
-use Rattle.minelib_reader.specs.Steps.{◌>>=◌, or_fault, check, IsFirstFault}
+use Rattle.minelib_reader.specs.Checks.{◌>>=◌, ok_if}
+use Rattle.std.specs.Option.{ok_or}
+use Rattle.minelib_reader.specs.FirstFault.{IsFirstFault}
 use Rattle.minelib_reader.specs.Text.{Row, two_and_more}
 use Rattle.minelib_reader.specs.Number.{whole_of}
 use Rattle.minelib_reader.specs.Prec.{most_pairs, in_precedence, needs_from, front_of, needs_line, pairs_of, pairs_from}
 use Rattle.minelib_reader.specs.PrecFault.{number_or_zero, id_in, count_in, from_behind, total_behind, line_fault, fault_behind}
-use Rattle.minelib_reader.proofs.StepLemmas.{bind_ok, bind_err, done, ok_is, given, tested, some_is, no_fault, that_fault}
+use Rattle.minelib_reader.proofs.CheckLemmas.{passed, stopped, passing, same_value, value_there, test_holds}
+use Rattle.std.proofs.lemmas.Option.{same_Some}
+use Rattle.minelib_reader.proofs.FirstFaultLemmas.{no_fault, that_fault}
 use Rattle.minelib_reader.proofs.PrecLineLemmas.{length_needs}
 
 -- what the checks of a line's front tell, where it passes them
@@ -29,36 +33,36 @@ pub record FrontFound (n from total : ℕ) (r : Row) (front : ℕ × ℕ × List
 three : (fs : List (List ℕ)) (p : List ℕ × List ℕ × List (List ℕ)) → two_and_more fs ≡ Some p → fs ≡ p.0 ∷ p.1 ∷ p.2
 three [] p e = absurd cc
 three (a ∷ []) p e = absurd cc
-three (a ∷ b ∷ fs) p e = ap (λ (x : List ℕ × List ℕ × List (List ℕ)). x.0 ∷ x.1 ∷ x.2) (some_is (a, b, fs) p e)
+three (a ∷ b ∷ fs) p e = ap (λ (x : List ℕ × List ℕ × List (List ℕ)). x.0 ∷ x.1 ∷ x.2) (same_Some (a, b, fs) p e)
 
 pub front_found : (n from total : ℕ) (r : Row) (front : ℕ × ℕ × List (List ℕ)) → front_of n from total r ≡ Ok front → FrontFound n from total r front
 unfolding front_of
 front_found n from total r front e =
     let Parts = List ℕ × List ℕ × List (List ℕ) in
-    let limit = λ (p : Parts) (id count : ℕ) (u : Unit {0}). check (in_precedence OverLimit r.line) (leb (total + count) most_pairs) >>= λ few. done (id, count, p.2) in
-    let number = λ (p : Parts) (id count : ℕ). check (in_precedence WrongFieldCount r.line) (eqb (length p.2) count) >>= limit p id count in
-    let counted = λ (p : Parts) (id : ℕ) (u : Unit {0}). or_fault (in_precedence NotWhole r.line) (whole_of p.1) >>= number p id in
-    let placed = λ (p : Parts) (id : ℕ). check (in_precedence IdOutOfPlace r.line) (ltb id n && leb from id) >>= counted p id in
-    let named = λ (p : Parts). or_fault (in_precedence NotWhole r.line) (whole_of p.0) >>= placed p in
-    let a = bind_ok (or_fault (in_precedence WrongFieldCount r.line) (two_and_more r.fields)) named front e in
-    let b = bind_ok (or_fault (in_precedence NotWhole r.line) (whole_of a.0.0)) (placed a.0) front a.2 in
-    let c = bind_ok (check (in_precedence IdOutOfPlace r.line) (ltb b.0 n && leb from b.0)) (counted a.0 b.0) front b.2 in
-    let d = bind_ok (or_fault (in_precedence NotWhole r.line) (whole_of a.0.1)) (number a.0 b.0) front c.2 in
-    let f = bind_ok (check (in_precedence WrongFieldCount r.line) (eqb (length a.0.2) d.0)) (limit a.0 b.0 d.0) front d.2 in
-    let g = bind_ok (check (in_precedence OverLimit r.line) (leb (total + d.0) most_pairs)) (λ few. done (b.0, d.0, a.0.2)) front f.2 in
-    let place = and_parts (ltb b.0 n) (leb from b.0) (tested (in_precedence IdOutOfPlace r.line) (ltb b.0 n && leb from b.0) c.0 c.1) in
-    let all : FrontFound n from total r (b.0, d.0, a.0.2) = record {
-      id_field = a.0.0;
-      count_field = a.0.1;
-      fields = three r.fields a.0 (given (in_precedence WrongFieldCount r.line) (two_and_more r.fields) a.0 a.1);
-      is_id = given (in_precedence NotWhole r.line) (whole_of a.0.0) b.0 b.1;
-      known = ltb-true b.0 n place.0;
-      rising = leb-true from b.0 place.1;
-      is_count = given (in_precedence NotWhole r.line) (whole_of a.0.1) d.0 d.1;
-      named = eqb-true (length a.0.2) d.0 (tested (in_precedence WrongFieldCount r.line) (eqb (length a.0.2) d.0) f.0 f.1);
-      few = leb-true (total + d.0) most_pairs (tested (in_precedence OverLimit r.line) (leb (total + d.0) most_pairs) g.0 g.1);
+    let limit = λ (p : Parts) (id count : ℕ) (u : Unit {0}). ok_if (leb (total + count) most_pairs) (in_precedence OverLimit r.line) >>= λ few. passing (id, count, p.2) in
+    let number = λ (p : Parts) (id count : ℕ). ok_if (eqb (length p.2) count) (in_precedence WrongFieldCount r.line) >>= limit p id count in
+    let counted = λ (p : Parts) (id : ℕ) (u : Unit {0}). ok_or (whole_of p.1) (in_precedence NotWhole r.line) >>= number p id in
+    let placed = λ (p : Parts) (id : ℕ). ok_if (ltb id n && leb from id) (in_precedence IdOutOfPlace r.line) >>= counted p id in
+    let named = λ (p : Parts). ok_or (whole_of p.0) (in_precedence NotWhole r.line) >>= placed p in
+    let a = passed (ok_or (two_and_more r.fields) (in_precedence WrongFieldCount r.line)) named front e in
+    let b = passed (ok_or (whole_of a.value.0) (in_precedence NotWhole r.line)) (placed a.value) front a.behind in
+    let c = passed (ok_if (ltb b.value n && leb from b.value) (in_precedence IdOutOfPlace r.line)) (counted a.value b.value) front b.behind in
+    let d = passed (ok_or (whole_of a.value.1) (in_precedence NotWhole r.line)) (number a.value b.value) front c.behind in
+    let f = passed (ok_if (eqb (length a.value.2) d.value) (in_precedence WrongFieldCount r.line)) (limit a.value b.value d.value) front d.behind in
+    let g = passed (ok_if (leb (total + d.value) most_pairs) (in_precedence OverLimit r.line)) (λ few. passing (b.value, d.value, a.value.2)) front f.behind in
+    let place = and_parts (ltb b.value n) (leb from b.value) (test_holds (ltb b.value n && leb from b.value) (in_precedence IdOutOfPlace r.line) c.value c.here) in
+    let all : FrontFound n from total r (b.value, d.value, a.value.2) = record {
+      id_field = a.value.0;
+      count_field = a.value.1;
+      fields = three r.fields a.value (value_there (two_and_more r.fields) (in_precedence WrongFieldCount r.line) a.value a.here);
+      is_id = value_there (whole_of a.value.0) (in_precedence NotWhole r.line) b.value b.here;
+      known = ltb-true b.value n place.0;
+      rising = leb-true from b.value place.1;
+      is_count = value_there (whole_of a.value.1) (in_precedence NotWhole r.line) d.value d.here;
+      named = eqb-true (length a.value.2) d.value (test_holds (eqb (length a.value.2) d.value) (in_precedence WrongFieldCount r.line) f.value f.here);
+      few = leb-true (total + d.value) most_pairs (test_holds (leb (total + d.value) most_pairs) (in_precedence OverLimit r.line) g.value g.here);
     } in
-    subst (λ (x : ℕ × ℕ × List (List ℕ)). FrontFound n from total r x) (ok_is (b.0, d.0, a.0.2) front g.2) all
+    subst (λ (x : ℕ × ℕ × List (List ℕ)). FrontFound n from total r x) (same_value (b.value, d.value, a.value.2) front g.behind) all
 
 -- a line that was read: its front, and its predecessors
 pub record LineFound (n from total : ℕ) (r : Row) (line : ℕ × List ℕ) : Type 0 where
@@ -71,17 +75,17 @@ pub record LineFound (n from total : ℕ) (r : Row) (line : ℕ × List ℕ) : T
 pub line_found : (n from total : ℕ) (r : Row) (line : ℕ × List ℕ) → needs_line n from total r ≡ Ok line → LineFound n from total r line
 unfolding needs_line
 line_found n from total r line e =
-    let a = bind_ok (front_of n from total r) (λ front. needs_from n front.0 r.line [] front.2 >>= λ needs. done (front.0, needs)) line e in
-    let b = bind_ok (needs_from n a.0.0 r.line [] a.0.2) (λ needs. done (a.0.0, needs)) line a.2 in
-    let front = front_found n from total r a.0 a.1 in
-    let all : LineFound n from total r (a.0.0, b.0) = record {
-      count = a.0.1;
-      fields = a.0.2;
+    let a = passed (front_of n from total r) (λ front. needs_from n front.0 r.line [] front.2 >>= λ needs. passing (front.0, needs)) line e in
+    let b = passed (needs_from n a.value.0 r.line [] a.value.2) (λ needs. passing (a.value.0, needs)) line a.behind in
+    let front = front_found n from total r a.value a.here in
+    let all : LineFound n from total r (a.value.0, b.value) = record {
+      count = a.value.1;
+      fields = a.value.2;
       front = front;
-      needs = b.1;
-      counted = sym front.named ∙ sym (length_needs n a.0.0 r.line [] a.0.2 b.0 b.1);
+      needs = b.here;
+      counted = sym front.named ∙ sym (length_needs n a.value.0 r.line [] a.value.2 b.value b.here);
     } in
-    subst (λ (x : ℕ × List ℕ). LineFound n from total r x) (ok_is (a.0.0, b.0) line b.2) all
+    subst (λ (x : ℕ × List ℕ). LineFound n from total r x) (same_value (a.value.0, b.value) line b.behind) all
 
 -- so the next line is checked against what this one names
 id_is : (n from total : ℕ) (r : Row) (line : ℕ × List ℕ) → LineFound n from total r line → id_in r.fields ≡ line.0
@@ -97,7 +101,7 @@ behind_line n from total r rows line h k =
     ∙ ap (λ (c : ℕ). line_fault n (from_behind (line.0 + 1) (take k rows)) (total_behind (total + c) (take k rows)) (slice_get rows k)) (count_is n from total r line f)
 
 abbrev with_line : ℕ × List ℕ → List (ℕ × ℕ) → Result (List (ℕ × ℕ)) Fault
-with_line line others = done (pairs_of line.0 line.1 ++ others)
+with_line line others = passing (pairs_of line.0 line.1 ++ others)
 
 none_before_next : (f g : ℕ → Option Fault) (k : ℕ) → f 0 ≡ None → ((j : ℕ) → f (suc j) ≡ g j) → ((j : ℕ) → j < k → g j ≡ None) → (j : ℕ) → j < suc k → f j ≡ None
 none_before_next f g k first same clear zero lt = first
@@ -107,20 +111,20 @@ pub fails_first : (n from total : ℕ) (rows : List Row) (e : Fault) → pairs_f
 unfolding pairs_from
 fails_first n from total [] e h = absurd cc
 fails_first n from total (r ∷ rows) e h =
-    elim (bind_err (needs_line n from total r) (λ line. pairs_from n (line.0 + 1) (total + length line.1) rows >>= with_line line) e h) [
+    elim (stopped (needs_line n from total r) (λ line. pairs_from n (line.0 + 1) (total + length line.1) rows >>= with_line line) e h) [
       | inl stop ↦ record { place = 0; none_before = λ j lt. absurd (omega (arith, lt)); here = that_fault (needs_line n from total r) e stop }
       | inr go ↦
-          let line = go.0 in
-          elim (bind_err (pairs_from n (line.0 + 1) (total + length line.1) rows) (with_line line) e go.2) [
+          let line = go.value in
+          elim (stopped (pairs_from n (line.0 + 1) (total + length line.1) rows) (with_line line) e go.behind) [
             | inl stop ↦
                 let first = fails_first n (line.0 + 1) (total + length line.1) rows e stop in
-                let same = behind_line n from total r rows line go.1 in
+                let same = behind_line n from total r rows line go.here in
                 record {
                   place = suc first.place;
-                  none_before = none_before_next (fault_behind n from total (r ∷ rows)) (fault_behind n (line.0 + 1) (total + length line.1) rows) first.place (no_fault (needs_line n from total r) line go.1) same first.none_before;
+                  none_before = none_before_next (fault_behind n from total (r ∷ rows)) (fault_behind n (line.0 + 1) (total + length line.1) rows) first.place (no_fault (needs_line n from total r) line go.here) same first.none_before;
                   here = same first.place ∙ first.here;
                 }
-            | inr end ↦ absurd (let no = end.2 in cc)
+            | inr end ↦ absurd (let no = end.behind in cc)
           ]
     ]
 
@@ -129,7 +133,7 @@ unfolding pairs_from
 clear_where_read n from total [] pairs h zero = refl
 clear_where_read n from total [] pairs h (suc k) = refl
 clear_where_read n from total (r ∷ rows) pairs h k =
-    let a = bind_ok (needs_line n from total r) (λ line. pairs_from n (line.0 + 1) (total + length line.1) rows >>= with_line line) pairs h in
-    let b = bind_ok (pairs_from n (a.0.0 + 1) (total + length a.0.1) rows) (with_line a.0) pairs a.2 in
-    let behind = clear_where_read n (a.0.0 + 1) (total + length a.0.1) rows b.0 b.1 in
-    none_before_next (fault_behind n from total (r ∷ rows)) (fault_behind n (a.0.0 + 1) (total + length a.0.1) rows) k (no_fault (needs_line n from total r) a.0 a.1) (behind_line n from total r rows a.0 a.1) (λ j lt. behind j) k (omega arith)
+    let a = passed (needs_line n from total r) (λ line. pairs_from n (line.0 + 1) (total + length line.1) rows >>= with_line line) pairs h in
+    let b = passed (pairs_from n (a.value.0 + 1) (total + length a.value.1) rows) (with_line a.value) pairs a.behind in
+    let behind = clear_where_read n (a.value.0 + 1) (total + length a.value.1) rows b.value b.here in
+    none_before_next (fault_behind n from total (r ∷ rows)) (fault_behind n (a.value.0 + 1) (total + length a.value.1) rows) k (no_fault (needs_line n from total r) a.value a.here) (behind_line n from total r rows a.value a.here) (λ j lt. behind j) k (omega arith)

@@ -7,12 +7,13 @@ use Rattle.std.proofs.lemmas.List.Folds.{list_any-append}
 use Rattle.std.proofs.lemmas.List.Elements.{All-nil, All-cons, All-head, All-tail}
 use Rattle.std.specs.List.{All}
 use Rattle.faults.specs.declared.refusal.Refusal.TheVariants.{NotWhole, PredecessorOutOfRange, NeedsItself, PredecessorTwice}
-use Rattle.minelib_reader.specs.Steps.{◌>>=◌, or_fault, check}
+use Rattle.minelib_reader.specs.Checks.{◌>>=◌, ok_if}
+use Rattle.std.specs.Option.{ok_or}
 use Rattle.minelib_reader.specs.Text.{Row}
 use Rattle.minelib_reader.specs.Number.{whole_of}
 use Rattle.minelib_reader.specs.Prec.{most_pairs, in_precedence, is_among, need_of, needs_from, front_of, needs_line, pairs_of, pairs_from}
 use Rattle.minelib_reader.specs.PrecGrammar.{AreDistinct, numbers_of, SpellsLine, SpellsPairs}
-use Rattle.minelib_reader.proofs.StepLemmas.{bind_ok, done, ok_is, given, tested}
+use Rattle.minelib_reader.proofs.CheckLemmas.{passed, passing, same_value, value_there, test_holds}
 use Rattle.minelib_reader.proofs.PrecFaultLemmas.{line_found}
 
 -- none of them was seen
@@ -105,20 +106,20 @@ pub record NeedFound (n id : ℕ) (seen field : List ℕ) (p : ℕ) : Type 0 whe
 need_found : (n id line : ℕ) (seen field : List ℕ) (p : ℕ) → need_of n id line seen field ≡ Ok p → NeedFound n id seen field p
 unfolding need_of
 need_found n id line seen field p e =
-    let last = λ (q : ℕ) (u : Unit {0}). check (in_precedence PredecessorTwice line) (not (is_among seen q)) >>= λ new. done q in
-    let middle = λ (q : ℕ) (u : Unit {0}). check (in_precedence NeedsItself line) (not (eqb q id)) >>= last q in
-    let first = λ (q : ℕ). check (in_precedence PredecessorOutOfRange line) (ltb q n) >>= middle q in
-    let a = bind_ok (or_fault (in_precedence NotWhole line) (whole_of field)) first p e in
-    let b = bind_ok (check (in_precedence PredecessorOutOfRange line) (ltb a.0 n)) (middle a.0) p a.2 in
-    let c = bind_ok (check (in_precedence NeedsItself line) (not (eqb a.0 id))) (last a.0) p b.2 in
-    let d = bind_ok (check (in_precedence PredecessorTwice line) (not (is_among seen a.0))) (λ new. done a.0) p c.2 in
-    let all : NeedFound n id seen field a.0 = record {
-      is = given (in_precedence NotWhole line) (whole_of field) a.0 a.1;
-      below = ltb-true a.0 n (tested (in_precedence PredecessorOutOfRange line) (ltb a.0 n) b.0 b.1);
-      other = eqb-false a.0 id (not_true (eqb a.0 id) (tested (in_precedence NeedsItself line) (not (eqb a.0 id)) c.0 c.1));
-      new = not_true (is_among seen a.0) (tested (in_precedence PredecessorTwice line) (not (is_among seen a.0)) d.0 d.1);
+    let last = λ (q : ℕ) (u : Unit {0}). ok_if (not (is_among seen q)) (in_precedence PredecessorTwice line) >>= λ new. passing q in
+    let middle = λ (q : ℕ) (u : Unit {0}). ok_if (not (eqb q id)) (in_precedence NeedsItself line) >>= last q in
+    let first = λ (q : ℕ). ok_if (ltb q n) (in_precedence PredecessorOutOfRange line) >>= middle q in
+    let a = passed (ok_or (whole_of field) (in_precedence NotWhole line)) first p e in
+    let b = passed (ok_if (ltb a.value n) (in_precedence PredecessorOutOfRange line)) (middle a.value) p a.behind in
+    let c = passed (ok_if (not (eqb a.value id)) (in_precedence NeedsItself line)) (last a.value) p b.behind in
+    let d = passed (ok_if (not (is_among seen a.value)) (in_precedence PredecessorTwice line)) (λ new. passing a.value) p c.behind in
+    let all : NeedFound n id seen field a.value = record {
+      is = value_there (whole_of field) (in_precedence NotWhole line) a.value a.here;
+      below = ltb-true a.value n (test_holds (ltb a.value n) (in_precedence PredecessorOutOfRange line) b.value b.here);
+      other = eqb-false a.value id (not_true (eqb a.value id) (test_holds (not (eqb a.value id)) (in_precedence NeedsItself line) c.value c.here));
+      new = not_true (is_among seen a.value) (test_holds (not (is_among seen a.value)) (in_precedence PredecessorTwice line) d.value d.here);
     } in
-    subst (λ (x : ℕ). NeedFound n id seen field x) (ok_is a.0 p d.2) all
+    subst (λ (x : ℕ). NeedFound n id seen field x) (same_value a.value p d.behind) all
 
 pub record NeedsFound (n id : ℕ) (seen : List ℕ) (fields : List (List ℕ)) (ps : List ℕ) : Type 0 where
   pub are : numbers_of fields ≡ map Some ps
@@ -131,21 +132,21 @@ needs_found : (n id line : ℕ) (seen : List ℕ) (fields : List (List ℕ)) (ps
 unfolding needs_from
 needs_found n id line seen [] ps e =
     let none : NeedsFound n id seen [] [] = record { are = refl; below = All-nil (λ p. p < n); others = All-nil (λ p. p ≢ id); distinct = tt; new = All-nil (λ q. is_among seen q ≡ false) } in
-    subst (λ (x : List ℕ). NeedsFound n id seen [] x) (ok_is [] ps e) none
+    subst (λ (x : List ℕ). NeedsFound n id seen [] x) (same_value [] ps e) none
 needs_found n id line seen (f ∷ fields) ps e =
-    let a = bind_ok (need_of n id line seen f) (λ p. needs_from n id line (seen ++ p ∷ []) fields >>= λ others. done (p ∷ others)) ps e in
-    let b = bind_ok (needs_from n id line (seen ++ a.0 ∷ []) fields) (λ others. done (a.0 ∷ others)) ps a.2 in
-    let one = need_found n id line seen f a.0 a.1 in
-    let ih = needs_found n id line (seen ++ a.0 ∷ []) fields b.0 b.1 in
-    let apart = new_and_other seen b.0 a.0 ih.new in
-    let all : NeedsFound n id seen (f ∷ fields) (a.0 ∷ b.0) = record {
-      are = ap (λ (x : Option ℕ). x ∷ numbers_of fields) one.is ∙ ap (λ (xs : List (Option ℕ)). Some a.0 ∷ xs) ih.are;
-      below = All-cons (λ p. p < n) a.0 b.0 one.below ih.below;
-      others = All-cons (λ p. p ≢ id) a.0 b.0 one.other ih.others;
+    let a = passed (need_of n id line seen f) (λ p. needs_from n id line (seen ++ p ∷ []) fields >>= λ others. passing (p ∷ others)) ps e in
+    let b = passed (needs_from n id line (seen ++ a.value ∷ []) fields) (λ others. passing (a.value ∷ others)) ps a.behind in
+    let one = need_found n id line seen f a.value a.here in
+    let ih = needs_found n id line (seen ++ a.value ∷ []) fields b.value b.here in
+    let apart = new_and_other seen b.value a.value ih.new in
+    let all : NeedsFound n id seen (f ∷ fields) (a.value ∷ b.value) = record {
+      are = ap (λ (x : Option ℕ). x ∷ numbers_of fields) one.is ∙ ap (λ (xs : List (Option ℕ)). Some a.value ∷ xs) ih.are;
+      below = All-cons (λ p. p < n) a.value b.value one.below ih.below;
+      others = All-cons (λ p. p ≢ id) a.value b.value one.other ih.others;
       distinct = (apart.1, ih.distinct);
-      new = All-cons (λ q. is_among seen q ≡ false) a.0 b.0 one.new apart.0;
+      new = All-cons (λ q. is_among seen q ≡ false) a.value b.value one.new apart.0;
     } in
-    subst (λ (x : List ℕ). NeedsFound n id seen (f ∷ fields) x) (ok_is (a.0 ∷ b.0) ps b.2) all
+    subst (λ (x : List ℕ). NeedsFound n id seen (f ∷ fields) x) (same_value (a.value ∷ b.value) ps b.behind) all
 
 line_spelled : (n from total : ℕ) (r : Row) (line : ℕ × List ℕ) → needs_line n from total r ≡ Ok line → SpellsLine n from total r line.0 line.1
 line_spelled n from total r line e =
@@ -169,8 +170,8 @@ line_spelled n from total r line e =
 
 pub spelled : (n from total : ℕ) (rows : List Row) (pairs : List (ℕ × ℕ)) → pairs_from n from total rows ≡ Ok pairs → SpellsPairs n from total rows pairs
 unfolding pairs_from
-spelled n from total [] pairs e = sym (ok_is [] pairs e)
+spelled n from total [] pairs e = sym (same_value [] pairs e)
 spelled n from total (r ∷ rows) pairs e =
-    let a = bind_ok (needs_line n from total r) (λ line. pairs_from n (line.0 + 1) (total + length line.1) rows >>= λ others. done (pairs_of line.0 line.1 ++ others)) pairs e in
-    let b = bind_ok (pairs_from n (a.0.0 + 1) (total + length a.0.1) rows) (λ others. done (pairs_of a.0.0 a.0.1 ++ others)) pairs a.2 in
-    (a.0.0, a.0.1, b.0, line_spelled n from total r a.0 a.1, sym (ok_is (pairs_of a.0.0 a.0.1 ++ b.0) pairs b.2), spelled n (a.0.0 + 1) (total + length a.0.1) rows b.0 b.1)
+    let a = passed (needs_line n from total r) (λ line. pairs_from n (line.0 + 1) (total + length line.1) rows >>= λ others. passing (pairs_of line.0 line.1 ++ others)) pairs e in
+    let b = passed (pairs_from n (a.value.0 + 1) (total + length a.value.1) rows) (λ others. passing (pairs_of a.value.0 a.value.1 ++ others)) pairs a.behind in
+    (a.value.0, a.value.1, b.value, line_spelled n from total r a.value a.here, sym (same_value (pairs_of a.value.0 a.value.1 ++ b.value) pairs b.behind), spelled n (a.value.0 + 1) (total + length a.value.1) rows b.value b.here)

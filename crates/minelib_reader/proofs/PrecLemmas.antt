@@ -4,7 +4,7 @@ use Rattle.std.proofs.lemmas.List.{append-nil}
 use Rattle.std.proofs.lemmas.Bool.{eqb-true, eqb-false}
 use Rattle.std.proofs.lemmas.List.Folds.{list_any-append}
 use Rattle.faults.specs.declared.fault.Fault.{Fault}
-use Rattle.minelib_reader.specs.Steps.{◌>>=◌}
+use Rattle.minelib_reader.specs.Checks.{◌>>=◌}
 use Rattle.minelib_reader.specs.Marks.{AreMarked}
 use Rattle.minelib_reader.specs.Prec.{need_of, needs_from, is_among, pairs_of}
 

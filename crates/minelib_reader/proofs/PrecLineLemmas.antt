@@ -2,20 +2,20 @@
 use Rattle.std.proofs.Common.{◌≡◌, ℕ, suc, ◌+◌, List, [], ◌∷◌, ◌++◌, length, Result, Ok, Err, refl, sym, ap, ◌∙◌, append_assoc, ◌-◌, arith, length-append}
 use Rattle.std.proofs.lemmas.List.{append-nil, length-map}
 use Rattle.faults.specs.declared.fault.Fault.{Fault}
-use Rattle.minelib_reader.specs.Steps.{◌>>=◌}
+use Rattle.minelib_reader.specs.Checks.{◌>>=◌}
 use Rattle.minelib_reader.specs.Text.{Row}
 use Rattle.minelib_reader.specs.Marks.{AddsLine}
 use Rattle.minelib_reader.specs.Prec.{need_of, needs_from, front_of, needs_line, pairs_of, pairs_from}
-use Rattle.minelib_reader.proofs.StepLemmas.{bind_ok, ok_is}
+use Rattle.minelib_reader.proofs.CheckLemmas.{passed, same_value}
 
 -- as many predecessors are read as fields name them
 pub length_needs : (n id line : ℕ) (seen : List ℕ) (fields : List (List ℕ)) (ps : List ℕ) → needs_from n id line seen fields ≡ Ok ps → length ps ≡ length fields
 unfolding needs_from
-length_needs n id line seen [] ps h = ap length (sym (ok_is [] ps h))
+length_needs n id line seen [] ps h = ap length (sym (same_value [] ps h))
 length_needs n id line seen (f ∷ fields) ps h =
-    let a = bind_ok (need_of n id line seen f) (λ p. needs_from n id line (seen ++ p ∷ []) fields >>= λ others. Ok (p ∷ others)) ps h in
-    let b = bind_ok (needs_from n id line (seen ++ a.0 ∷ []) fields) (λ others. Ok (a.0 ∷ others)) ps a.2 in
-    ap length (sym (ok_is (a.0 ∷ b.0) ps b.2)) ∙ ap suc (length_needs n id line (seen ++ a.0 ∷ []) fields b.0 b.1)
+    let a = passed (need_of n id line seen f) (λ p. needs_from n id line (seen ++ p ∷ []) fields >>= λ others. Ok (p ∷ others)) ps h in
+    let b = passed (needs_from n id line (seen ++ a.value ∷ []) fields) (λ others. Ok (a.value ∷ others)) ps a.behind in
+    ap length (sym (same_value (a.value ∷ b.value) ps b.behind)) ∙ ap suc (length_needs n id line (seen ++ a.value ∷ []) fields b.value b.here)
 
 -- so many pairs are added as fields name predecessors
 pub named : (n id line : ℕ) (seen : List ℕ) (fields : List (List ℕ)) (ps : List ℕ) (old new : List (ℕ × ℕ)) → needs_from n id line seen fields ≡ Ok ps → new ≡ old ++ pairs_of id ps → length new - length old ≡ length fields

@@ -1,20 +1,18 @@
 -- What a text is refused for lies in the text: never a seat that was refused, nor a budget.
-use Rattle.std.proofs.Common.{◌≡◌, ℕ, zero, suc, ◌+◌, ◌++◌, length, Bool, true, false, refl, subst, List, [], ◌∷◌, Option, Some, None}
+use Rattle.std.proofs.Common.{◌≡◌, ℕ, zero, suc, ◌+◌, ◌++◌, length, Bool, true, false, refl, subst, List, [], ◌∷◌, Option, Some, None, take}
 use Rattle.std.specs.Prelude.{ℤ, ◌-◌, Result, Ok, Err, nat_lt, nat_le, ◌==◌, not, ◌&&◌, codes}
 use Rattle.std.specs.Str.{bytes_eq}
-use Rattle.minelib_reader.specs.Number.{whole_of, decimal_of}
+use Rattle.minelib_reader.specs.Number.{whole_of, decimal_of, signed_of}
 use Rattle.std.specs.List.{slice_get}
-use Rattle.std.proofs.Common.{take}
 use Rattle.faults.specs.declared.fault.Fault.{Fault}
 use Rattle.faults.specs.declared.refusal.Refusal.{Refusal}
 use Rattle.faults.specs.declared.refusal.Refusal.TheVariants.{NoSeat, Exhausted}
-use Rattle.minelib_reader.specs.Steps.{◌>>=◌, check, fault_of}
-use Rattle.minelib_reader.specs.Text.{two_of, two_and_more, Row, rows_of, count_of_lines}
+use Rattle.minelib_reader.specs.Checks.{◌>>=◌, ok_if}
+use Rattle.std.specs.Result.{result_err}
+use Rattle.minelib_reader.specs.Text.{two_of, two_and_more, Row, rows_of, count_of_lines, four_and_more}
 use Rattle.minelib_reader.specs.Upit.{most_blocks, name_line, type_line, blocks_line, objective_line, value_line}
 use Rattle.minelib_reader.specs.UpitFault.{line_fault, place_fault, blocks_named, IsFirstUpitFault}
 use Rattle.minelib_reader.specs.Prec.{most_pairs, is_among, need_of, needs_from, front_of, needs_line}
-use Rattle.minelib_reader.specs.Text.{four_and_more}
-use Rattle.minelib_reader.specs.Number.{signed_of}
 use Rattle.minelib_reader.specs.Table.{Place}
 use Rattle.minelib_reader.specs.Blocks.{most_columns, is_coordinate, width_line, coordinate_of, front_of as place_front, attribute_of, attributes_of, block_line}
 use Rattle.minelib_reader.specs.BlocksFault.{IsFirstTableFault, line_fault as table_line_fault, width_named}
@@ -42,11 +40,11 @@ by_test : {P : Type 0} (b : Bool) → (b ≡ false → P) → (b ≡ true → P)
 by_test false fails passes = fails refl
 by_test true fails passes = passes refl
 
-check_of_text : (e : Fault) (b : Bool) → IsOfText e.refusal → FailsOfText (check e b)
+check_of_text : (e : Fault) (b : Bool) → IsOfText e.refusal → FailsOfText (ok_if b e)
 check_of_text e true is = tt
 check_of_text e false is = is
 
-maybe_of_text : {X : Type 0} (m : Result X Fault) → FailsOfText m → MaybeOfText (fault_of m)
+maybe_of_text : {X : Type 0} (m : Result X Fault) → FailsOfText m → MaybeOfText (result_err m)
 maybe_of_text (Ok x) is = tt
 maybe_of_text (Err e) is = is
 

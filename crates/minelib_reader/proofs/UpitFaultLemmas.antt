@@ -5,17 +5,20 @@ use Rattle.std.proofs.lemmas.Bool.{cases_lt, lt-ltb, le-ltb}
 use Rattle.std.specs.List.{slice_get}
 use Rattle.faults.specs.declared.fault.Fault.{Fault}
 use Rattle.faults.specs.declared.refusal.Refusal.TheVariants.{EndsEarly, AfterEnd}
-use Rattle.minelib_reader.specs.Steps.{◌>>=◌, fault_of, IsFirstFault}
+use Rattle.minelib_reader.specs.Checks.{◌>>=◌}
+use Rattle.std.specs.Result.{result_err}
+use Rattle.minelib_reader.specs.FirstFault.{IsFirstFault}
 use Rattle.minelib_reader.specs.Text.{Row}
 use Rattle.minelib_reader.specs.Upit.{Upit, upit, in_model, due, name_line, type_line, blocks_line, objective_line, value_line, values_from, ended, header_of, upit_of_rows}
 use Rattle.minelib_reader.specs.UpitFault.{number_in, place_fault, fault_in_rows}
-use Rattle.minelib_reader.proofs.StepLemmas.{bind_ok, bind_err, ok_is, done, failed, no_fault, that_fault, AreClear, clear_none, clear_more}
+use Rattle.minelib_reader.proofs.CheckLemmas.{passed, stopped, same_value, passing, failing}
+use Rattle.minelib_reader.proofs.FirstFaultLemmas.{no_fault, that_fault, AreClear, clear_none, clear_more}
 use Rattle.minelib_reader.proofs.UpitGrammarLemmas.{after_type, after_title, after_blocks, after_kind, after_number, after_objective, HeaderLines, header_lines, all_steps}
 
 abbrev Faults : Type 0
 Faults = ℕ → Option Fault
 
-err_is : {A : Type 0} (d e : Fault) → failed {A = A} d ≡ failed e → d ≡ e
+err_is : {A : Type 0} (d e : Fault) → failing {A = A} d ≡ failing e → d ≡ e
 err_is d e h = cc
 
 first_at : (f : Faults) (e d : Fault) (k : ℕ) → AreClear f k → f k ≡ Some d → d ≡ e → IsFirstFault f e
@@ -37,7 +40,7 @@ clear_next f i clear here j lt = clear_more f (place_of i) clear here j (omega (
 due_here : (count n i k : ℕ) → suc k + i ≡ n → place_fault count n (place_of i) None ≡ Some (in_model EndsEarly (count + 1))
 due_here count n i k e = rw (lt-ltb (place_of i) (n + 4) (omega (arith, e))) refl
 
-value_here : (f : Faults) (count n i k : ℕ) (r : Row) (rows : List Row) → suc k + i ≡ n → Follows f count n i (r ∷ rows) → f (place_of i) ≡ fault_of (value_line i r)
+value_here : (f : Faults) (count n i k : ℕ) (r : Row) (rows : List Row) → suc k + i ≡ n → Follows f count n i (r ∷ rows) → f (place_of i) ≡ result_err (value_line i r)
 value_here f count n i k r rows e h = h 0 i (omega arith) ∙ rw (lt-ltb i n (omega (arith, e))) refl
 
 zero_and : (i n : ℕ) → 0 + i ≡ n → i ≡ n
@@ -52,11 +55,11 @@ values_err f count n i zero rows e size clear here h = absurd cc
 values_err f count n i (suc k) [] e size clear here h = first_at f e (in_model EndsEarly (count + 1)) (place_of i) clear (here 0 i (omega arith) ∙ due_here count n i k size) (err_is (in_model EndsEarly (count + 1)) e h)
 values_err f count n i (suc k) (r ∷ rows) e size clear here h =
     let at = value_here f count n i k r rows size here in
-    elim (bind_err (value_line i r) (λ v. values_from count (i + 1) k rows >>= with_value v) e h) [
+    elim (stopped (value_line i r) (λ v. values_from count (i + 1) k rows >>= with_value v) e h) [
       | inl stop ↦ first_at f e e (place_of i) clear (at ∙ that_fault (value_line i r) e stop) refl
-      | inr go ↦ elim (bind_err (values_from count (i + 1) k rows) (with_value go.0) e go.2) [
-        | inl stop ↦ values_err f count n (i + 1) k rows e (omega (arith, size)) (clear_next f i clear (at ∙ no_fault (value_line i r) go.0 go.1)) (follows_next f count n i r rows here) stop
-        | inr end ↦ absurd (let no = end.2 in cc)
+      | inr go ↦ elim (stopped (values_from count (i + 1) k rows) (with_value go.value) e go.behind) [
+        | inl stop ↦ values_err f count n (i + 1) k rows e (omega (arith, size)) (clear_next f i clear (at ∙ no_fault (value_line i r) go.value go.here)) (follows_next f count n i r rows here) stop
+        | inr end ↦ absurd (let no = end.behind in cc)
       ]
     ]
 
@@ -64,15 +67,15 @@ values_ok : (f : Faults) (count n i k : ℕ) (rows : List Row) (x : List ℤ × 
     → AreClear f (place_of n) × Follows f count n n x.1
 unfolding values_from
 values_ok f count n i zero rows x size clear here h =
-    let q = ok_is ([], rows) x h in
+    let q = same_value ([], rows) x h in
     subst (λ (m : ℕ). AreClear f (place_of m) × Follows f count n m x.1) (zero_and i n size) (clear, subst (λ (y : List ℤ × List Row). Follows f count n i y.1) q here)
 values_ok f count n i (suc k) [] x size clear here h = absurd cc
 values_ok f count n i (suc k) (r ∷ rows) x size clear here h =
     let at = value_here f count n i k r rows size here in
-    let a = bind_ok (value_line i r) (λ v. values_from count (i + 1) k rows >>= with_value v) x h in
-    let b = bind_ok (values_from count (i + 1) k rows) (with_value a.0) x a.2 in
-    let q = ok_is (a.0 ∷ b.0.0, b.0.1) x b.2 in
-    let ih = values_ok f count n (i + 1) k rows b.0 (omega (arith, size)) (clear_next f i clear (at ∙ no_fault (value_line i r) a.0 a.1)) (follows_next f count n i r rows here) b.1 in
+    let a = passed (value_line i r) (λ v. values_from count (i + 1) k rows >>= with_value v) x h in
+    let b = passed (values_from count (i + 1) k rows) (with_value a.value) x a.behind in
+    let q = same_value (a.value ∷ b.value.0, b.value.1) x b.behind in
+    let ih = values_ok f count n (i + 1) k rows b.value (omega (arith, size)) (clear_next f i clear (at ∙ no_fault (value_line i r) a.value a.here)) (follows_next f count n i r rows here) b.here in
     (ih.0, subst (λ (y : List ℤ × List Row). Follows f count n n y.1) q ih.1)
 
 -- ---- the header
@@ -83,27 +86,27 @@ objective_err count a b c [] n e clear h =
     let here : f 3 ≡ Some (in_model EndsEarly (count + 1)) = rw (lt-ltb 3 (number_in (blocks_line c) + 4) (omega arith)) refl in
     first_at f e (in_model EndsEarly (count + 1)) 3 clear here (err_is (in_model EndsEarly (count + 1)) e h)
 objective_err count a b c (d ∷ rows) n e clear h =
-    elim (bind_err (objective_line d) (λ objective. done (n, rows)) e h) [
+    elim (stopped (objective_line d) (λ objective. passing (n, rows)) e h) [
       | inl stop ↦ first_at (fault_in_rows count (a ∷ b ∷ c ∷ d ∷ rows)) e e 3 clear (that_fault (objective_line d) e stop) refl
-      | inr end ↦ absurd (let no = end.2 in cc)
+      | inr end ↦ absurd (let no = end.behind in cc)
     ]
 
 blocks_err : (count : ℕ) (a b : Row) (rows : List Row) (e : Fault) → AreClear (fault_in_rows count (a ∷ b ∷ rows)) 2 → (due count rows >>= after_blocks count) ≡ Err e → IsFirstFault (fault_in_rows count (a ∷ b ∷ rows)) e
 blocks_err count a b [] e clear h = first_at (fault_in_rows count (a ∷ b ∷ [])) e (in_model EndsEarly (count + 1)) 2 clear refl (err_is (in_model EndsEarly (count + 1)) e h)
 blocks_err count a b (c ∷ rows) e clear h =
     let f = fault_in_rows count (a ∷ b ∷ c ∷ rows) in
-    elim (bind_err (blocks_line c) (after_number count (c, rows)) e h) [
+    elim (stopped (blocks_line c) (after_number count (c, rows)) e h) [
       | inl stop ↦ first_at f e e 2 clear (that_fault (blocks_line c) e stop) refl
-      | inr go ↦ objective_err count a b c rows go.0 e (clear_more f 2 clear (no_fault (blocks_line c) go.0 go.1)) go.2
+      | inr go ↦ objective_err count a b c rows go.value e (clear_more f 2 clear (no_fault (blocks_line c) go.value go.here)) go.behind
     ]
 
 type_err : (count : ℕ) (a : Row) (rows : List Row) (e : Fault) → AreClear (fault_in_rows count (a ∷ rows)) 1 → (due count rows >>= after_type count) ≡ Err e → IsFirstFault (fault_in_rows count (a ∷ rows)) e
 type_err count a [] e clear h = first_at (fault_in_rows count (a ∷ [])) e (in_model EndsEarly (count + 1)) 1 clear refl (err_is (in_model EndsEarly (count + 1)) e h)
 type_err count a (b ∷ rows) e clear h =
     let f = fault_in_rows count (a ∷ b ∷ rows) in
-    elim (bind_err (type_line b) (after_kind count (b, rows)) e h) [
+    elim (stopped (type_line b) (after_kind count (b, rows)) e h) [
       | inl stop ↦ first_at f e e 1 clear (that_fault (type_line b) e stop) refl
-      | inr go ↦ blocks_err count a b rows e (clear_more f 1 clear (no_fault (type_line b) go.0 go.1)) go.2
+      | inr go ↦ blocks_err count a b rows e (clear_more f 1 clear (no_fault (type_line b) go.value go.here)) go.behind
     ]
 
 header_err : (count : ℕ) (rows : List Row) (e : Fault) → header_of count rows ≡ Err e → IsFirstFault (fault_in_rows count rows) e
@@ -111,9 +114,9 @@ unfolding header_of
 header_err count [] e h = first_at (fault_in_rows count []) e (in_model EndsEarly (count + 1)) 0 (clear_none (fault_in_rows count [])) refl (err_is (in_model EndsEarly (count + 1)) e h)
 header_err count (a ∷ rows) e h =
     let f = fault_in_rows count (a ∷ rows) in
-    elim (bind_err (name_line a) (after_title count (a, rows)) e h) [
+    elim (stopped (name_line a) (after_title count (a, rows)) e h) [
       | inl stop ↦ first_at f e e 0 (clear_none f) (that_fault (name_line a) e stop) refl
-      | inr go ↦ type_err count a rows e (clear_more f 0 (clear_none f) (no_fault (name_line a) go.0 go.1)) go.2
+      | inr go ↦ type_err count a rows e (clear_more f 0 (clear_none f) (no_fault (name_line a) go.value go.here)) go.behind
     ]
 
 -- behind a header that was read: its places are clear, and the rows behind it follow
@@ -137,7 +140,7 @@ behind_header count rows n rest h =
 -- ---- the whole text
 
 abbrev after_values : ℕ → List ℤ × List Row → Result Upit Fault
-after_values n values = ended values.1 >>= λ end. done (upit n values.0)
+after_values n values = ended values.1 >>= λ end. passing (upit n values.0)
 
 ended_err : (f : Faults) (count n : ℕ) (vs : List ℤ) (rows : List Row) (e : Fault) → AreClear f (place_of n) → Follows f count n n rows → after_values n (vs, rows) ≡ Err e → IsFirstFault f e
 ended_err f count n vs [] e clear here h = absurd cc
@@ -148,16 +151,16 @@ pub fails_first : (count : ℕ) (rows : List Row) (e : Fault) → upit_of_rows c
 unfolding upit_of_rows
 fails_first count rows e h =
     let f = fault_in_rows count rows in
-    elim (bind_err (header_of count rows) (λ header. values_from count 0 header.0 header.1 >>= after_values header.0) e h) [
+    elim (stopped (header_of count rows) (λ header. values_from count 0 header.0 header.1 >>= after_values header.0) e h) [
       | inl stop ↦ header_err count rows e stop
       | inr go ↦
-          let n = go.0.0 in
-          let behind = behind_header count rows n go.0.1 (header_lines count rows n go.0.1 go.1) in
-          elim (bind_err (values_from count 0 n go.0.1) (after_values n) e go.2) [
-            | inl stop ↦ values_err f count n 0 n go.0.1 e (omega arith) behind.0 behind.1 stop
+          let n = go.value.0 in
+          let behind = behind_header count rows n go.value.1 (header_lines count rows n go.value.1 go.here) in
+          elim (stopped (values_from count 0 n go.value.1) (after_values n) e go.behind) [
+            | inl stop ↦ values_err f count n 0 n go.value.1 e (omega arith) behind.0 behind.1 stop
             | inr last ↦
-                let done = values_ok f count n 0 n go.0.1 last.0 (omega arith) behind.0 behind.1 last.1 in
-                ended_err f count n last.0.0 last.0.1 e done.0 done.1 last.2
+                let passing = values_ok f count n 0 n go.value.1 last.value (omega arith) behind.0 behind.1 last.here in
+                ended_err f count n last.value.0 last.value.1 e passing.0 passing.1 last.behind
           ]
     ]
 
@@ -166,12 +169,12 @@ clear_where_read count rows m h k =
     let f = fault_in_rows count rows in
     let s = all_steps count rows m h in
     let behind = behind_header count rows m.n s.rest (header_lines count rows m.n s.rest s.header) in
-    let done = values_ok f count m.n 0 m.n s.rest (m.values, []) (omega arith) behind.0 behind.1 s.values in
+    let passing = values_ok f count m.n 0 m.n s.rest (m.values, []) (omega arith) behind.0 behind.1 s.values in
     elim (cases_lt k (place_of m.n)) [
-      | inl lt ↦ done.0 k lt
+      | inl lt ↦ passing.0 k lt
       | inr le ↦
           let j = k - (m.n + 4) in
           let same : suc (suc (suc (suc (j + m.n)))) ≡ k = omega (arith, le) in
           let past : place_fault count m.n (place_of (j + m.n)) None ≡ None = rw (le-ltb (place_of (j + m.n)) (m.n + 4) (omega arith)) refl in
-          subst (λ (x : ℕ). f x ≡ None) same (done.1 j (j + m.n) refl ∙ past)
+          subst (λ (x : ℕ). f x ≡ None) same (passing.1 j (j + m.n) refl ∙ past)
     ]

@@ -4,7 +4,8 @@ use Rattle.faults.specs.declared.fault.Fault.{Fault}
 use Rattle.faults.specs.declared.refusal.Refusal.{Refusal}
 use Rattle.faults.specs.declared.refusal.Refusal.TheVariants.{OverLimit, NotWhole, NotDecimal, IdOutOfPlace, WrongFieldCount}
 use Rattle.faults.specs.declared.source.Source.TheVariants.{Blocks}
-use Rattle.minelib_reader.specs.Steps.{◌>>=◌, or_fault, check}
+use Rattle.minelib_reader.specs.Checks.{◌>>=◌, ok_if}
+use Rattle.std.specs.Option.{ok_or}
 use Rattle.faults.specs.Refused.{at_line}
 use Rattle.minelib_reader.specs.Text.{Row, rows_of, four_and_more}
 use Rattle.minelib_reader.specs.Number.{whole_of, signed_of, decimal_of}
@@ -21,8 +22,8 @@ in_blocks refusal line = at_line Blocks refusal line
 -- how many attributes the blocks have: those of the first line
 unfoldable pub width_line : Row → Result ℕ Fault
 width_line r = do
-  enough ← check (in_blocks WrongFieldCount r.line) (nat_le 4 (length r.fields))
-  few ← check (in_blocks OverLimit r.line) (nat_le (length r.fields - 4) most_columns)
+  enough ← ok_if (nat_le 4 (length r.fields)) (in_blocks WrongFieldCount r.line)
+  few ← ok_if (nat_le (length r.fields - 4) most_columns) (in_blocks OverLimit r.line)
   Ok (length r.fields - 4)
 
 abbrev pub width_of : List Row → Result ℕ Fault
@@ -35,25 +36,25 @@ is_coordinate c = int_le (neg_ℤ (pos 2147483648)) c && int_le c (pos 214748364
 
 unfoldable pub coordinate_of : ℕ → List ℕ → Result ℤ Fault
 coordinate_of line field = do
-  c ← or_fault (in_blocks NotWhole line) (signed_of field)
-  fits ← check (in_blocks OverLimit line) (is_coordinate c)
+  c ← ok_or (signed_of field) (in_blocks NotWhole line)
+  fits ← ok_if (is_coordinate c) (in_blocks OverLimit line)
   Ok c
 
 -- the place of block i, and the fields that write its attributes
 unfoldable pub front_of : ℕ → ℕ → Row → Result (Place × List (List ℕ)) Fault
 front_of width i r = do
-  parts ← or_fault (in_blocks WrongFieldCount r.line) (four_and_more r.fields)
-  wide ← check (in_blocks WrongFieldCount r.line) (length parts.4 == width)
-  id ← or_fault (in_blocks NotWhole r.line) (whole_of parts.0)
-  in_place ← check (in_blocks IdOutOfPlace r.line) (id == i)
-  few ← check (in_blocks OverLimit r.line) (nat_lt id most_blocks)
+  parts ← ok_or (four_and_more r.fields) (in_blocks WrongFieldCount r.line)
+  wide ← ok_if (length parts.4 == width) (in_blocks WrongFieldCount r.line)
+  id ← ok_or (whole_of parts.0) (in_blocks NotWhole r.line)
+  in_place ← ok_if (id == i) (in_blocks IdOutOfPlace r.line)
+  few ← ok_if (nat_lt id most_blocks) (in_blocks OverLimit r.line)
   x ← coordinate_of r.line parts.1
   y ← coordinate_of r.line parts.2
   z ← coordinate_of r.line parts.3
   Ok ((x, y, z), parts.4)
 
 unfoldable pub attribute_of : ℕ → List ℕ → Result ℤ Fault
-attribute_of line field = or_fault (in_blocks NotDecimal line) (decimal_of field)
+attribute_of line field = ok_or (decimal_of field) (in_blocks NotDecimal line)
 
 -- attributes, from left to right
 unfoldable pub attributes_of : ℕ → List (List ℕ) → Result (List ℤ) Fault

@@ -2,7 +2,9 @@
 use Rattle.std.specs.Prelude.{ℕ, zero, suc, ◌-◌, List, [], ◌∷◌, length, Option, Some, None}
 use Rattle.std.specs.List.{slice_get}
 use Rattle.faults.specs.declared.fault.Fault.{Fault}
-use Rattle.minelib_reader.specs.Steps.{◌>>=◌, fault_of, IsFirstFault}
+use Rattle.minelib_reader.specs.Checks.{◌>>=◌}
+use Rattle.std.specs.Result.{result_err}
+use Rattle.minelib_reader.specs.FirstFault.{IsFirstFault}
 use Rattle.minelib_reader.specs.Text.{Row, rows_of}
 use Rattle.minelib_reader.specs.Blocks.{width_line, block_line}
 
@@ -14,8 +16,8 @@ width_named (r ∷ rows) = length r.fields - 4
 -- the first check that a line breaks, if there is the line, by its place; the first line also says how wide the table is
 abbrev pub line_fault : ℕ → ℕ → Option Row → Option Fault
 line_fault width k None = None
-line_fault width zero (Some r) = fault_of (width_line r >>= λ w. block_line w 0 r)
-line_fault width (suc k) (Some r) = fault_of (block_line width (suc k) r)
+line_fault width zero (Some r) = result_err (width_line r >>= λ w. block_line w 0 r)
+line_fault width (suc k) (Some r) = result_err (block_line width (suc k) r)
 
 abbrev pub fault_in_rows : List Row → ℕ → Option Fault
 fault_in_rows rows k = line_fault (width_named rows) k (slice_get rows k)

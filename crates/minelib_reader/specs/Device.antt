@@ -8,9 +8,12 @@ pub record Progress : Type 0 where
   pub failures : ℕ
   pub allowance : ℕ
 
+abbrev pub progress : List ℕ → ℕ → ℕ → Progress
+progress bytes failures allowance = record { bytes = bytes; failures = failures; allowance = allowance }
+
 -- nothing went through yet
 abbrev pub unread : ℕ → Progress
-unread allowance = record { bytes = []; failures = 0; allowance = allowance }
+unread allowance = progress [] 0 allowance
 
 -- one read: the bytes at the front of the buffer are the next ones, or the call failed and was counted
 abbrev pub ReadGives : Progress → Progress → Result ℕ DeviceFailed → List ℕ → Type 0
@@ -21,6 +24,11 @@ ReadGives old new (Err e) buf = (new.bytes ≡ old.bytes) × (new.failures ≡ o
 abbrev pub WriteTakes : Progress → Progress → Result ℕ DeviceFailed → List ℕ → Type 0
 WriteTakes old new (Ok n) text = (n ≤ length text) × (0 < length text → 0 < n) × (new.bytes ≡ old.bytes ++ take n text) × (new.failures ≡ old.failures)
 WriteTakes old new (Err e) text = (new.bytes ≡ old.bytes) × (new.failures ≡ old.failures + 1)
+
+-- a write succeeded, and took at least one byte of a text that isn't empty
+abbrev pub TakesSome : {E : Type 0} → Result ℕ E → List ℕ → Type 0
+TakesSome (Ok n) text = 0 < length text → 0 < n
+TakesSome (Err e) text = ⊥
 
 -- text begins with front
 abbrev pub Begins : List ℕ → List ℕ → Type 0

@@ -5,7 +5,8 @@ use Rattle.faults.specs.declared.fault.Fault.{Fault}
 use Rattle.faults.specs.declared.refusal.Refusal.{Refusal}
 use Rattle.faults.specs.declared.refusal.Refusal.TheVariants.{OverLimit, NotWhole, IdOutOfPlace, PredecessorOutOfRange, NeedsItself, PredecessorTwice, WrongFieldCount}
 use Rattle.faults.specs.declared.source.Source.TheVariants.{Precedence}
-use Rattle.minelib_reader.specs.Steps.{◌>>=◌, or_fault, check}
+use Rattle.minelib_reader.specs.Checks.{◌>>=◌, ok_if}
+use Rattle.std.specs.Option.{ok_or}
 use Rattle.faults.specs.Refused.{at_line}
 use Rattle.minelib_reader.specs.Text.{Row, rows_of, two_and_more}
 use Rattle.minelib_reader.specs.Number.{whole_of}
@@ -24,10 +25,10 @@ is_among seen p = list_any (λ x. x == p) seen
 -- one predecessor of block id, behind those that were seen on its line
 unfoldable pub need_of : ℕ → ℕ → ℕ → List ℕ → List ℕ → Result ℕ Fault
 need_of n id line seen field = do
-  p ← or_fault (in_precedence NotWhole line) (whole_of field)
-  below ← check (in_precedence PredecessorOutOfRange line) (nat_lt p n)
-  other ← check (in_precedence NeedsItself line) (not (p == id))
-  new ← check (in_precedence PredecessorTwice line) (not (is_among seen p))
+  p ← ok_or (whole_of field) (in_precedence NotWhole line)
+  below ← ok_if (nat_lt p n) (in_precedence PredecessorOutOfRange line)
+  other ← ok_if (not (p == id)) (in_precedence NeedsItself line)
+  new ← ok_if (not (is_among seen p)) (in_precedence PredecessorTwice line)
   Ok p
 
 -- the predecessors of block id, from left to right
@@ -42,12 +43,12 @@ needs_from n id line seen (field ∷ fields) = do
 -- the line may have, and total the sum of the numbers on the lines before
 unfoldable pub front_of : ℕ → ℕ → ℕ → Row → Result (ℕ × ℕ × List (List ℕ)) Fault
 front_of n from total r = do
-  parts ← or_fault (in_precedence WrongFieldCount r.line) (two_and_more r.fields)
-  id ← or_fault (in_precedence NotWhole r.line) (whole_of parts.0)
-  in_place ← check (in_precedence IdOutOfPlace r.line) (nat_lt id n && nat_le from id)
-  count ← or_fault (in_precedence NotWhole r.line) (whole_of parts.1)
-  named ← check (in_precedence WrongFieldCount r.line) (length parts.2 == count)
-  few ← check (in_precedence OverLimit r.line) (nat_le (total + count) most_pairs)
+  parts ← ok_or (two_and_more r.fields) (in_precedence WrongFieldCount r.line)
+  id ← ok_or (whole_of parts.0) (in_precedence NotWhole r.line)
+  in_place ← ok_if (nat_lt id n && nat_le from id) (in_precedence IdOutOfPlace r.line)
+  count ← ok_or (whole_of parts.1) (in_precedence NotWhole r.line)
+  named ← ok_if (length parts.2 == count) (in_precedence WrongFieldCount r.line)
+  few ← ok_if (nat_le (total + count) most_pairs) (in_precedence OverLimit r.line)
   Ok (id, count, parts.2)
 
 -- the block of a line, and its predecessors

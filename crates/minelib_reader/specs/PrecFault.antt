@@ -2,7 +2,8 @@
 use Rattle.std.specs.Prelude.{ℕ, ◌+◌, List, [], ◌∷◌, take, Option, Some, None}
 use Rattle.std.specs.List.{slice_get}
 use Rattle.faults.specs.declared.fault.Fault.{Fault}
-use Rattle.minelib_reader.specs.Steps.{fault_of, IsFirstFault}
+use Rattle.std.specs.Result.{result_err}
+use Rattle.minelib_reader.specs.FirstFault.{IsFirstFault}
 use Rattle.minelib_reader.specs.Text.{Row, rows_of}
 use Rattle.minelib_reader.specs.Number.{whole_of}
 use Rattle.minelib_reader.specs.Prec.{needs_line}
@@ -34,7 +35,7 @@ total_behind total (r ∷ rows) = total_behind (total + count_in r.fields) rows
 -- the first check that a line breaks, if there is the line
 abbrev pub line_fault : ℕ → ℕ → ℕ → Option Row → Option Fault
 line_fault n from total None = None
-line_fault n from total (Some r) = fault_of (needs_line n from total r)
+line_fault n from total (Some r) = result_err (needs_line n from total r)
 
 abbrev pub fault_behind : ℕ → ℕ → ℕ → List Row → ℕ → Option Fault
 fault_behind n from total rows k = line_fault n (from_behind from (take k rows)) (total_behind total (take k rows)) (slice_get rows k)

@@ -5,7 +5,8 @@ use Rattle.faults.specs.declared.fault.Fault.{Fault}
 use Rattle.faults.specs.declared.refusal.Refusal.{Refusal}
 use Rattle.faults.specs.declared.refusal.Refusal.TheVariants.{WrongHeader, OverLimit, NotWhole, NotDecimal, IdOutOfPlace, WrongFieldCount, EndsEarly, AfterEnd}
 use Rattle.faults.specs.declared.source.Source.TheVariants.{Model}
-use Rattle.minelib_reader.specs.Steps.{◌>>=◌, or_fault, check}
+use Rattle.minelib_reader.specs.Checks.{◌>>=◌, ok_if}
+use Rattle.std.specs.Option.{ok_or}
 use Rattle.faults.specs.Refused.{at_line}
 use Rattle.minelib_reader.specs.Text.{Row, rows_of, count_of_lines, two_of}
 use Rattle.minelib_reader.specs.Number.{whole_of, decimal_of}
@@ -38,30 +39,30 @@ is_pair a b None = false
 is_pair a b (Some p) = bytes_eq p.0 a && bytes_eq p.1 b
 
 unfoldable pub name_line : Row → Result (Unit {0}) Fault
-name_line r = check (in_model WrongHeader r.line) (starts_by (codes "NAME:") r.fields)
+name_line r = ok_if (starts_by (codes "NAME:") r.fields) (in_model WrongHeader r.line)
 
 unfoldable pub type_line : Row → Result (Unit {0}) Fault
-type_line r = check (in_model WrongHeader r.line) (is_pair (codes "TYPE:") (codes "UPIT") (two_of r.fields))
+type_line r = ok_if (is_pair (codes "TYPE:") (codes "UPIT") (two_of r.fields)) (in_model WrongHeader r.line)
 
 -- the number of blocks
 unfoldable pub blocks_line : Row → Result ℕ Fault
 blocks_line r = do
-  pair ← or_fault (in_model WrongHeader r.line) (two_of r.fields)
-  header ← check (in_model WrongHeader r.line) (bytes_eq pair.0 (codes "NBLOCKS:"))
-  n ← or_fault (in_model NotWhole r.line) (whole_of pair.1)
-  few ← check (in_model OverLimit r.line) (nat_le n most_blocks)
+  pair ← ok_or (two_of r.fields) (in_model WrongHeader r.line)
+  header ← ok_if (bytes_eq pair.0 (codes "NBLOCKS:")) (in_model WrongHeader r.line)
+  n ← ok_or (whole_of pair.1) (in_model NotWhole r.line)
+  few ← ok_if (nat_le n most_blocks) (in_model OverLimit r.line)
   Ok n
 
 unfoldable pub objective_line : Row → Result (Unit {0}) Fault
-objective_line r = check (in_model WrongHeader r.line) (is_word (codes "OBJECTIVE_FUNCTION:") r.fields)
+objective_line r = ok_if (is_word (codes "OBJECTIVE_FUNCTION:") r.fields) (in_model WrongHeader r.line)
 
 -- the value of block i
 unfoldable pub value_line : ℕ → Row → Result ℤ Fault
 value_line i r = do
-  pair ← or_fault (in_model WrongFieldCount r.line) (two_of r.fields)
-  id ← or_fault (in_model NotWhole r.line) (whole_of pair.0)
-  in_place ← check (in_model IdOutOfPlace r.line) (id == i)
-  or_fault (in_model NotDecimal r.line) (decimal_of pair.1)
+  pair ← ok_or (two_of r.fields) (in_model WrongFieldCount r.line)
+  id ← ok_or (whole_of pair.0) (in_model NotWhole r.line)
+  in_place ← ok_if (id == i) (in_model IdOutOfPlace r.line)
+  ok_or (decimal_of pair.1) (in_model NotDecimal r.line)
 
 -- the values of k blocks from i on, and the rows after them
 unfoldable pub values_from : ℕ → ℕ → ℕ → List Row → Result (List ℤ × List Row) Fault

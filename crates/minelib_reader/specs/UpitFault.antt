@@ -3,7 +3,8 @@ use Rattle.std.specs.Prelude.{ℕ, zero, suc, ◌+◌, nat_lt, if◌then◌else�
 use Rattle.std.specs.List.{slice_get}
 use Rattle.faults.specs.declared.fault.Fault.{Fault}
 use Rattle.faults.specs.declared.refusal.Refusal.TheVariants.{EndsEarly, AfterEnd}
-use Rattle.minelib_reader.specs.Steps.{fault_of, IsFirstFault}
+use Rattle.std.specs.Result.{result_err}
+use Rattle.minelib_reader.specs.FirstFault.{IsFirstFault}
 use Rattle.minelib_reader.specs.Text.{Row, rows_of, count_of_lines}
 use Rattle.minelib_reader.specs.Upit.{in_model, name_line, type_line, blocks_line, objective_line, value_line}
 
@@ -18,11 +19,11 @@ blocks_named (Some r) = number_in (blocks_line r)
 
 -- the first check that a line with fields breaks, by its place: four header lines, then those of n blocks
 abbrev pub line_fault : ℕ → ℕ → Row → Option Fault
-line_fault n zero r = fault_of (name_line r)
-line_fault n (suc zero) r = fault_of (type_line r)
-line_fault n (suc (suc zero)) r = fault_of (blocks_line r)
-line_fault n (suc (suc (suc zero))) r = fault_of (objective_line r)
-line_fault n (suc (suc (suc (suc i)))) r = if nat_lt i n then fault_of (value_line i r) else Some (in_model AfterEnd r.line)
+line_fault n zero r = result_err (name_line r)
+line_fault n (suc zero) r = result_err (type_line r)
+line_fault n (suc (suc zero)) r = result_err (blocks_line r)
+line_fault n (suc (suc (suc zero))) r = result_err (objective_line r)
+line_fault n (suc (suc (suc (suc i)))) r = if nat_lt i n then result_err (value_line i r) else Some (in_model AfterEnd r.line)
 
 -- the same of a place that may have no line: a fault where a line is due, in the line behind the last of count
 abbrev pub place_fault : ℕ → ℕ → ℕ → Option Row → Option Fault

@@ -2,6 +2,7 @@
 //! Each line is checked in the order of `specs/Blocks.antt`; the first fault ends the reading.
 //! The first line says how many attributes the blocks have, so its fields are counted before the lines are read.
 ghost use Rattle.std.specs.Prelude.{◌≡◌, ◌↔◌, ℕ, ℤ, List, Ok, Err, ◌≤◌, ◌<◌, ◌^◌, ◌++◌, length, IfOk, IfErr};
+ghost use Rattle.std.specs.Io.KnownBytes.{Keeps};
 ghost use Rattle.std.specs.List.{All};
 ghost use Rattle.faults.specs.declared.fault.Fault.{Fault as AnyFault};
 ghost use Rattle.faults.specs.declared.source.Source.TheVariants as sources;
@@ -207,7 +208,7 @@ pub fn read_blocks<R: InBytes>(alloc: Global, reader: &mut R) -> Result<BlockTab
     requires countable { (R.progress reader.old).failures < 2 ^ 63 }
     requires bounded { (R.progress reader.old).allowance ≤ 2 ^ 40 }
     ensures answers { AnswersBy (λ t. t) SpellsTable IsFirstTableFault sources.Blocks (R.progress reader.old) (R.progress reader.new) (R.IsAtEnd reader.new) result }
-    ensures same { R.known_text reader.new ≡ R.known_text reader.old }
+    ensures known { Keeps (R.known_text reader.old) (R.known_text reader.new) }
 
     // The same by what is read of a text.
     ensures exact { Answers (λ t. t) table_of sources.Blocks (R.progress reader.old) (R.progress reader.new) (R.IsAtEnd reader.new) result }

@@ -1,16 +1,17 @@
-//! A reader over memory and one over a file, which meet `InBytes`,
+//! A reader over memory and one over a stream, as a file, which meet `InBytes`,
 //! and `read_all`, by which the readers of this crate take a whole text.
-ghost use Rattle.std.specs.Prelude.{◌≡◌, ◌≤◌, ◌<◌, ◌^◌, ◌-◌, length, take, IfOk, MatchResult, Some, IsTrue};
+ghost use Rattle.std.specs.Prelude.{◌≡◌, ◌≤◌, ◌<◌, ◌^◌, ◌-◌, [], length, take, IfOk, IsOk, MatchResult, Some, IsTrue, ⊤};
+ghost use Rattle.std.specs.Io.{ReadsAtMost};
+ghost use Rattle.std.specs.Io.KnownBytes.{Keeps, ReadConsumes, prepend_known, IsAtEnd as KnownEnd};
 ghost use Rattle.minelib_reader.specs.Device.{Progress, unread};
 ghost use Rattle.minelib_reader.specs.Answer.{IsRead, Refuses};
 
-use crate::device::{DeviceFailed, InBytes, MOST_TRIES};
-use crate::history::History;
+use crate::device::{DeviceFailed, InBytes};
+use crate::stream::{InputStream, MOST_TRIES, is_interrupted};
+use crate::tally::Tally;
 use faults::{Fault, Refusal, Source};
 use std::alloc::Global;
-use std::fs::File;
 use std::io;
-use std::io::{ErrorKind, Read};
 
 /// Reads a text that lies in memory. It never fails.
 #[derive(Drop)]
@@ -37,6 +38,8 @@ impl InBytes for MemoryReader<'_> {
 
     ghost known_text = { λ r. Some r.text.now };
 
+    ghost IsSound = { λ _. ⊤ };
+
     fn read(&mut self, buf: &mut [u8]) -> Result<usize, DeviceFailed> {
         let rest = &self.text[self.at..];
         let n = rest.len().min(buf.len());
@@ -48,60 +51,68 @@ impl InBytes for MemoryReader<'_> {
 
 const MOST_BYTES: u64 = 1 << 40;
 
-/// Reads a file, at most 2^40 bytes of it. A call that would give more counts as failed, and so does one
-/// that signals interrupt again and again.
+/// Reads a stream, as a file, at most 2^40 bytes of it: each call behind these fails, and so does one that signals interrupt
+/// again and again.
 #[derive(Drop)]
-pub struct FileReader {
-    file: File,
-    failures: u64,
-    left: u64,
+pub struct FileReader<S> {
+    stream: S,
+    tally: Tally,
     ended: bool,
-    read: History,
 }
 
-impl FileReader {
-    /// Begins where the file stands.
-    pub fn new(file: File) -> FileReader
-        ensures { ⟦<FileReader as InBytes>⟧.progress result ≡ unread (2 ^ 40) }
+impl<S: InputStream + Drop> FileReader<S> {
+    /// Begins where the stream stands.
+    pub fn new(stream: S) -> FileReader<S>
+        ensures start { ⟦<FileReader<S> as InBytes>⟧.progress result ≡ unread (2 ^ 40) }
+        ensures known { ⟦<FileReader<S> as InBytes>⟧.known_text result ≡ prepend_known [] (S.remaining stream) }
+        ensures sound { S.IsSound stream → ⟦<FileReader<S> as InBytes>⟧.IsSound result }
     {
         FileReader {
-            file,
-            failures: 0,
-            left: MOST_BYTES,
+            stream,
+            tally: Tally::new(MOST_BYTES),
             ended: false,
-            read: History::new(),
         }
     }
 }
 
 /// One read; a call that a signal interrupts is made again.
-fn read_again(file: &mut File, buf: &mut [u8]) -> io::Result<usize>
-    ensures { IfOk result (λ n. n ≤ length buf.new) }
+fn read_again<S: InputStream>(stream: &mut S, buf: &mut [u8]) -> io::Result<usize>
+    ensures bound { ReadsAtMost result buf.new }
+    ensures known { ReadConsumes (S.remaining stream.old) (S.remaining stream.new) result buf.new }
+    ensures sound { S.IsSound stream.old → IsOk result × S.IsSound stream.new }
 {
     for _try in 1..MOST_TRIES {
-        match file.read(buf) {
-            Err(error) if error.kind() == ErrorKind::Interrupted => {}
-            answer => return answer,
+        let answer = stream.read_once(buf);
+        if !is_interrupted(&answer) {
+            return answer;
         }
     }
-    file.read(buf)
+    stream.read_once(buf)
 }
 
-impl InBytes for FileReader {
-    ghost progress = { λ r. record { bytes = r.read.bytes; failures = r.failures; allowance = r.left } };
+impl<S: InputStream + Drop> InBytes for FileReader<S> {
+    ghost progress = { λ r. r.tally };
 
-    ghost IsAtEnd = { λ r. IsTrue r.ended };
+    ghost IsAtEnd = { λ r. IsTrue r.ended × KnownEnd (S.remaining r.stream) };
+
+    ghost known_text = { λ r. prepend_known r.tally.bytes (S.remaining r.stream) };
+
+    ghost IsSound = { λ r. S.IsSound r.stream };
 
     fn read(&mut self, buf: &mut [u8]) -> Result<usize, DeviceFailed> {
-        match read_again(&mut self.file, buf) {
-            Ok(n) if n as u64 <= self.left => {
-                self.left -= n as u64;
+        let most = self.tally.allowance().min(buf.len() as u64) as usize;
+        if most == 0 {
+            self.tally.failed();
+            return Err(DeviceFailed);
+        }
+        match read_again(&mut self.stream, &mut buf[..most]) {
+            Ok(n) => {
                 self.ended = n == 0;
-                self.read.note(&buf[..n]);
+                self.tally.gave(&buf[..n]);
                 Ok(n)
             }
-            _ => {
-                self.failures += 1;
+            Err(_) => {
+                self.tally.failed();
                 Err(DeviceFailed)
             }
         }
@@ -117,7 +128,7 @@ pub fn read_all<R: InBytes>(alloc: Global, reader: &mut R, source: Source) -> Re
         (λ v. IsRead (R.progress reader.old) (R.progress reader.new) (R.IsAtEnd reader.new) v.items)
         (λ e. Refuses e.refusal source e (R.progress reader.old) (R.progress reader.new) ⊥) }
     ensures short { IfOk result (λ v. length v.items ≤ (R.progress reader.old).allowance) }
-    ensures same { R.known_text reader.new ≡ R.known_text reader.old }
+    ensures known { Keeps (R.known_text reader.old) (R.known_text reader.new) }
 {
     let mut text = Vec::new(alloc);
     let mut chunk = [0u8; CHUNK];

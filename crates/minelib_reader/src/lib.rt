@@ -11,7 +11,9 @@ mod number;
 mod output;
 mod prec;
 mod rows;
+mod stream;
 mod table;
+mod tally;
 mod upit;
 
 pub use blocks::{blocks_law, parse_blocks, read_blocks};
@@ -24,5 +26,6 @@ pub use number::{Decimal, cut, decimal, digits};
 pub use output::{MemoryWriter, StreamWriter, write_all};
 pub use prec::{parse_prec, prec_law, read_prec};
 pub use rows::{Row, Rows};
+pub use stream::{InputStream, OutputStream};
 pub use table::BlockTable;
 pub use upit::{Model, parse_upit, read_upit, upit_law};

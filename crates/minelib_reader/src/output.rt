@@ -1,13 +1,15 @@
 //! A writer into memory and one into a stream, which meet `OutBytes`,
 //! and `write_all`, by which the program writes its texts.
-ghost use Rattle.std.specs.Prelude.{◌≡◌, ◌<◌, ◌≤◌, ◌^◌, [], length, IfOk};
-ghost use Rattle.minelib_reader.specs.Device.{Progress, unread, Writes};
+ghost use Rattle.std.specs.Prelude.{◌≡◌, ◌<◌, ◌^◌, [], Some};
+ghost use Rattle.std.specs.Io.{WritesAtMost};
+ghost use Rattle.std.specs.Io.KnownBytes.{WriteAppends};
+ghost use Rattle.minelib_reader.specs.Device.{Progress, unread, Writes, TakesSome};
 
-use crate::device::{DeviceFailed, MOST_TRIES, OutBytes};
-use crate::history::History;
+use crate::device::{DeviceFailed, OutBytes};
+use crate::stream::{MOST_TRIES, OutputStream, is_interrupted};
+use crate::tally::Tally;
 use std::alloc::Global;
 use std::io;
-use std::io::{ErrorKind, Write};
 
 /// Keeps what is written, up to so many bytes in all. A write past that, and one for which no memory is left,
 /// counts as failed.
@@ -35,6 +37,8 @@ impl MemoryWriter {
 impl OutBytes for MemoryWriter {
     ghost progress = { λ w. record { bytes = w.text.items; failures = w.failures; allowance = w.room } };
 
+    ghost known_content = { λ w. Some w.text.items };
+
     fn write(&mut self, text: &[u8]) -> Result<usize, DeviceFailed> {
         let n = text.len().min(self.room);
         if n == 0 && !text.is_empty() || self.text.extend_from_slice(&text[..n]).is_err() {
@@ -51,47 +55,53 @@ impl OutBytes for MemoryWriter {
 #[derive(Drop)]
 pub struct StreamWriter<S> {
     stream: S,
-    failures: u64,
-    written: History,
+    tally: Tally,
 }
 
-impl<S: Write + Drop> StreamWriter<S> {
+impl<S: OutputStream + Drop> StreamWriter<S> {
     /// Begins where the stream stands.
     pub fn new(stream: S) -> StreamWriter<S>
-        ensures { ⟦<StreamWriter<S> as OutBytes>⟧.progress result ≡ unread 0 }
+        ensures start { ⟦<StreamWriter<S> as OutBytes>⟧.progress result ≡ unread 0 }
+        ensures known { ⟦<StreamWriter<S> as OutBytes>⟧.known_content result ≡ S.contents stream }
+        ensures sound { S.IsSound stream → ⟦<StreamWriter<S> as OutBytes>⟧.IsSound result }
     {
         StreamWriter {
             stream,
-            failures: 0,
-            written: History::new(),
+            tally: Tally::new(0),
         }
     }
 }
 
 /// One write; a call that a signal interrupts is made again.
-fn write_again<S: Write>(stream: &mut S, text: &[u8]) -> io::Result<usize>
-    ensures { IfOk result (λ n. n ≤ length text.now) }
+fn write_again<S: OutputStream>(stream: &mut S, text: &[u8]) -> io::Result<usize>
+    ensures bound { WritesAtMost result text.now }
+    ensures known { WriteAppends (S.contents stream.old) (S.contents stream.new) result text.now }
+    ensures sound { S.IsSound stream.old → TakesSome result text.now × S.IsSound stream.new }
 {
     for _try in 1..MOST_TRIES {
-        match stream.write(text) {
-            Err(error) if error.kind() == ErrorKind::Interrupted => {}
-            answer => return answer,
+        let answer = stream.write_once(text);
+        if !is_interrupted(&answer) {
+            return answer;
         }
     }
-    stream.write(text)
+    stream.write_once(text)
 }
 
-impl<S: Write + Drop> OutBytes for StreamWriter<S> {
-    ghost progress = { λ w. record { bytes = w.written.bytes; failures = w.failures; allowance = 0 } };
+impl<S: OutputStream + Drop> OutBytes for StreamWriter<S> {
+    ghost progress = { λ w. w.tally };
+
+    ghost known_content = { λ w. S.contents w.stream };
+
+    ghost IsSound = { λ w. S.IsSound w.stream };
 
     fn write(&mut self, text: &[u8]) -> Result<usize, DeviceFailed> {
         match write_again(&mut self.stream, text) {
             Ok(n) if n > 0 || text.is_empty() => {
-                self.written.note(&text[..n]);
+                self.tally.took(&text[..n]);
                 Ok(n)
             }
             _ => {
-                self.failures += 1;
+                self.tally.failed();
                 Err(DeviceFailed)
             }
         }

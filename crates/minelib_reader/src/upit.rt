@@ -1,6 +1,7 @@
 //! The text of an optimisation model (`.upit`): a header of four lines, then a value for each block.
 //! Each line is checked by a function of its own, in the order of `specs/Upit.antt`; the first fault ends the reading.
 ghost use Rattle.std.specs.Prelude.{◌≡◌, ◌↔◌, ℕ, List, Ok, Err, ◌≤◌, ◌+◌, ◌<◌, ◌^◌, length, IfOk, IfErr};
+ghost use Rattle.std.specs.Io.KnownBytes.{Keeps};
 ghost use Rattle.faults.specs.declared.fault.Fault.{Fault as AnyFault};
 ghost use Rattle.faults.specs.declared.source.Source.TheVariants as sources;
 ghost use Rattle.minelib_reader.specs.Answer.{Gives, Answers, AnswersBy, FailsAt};
@@ -201,7 +202,7 @@ pub fn read_upit<R: InBytes>(alloc: Global, reader: &mut R) -> Result<Model, Fau
     requires bounded { (R.progress reader.old).allowance ≤ 2 ^ 40 }
     ensures answers { AnswersBy (λ m. upit m.n m.values.items) SpellsUpit IsFirstUpitFault sources.Model (R.progress reader.old) (R.progress reader.new) (R.IsAtEnd reader.new) result }
     ensures small { IfOk result (λ m. IsSmallModel m.n m.values.items) }
-    ensures same { R.known_text reader.new ≡ R.known_text reader.old }
+    ensures known { Keeps (R.known_text reader.old) (R.known_text reader.new) }
 
     // The same by what is read of a text.
     ensures exact { Answers (λ m. upit m.n m.values.items) upit_of sources.Model (R.progress reader.old) (R.progress reader.new) (R.IsAtEnd reader.new) result }

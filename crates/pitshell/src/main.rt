@@ -27,8 +27,8 @@ use std::thread::Threads;
 use std::{env, io};
 
 /// Opens an input; one that cannot be opened is a read that failed.
-fn open(rt: &HostRuntime, path: &str, source: Source) -> Result<FileReader, Fault>
-    ensures unread { IfOk result (λ r. ⟦<FileReader as InBytes>⟧.progress r ≡ unread (2 ^ 40)) }
+fn open(rt: &HostRuntime, path: &str, source: Source) -> Result<FileReader<File>, Fault>
+    ensures unread { IfOk result (λ r. ⟦<FileReader<File> as InBytes>⟧.progress r ≡ unread (2 ^ 40)) }
     ensures refused { IfErr result (λ e. e ≡ at_line source ReadFailed 0) }
 {
     match File::open(rt, path) {

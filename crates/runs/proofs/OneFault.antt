@@ -14,7 +14,7 @@ use Rattle.faults.specs.declared.fault.Fault.{Fault}
 use Rattle.faults.specs.declared.refusal.Refusal.{Refusal}
 use Rattle.faults.specs.declared.refusal.Refusal.TheVariants.{NoMemory, ReadFailed, WriteFailed, NoSeat, Exhausted, Cycle}
 use Rattle.faults.specs.declared.source.Source.TheVariants.{Precedence}
-use Rattle.minelib_reader.proofs.StepLemmas.{one_first}
+use Rattle.minelib_reader.proofs.FirstFaultLemmas.{one_first}
 use Rattle.minelib_reader.proofs.UpitGrammarLemmas as models
 use Rattle.minelib_reader.proofs.PrecGrammarLemmas as precedences
 use Rattle.minelib_reader.proofs.UpitFaultLemmas as model_faults

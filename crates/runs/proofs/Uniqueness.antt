@@ -10,7 +10,7 @@ use Rattle.minelib_reader.specs.PrecGrammar.{SpellsPrec}
 use Rattle.minelib_reader.specs.Table.{Table}
 use Rattle.minelib_reader.specs.Column.{IsColumn}
 use Rattle.minelib_reader.specs.BlocksGrammar.{SpellsTable}
-use Rattle.minelib_reader.proofs.StepLemmas.{ok_is}
+use Rattle.minelib_reader.proofs.CheckLemmas.{same_value}
 use Rattle.minelib_reader.proofs.UpitGrammarLemmas as models
 use Rattle.minelib_reader.proofs.PrecGrammarLemmas as precedences
 use Rattle.minelib_reader.proofs.BlocksGrammarLemmas as tables
@@ -41,17 +41,17 @@ given_once r a b x y = append_cancel_left r.before.bytes a b (sym x.bytes ∙ y.
 -- ---- what a text spells
 
 pub model_once : (text : List ℕ) (m n : Upit) → SpellsUpit text m → SpellsUpit text n → m ≡ n
-model_once text m n s t = ok_is m n (sym (models.reads (count_of_lines text) (rows_of text) m s) ∙ models.reads (count_of_lines text) (rows_of text) n t)
+model_once text m n s t = same_value m n (sym (models.reads (count_of_lines text) (rows_of text) m s) ∙ models.reads (count_of_lines text) (rows_of text) n t)
 
 pub pairs_once : (n : ℕ) (text : List ℕ) (ps qs : List (ℕ × ℕ)) → SpellsPrec n text ps → SpellsPrec n text qs → ps ≡ qs
-pairs_once n text ps qs s t = ok_is ps qs (sym (precedences.reads n 0 0 (rows_of text) ps s) ∙ precedences.reads n 0 0 (rows_of text) qs t)
+pairs_once n text ps qs s t = same_value ps qs (sym (precedences.reads n 0 0 (rows_of text) ps s) ∙ precedences.reads n 0 0 (rows_of text) qs t)
 
 table_once : (text : List ℕ) (s t : Table) → SpellsTable text s → SpellsTable text t → s ≡ t
-table_once text s t a b = ok_is s t (sym (tables.reads (rows_of text) s a) ∙ tables.reads (rows_of text) t b)
+table_once text s t a b = same_value s t (sym (tables.reads (rows_of text) s a) ∙ tables.reads (rows_of text) t b)
 
 certificate_once : (graph : Graph) (text : List ℕ) (c d : PitAndFlow) → AreRising graph.pairs → SpellsCertificate graph text c → SpellsCertificate graph text d → c ≡ d
 certificate_once graph text c d rise s t =
-    ok_is c d (sym (certificates.reads graph (count_of_lines text) (rows_of text) c rise s) ∙ certificates.reads graph (count_of_lines text) (rows_of text) d rise t)
+    same_value c d (sym (certificates.reads graph (count_of_lines text) (rows_of text) c rise s) ∙ certificates.reads graph (count_of_lines text) (rows_of text) d rise t)
 
 -- the same pairs for as many blocks
 pairs_given : (n k : ℕ) (t u : List ℕ) (ps qs : List (ℕ × ℕ)) → k ≡ n → t ≡ u → SpellsPrec n t ps → SpellsPrec k u qs → ps ≡ qs

@@ -6,8 +6,8 @@ ghost use Rattle.runs.specs.Check.{status_of_answer, IsAnswered, IsChecked, Refu
 use crate::mine::read_mine;
 use crate::status::Status;
 use certificate::{check, read};
-use mine_graph::Instance;
 use faults::Fault;
+use mine_graph::Instance;
 use minelib_reader::{InBytes, OutBytes};
 use report::write_answer;
 use std::alloc::Global;

@@ -3,8 +3,8 @@ ghost use Rattle.std.specs.Prelude.{◌≡◌, ◌<◌, ◌≤◌, ◌^◌, leng
 ghost use Rattle.runs.specs.Solve.{reading};
 ghost use Rattle.runs.specs.Deposit.{HoldsDeposit, RefusesDeposit};
 
-use mine_graph::Graph;
 use faults::Fault;
+use mine_graph::Graph;
 use minelib_reader::{InBytes, read_blocks, read_prec};
 use shells::Columns;
 use std::alloc::Global;

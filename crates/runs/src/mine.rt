@@ -3,8 +3,8 @@ ghost use Rattle.std.specs.Prelude.{◌<◌, ◌≤◌, ◌^◌, IfOk, IfErr};
 ghost use Rattle.runs.specs.Solve.{reading, RefusesMine};
 ghost use Rattle.runs.specs.Mine.{HoldsMine};
 
-use mine_graph::{Graph, Instance};
 use faults::Fault;
+use mine_graph::{Graph, Instance};
 use minelib_reader::{InBytes, read_prec, read_upit};
 use std::alloc::Global;
 use std::sync::Arc;

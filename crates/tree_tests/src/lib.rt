@@ -31,4 +31,6 @@ mod random_tests;
 #[cfg(test)]
 mod reader_tests;
 #[cfg(test)]
+mod stream_tests;
+#[cfg(test)]
 mod text_tests;

@@ -1,7 +1,7 @@
 -- Both laws at the lines of a text.
 use Rattle.std.proofs.Common.{refl}
 use Rattle.minelib_reader.specs.Text.{rows_of, count_of_lines}
-use Rattle.minelib_reader.proofs.StepLemmas.{fails_by_first}
+use Rattle.minelib_reader.proofs.FirstFaultLemmas.{fails_by_first}
 use Rattle.certificate.specs.CertificateLines.{certificate_of, first_state}
 use Rattle.certificate.specs.CertificateFault.{certificate_fault_at}
 use Rattle.certificate.proofs.TextRead.{reads}

@@ -2,7 +2,7 @@
 use Rattle.std.proofs.Common.{subst, length}
 use Rattle.minelib_reader.specs.Answer.{Gives}
 use Rattle.minelib_reader.specs.Text.{rows_of, count_of_lines}
-use Rattle.minelib_reader.proofs.StepLemmas.{value_told, fault_told}
+use Rattle.minelib_reader.proofs.AnswerLemmas.{value_told, fault_told}
 use Rattle.certificate.specs.CertificateLines.{certificate_of, first_state, pit_and_flow}
 use Rattle.certificate.specs.CertificateFault.{IsFirstCertificateFault}
 use Rattle.certificate.specs.Check.{IsCandidate}

@@ -2,7 +2,7 @@
 use Rattle.std.proofs.Common.{◌≡◌, [], sym, ap, ◌∙◌}
 use Rattle.std.proofs.lemmas.Result.{err_from_is_err_and}
 use Rattle.minelib_reader.specs.Text.{row, rows_at, fields_of, count_of_lines}
-use Rattle.minelib_reader.proofs.StepLemmas.{fails_map}
+use Rattle.minelib_reader.proofs.AnswerLemmas.{fails_map}
 use Rattle.certificate.specs.CertificateLines.{certificate_of, end_at, step_at, state}
 use Rattle.certificate.proofs.ReadingOn.{go_on, stop, end}
 use Rattle.certificate.proofs.reader.parse_lines.Goals as goal

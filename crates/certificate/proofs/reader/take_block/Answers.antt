@@ -3,7 +3,7 @@ use Rattle.std.proofs.Common.{◌≡◌, ℕ, List, ◌-◌, ◌+◌, suc, Ok, a
 use Rattle.std.specs.Prelude.{codes}
 use Rattle.std.proofs.lemmas.Result.{err_from_is_err_and}
 use Rattle.minelib_reader.specs.Text.{row, fields_of}
-use Rattle.minelib_reader.proofs.StepLemmas.{fails_map}
+use Rattle.minelib_reader.proofs.AnswerLemmas.{fails_map}
 use Rattle.certificate.specs.declared.due.Due.TheVariants.{Block}
 use Rattle.certificate.specs.CertificateLines.{count_line, id_line, block_step, state}
 use Rattle.certificate.proofs.Steps.{last_block, last_block_fails, next_block, next_block_fails}

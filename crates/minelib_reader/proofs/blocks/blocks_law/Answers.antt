@@ -3,7 +3,7 @@ use Rattle.std.proofs.Common.{refl}
 use Rattle.minelib_reader.specs.Text.{rows_of}
 use Rattle.minelib_reader.specs.Blocks.{table_of}
 use Rattle.minelib_reader.specs.BlocksFault.{table_fault_at}
-use Rattle.minelib_reader.proofs.StepLemmas.{fails_by_first}
+use Rattle.minelib_reader.proofs.FirstFaultLemmas.{fails_by_first}
 use Rattle.minelib_reader.proofs.BlocksGrammarLemmas.{reads, spelled}
 use Rattle.minelib_reader.proofs.BlocksFaultLemmas.{fails_first, clear_where_read}
 use Rattle.minelib_reader.proofs.blocks.blocks_law.Goals as goal

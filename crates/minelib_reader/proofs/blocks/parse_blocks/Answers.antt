@@ -5,7 +5,7 @@ use Rattle.minelib_reader.specs.Text.{rows_of}
 use Rattle.minelib_reader.specs.Blocks.{table_of}
 use Rattle.minelib_reader.specs.BlocksFault.{IsFirstTableFault}
 use Rattle.minelib_reader.specs.BlocksGrammar.{SpellsTable}
-use Rattle.minelib_reader.proofs.StepLemmas.{value_told, fault_told}
+use Rattle.minelib_reader.proofs.AnswerLemmas.{value_told, fault_told}
 use Rattle.minelib_reader.proofs.BlocksGrammarLemmas.{reads, spelled}
 use Rattle.minelib_reader.proofs.BlocksFaultLemmas.{fails_first}
 use Rattle.minelib_reader.proofs.blocks.parse_blocks.Goals as goal

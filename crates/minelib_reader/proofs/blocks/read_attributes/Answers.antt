@@ -9,7 +9,7 @@ use Rattle.std.proofs.lemmas.Result.{err_from_is_err_and}
 use Rattle.minelib_reader.specs.Number.{IsWithin}
 use Rattle.minelib_reader.specs.Text.{fields_of}
 use Rattle.minelib_reader.specs.Blocks.{attribute_of, attributes_of}
-use Rattle.minelib_reader.proofs.StepLemmas.{fails_map}
+use Rattle.minelib_reader.proofs.AnswerLemmas.{fails_map}
 use Rattle.minelib_reader.proofs.BlocksLineLemmas.{SoFar, goes_on, stops, ends}
 use Rattle.minelib_reader.proofs.blocks.read_attributes.Goals as goal
 

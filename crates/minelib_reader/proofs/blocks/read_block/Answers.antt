@@ -2,7 +2,7 @@
 use Rattle.std.proofs.lemmas.Result.{err_from_is_err_and}
 use Rattle.minelib_reader.specs.Text.{row, fields_of}
 use Rattle.minelib_reader.specs.Blocks.{attributes_of, front_of, block_line}
-use Rattle.minelib_reader.proofs.StepLemmas.{fails_map}
+use Rattle.minelib_reader.proofs.AnswerLemmas.{fails_map}
 use Rattle.minelib_reader.proofs.BlocksLineLemmas.{front_stops, attributes_stop, block_added}
 use Rattle.minelib_reader.proofs.blocks.read_block.Goals as goal
 

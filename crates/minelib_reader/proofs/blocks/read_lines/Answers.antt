@@ -5,7 +5,8 @@ use Rattle.minelib_reader.specs.Table.{Place, Table, IsWhole}
 use Rattle.minelib_reader.specs.Text.{row, rows_at, rows_of, fields_of}
 use Rattle.minelib_reader.specs.Added.{AddsBlock}
 use Rattle.minelib_reader.specs.Blocks.{block_line, blocks_from, as_table}
-use Rattle.minelib_reader.proofs.StepLemmas.{done, fails_map}
+use Rattle.minelib_reader.proofs.CheckLemmas.{passing}
+use Rattle.minelib_reader.proofs.AnswerLemmas.{fails_map}
 use Rattle.minelib_reader.proofs.BlocksLineLemmas.{with_blocks, go_on, stop, end, stays_whole}
 use Rattle.minelib_reader.proofs.blocks.read_lines.Goals as goal
 
@@ -52,4 +53,4 @@ pub returns : goal.returns
 returns c =
     let s = c.loop-row.rows in
     ap (as_table c.args.width) (end c.args.width (length c.loop-row.places.items) (rows_at s.number s.rest.now) c.loop-row.places.items c.loop-row.attributes.items (blocks_from c.args.width 0 (rows_of c.args.text.now)) c.in_default.ensures.row c.loop-row.invariant.read)
-    ∙ ap (λ (t : Table). done t) (sym c.of_blocks.ensures)
+    ∙ ap (λ (t : Table). passing t) (sym c.of_blocks.ensures)

@@ -2,7 +2,7 @@
 use Rattle.std.proofs.lemmas.Result.{err_from_is_err_and}
 use Rattle.minelib_reader.specs.Text.{row, rows_at, fields_of}
 use Rattle.minelib_reader.specs.Prec.{needs_line, prec_of}
-use Rattle.minelib_reader.proofs.StepLemmas.{fails_map}
+use Rattle.minelib_reader.proofs.AnswerLemmas.{fails_map}
 use Rattle.minelib_reader.proofs.PrecLineLemmas.{go_on, stop, end}
 use Rattle.minelib_reader.proofs.prec.parse_lines.Goals as goal
 

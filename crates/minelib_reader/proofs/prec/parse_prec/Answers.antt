@@ -6,7 +6,7 @@ use Rattle.minelib_reader.specs.Prec.{prec_of}
 use Rattle.minelib_reader.specs.PrecFault.{IsFirstPrecFault}
 use Rattle.minelib_reader.specs.PrecGrammar.{SpellsPrec}
 use Rattle.minelib_reader.specs.PrecLimits.{ArePrecedences}
-use Rattle.minelib_reader.proofs.StepLemmas.{value_told, fault_told}
+use Rattle.minelib_reader.proofs.AnswerLemmas.{value_told, fault_told}
 use Rattle.minelib_reader.proofs.PrecGrammarLemmas.{reads, spelled}
 use Rattle.minelib_reader.proofs.PrecFaultLemmas.{fails_first}
 use Rattle.minelib_reader.proofs.PrecLimitLemmas.{lawful}

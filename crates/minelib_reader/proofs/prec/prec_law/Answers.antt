@@ -3,7 +3,7 @@ use Rattle.std.proofs.Common.{refl}
 use Rattle.minelib_reader.specs.Text.{rows_of}
 use Rattle.minelib_reader.specs.Prec.{prec_of}
 use Rattle.minelib_reader.specs.PrecFault.{prec_fault_at}
-use Rattle.minelib_reader.proofs.StepLemmas.{fails_by_first}
+use Rattle.minelib_reader.proofs.FirstFaultLemmas.{fails_by_first}
 use Rattle.minelib_reader.proofs.PrecGrammarLemmas.{reads, spelled}
 use Rattle.minelib_reader.proofs.PrecFaultLemmas.{fails_first, clear_where_read}
 use Rattle.minelib_reader.proofs.prec.prec_law.Goals as goal

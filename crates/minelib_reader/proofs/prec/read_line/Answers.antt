@@ -3,7 +3,7 @@ use Rattle.std.proofs.Common.{[], ◌≡◌, length, sym, arith}
 use Rattle.std.proofs.lemmas.Result.{err_from_is_err_and}
 use Rattle.minelib_reader.specs.Text.{row, fields_of}
 use Rattle.minelib_reader.specs.Prec.{needs_from, front_of, needs_line}
-use Rattle.minelib_reader.proofs.StepLemmas.{fails_map}
+use Rattle.minelib_reader.proofs.AnswerLemmas.{fails_map}
 use Rattle.minelib_reader.proofs.PrecLineLemmas.{front_stops, needs_stop, line_added}
 use Rattle.minelib_reader.proofs.prec.read_line.Goals as goal
 

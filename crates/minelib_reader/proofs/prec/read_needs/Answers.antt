@@ -1,12 +1,11 @@
 -- Each way through the loop is one step of `needs_from`.
-use Rattle.std.proofs.Common.{◌+◌, set, [], ℕ, List, length-set, subst, sym, arith}
-use Rattle.std.proofs.Common.{◌≤◌}
+use Rattle.std.proofs.Common.{◌+◌, set, [], ℕ, List, length-set, subst, sym, arith, ◌≤◌}
 use Rattle.std.proofs.lemmas.List.Elements.{All-set}
 use Rattle.std.proofs.lemmas.Result.{err_from_is_err_and}
 use Rattle.minelib_reader.specs.Text.{fields_of}
 use Rattle.minelib_reader.specs.Prec.{needs_from}
 use Rattle.minelib_reader.specs.Marks.{AreMarked}
-use Rattle.minelib_reader.proofs.StepLemmas.{fails_map}
+use Rattle.minelib_reader.proofs.AnswerLemmas.{fails_map}
 use Rattle.minelib_reader.proofs.PrecLemmas.{SoFar, goes_on, stops, ends}
 use Rattle.minelib_reader.proofs.PrecLineLemmas.{named}
 use Rattle.minelib_reader.proofs.prec.read_needs.Goals as goal

@@ -5,7 +5,7 @@ use Rattle.minelib_reader.specs.Text.{rows_of, count_of_lines}
 use Rattle.minelib_reader.specs.Upit.{upit, upit_of}
 use Rattle.minelib_reader.specs.UpitFault.{IsFirstUpitFault}
 use Rattle.minelib_reader.specs.UpitGrammar.{SpellsUpit}
-use Rattle.minelib_reader.proofs.StepLemmas.{value_told, fault_told}
+use Rattle.minelib_reader.proofs.AnswerLemmas.{value_told, fault_told}
 use Rattle.minelib_reader.proofs.UpitGrammarLemmas.{reads, spelled}
 use Rattle.minelib_reader.proofs.UpitFaultLemmas.{fails_first}
 use Rattle.minelib_reader.proofs.upit.parse_upit.Goals as goal

@@ -3,7 +3,7 @@ use Rattle.std.proofs.Common.{refl}
 use Rattle.minelib_reader.specs.Text.{rows_of, count_of_lines}
 use Rattle.minelib_reader.specs.Upit.{upit_of}
 use Rattle.minelib_reader.specs.UpitFault.{upit_fault_at}
-use Rattle.minelib_reader.proofs.StepLemmas.{fails_by_first}
+use Rattle.minelib_reader.proofs.FirstFaultLemmas.{fails_by_first}
 use Rattle.minelib_reader.proofs.UpitGrammarLemmas.{reads, spelled}
 use Rattle.minelib_reader.proofs.UpitFaultLemmas.{fails_first, clear_where_read}
 use Rattle.minelib_reader.proofs.upit.upit_law.Goals as goal
