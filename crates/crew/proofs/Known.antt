@@ -13,9 +13,9 @@ use Rattle.pit_model.specs.Merger.{merged}
 use Rattle.pit_model.specs.Journal.{is_applied, is_used_up, lawful_verdict, tree_after, count_after, IsLawfulFrom, IsLawful, AreSeated}
 use Rattle.pit_model.specs.FirstRun.{HasMerger, HasNoMerger}
 use Rattle.tree_lock.specs.Served.{IsUnderSeat, AreUnderSeats}
-use Rattle.solver.specs.Solved.{EndsBy, IsSolvedTogether}
-use Rattle.solver.specs.declared.outcome.Outcome.{Outcome}
-use Rattle.solver.specs.declared.outcome.Outcome.TheVariants.{Pit, Exhausted}
+use Rattle.crew.specs.Solved.{EndsBy, IsSolvedTogether}
+use Rattle.merging.specs.declared.outcome.Outcome.{Outcome}
+use Rattle.merging.specs.declared.outcome.Outcome.TheVariants.{Pit, Exhausted}
 
 abbrev pub known : Instance → List Entry → List Entry
 known mine journal = filter (λ entry. ltb entry.arc (arcs mine)) journal

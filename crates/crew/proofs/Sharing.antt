@@ -11,8 +11,8 @@ use Rattle.pit_model.proofs.Simple.{instance_is_simple}
 use Rattle.pit_model.proofs.RankFalls.{merger_lowers_rank}
 use Rattle.tree_lock.specs.Held.{Held, with_entry}
 use Rattle.tree_lock.specs.Kept.{entry_of}
-use Rattle.solver.specs.Solved.{DecidesFirst}
-use Rattle.solver.proofs.Falling.{rank_falls}
+use Rattle.crew.specs.Solved.{DecidesFirst}
+use Rattle.merging.proofs.Falling.{rank_falls}
 
 applied_else_spent : (merger used_up : Bool) (v : Verdict) → merger ≡ true → v ≡ (if merger then (if used_up then Spent else Applied) else Stale) → (v ≡ Spent → ⊥) → v ≡ Applied
 applied_else_spent true true v is lawful not_spent = absurd (not_spent lawful)

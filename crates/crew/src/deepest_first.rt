@@ -3,8 +3,8 @@
 ghost use Rattle.std.specs.Prelude.{◌≡◌, ◌<◌, IfOk, IfErr, length};
 ghost use Rattle.faults.specs.Refused.{no_memory};
 
-use mine_graph::Graph;
 use faults::Fault;
+use mine_graph::Graph;
 use std::alloc::Global;
 
 // Puts the users of a block that wait for no other block behind the list.

@@ -3,11 +3,11 @@ ghost use Rattle.std.specs.Prelude.{◌≡◌, filter, nat_lt, IfOk, IfErr};
 ghost use Rattle.faults.specs.Refused.{no_memory};
 ghost use Rattle.pit_model.specs.Tree.{is_merger};
 ghost use Rattle.pit_model.specs.FirstRun.{IsFirstMerger};
-ghost use Rattle.solver.specs.Solved.{EndsBy, DecidesFirst, IsEnded, IsSolvedTogether};
+ghost use Rattle.crew.specs.Solved.{EndsBy, DecidesFirst, IsEnded, IsSolvedTogether};
 
-use crate::outcome::Outcome;
 use certificate::of_tree;
 use faults::Fault;
+use merging::Outcome;
 use norm_tree::NormTree;
 use rayon::prelude::*;
 use std::sync::Wait;
@@ -30,9 +30,9 @@ fn first_merger<R: Threads + Sync>(rt: &R, tree: &NormTree) -> Option<u32>
 
 /// Decides the merger arc with the least number, with an entry under the driver's seat; None where none is left.
 /// Refused for want of memory alone, and then nothing changed.
-pub fn decide_first<S: Site, R: Wait + Drop, H: Threads + Sync>(
-    rt: &H,
-    holder: &mut Holder<S, R>,
+pub fn decide_first<S: Site, R: Threads + Wait + Sync>(
+    rt: &R,
+    holder: &mut Holder<S>,
 ) -> Result<Option<Verdict>, Fault>
     ensures decided { IfOk result (DecidesFirst holder.old holder.new) }
     ensures refused { IfErr result (λ e. e ≡ no_memory) }
@@ -40,15 +40,15 @@ pub fn decide_first<S: Site, R: Wait + Drop, H: Threads + Sync>(
     holder.law();
     match first_merger(rt, holder.tree()) {
         None => Ok(None),
-        Some(arc) => Ok(Some(holder.apply(arc)?)),
+        Some(arc) => Ok(Some(holder.apply(rt, arc)?)),
     }
 }
 
 /// Decides the first merger arc again and again, until none is left or the budget is used up.
 /// Refused for want of memory alone.
-pub fn finish<S: Site, R: Wait + Drop, H: Threads + Sync>(
-    rt: &H,
-    holder: &mut Holder<S, R>,
+pub fn finish<S: Site, R: Threads + Wait + Sync>(
+    rt: &R,
+    holder: &mut Holder<S>,
 ) -> Result<(), Fault>
     ensures ended { IfOk result (λ _. IsEnded holder.new) }
     ensures refused { IfErr result (λ e. e ≡ no_memory) }
@@ -65,7 +65,7 @@ pub fn finish<S: Site, R: Wait + Drop, H: Threads + Sync>(
 }
 
 // The certificate of the holder's tree, or that the budget is used up.
-fn outcome_of<S: Site, R: Wait + Drop>(holder: &Holder<S, R>) -> Result<Outcome, Fault>
+fn outcome_of<S: Site>(holder: &Holder<S>) -> Result<Outcome, Fault>
     requires { IsEnded holder.now }
     ensures ends { IfOk result (EndsBy holder.now.mine holder.now.budget holder.now.journal) }
     ensures refused { IfErr result (λ e. e ≡ no_memory) }
@@ -96,15 +96,16 @@ fn keep_known(journal: &mut Vec<Entry>, arcs: u32)
 }
 
 /// The outcome of the holder's tree, and its journal. Refused for want of memory alone.
-pub fn end_of<S: Site, R: Wait + Drop>(holder: Holder<S, R>) -> Result<(Outcome, Vec<Entry>), Fault>
+pub fn end_of<S: Site, R: Wait>(rt: &R, holder: Holder<S>) -> Result<(Outcome, Vec<Entry>), Fault>
     requires { IsEnded holder }
     ensures solved { IfOk result (λ r. IsSolvedTogether S.mine S.workers S.budget r.0 r.1.items) }
     ensures refused { IfErr result (λ e. e ≡ no_memory) }
 {
     holder.law();
-    let outcome = outcome_of(&holder)?;
+    let outcome = outcome_of(&holder);
     let arcs = holder.tree().instance().graph().arcs();
-    let (_, mut journal) = holder.into_parts();
+    let (_, mut journal) = holder.into_parts(rt);
+    let outcome = outcome?;
     keep_known(&mut journal, arcs);
     Ok((outcome, journal))
 }

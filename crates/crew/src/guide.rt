@@ -5,8 +5,8 @@ ghost use Rattle.std.specs.Prelude.{◌≡◌, ◌<◌, ◌≤◌, length, IfOk,
 ghost use Rattle.faults.specs.Refused.{no_memory};
 
 use crate::deepest_first::arcs_deepest_first;
-use mine_graph::Graph;
 use faults::Fault;
+use mine_graph::Graph;
 use norm_tree::NormTree;
 use rayon::prelude::*;
 use std::alloc::Global;

@@ -3,23 +3,23 @@
 ghost use Rattle.std.specs.Prelude.{◌≡◌, IfOk, IfErr};
 ghost use Rattle.faults.specs.Refused.{no_seat, IsNoRoom};
 ghost use Rattle.pit_model.specs.Tree.{opening};
-ghost use Rattle.solver.specs.Solved.{IsSolvedTogether};
+ghost use Rattle.crew.specs.Solved.{IsSolvedTogether};
 
 use crate::driver::{end_of, finish};
 use crate::gate::Gate;
 use crate::guide::Guide;
-use crate::outcome::Outcome;
 use crate::sweeps::Crew;
 use crate::worker::Worker;
-use mine_graph::Instance;
 use faults::Fault;
+use merging::Outcome;
+use mine_graph::Instance;
 use norm_tree::NormTree;
 use proposals::{Board, UnnamedBoard, WorkerSeat};
 use std::alloc::Global;
 use std::marker::Brand;
 use std::sync::Wait;
 use std::thread::Threads;
-use tree_lock::{Entry, SharedTree, Site, UnnamedList};
+use tree_lock::{Entry, Holder, SharedTree, Site, UnnamedList};
 
 // What a solve begins with: the opening tree and its budget, and the list of mergers and the board, which have no name yet.
 struct Beginning {
@@ -30,9 +30,9 @@ struct Beginning {
 }
 
 // A worker for each seat at the board, with a seat to look from.
-fn workers_of<S: Site, R: Wait + Drop>(
+fn workers_of<S: Site>(
     alloc: Global,
-    shared: &SharedTree<S, R>,
+    shared: &SharedTree<S>,
     seats: Vec<WorkerSeat<S>>,
 ) -> Result<Vec<Worker<S>>, Fault>
     ensures { IfErr result IsNoRoom }
@@ -57,8 +57,8 @@ fn solve_at<S: Site + Send + Sync, G: Gate + Sync, R: Threads + Wait + Sync>(
     requires opening { begun.tree.tree ≡ opening begun.tree.mine }
     requires mine { begun.tree.mine ≡ S.mine }
     requires budget { begun.budget ≡ S.budget }
-    requires board { begun.unnamed.cells.shared.table_id ≡ S.board }
-    requires workers { begun.unnamed.workers ≡ S.workers }
+    requires board { begun.unnamed ≡ S.board }
+    requires workers { begun.unnamed.words ≡ S.workers }
     ensures solved { IfOk result (λ r. IsSolvedTogether S.mine S.workers S.budget r.0 r.1.items) }
     ensures refused { IfErr result IsNoRoom }
 {
@@ -70,19 +70,45 @@ fn solve_at<S: Site + Send + Sync, G: Gate + Sync, R: Threads + Wait + Sync>(
     } = begun;
     let guide = Guide::new(alloc, &tree)?;
     let (board, seats, holder_seat) = Board::<S>::new(alloc, unnamed)?;
-    let mut shared = SharedTree::<S, &R>::new(alloc, rt, list, tree, budget, &board, holder_seat)?;
-    let workers = workers_of(alloc, &shared, seats)?;
-    let mut crew = Crew {
-        board: &board,
-        workers,
-        guide,
-        chunk,
-        gate,
+    let mut shared = SharedTree::<S>::new(alloc, list, tree, budget, &board, holder_seat)?;
+    let swept = match workers_of(alloc, &shared, seats) {
+        Ok(workers) => {
+            let mut crew = Crew {
+                board: &board,
+                workers,
+                guide,
+                chunk,
+                gate,
+            };
+            crew.run(rt, alloc, &mut shared)
+        }
+        Err(fault) => Err(fault),
     };
-    crew.run(rt, alloc, &mut shared)?;
-    let mut holder = shared.into_holder();
-    finish(rt, &mut holder)?;
-    end_of(holder)
+    end_after(rt, shared.into_holder(), swept)
+}
+
+// What the driver makes of the holder after the sweeps. The holder is given up where they were refused.
+fn end_after<S: Site, R: Threads + Wait + Sync>(
+    rt: &R,
+    holder: Holder<S>,
+    swept: Result<(), Fault>,
+) -> Result<(Outcome, Vec<Entry>), Fault>
+    requires { IfErr swept IsNoRoom }
+    ensures solved { IfOk result (λ r. IsSolvedTogether S.mine S.workers S.budget r.0 r.1.items) }
+    ensures refused { IfErr result IsNoRoom }
+{
+    if let Err(fault) = swept {
+        holder.into_parts(rt);
+        return Err(fault);
+    }
+    let mut holder = holder;
+    match finish(rt, &mut holder) {
+        Ok(()) => end_of(rt, holder),
+        Err(fault) => {
+            holder.into_parts(rt);
+            Err(fault)
+        }
+    }
 }
 
 /// Solves with so many workers, 1 to 64, at one tree, each of which draws so many arcs at once, and gives the journal of what

@@ -35,7 +35,7 @@ fn run_workers<
     R: Threads + Wait + Sync,
 >(
     rt: &R,
-    sweep: &Sweep<S, G, L, &R>,
+    sweep: &Sweep<S, G, L>,
     workers: &mut [Worker<S>],
     draw_seats: &mut [DrawSeat<L>],
 ) -> Result<(), Fault>
@@ -80,10 +80,10 @@ impl<'a, S: Site + Send + Sync, G: Gate + Sync> Crew<'a, S, G> {
         &mut self,
         rt: &R,
         alloc: Global,
-        shared: &SharedTree<S, &R>,
+        shared: &SharedTree<S>,
         unnamed: UnnamedDraws,
     ) -> Result<(), Fault>
-        requires { unnamed.counter.shared.table_id ≡ L.draws }
+        requires { unnamed.table ≡ L.draws }
         ensures { IfErr result IsNoRoom }
     {
         let (draws, mut draw_seats) = Draws::<L>::new(alloc, unnamed)?;
@@ -116,7 +116,7 @@ impl<'a, S: Site + Send + Sync, G: Gate + Sync> Crew<'a, S, G> {
         &mut self,
         rt: &R,
         alloc: Global,
-        shared: &mut SharedTree<S, &R>,
+        shared: &mut SharedTree<S>,
     ) -> Result<(), Fault>
         ensures { IfErr result IsNoRoom }
     {

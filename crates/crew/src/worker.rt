@@ -18,9 +18,9 @@ pub struct Worker<S: Site> {
 
 /// What all workers have in common in a sweep.
 #[derive(Drop)]
-pub struct Sweep<'a, S: Site, G: Gate, L: Lot, R: Wait + Drop> {
+pub struct Sweep<'a, S: Site, G: Gate, L: Lot> {
     pub board: &'a Board<S>,
-    pub shared: &'a SharedTree<S, R>,
+    pub shared: &'a SharedTree<S>,
     pub draws: &'a Draws<L>,
     pub guide: &'a Guide,
     pub chunk: u32,
@@ -62,10 +62,10 @@ impl<S: Site> Worker<S> {
 
     // Asks for the arc, serves and collects. It answers whether the worker is to go on: not where the budget is used up, or
     // memory was refused; an ask that was not answered then stays open.
-    fn propose<G: Gate, L: Lot, H: Wait, R: Wait + Drop>(
+    fn propose<G: Gate, L: Lot, R: Wait>(
         &mut self,
-        rt: &H,
-        sweep: &Sweep<S, G, L, R>,
+        rt: &R,
+        sweep: &Sweep<S, G, L>,
         arc: u32,
     ) -> bool {
         sweep.board.ask(&mut self.asks, arc);
@@ -81,10 +81,10 @@ impl<S: Site> Worker<S> {
     }
 
     // Goes over a chunk, from the place on. It answers whether the worker is to go on.
-    fn go_over<G: Gate, L: Lot, H: Wait, R: Wait + Drop>(
+    fn go_over<G: Gate, L: Lot, R: Wait>(
         &mut self,
-        rt: &H,
-        sweep: &Sweep<S, G, L, R>,
+        rt: &R,
+        sweep: &Sweep<S, G, L>,
         start: usize,
         end: usize,
     ) -> bool {
@@ -102,10 +102,10 @@ impl<S: Site> Worker<S> {
     }
 
     /// The worker's part of a sweep, until no chunk is left.
-    pub fn sweep<G: Gate, L: Lot, H: Wait, R: Wait + Drop>(
+    pub fn sweep<G: Gate, L: Lot, R: Wait>(
         &mut self,
-        rt: &H,
-        sweep: &Sweep<S, G, L, R>,
+        rt: &R,
+        sweep: &Sweep<S, G, L>,
         draw_seat: &mut DrawSeat<L>,
     ) {
         for _drawn in 0..u32::MAX {

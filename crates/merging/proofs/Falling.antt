@@ -7,7 +7,7 @@ use Rattle.pit_model.specs.Tree.{MineTree, IsNormalised}
 use Rattle.pit_model.specs.Rank.{rank}
 use Rattle.pit_model.proofs.Simple.{instance_is_simple}
 use Rattle.pit_model.proofs.RankBound.{rank_is_bounded}
-use Rattle.solver.specs.Solved.{IsLower}
+use Rattle.merging.specs.Solved.{IsLower}
 
 -- the rank of a normalised tree is not negative, so where it falls its size falls
 abs_falls : (x y : ℤ) → pos 0 ≤ℤ x → x <ℤ y → unsigned_abs x < unsigned_abs y

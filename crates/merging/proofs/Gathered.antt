@@ -6,8 +6,8 @@ use Rattle.pit_model.specs.Mine.{Instance}
 use Rattle.faults.specs.declared.fault.Fault.{Fault}
 use Rattle.faults.specs.Refused.{no_memory}
 use Rattle.mine_graph.specs.declared.part.Part.{Part}
-use Rattle.solver.specs.declared.solved_part.SolvedPart.{SolvedPart}
-use Rattle.solver.specs.Parts.{IsSolvedPart}
+use Rattle.merging.specs.declared.solved_part.SolvedPart.{SolvedPart}
+use Rattle.merging.specs.Parts.{IsSolvedPart}
 
 -- what one part gave
 abbrev pub Gave : Instance → Part → Result SolvedPart Fault → Type 0

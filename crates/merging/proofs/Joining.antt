@@ -15,8 +15,8 @@ use Rattle.mine_graph.specs.declared.part.Part.{Part}
 use Rattle.mine_graph.specs.Parts.{AreParts}
 use Rattle.pit_model.proofs.Members.{members_below, members_each, members_place, members_rise}
 use Rattle.certificate.specs.Check.{IsCandidate, has, amount, most_amount}
-use Rattle.solver.specs.declared.solved_part.SolvedPart.{SolvedPart}
-use Rattle.solver.specs.Parts.{graph_of, IsSolvedPart, AreSolved, named, AreMarked, AreCarried, IsListed, ArePlaced}
+use Rattle.merging.specs.declared.solved_part.SolvedPart.{SolvedPart}
+use Rattle.merging.specs.Parts.{graph_of, IsSolvedPart, AreSolved, named, AreMarked, AreCarried, IsListed, ArePlaced}
 
 -- ---- marks
 pub none_marked : (blocks pit : List ℕ) (marks : List Bool) → AreMarked blocks pit 0 marks marks

@@ -3,7 +3,7 @@ use Rattle.std.proofs.Common.{◌≡◌, ℕ, ◌<◌, ◌≤◌, sym, ap, ◌�
 use Rattle.std.proofs.lemmas.Bool.{cases_eq, cases_lt}
 use Rattle.std.proofs.lemmas.List.{get_or-set_same, get_or-set_other, get_or_past, length-set}
 use Rattle.std.proofs.lemmas.Option.{none-some}
-use Rattle.solver.specs.Order.{AreSome, AreBelow}
+use Rattle.merging.specs.Order.{AreSome, AreBelow}
 
 -- a list in which one more block is named, or one is named no more
 pub some_set : (xs : List (Option ℕ)) (bound i : ℕ) (o : Option ℕ) → AreSome xs bound → ((u : ℕ) → o ≡ Some u → u < bound) → AreSome (set xs i o) bound

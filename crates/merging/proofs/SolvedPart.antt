@@ -8,7 +8,7 @@ use Rattle.mine_graph.specs.declared.part.Part.{Part}
 use Rattle.mine_graph.specs.Parts.{AreParts}
 use Rattle.pit_model.proofs.Members.{members_each, members_rise}
 use Rattle.std.specs.List.{All}
-use Rattle.solver.specs.Parts.{IsPartOf, graph_of}
+use Rattle.merging.specs.Parts.{IsPartOf, graph_of}
 
 pub same_graph : (g : Graph) (blocks : ℕ) (pairs : List (ℕ × ℕ)) → blocks ≡ g.blocks → pairs ≡ g.pairs → record { blocks = blocks; pairs = pairs } ≡ g
 same_graph g blocks pairs b p = ap (λ x. record { blocks = x; pairs = pairs }) b ∙ ap (λ y. record { blocks = g.blocks; pairs = y }) p

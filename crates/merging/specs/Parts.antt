@@ -7,7 +7,7 @@ use Rattle.pit_model.specs.Part.{IsPart, IsRenumbered, StandsAt}
 use Rattle.mine_graph.specs.declared.part.Part.{Part}
 use Rattle.certificate.specs.Certificate.{IsCertificateOf}
 use Rattle.certificate.specs.Check.{has, amount}
-use Rattle.solver.specs.declared.solved_part.SolvedPart.{SolvedPart}
+use Rattle.merging.specs.declared.solved_part.SolvedPart.{SolvedPart}
 
 abbrev pub graph_of : Instance → Graph
 graph_of mine = record { blocks = mine.blocks; pairs = mine.pairs }

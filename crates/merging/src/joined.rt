@@ -5,12 +5,12 @@ ghost use Rattle.pit_model.specs.Mine.{arcs, members};
 ghost use Rattle.pit_model.specs.Part.{IsPart, IsRenumbered};
 ghost use Rattle.certificate.specs.Check.{has};
 ghost use Rattle.certificate.specs.Certificate.{IsCertificateOf};
-ghost use Rattle.solver.specs.Parts.{graph_of, AreSolved, AreMarked, AreCarried, ArePlaced};
+ghost use Rattle.merging.specs.Parts.{graph_of, AreSolved, AreMarked, AreCarried, ArePlaced};
 
 use crate::solved_part::SolvedPart;
 use certificate::Certificate;
-use mine_graph::{Graph, Instance};
 use faults::Fault;
+use mine_graph::{Graph, Instance};
 use std::alloc::{AllocError, Global};
 
 // Marks the blocks of a part's pit.

@@ -7,12 +7,12 @@
 ghost use Rattle.std.specs.Prelude.{◌≡◌, ◌<◌, ◌≤◌, ◌+◌, length, IfOk, IfErr, IfSome};
 ghost use Rattle.faults.specs.Refused.{no_memory};
 ghost use Rattle.forest.specs.Forest.{size};
-ghost use Rattle.solver.specs.Order.{AreBelow};
+ghost use Rattle.merging.specs.Order.{AreBelow};
 
 use crate::waiting::Waiting;
+use faults::Fault;
 use forest::Forest;
 use mine_graph::Graph;
-use faults::Fault;
 use norm_tree::BareTree;
 use std::alloc::{AllocError, Global};
 use std::marker::Model;
@@ -34,7 +34,7 @@ pub struct LowestLabel {
 
 impl Model for LowestLabel {
     ghost use Rattle.std.specs.Prelude.{◌≡◌, ℕ, length};
-    ghost use Rattle.solver.specs.Order.{AreOrdered};
+    ghost use Rattle.merging.specs.Order.{AreOrdered};
 
     ghost Value = { ℕ };
 

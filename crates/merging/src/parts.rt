@@ -8,14 +8,14 @@ ghost use Rattle.faults.specs.Refused.{no_memory};
 ghost use Rattle.pit_model.specs.Mine.{value};
 ghost use Rattle.certificate.specs.Certificate.{IsCertificateOf};
 ghost use Rattle.certificate.specs.Check.{ShowsPit};
-ghost use Rattle.solver.specs.Parts.{graph_of, IsPartOf, IsSolvedPart};
+ghost use Rattle.merging.specs.Parts.{graph_of, IsPartOf, IsSolvedPart};
 
 use crate::joined::join_parts;
 use crate::single::{certificate_of, pit_of};
 use crate::solved_part::SolvedPart;
 use certificate::Certificate;
-use mine_graph::{Graph, Instance, Part};
 use faults::Fault;
+use mine_graph::{Graph, Instance, Part};
 use rayon::prelude::*;
 use std::alloc::{AllocError, Global};
 use std::sync::Arc;
@@ -112,7 +112,7 @@ pub fn solve_parts<R: Threads + Sync>(
 
 /// The smallest closed set of greatest worth by its parts. Of an instance that is one part no flow is made.
 /// Refused for want of memory alone, also that of a single part.
-pub(crate) fn pit_by_parts<R: Threads + Sync>(
+pub fn pit_by_parts<R: Threads + Sync>(
     rt: &R,
     alloc: Global,
     instance: &Instance,

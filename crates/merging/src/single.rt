@@ -4,15 +4,15 @@ ghost use Rattle.faults.specs.Refused.{no_memory};
 ghost use Rattle.pit_model.specs.Tree.{is_merger};
 ghost use Rattle.certificate.specs.Certificate.{IsCertificateOf};
 ghost use Rattle.certificate.specs.Check.{ShowsPit};
-ghost use Rattle.solver.specs.Solved.{IsSolvedAlone};
+ghost use Rattle.merging.specs.Solved.{IsSolvedAlone};
 
 use crate::closing::merge_rest;
 use crate::first_mergers::make_first_mergers;
 use crate::lowest_label::merge_by_lowest_label;
 use crate::outcome::Outcome;
 use certificate::{Certificate, of_tree};
-use mine_graph::Instance;
 use faults::Fault;
+use mine_graph::Instance;
 use norm_tree::{BareTree, NormTree};
 use std::alloc::Global;
 
@@ -40,7 +40,7 @@ pub(crate) fn certificate_of(alloc: Global, instance: &Instance) -> Result<Certi
 }
 
 /// The pit alone: the flow that shows it stays in the tree. Refused for want of memory alone.
-pub(crate) fn pit_of(alloc: Global, instance: &Instance) -> Result<Vec<u32>, Fault>
+pub fn pit_of(alloc: Global, instance: &Instance) -> Result<Vec<u32>, Fault>
     ensures shown { IfOk result (λ pit. ShowsPit instance.now pit.items) }
     ensures refused { IfErr result (λ e. e ≡ no_memory) }
 {

@@ -1,7 +1,7 @@
 //! The strong roots that wait for their turn, by label: a first-in-first-out list for each label, through one link a block.
 ghost use Rattle.std.specs.Prelude.{◌≡◌, ◌<◌, ◌≤◌, ◌^◌, ◌+◌, length, IfOk, IfErr, IfSome};
 ghost use Rattle.faults.specs.Refused.{no_memory};
-ghost use Rattle.solver.specs.Order.{AreWaiting};
+ghost use Rattle.merging.specs.Order.{AreWaiting};
 
 use faults::Fault;
 use std::alloc::Global;
@@ -20,7 +20,7 @@ pub struct Waiting {
 
 impl Model for Waiting {
     ghost use Rattle.std.specs.Prelude.{ℕ, length};
-    ghost use Rattle.solver.specs.Order.{AreWaiting};
+    ghost use Rattle.merging.specs.Order.{AreWaiting};
 
     ghost Value = { ℕ };
 

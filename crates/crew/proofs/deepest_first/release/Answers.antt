@@ -3,7 +3,7 @@ use Rattle.std.proofs.Common.{◌<◌, ℕ, length, get_or, subst, sym}
 use Rattle.std.specs.Prelude.{◌==◌}
 use Rattle.pit_model.specs.Graph.{second_of}
 use Rattle.pit_model.proofs.Members.{members_each}
-use Rattle.solver.proofs.deepest_first.release.Goals as goal
+use Rattle.crew.proofs.deepest_first.release.Goals as goal
 
 pub arc-user-requires : goal.arc-user-requires
 arc-user-requires c =

@@ -2,7 +2,7 @@
 use Rattle.std.proofs.Common.{refl, subst, None}
 use Rattle.pit_model.specs.Tree.{MineTree}
 use Rattle.pit_model.specs.FirstRun.{IsFirstMerger}
-use Rattle.solver.proofs.driver.decide_first.Goals as goal
+use Rattle.crew.proofs.driver.decide_first.Goals as goal
 
 pub returns-in-None-clause-decided : goal.returns-in-None-clause-decided
 returns-in-None-clause-decided g c =

@@ -2,9 +2,9 @@ use Rattle.std.proofs.Common.{ℕ, ◌≡◌, subst, ap, ◌∙◌, ltb, rules}
 use Rattle.std.specs.Prelude.{filter}
 use Rattle.pit_model.specs.declared.journal.Entry.{Entry}
 use Rattle.pit_model.specs.Mine.{Instance, arcs}
-use Rattle.solver.specs.Solved.{IsSolvedTogether}
-use Rattle.solver.proofs.Known.{known, solved_by_known}
-use Rattle.solver.proofs.driver.end_of.Goals as goal
+use Rattle.crew.specs.Solved.{IsSolvedTogether}
+use Rattle.crew.proofs.Known.{known, solved_by_known}
+use Rattle.crew.proofs.driver.end_of.Goals as goal
 
 pub returns-clause-solved : goal.returns-clause-solved
 returns-clause-solved g c =

@@ -1,7 +1,7 @@
 use Rattle.std.proofs.Common.{subst}
-use Rattle.solver.specs.Solved.{DecidesFirst}
-use Rattle.solver.proofs.Sharing.{driver_falls, not_spent}
-use Rattle.solver.proofs.driver.finish.Goals as goal
+use Rattle.crew.specs.Solved.{DecidesFirst}
+use Rattle.crew.proofs.Sharing.{driver_falls, not_spent}
+use Rattle.crew.proofs.driver.finish.Goals as goal
 
 pub mergers-smaller : goal.mergers-smaller
 mergers-smaller g c =

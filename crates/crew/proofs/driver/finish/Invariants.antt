@@ -2,7 +2,7 @@ use Rattle.std.specs.Prelude.{unsigned_abs}
 use Rattle.pit_model.specs.Tree.{IsNormalised}
 use Rattle.pit_model.specs.Rank.{rank}
 use Rattle.pit_model.specs.Limits.{IsInstance}
-use Rattle.solver.proofs.driver.finish.Given as goal
+use Rattle.crew.proofs.driver.finish.Given as goal
 
 abbrev pub decreases-mergers : goal.decreases-mergers
 decreases-mergers g l = unsigned_abs (rank l.holder.mine l.holder.tree)

@@ -4,8 +4,8 @@ use Rattle.std.specs.List.{find, range_with_len}
 use Rattle.rayon.proofs.ToStd.{answers-by_ref, filter_by_mask-find}
 use Rattle.pit_model.specs.Mine.{arcs}
 use Rattle.pit_model.specs.Tree.{is_merger}
-use Rattle.solver.proofs.FirstFound.{FoundFrom, found_from, first_of_all}
-use Rattle.solver.proofs.driver.first_merger.Goals as goal
+use Rattle.crew.proofs.FirstFound.{FoundFrom, found_from, first_of_all}
+use Rattle.crew.proofs.driver.first_merger.Goals as goal
 
 pub returns : goal.returns
 returns g c =

@@ -1,8 +1,8 @@
 use Rattle.std.proofs.Common.{arith}
 use Rattle.std.proofs.lemmas.List.Filters.{FiltersInPlace-more_swap, FiltersInPlace-more_no}
 use Rattle.std.proofs.lemmas.Bool.{lt-ltb, le-ltb}
-use Rattle.solver.proofs.driver.keep_known.Goals.{then-index-arcs, else-index-arcs}
-use Rattle.solver.proofs.driver.keep_known.Goals as goal
+use Rattle.crew.proofs.driver.keep_known.Goals.{then-index-arcs, else-index-arcs}
+use Rattle.crew.proofs.driver.keep_known.Goals as goal
 
 pub loop-i-preserved : goal.loop-i-preserved
 loop-i-preserved c = elim c.if-index-arcs.branch [

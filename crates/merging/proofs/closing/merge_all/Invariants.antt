@@ -1,7 +1,7 @@
 use Rattle.std.proofs.Common.{◌≡◌}
 use Rattle.std.specs.Prelude.{unsigned_abs}
 use Rattle.pit_model.specs.Rank.{rank}
-use Rattle.solver.proofs.closing.merge_all.Given as goal
+use Rattle.merging.proofs.closing.merge_all.Given as goal
 
 abbrev pub decreases-mergers : goal.decreases-mergers
 decreases-mergers l = unsigned_abs (rank l.tree.mine l.tree.tree)

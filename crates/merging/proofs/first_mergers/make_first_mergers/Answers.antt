@@ -1,8 +1,8 @@
 use Rattle.std.proofs.Common.{◌+◌, ◌∙◌, refl, sym, ap, arith}
 use Rattle.pit_model.specs.FirstRun.{first_run}
 use Rattle.pit_model.proofs.FirstRuns.{first_run-zero}
-use Rattle.solver.proofs.FirstMergers.{one_more, ended}
-use Rattle.solver.proofs.first_mergers.make_first_mergers.Goals as goal
+use Rattle.merging.proofs.FirstMergers.{one_more, ended}
+use Rattle.merging.proofs.first_mergers.make_first_mergers.Goals as goal
 
 pub mergers-init : goal.mergers-init
 mergers-init c = (refl, c.requires ∙ sym (first_run-zero c.args.tree.now.mine))

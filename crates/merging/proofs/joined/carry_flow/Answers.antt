@@ -4,8 +4,8 @@ use Rattle.std.specs.Int.{w128}
 use Rattle.std.specs.Prelude.{pos}
 use Rattle.std.proofs.lemmas.Int.{to_z-of_z}
 use mir.Val.{SFits}
-use Rattle.solver.proofs.Joining.{carry_more}
-use Rattle.solver.proofs.joined.carry_flow.Goals as goal
+use Rattle.merging.proofs.Joining.{carry_more}
+use Rattle.merging.proofs.joined.carry_flow.Goals as goal
 
 pub unreachable-requires : goal.unreachable-requires
 unreachable-requires c =

@@ -3,8 +3,8 @@ use Rattle.std.proofs.Common.{◌≡◌, ◌∙◌, arith, ap, drop, length}
 use Rattle.std.proofs.lemmas.List.{take_at}
 use Rattle.pit_model.specs.Mine.{members}
 use Rattle.certificate.specs.Check.{has}
-use Rattle.solver.proofs.Joining.{answer_is}
-use Rattle.solver.proofs.joined.join_parts.Goals as goal
+use Rattle.merging.proofs.Joining.{answer_is}
+use Rattle.merging.proofs.joined.join_parts.Goals as goal
 
 pub returns-clause-answer : goal.returns-clause-answer
 returns-clause-answer c =

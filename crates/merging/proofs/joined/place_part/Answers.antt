@@ -1,9 +1,9 @@
 -- The blocks of the part rise, are blocks of the whole, and all its pairs are pairs of the whole.
 use Rattle.std.proofs.Common.{◌≡◌, ℕ, ◌∙◌, arith, ap, List, get_or, length}
 use Rattle.pit_model.specs.Graph.{Graph}
-use Rattle.solver.specs.Parts.{graph_of}
-use Rattle.solver.proofs.SolvedPart.{blocks_below, blocks_apart, same_part, graph_is}
-use Rattle.solver.proofs.joined.place_part.Goals as goal
+use Rattle.merging.specs.Parts.{graph_of}
+use Rattle.merging.proofs.SolvedPart.{blocks_below, blocks_apart, same_part, graph_is}
+use Rattle.merging.proofs.joined.place_part.Goals as goal
 
 pub mark_pit-requires-clause-blocks : goal.mark_pit-requires-clause-blocks
 mark_pit-requires-clause-blocks c u l =

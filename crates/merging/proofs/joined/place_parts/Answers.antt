@@ -1,7 +1,7 @@
 -- One part more.
 use Rattle.std.proofs.Common.{sym}
-use Rattle.solver.proofs.Joining.{placed_more}
-use Rattle.solver.proofs.joined.place_parts.Goals as goal
+use Rattle.merging.proofs.Joining.{placed_more}
+use Rattle.merging.proofs.joined.place_parts.Goals as goal
 
 pub loop-i-preserved : goal.loop-i-preserved
 loop-i-preserved c =

@@ -1,9 +1,9 @@
 -- Children and siblings are blocks of the forest.
 use Rattle.std.proofs.Common.{◌≡◌, ◌<◌, ℕ, Some, arith, sym, ◌∙◌}
 use Rattle.forest.specs.Forest.{size}
-use Rattle.solver.proofs.Ordering.{below_set}
-use Rattle.solver.proofs.lowest_label.add_children.Goals as goal
-use Rattle.solver.proofs.lowest_label.add_children.Goals.{then-labels-child, else-labels-child}
+use Rattle.merging.proofs.Ordering.{below_set}
+use Rattle.merging.proofs.lowest_label.add_children.Goals as goal
+use Rattle.merging.proofs.lowest_label.add_children.Goals.{then-labels-child, else-labels-child}
 
 pub loop-child-init : goal.loop-child-init
 loop-child-init c = record {

@@ -1,8 +1,8 @@
 -- The branch and the next child are blocks of the forest.
 use Rattle.std.proofs.Common.{◌≡◌, ◌<◌, ◌≤◌, ℕ, Some, length}
 use Rattle.forest.specs.Forest.{size}
-use Rattle.solver.specs.Order.{AreBelow}
-use Rattle.solver.proofs.lowest_label.add_children.Given as goal
+use Rattle.merging.specs.Order.{AreBelow}
+use Rattle.merging.proofs.lowest_label.add_children.Given as goal
 
 abbrev pub invariant-loop-child : goal.invariant-loop-child
 invariant-loop-child l = record {

@@ -2,10 +2,10 @@
 use Rattle.std.proofs.Common.{◌∙◌, ap, sym, subst}
 use Rattle.pit_model.specs.Graph.{Graph}
 use Rattle.mine_graph.specs.Parts.{AreParts}
-use Rattle.solver.specs.Parts.{AreSolved}
-use Rattle.solver.proofs.Joining.{are_solved}
-use Rattle.solver.proofs.SolvedPart.{graph_is, parts_of}
-use Rattle.solver.proofs.parts.join_of_parts.Goals as goal
+use Rattle.merging.specs.Parts.{AreSolved}
+use Rattle.merging.proofs.Joining.{are_solved}
+use Rattle.merging.proofs.SolvedPart.{graph_is, parts_of}
+use Rattle.merging.proofs.parts.join_of_parts.Goals as goal
 
 pub solve_each-requires-after_bounds : goal.solve_each-requires-after_bounds
 solve_each-requires-after_bounds g c κs outlives =

@@ -1,8 +1,8 @@
 use Rattle.std.proofs.Common.{subst}
 use Rattle.std.specs.Prelude.{IfSome}
 use Rattle.certificate.specs.Certificate.{IsCertificateOf}
-use Rattle.solver.proofs.Shown.{certificate_shows}
-use Rattle.solver.proofs.parts.pit_by_parts.Goals as goal
+use Rattle.merging.proofs.Shown.{certificate_shows}
+use Rattle.merging.proofs.parts.pit_by_parts.Goals as goal
 
 pub returns-in-Some-clause-shown : goal.returns-in-Some-clause-shown
 returns-in-Some-clause-shown g c =

@@ -1,8 +1,8 @@
 -- Each part may be solved; and what the threads gave is one list, or one part's refusal.
 use Rattle.std.proofs.Common.{◌∙◌, subst}
 use Rattle.std.specs.List.{AllZip}
-use Rattle.solver.proofs.Gathered.{Gave, gathered}
-use Rattle.solver.proofs.parts.solve_each.Goals as goal
+use Rattle.merging.proofs.Gathered.{Gave, gathered}
+use Rattle.merging.proofs.parts.solve_each.Goals as goal
 
 pub collect-requires-clause-ready : goal.collect-requires-clause-ready
 collect-requires-clause-ready g c κs = rw (c.map.ensures.base, c.map.ensures.f, c.with_min_len.ensures.base, c.into_par_iter.ensures) (λ outlives k d l. (c.requires k d l, λ y p. tt))

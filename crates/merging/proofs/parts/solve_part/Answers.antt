@@ -1,9 +1,9 @@
 -- The blocks of the part are blocks of the whole, so their values are within the limits.
 use Rattle.std.proofs.Common.{ℕ, ◌<◌, ◌∙◌, arith, ap, sym, subst, List, get_or, length}
 use Rattle.pit_model.specs.Graph.{Graph}
-use Rattle.solver.specs.Parts.{graph_of}
-use Rattle.solver.proofs.SolvedPart.{blocks_below}
-use Rattle.solver.proofs.parts.solve_part.Goals as goal
+use Rattle.merging.specs.Parts.{graph_of}
+use Rattle.merging.proofs.SolvedPart.{blocks_below}
+use Rattle.merging.proofs.parts.solve_part.Goals as goal
 
 pub values_of-requires : goal.values_of-requires
 values_of-requires c =

@@ -2,7 +2,7 @@
 use Rattle.std.proofs.Common.{◌≡◌, ◌<◌, ℕ, length, get_or}
 use Rattle.std.specs.Prelude.{pos}
 use Rattle.pit_model.specs.Mine.{value}
-use Rattle.solver.proofs.parts.values_of.Given as goal
+use Rattle.merging.proofs.parts.values_of.Given as goal
 
 abbrev pub invariant-loop-i : goal.invariant-loop-i
 invariant-loop-i l = record {

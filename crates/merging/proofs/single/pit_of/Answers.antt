@@ -1,5 +1,5 @@
-use Rattle.solver.proofs.Shown.{answered_blocks_show}
-use Rattle.solver.proofs.single.pit_of.Goals as goal
+use Rattle.merging.proofs.Shown.{answered_blocks_show}
+use Rattle.merging.proofs.single.pit_of.Goals as goal
 
 pub returns-clause-shown : goal.returns-clause-shown
 returns-clause-shown c =
