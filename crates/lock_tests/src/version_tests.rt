@@ -81,6 +81,17 @@ fn each_look_shows_what_was_published(rt: HostRuntime) -> Result<(), Fail> {
     Ok(())
 }
 
+// Whether a look gives the seat back.
+fn comes_back<V: Origin>(seat: LookSeat<V>) -> bool {
+    match seat.look() {
+        Ok(version) => {
+            version.leave();
+            false
+        }
+        Err(_) => true,
+    }
+}
+
 // A seat looks on after the publisher is gone.
 fn look_too_late<V: Origin, R: Wait>(
     rt: &R,
@@ -97,16 +108,9 @@ fn look_too_late<V: Origin, R: Wait>(
     let taken = seats.and_then(|seats| Ok((seats.seat()?, seats.seat().is_err())));
     publisher.into_tree(rt);
     let (seat, is_full) = taken?;
-    let came_back = match seat.look() {
-        Ok(version) => {
-            version.leave();
-            false
-        }
-        Err(_) => true,
-    };
     Ok(first_failure(&[
         ("each place is taken", is_full),
-        ("the look gives the seat back", came_back),
+        ("the look gives the seat back", comes_back(seat)),
     ]))
 }
 

@@ -102,7 +102,8 @@ fn sweep<V: Origin + Send + Sync, R: Threads + Wait + Sync>(
 ) -> bool {
     thread::scope(thread::scope_env(), rt, |scope| {
         let mut started = true;
-        for worker in workers.iter_mut() {
+        let each = workers.iter_mut();
+        for worker in each {
             if started && scope.spawn(move || work(rt, publisher, worker)).is_err() {
                 started = false;
             }
