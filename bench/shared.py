@@ -23,7 +23,7 @@ sys.path.insert(0, str(pathlib.Path(__file__).resolve().parent))
 from peers import best  # noqa: E402
 from run import ROOT, WORK, mine_files  # noqa: E402
 
-PROBES = {"decisions": "tree_lock::book::Book::decide::", "mergers": "norm_tree::tree::NormTree::try_merge", "turns": "solver::driver::decide_first::"}
+PROBES = {"decisions": "tree_lock::book::Book::decide::", "mergers": "norm_tree::tree::NormTree::try_merge", "turns": "crew::driver::decide_first::"}
 MERGING = ("norm_tree::", "tree_lock::", "forest::")
 
 

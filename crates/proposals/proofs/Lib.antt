@@ -2,7 +2,6 @@ pub mod Dealing
 pub mod Drawing
 pub mod Holders
 pub mod Seated
-pub mod Serving
 pub mod Table
 pub mod Turns
 pub mod Workers

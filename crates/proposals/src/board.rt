@@ -11,7 +11,7 @@ use crate::steps::{Asks, Deal};
 use atomic_table::{Seat, Table};
 use faults::Fault;
 use std::alloc::Global;
-use std::marker::PhantomData;
+use std::marker::{Model, PhantomData};
 
 type Cells = Table<(), Knows, u64, Asks, Global>;
 
@@ -28,7 +28,7 @@ pub struct Board<B: Room> {
     ghost few: { cells.shared.table_id.words < 4294967296 },
 }
 
-/// A board that no type names yet.
+/// A board that no type names yet. To a contract it is its table, which has one word for each worker.
 #[derive(Drop)]
 pub struct UnnamedBoard {
     cells: Cells,
@@ -40,11 +40,21 @@ pub struct UnnamedBoard {
     ghost wide: { cells.shared.table_id.words ≡ workers },
 }
 
+impl Model for UnnamedBoard {
+    ghost use Rattle.atomic_table.specs.Seated.{TableId, table_id_coded};
+
+    ghost Value = { TableId };
+
+    ghost coded = { table_id_coded };
+
+    ghost view = { λ b. b.cells.shared.table_id };
+}
+
 impl UnnamedBoard {
     /// Takes the memory of a board's words, one for each worker, all idle.
     /// Errors: `NoMemory` where memory was refused, `NoSeat` where the table was.
     pub fn new(alloc: Global, workers: u32) -> Result<UnnamedBoard, Fault>
-        ensures made { IfOk result (λ board. board.workers ≡ workers) }
+        ensures made { IfOk result (λ board. board.words ≡ workers) }
         ensures refused { IfErr result IsNoRoom }
     {
         let words = vec![in alloc; 0u64; workers as usize]?;
@@ -68,9 +78,9 @@ impl<B: Room> Board<B> {
         alloc: Global,
         unnamed: UnnamedBoard,
     ) -> Result<(Board<B>, Vec<WorkerSeat<B>>, HolderSeat<B>), Fault>
-        requires { unnamed.cells.shared.table_id ≡ B.board }
-        ensures workers { IfOk result (λ made. made.1.items ≡ desks unnamed.workers) }
-        ensures holder { IfOk result (λ made. made.2 ≡ replicate unnamed.workers nothing) }
+        requires { unnamed ≡ B.board }
+        ensures workers { IfOk result (λ made. made.1.items ≡ desks unnamed.words) }
+        ensures holder { IfOk result (λ made. made.2 ≡ replicate unnamed.words nothing) }
         ensures refused { IfErr result (λ fault. fault ≡ no_memory) }
     {
         let UnnamedBoard {

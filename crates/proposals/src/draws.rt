@@ -10,11 +10,11 @@ use crate::hand::{Batch, Hand};
 use atomic_table::{Seat, Table};
 use faults::Fault;
 use std::alloc::Global;
-use std::marker::PhantomData;
+use std::marker::{Model, PhantomData};
 
 type Counter = Table<(), Hand, Batch, Counts, Global>;
 
-/// A counter from which seats draw the numbers of chunks, from 0.
+/// A counter from which seats draw the numbers of chunks, from 0. To a contract it is the number of its seats.
 #[derive(Drop)]
 pub struct Draws<L: Lot> {
     counter: Counter,
@@ -26,7 +26,15 @@ pub struct Draws<L: Lot> {
     ghost keyed: { counter.shared.key.seats ≡ seats },
 }
 
-/// A counter that no type names yet.
+impl<L: Lot> Model for Draws<L> {
+    ghost use Rattle.std.specs.Prelude.{ℕ};
+
+    ghost Value = { ℕ };
+
+    ghost view = { λ d. d.seats };
+}
+
+/// A counter that no type names yet. To a contract it is its table, and how many chunks and seats it is for.
 #[derive(Drop)]
 pub struct UnnamedDraws {
     counter: Counter,
@@ -38,6 +46,16 @@ pub struct UnnamedDraws {
     ghost keyed: { counter.shared.key ≡ batch chunks seats },
     ghost wide: { counter.shared.table_id.words ≡ 1 },
     ghost slotless: { counter.shared.table_id.slots ≡ 0 },
+}
+
+impl Model for UnnamedDraws {
+    ghost use Rattle.proposals.specs.DrawSeats.{NewCounter, new_counter, new_counter_coded};
+
+    ghost Value = { NewCounter };
+
+    ghost coded = { new_counter_coded };
+
+    ghost view = { λ d. new_counter d.counter.shared.table_id d.chunks d.seats };
 }
 
 impl UnnamedDraws {
@@ -67,8 +85,8 @@ impl<L: Lot> Draws<L> {
     /// The counter under the name `L`, with its seats, which have drawn nothing.
     /// Errors: `NoMemory` where memory for the seats was refused.
     pub fn new(alloc: Global, unnamed: UnnamedDraws) -> Result<(Draws<L>, Vec<DrawSeat<L>>), Fault>
-        requires { unnamed.counter.shared.table_id ≡ L.draws }
-        ensures counter { IfOk result (λ made. made.0.seats ≡ unnamed.seats) }
+        requires { unnamed.table ≡ L.draws }
+        ensures counter { IfOk result (λ made. made.0 ≡ unnamed.seats) }
         ensures seats { IfOk result (λ made. made.1.items ≡ new_seats unnamed.chunks unnamed.seats) }
         ensures refused { IfErr result (λ fault. fault ≡ no_memory) }
     {
@@ -117,7 +135,7 @@ impl<L: Lot> Draws<L> {
     /// Ends the counter, with all its seats, and answers where it stands.
     /// Among what the seats have drawn, each number below it stands once, and no other number does.
     pub fn close(self, mut seats: Vec<DrawSeat<L>>) -> u64
-        requires every { length seats.items ≡ self.seats }
+        requires every { length seats.items ≡ self }
         ensures { IsEachBelowOnce result (all_drawn seats.items) }
     {
         let Draws {

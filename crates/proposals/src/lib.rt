@@ -29,10 +29,3 @@ pub use room::Room;
 pub use seats::{HolderSeat, WorkerSeat};
 pub use steps::Asks;
 pub use verdict::Reply;
-
-#[cfg(test)]
-mod tests;
-#[cfg(test)]
-mod thread_tests;
-#[cfg(test)]
-mod walk_tests;

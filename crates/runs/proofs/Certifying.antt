@@ -10,7 +10,7 @@ use Rattle.certificate.specs.CertificateGrammar.{SpellsCertificate}
 use Rattle.certificate.specs.CertificateLines.{PitAndFlow}
 use Rattle.runs.specs.Solve.{Reading}
 use Rattle.runs.specs.Mine.{HoldsMine}
-use Rattle.solver.specs.Parts.{graph_of}
+use Rattle.merging.specs.Parts.{graph_of}
 use Rattle.runs.specs.Check.{AnswersText}
 use Rattle.runs.specs.Chosen.{Chosen, OfStates, OfWriter, OfWriterIfAny}
 use Rattle.runs.specs.Certified.{IsAnsweredYes, WritesCertificate, PutsCertificate, IsCertified, IsCertificateCut}

@@ -23,7 +23,7 @@ use Rattle.certificate.proofs.Checked.{shows}
 use Rattle.report.specs.AnswerText.{answer_text}
 use Rattle.runs.specs.Solve.{Gave, Reading}
 use Rattle.runs.specs.Mine.{HoldsMine}
-use Rattle.solver.specs.Parts.{graph_of}
+use Rattle.merging.specs.Parts.{graph_of}
 use Rattle.runs.specs.Check.{IsAnswered, Checks, status_of_answer, IsChecked, IsAnswerCut, RefusesCertificate, NotAnswered, no_certificate, RefusesCheck}
 use Rattle.runs.specs.declared.status.Status.{Status}
 

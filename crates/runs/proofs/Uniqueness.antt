@@ -25,7 +25,7 @@ use Rattle.pit_model.proofs.OneOrder.{pairs_have_one_order}
 use Rattle.certificate.specs.CertificateGrammar.{SpellsCertificate}
 use Rattle.certificate.specs.CertificateLines.{PitAndFlow}
 use Rattle.certificate.proofs.TextRead as certificates
-use Rattle.solver.specs.Parts.{graph_of}
+use Rattle.merging.specs.Parts.{graph_of}
 use Rattle.shells.specs.Prices.{Prices}
 use Rattle.report.specs.AnswerText.{answer_text}
 use Rattle.runs.specs.Solve.{Reading, Gave, GaveMine, IsPitText, mine_of}

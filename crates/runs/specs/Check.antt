@@ -14,7 +14,7 @@ use Rattle.certificate.specs.CertificateLines.{PitAndFlow}
 use Rattle.certificate.specs.CertificateFault.{IsFirstCertificateFault}
 use Rattle.certificate.specs.CertificateGrammar.{SpellsCertificate}
 use Rattle.report.specs.AnswerText.{answer_text}
-use Rattle.solver.specs.Parts.{graph_of}
+use Rattle.merging.specs.Parts.{graph_of}
 use Rattle.runs.specs.Solve.{Reading, Gave, NeverFailed, FailedOnce, RefusesMine, mine_of}
 use Rattle.runs.specs.Mine.{HoldsMine}
 use Rattle.runs.specs.declared.status.Status.{Status}

@@ -1,4 +1,1 @@
-pub mod Solved
-pub mod Order
-pub mod Parts
 pub mod Modes

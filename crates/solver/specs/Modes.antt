@@ -9,8 +9,8 @@ use Rattle.pit_model.specs.Mine.{Instance}
 use Rattle.pit_model.specs.Journal.{applied_count, IsLawful, replay}
 use Rattle.pit_model.specs.FirstRun.{HasMerger, HasNoMerger, first_run}
 use Rattle.certificate.specs.Certificate.{IsCertificateOf}
-use Rattle.solver.specs.declared.outcome.Outcome.{Outcome}
-use Rattle.solver.specs.declared.outcome.Outcome.TheVariants.{Pit, Exhausted}
+use Rattle.merging.specs.declared.outcome.Outcome.{Outcome}
+use Rattle.merging.specs.declared.outcome.Outcome.TheVariants.{Pit, Exhausted}
 use Rattle.solver.specs.declared.mode.Mode.{Mode}
 use Rattle.solver.specs.declared.mode.Mode.TheVariants.{Single, Parts, Shared}
 

@@ -4,15 +4,12 @@ ghost use Rattle.certificate.specs.Certificate.{IsCertificateOf};
 ghost use Rattle.certificate.specs.Check.{ShowsPit};
 ghost use Rattle.solver.specs.Modes.{EndsIn, EndsWithin, RefusesSolve};
 
-use crate::gate::Gate;
 use crate::mode::Mode;
-use crate::outcome::Outcome;
-use crate::parts::{pit_by_parts, solve_parts};
-use crate::shared::solve_shared;
-use crate::single::{pit_of, solve_single};
 use certificate::Certificate;
-use mine_graph::Instance;
+use crew::{Gate, solve_shared};
 use faults::Fault;
+use merging::{Outcome, pit_by_parts, pit_of, solve_parts, solve_single};
+use mine_graph::Instance;
 use std::alloc::Global;
 use std::sync::Wait;
 use std::thread::Threads;

@@ -17,17 +17,16 @@ use std::marker::Model;
 use std::sync::Wait;
 use versions::{LookSeat, Origin, Publisher};
 
-/// To a contract it is its journal, its budget and the arcs of its published mergers.
-#[derive(Drop)]
-pub struct Book<V: Origin, R: Wait + Drop> {
-    publisher: Publisher<V, R>,
+/// To a contract it is its journal, its budget and the arcs of its published mergers. End it by `into_parts`.
+pub struct Book<V: Origin> {
+    publisher: Publisher<V>,
     journal: Vec<Entry>,
     budget: Option<u64>,
     /// The applied entries of the journal.
     applied: u64,
 }
 
-impl<V: Origin, R: Wait + Drop> Model for Book<V, R> {
+impl<V: Origin> Model for Book<V> {
     ghost use Rattle.tree_lock.specs.Kept.{Kept, kept, IsBook};
 
     ghost Value = { Kept };
@@ -37,9 +36,9 @@ impl<V: Origin, R: Wait + Drop> Model for Book<V, R> {
     ghost invariant = { λ b. IsBook V.mine b.publisher b.journal.items b.budget b.applied };
 }
 
-impl<V: Origin, R: Wait + Drop> Book<V, R> {
+impl<V: Origin> Book<V> {
     /// The opening tree, with nothing decided. It takes no memory.
-    pub fn new(alloc: Global, publisher: Publisher<V, R>, budget: Option<u64>) -> Book<V, R>
+    pub fn new(alloc: Global, publisher: Publisher<V>, budget: Option<u64>) -> Book<V>
         requires { publisher ≡ [] }
         ensures { result ≡ kept [] budget [] }
     {
@@ -79,7 +78,7 @@ impl<V: Origin, R: Wait + Drop> Book<V, R> {
         self.budget
     }
 
-    pub fn into_parts(self) -> (NormTree, Vec<Entry>)
+    pub fn into_parts<R: Wait>(self, rt: &R) -> (NormTree, Vec<Entry>)
         ensures tree { result.0 ≡ tree_over V.mine self.published }
         ensures journal { result.1.items ≡ self.journal }
     {
@@ -89,7 +88,7 @@ impl<V: Origin, R: Wait + Drop> Book<V, R> {
             budget: _,
             applied: _,
         } = self;
-        (publisher.into_tree(), journal)
+        (publisher.into_tree(rt), journal)
     }
 
     /// Tells the seat of all that is published; true where nothing is pending, which is always.
@@ -117,14 +116,14 @@ impl<V: Origin, R: Wait + Drop> Book<V, R> {
 
     /// Decides one proposal for a seat, with an entry; an applied merger is published. Where memory for that was refused,
     /// nothing changed.
-    pub fn decide(&mut self, seat: u32, arc: u32) -> Result<Verdict, Fault>
+    pub fn decide<R: Wait>(&mut self, rt: &R, seat: u32, arc: u32) -> Result<Verdict, Fault>
         ensures decided { IfOk result (Keeps V.mine seat arc self.old self.new) }
         ensures refused { IfErr result (λ e. (e ≡ no_memory) × (self.new ≡ self.old)) }
     {
         self.journal.reserve(1)?;
         let verdict = self.verdict_on(arc);
         let entry = Entry { seat, arc, verdict };
-        match carry_out(&mut self.publisher, &mut self.applied, entry) {
+        match carry_out(rt, &mut self.publisher, &mut self.applied, entry) {
             Ok(()) => {}
             Err(error) => return Err(error),
         }
@@ -134,8 +133,9 @@ impl<V: Origin, R: Wait + Drop> Book<V, R> {
 }
 
 // Makes and publishes the merger of an applied entry, and counts it. Where memory was refused, nothing changed.
-fn carry_out<V: Origin, R: Wait + Drop>(
-    publisher: &mut Publisher<V, R>,
+fn carry_out<V: Origin, R: Wait>(
+    rt: &R,
+    publisher: &mut Publisher<V>,
     applied: &mut u64,
     entry: Entry,
 ) -> Result<(), Fault>
@@ -145,7 +145,7 @@ fn carry_out<V: Origin, R: Wait + Drop>(
     ensures refused { IfErr result (λ e. (e ≡ no_memory) × (publisher.new ≡ publisher.old) × (applied.new ≡ applied.old)) }
 {
     match entry.verdict {
-        Verdict::Applied => match publisher.publish(entry.arc) {
+        Verdict::Applied => match publisher.publish(rt, entry.arc) {
             Ok(()) => {
                 *applied += 1;
                 Ok(())

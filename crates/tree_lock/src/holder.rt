@@ -29,15 +29,14 @@ use versions::{LookSeat, Publisher};
 const DRIVER: u32 = 0;
 
 /// To a contract it is its tree, its journal and its budget, the arcs that are published, and what was answered to each worker
-/// and is claimed from it. Tree and budget are of the site's instance and budget. It keeps a handle, since publishing waits
-/// for readers that have not left an old version.
-#[derive(Drop)]
-pub struct Holder<S: Site, R: Wait + Drop> {
-    pub(crate) book: Book<S, R>,
+/// and is claimed from it. Tree and budget are of the site's instance and budget. It is not `Drop`, since its end waits for
+/// readers that have not left: end it by `into_parts`.
+pub struct Holder<S: Site> {
+    pub(crate) book: Book<S>,
     pub(crate) seat: HolderSeat<S>,
 }
 
-impl<S: Site, R: Wait + Drop> Model for Holder<S, R> {
+impl<S: Site> Model for Holder<S> {
     ghost use Rattle.std.specs.Prelude.{◌≡◌};
     ghost use Rattle.tree_lock.specs.Held.{Held, held_by};
     ghost use Rattle.tree_lock.specs.Served.{IsServed};
@@ -49,14 +48,14 @@ impl<S: Site, R: Wait + Drop> Model for Holder<S, R> {
     ghost invariant = { λ h. IsServed S.mine h.book.journal S.workers h.seat × (h.book.budget ≡ S.budget) };
 }
 
-impl<S: Site, R: Wait + Drop> Holder<S, R> {
+impl<S: Site> Holder<S> {
     // The opening tree, with nothing decided.
     pub(crate) fn new(
         alloc: Global,
-        publisher: Publisher<S, R>,
+        publisher: Publisher<S>,
         budget: Option<u64>,
         seat: HolderSeat<S>,
-    ) -> Holder<S, R>
+    ) -> Holder<S>
         requires opening { publisher ≡ [] }
         requires budget { budget ≡ S.budget }
         requires fresh { IsFresh S.workers seat }
@@ -116,24 +115,24 @@ impl<S: Site, R: Wait + Drop> Holder<S, R> {
     }
 
     /// The tree and the journal, for good. It waits for readers that have not left; from then on a look gives its seat back.
-    pub fn into_parts(self) -> (NormTree, Vec<Entry>)
+    pub fn into_parts<R: Wait>(self, rt: &R) -> (NormTree, Vec<Entry>)
         ensures tree { result.0 ≡ record { mine = self.mine; tree = self.tree } }
         ensures journal { result.1.items ≡ self.journal }
     {
         let Holder { book, seat: _ } = self;
-        book.into_parts()
+        book.into_parts(rt)
     }
 
     /// Decides one proposal of the driver, with an entry under seat 0: a merger arc is merged and published, unless the budget
     /// is used up. It waits for readers that have not left an old version.
     /// Errors: `NoMemory` where memory for the entry or the merger was refused; then nothing changed.
-    pub fn apply(&mut self, arc: u32) -> Result<Verdict, Fault>
+    pub fn apply<R: Wait>(&mut self, rt: &R, arc: u32) -> Result<Verdict, Fault>
         requires { arc < arcs self.old.mine }
         ensures decided { IfOk result (Decides arc self.old self.new) }
         ensures refused { IfErr result (λ e. (e ≡ no_memory) × (self.new ≡ self.old)) }
     {
         let _ = &self.seat;
-        self.book.decide(DRIVER, arc)
+        self.book.decide(rt, DRIVER, arc)
     }
 
     /// Tells a seat to look from of all mergers that were made: all that it saw or was told of before was a beginning of these.

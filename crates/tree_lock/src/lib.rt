@@ -13,10 +13,3 @@ pub use pit_model::{Entry, Verdict};
 pub use shared::SharedTree;
 pub use site::Site;
 pub use versions::{LookSeat, Origin, UnnamedList, Version};
-
-#[cfg(test)]
-mod look_tests;
-#[cfg(test)]
-mod serve_tests;
-#[cfg(test)]
-mod tests;

@@ -10,9 +10,9 @@ use faults::Fault;
 use proposals::Board;
 use std::sync::Wait;
 
-impl<S: Site, R: Wait + Drop> Holder<S, R> {
+impl<S: Site> Holder<S> {
     // Serves one worker, and tells whether an ask of it stood there.
-    fn serve_one(&mut self, board: &Board<S>, worker: u32) -> Result<bool, Fault>
+    fn serve_one<R: Wait>(&mut self, rt: &R, board: &Board<S>, worker: u32) -> Result<bool, Fault>
         requires { 0 < worker }
         ensures served { IfOk result (ServesOne worker self.old self.new) }
         ensures refused { IfErr result (λ e. (e ≡ no_memory) × (self.new ≡ self.old)) }
@@ -23,7 +23,7 @@ impl<S: Site, R: Wait + Drop> Holder<S, R> {
         let Some(arc) = board.claim_ask(&mut self.seat, worker) else {
             return Ok(false);
         };
-        match self.book.decide(worker, arc) {
+        match self.book.decide(rt, worker, arc) {
             Ok(verdict) => {
                 board.answer(&mut self.seat, worker, verdict);
                 Ok(true)
@@ -41,7 +41,7 @@ impl<S: Site, R: Wait + Drop> Holder<S, R> {
     ///
     /// Errors: `NoMemory` where memory for an entry or its merger was refused: all is then as after the asks answered before
     /// it, its ask stands as it stood, and the pass ends.
-    pub fn serve(&mut self, board: &Board<S>) -> Result<u32, Fault>
+    pub fn serve<R: Wait>(&mut self, rt: &R, board: &Board<S>) -> Result<u32, Fault>
         ensures served { IfOk result (Serves self.old self.new) }
         ensures refused { IfErr result (λ e. (e ≡ no_memory) × ((count : ℕ) × Serves self.old self.new count)) }
     {
@@ -50,7 +50,7 @@ impl<S: Site, R: Wait + Drop> Holder<S, R> {
         let mut worker = 0;
         while worker < workers {
             worker += 1;
-            if self.serve_one(board, worker)? {
+            if self.serve_one(rt, board, worker)? {
                 count += 1;
             }
         }

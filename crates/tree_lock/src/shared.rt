@@ -11,29 +11,28 @@ use faults::Fault;
 use norm_tree::NormTree;
 use proposals::{Board, HolderSeat};
 use std::alloc::Global;
-use std::sync::{Mutex, Wait};
+use std::sync::{Mutex, MutexGuard, Wait};
 use versions::{LookSeat, LookSeats, Publisher, UnnamedList};
 
-/// A tree that threads share.
-#[derive(Drop)]
-pub struct SharedTree<S: Site, R: Wait + Drop> {
-    lock: Mutex<Holder<S, R>>,
-    look_seats: LookSeats<S>,
+/// A tree that threads share. It is not `Drop`, as its holder: end it by `into_holder`.
+pub struct SharedTree<S: Site> {
+    lock: Mutex<Holder<S>>,
+    /// None where the count of its owners was full, as in no run; then each place counts as taken.
+    look_seats: Option<LookSeats<S>>,
 }
 
-impl<S: Site, R: Wait + Drop> SharedTree<S, R> {
+impl<S: Site> SharedTree<S> {
     /// Puts the opening tree under a lock, with an empty journal and the seat that answers the board, and publishes it. There
-    /// is a place to look from for each worker of the board, and one more. It keeps the handle.
+    /// is a place to look from for each worker of the board, and one more.
     /// Errors: `NoMemory` where memory was refused, `NoSeat` where the table of places was.
     pub fn new(
         alloc: Global,
-        rt: R,
         list: UnnamedList,
         tree: NormTree,
         budget: Option<u64>,
         board: &Board<S>,
         seat: HolderSeat<S>,
-    ) -> Result<SharedTree<S, R>, Fault>
+    ) -> Result<SharedTree<S>, Fault>
         requires book { list ≡ S.book }
         requires opening { tree.tree ≡ opening tree.mine }
         requires mine { tree.mine ≡ S.mine }
@@ -42,47 +41,54 @@ impl<S: Site, R: Wait + Drop> SharedTree<S, R> {
         ensures { IfErr result IsNoRoom }
     {
         let places = board.workers(&seat).saturating_add(1);
-        let publisher = Publisher::<S, R>::new(alloc, rt, list, tree, places)?;
-        match publisher.look_seats() {
-            Ok(look_seats) => Ok(SharedTree {
-                lock: Mutex::new(Holder::new(alloc, publisher, budget, seat)),
-                look_seats,
-            }),
-            Err(fault) => Err(fault),
-        }
+        let publisher = Publisher::<S>::new(alloc, list, tree, places)?;
+        let look_seats = publisher.look_seats().ok();
+        Ok(SharedTree {
+            lock: Mutex::new(Holder::new(alloc, publisher, budget, seat)),
+            look_seats,
+        })
     }
 
     /// A new seat to look from. It takes no lock. Errors: `NoSeat` where each place is taken.
     pub fn look_seat(&self) -> Result<LookSeat<S>, Fault>
         ensures { IfErr result (λ fault. fault ≡ no_seat) }
     {
-        self.look_seats.seat()
+        match &self.look_seats {
+            Some(look_seats) => look_seats.seat(),
+            None => Err(Fault::no_seat()),
+        }
     }
 
     /// Takes the lock and serves the board as the holder does.
     /// Errors: `NoMemory` where memory for an entry or its merger was refused; the asks before it were then answered.
-    pub fn serve<H: Wait>(&self, rt: &H, board: &Board<S>) -> Result<u32, Fault>
+    pub fn serve<R: Wait>(&self, rt: &R, board: &Board<S>) -> Result<u32, Fault>
         ensures { IfErr result (λ fault. fault ≡ no_memory) }
     {
-        self.lock.lock(rt).serve(board)
+        let mut holder = self.lock.lock(rt);
+        let served = holder.serve(rt, board);
+        MutexGuard::unlock(holder);
+        served
     }
 
     /// Takes the lock and tells the seat of all mergers that were made by then: all that it saw or was told of before was a
     /// beginning of these. True where nothing is left to be published, which is always.
-    pub fn tell<H: Wait>(&self, rt: &H, seat: &mut LookSeat<S>) -> bool
+    pub fn tell<R: Wait>(&self, rt: &R, seat: &mut LookSeat<S>) -> bool
         ensures before { IsPrefix seat.old seat.new }
         ensures all { result ≡ true }
     {
-        self.lock.lock(rt).tell(seat)
+        let mut holder = self.lock.lock(rt);
+        let all = holder.tell(seat);
+        MutexGuard::unlock(holder);
+        all
     }
 
     /// The holder, while no other thread has the tree. It takes no lock.
-    pub fn holder(&mut self) -> &mut Holder<S, R> {
+    pub fn holder(&mut self) -> &mut Holder<S> {
         self.lock.get_mut()
     }
 
     /// The holder, for good, once no thread has the tree any more. It takes no lock.
-    pub fn into_holder(self) -> Holder<S, R> {
+    pub fn into_holder(self) -> Holder<S> {
         let SharedTree {
             lock,
             look_seats: _,

@@ -15,8 +15,3 @@ pub use look::{LookSeat, LookSeats, Version};
 pub use origin::Origin;
 pub use publisher::Publisher;
 pub use scribe::UnnamedList;
-
-#[cfg(test)]
-mod tests;
-#[cfg(test)]
-mod thread_tests;

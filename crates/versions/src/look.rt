@@ -10,9 +10,9 @@ use crate::beginning::Beginning;
 use crate::origin::Origin;
 use crate::tree_copy::TreeCopy;
 use crossbeam_utils::rule::Unruled;
+use faults::Fault;
 use left_right::reader::{Factory, Reader, Reading};
 use mine_graph::Instance;
-use faults::Fault;
 use std::marker::Model;
 
 /// What gives seats to look from. Threads may share it. To a contract it is the arcs that each new seat is told of.

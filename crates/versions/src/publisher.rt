@@ -14,9 +14,9 @@ use crate::scribe::{Scribe, UnnamedList};
 use crate::tree_copy::TreeCopy;
 use core::mem::replace_with;
 use crossbeam_utils::rule::Unruled;
+use faults::Fault;
 use left_right::Absorb;
 use left_right::writer::Writer;
-use faults::Fault;
 use norm_tree::NormTree;
 use std::alloc::{AllocError, Global};
 use std::marker::Model;
@@ -24,18 +24,17 @@ use std::sync::Wait;
 
 type Copies<V> = Writer<TreeCopy<V>, u32, (), Unruled>;
 
-/// To a contract it is the arcs that were merged over, all of which are published. It keeps the handle `rt`, since
-/// publishing and its drop wait for readers.
-pub struct Publisher<V: Origin, R: Wait + Drop>
+/// To a contract it is the arcs that were merged over, all of which are published. It is not `Drop`, since its end waits for
+/// readers: end it by `into_tree`.
+pub struct Publisher<V: Origin>
 where
     TreeCopy<V>: Absorb<u32, State = TreeCopy<V>>,
 {
     scribe: Scribe<V>,
     copies: Copies<V>,
-    rt: R,
 }
 
-impl<V: Origin, R: Wait + Drop> Model for Publisher<V, R>
+impl<V: Origin> Model for Publisher<V>
 where
     TreeCopy<V>: Absorb<u32, State = TreeCopy<V>>,
 {
@@ -47,17 +46,6 @@ where
     ghost view = { λ p. p.scribe };
 
     ghost invariant = { λ p. IsPublished V.mine p.copies.desk.shown.value p.scribe (drop p.copies.behind p.copies.log.items) };
-}
-
-impl<V: Origin, R: Wait + Drop> Drop for Publisher<V, R> {
-    fn drop(self) {
-        let Self {
-            scribe: _,
-            copies,
-            rt,
-        } = self;
-        copies.take(&rt);
-    }
 }
 
 // Shows readers the copy that has taken in every arc. It waits for those that still look at that copy.
@@ -77,16 +65,15 @@ fn show<V: Origin, R: Wait>(copies: &mut Copies<V>, rt: &R)
     replace_with(copies, rt, |copies, rt| (shown(copies, rt), ()));
 }
 
-impl<V: Origin, R: Wait + Drop> Publisher<V, R> {
+impl<V: Origin> Publisher<V> {
     /// Publishes the opening tree, and makes a copy of it and room for so many seats.
     /// Errors: `NoMemory` where memory was refused, `NoSeat` where the table of places was.
     pub fn new(
         alloc: Global,
-        rt: R,
         list: UnnamedList,
         tree: NormTree,
         seats: u32,
-    ) -> Result<Publisher<V, R>, Fault>
+    ) -> Result<Publisher<V>, Fault>
         requires book { list ≡ V.book }
         requires mine { tree.mine ≡ V.mine }
         requires opening { tree.tree ≡ opening tree.mine }
@@ -100,7 +87,7 @@ impl<V: Origin, R: Wait + Drop> Publisher<V, R> {
         let second = TreeCopy::new(tree.copy()?, second_head, scribe.whole());
         let first = TreeCopy::new(tree, first_head, scribe.whole());
         match Writer::new(alloc, first, second, seats as usize) {
-            Ok(copies) => Ok(Publisher { scribe, copies, rt }),
+            Ok(copies) => Ok(Publisher { scribe, copies }),
             Err(_) => Err(Fault::no_seat()),
         }
     }
@@ -133,7 +120,7 @@ impl<V: Origin, R: Wait + Drop> Publisher<V, R> {
 
     /// Merges over the arc and publishes that. It waits for readers that have not left an old version.
     /// Errors: `NoMemory` where memory was refused; then nothing changed.
-    pub fn publish(&mut self, arc: u32) -> Result<(), Fault>
+    pub fn publish<R: Wait>(&mut self, rt: &R, arc: u32) -> Result<(), Fault>
         requires { IsTrue (is_merger V.mine (version_tree V.mine self.old) arc) }
         ensures published { IfOk result (λ _. self.new ≡ self.old ++ arc ∷ []) }
         ensures refused { IfErr result (λ fault. (fault ≡ no_memory) × (self.new ≡ self.old)) }
@@ -147,7 +134,7 @@ impl<V: Origin, R: Wait + Drop> Publisher<V, R> {
             Err(_) => return Err(Fault::from(AllocError)),
         }
         self.scribe.write(arc);
-        show(&mut self.copies, &self.rt);
+        show(&mut self.copies, rt);
         Ok(())
     }
 
@@ -165,14 +152,10 @@ impl<V: Origin, R: Wait + Drop> Publisher<V, R> {
     }
 
     /// The published tree, for good. It waits for readers that have not left; from then on a look gives its seat back.
-    pub fn into_tree(self) -> NormTree
+    pub fn into_tree<R: Wait>(self, rt: &R) -> NormTree
         ensures { result ≡ tree_over V.mine self }
     {
-        let Publisher {
-            scribe: _,
-            copies,
-            rt,
-        } = self;
-        Box::into_inner(copies.take(&rt)).into_tree()
+        let Publisher { scribe: _, copies } = self;
+        Box::into_inner(copies.take(rt)).into_tree()
     }
 }

@@ -8,8 +8,8 @@ use Rattle.certificate.specs.CertificateFault.{IsFirstCertificateFault}
 use Rattle.certificate.specs.CertificateGrammar.{SpellsCertificate}
 use Rattle.certificate.specs.CertificateLines.{pit_and_flow}
 use Rattle.runs.specs.Solve.{reading}
-use Rattle.solver.specs.Parts.{graph_of}
-use Rattle.solver.proofs.SolvedPart.{graph_is}
+use Rattle.merging.specs.Parts.{graph_of}
+use Rattle.merging.proofs.SolvedPart.{graph_is}
 use Rattle.runs.proofs.Checking.{reading_refused, is_answered}
 use Rattle.runs.proofs.check.answer_of.Goals as goal
 

@@ -4,9 +4,9 @@ use Rattle.pit_model.specs.Graph.{Graph}
 use Rattle.certificate.specs.CertificateLines.{pit_and_flow}
 use Rattle.certificate.specs.CertificateText.{certificate_text}
 use Rattle.certificate.specs.CertificateGrammar.{SpellsCertificate}
-use Rattle.solver.specs.Parts.{graph_of}
+use Rattle.merging.specs.Parts.{graph_of}
 use Rattle.runs.proofs.Certifying.{puts}
-use Rattle.solver.proofs.SolvedPart.{graph_is}
+use Rattle.merging.proofs.SolvedPart.{graph_is}
 use Rattle.runs.proofs.solve.put_certificate.Goals as goal
 
 pub returns-in-Some : goal.returns-in-Some

@@ -1,5 +1,5 @@
 -- The certificate that was written shows the pit.
-use Rattle.solver.proofs.Shown.{certificate_shows}
+use Rattle.merging.proofs.Shown.{certificate_shows}
 use Rattle.runs.proofs.solve.solve_mine.Goals as goal
 
 pub returns-clause-shown : goal.returns-clause-shown

@@ -1,4 +1,4 @@
-use Rattle.solver.proofs.Shown.{certificate_shows}
+use Rattle.merging.proofs.Shown.{certificate_shows}
 use Rattle.solver.proofs.by_mode.find_pit.Goals as goal
 
 pub returns-in_ok-find_certificate-in_default-clause-shown : goal.returns-in_ok-find_certificate-in_default-clause-shown

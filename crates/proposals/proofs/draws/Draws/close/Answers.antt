@@ -5,12 +5,12 @@ use Rattle.proposals.proofs.Drawing.{may_enter, may_gather, all_seen, no_seats, 
 use Rattle.proposals.proofs.draws.Draws.close.Goals as goal
 
 pub load_new_seat-requires : goal.load_new_seat-requires
-load_new_seat-requires g c = (omega (arith, c.args.self.wide), may_enter c.args.self.counter.shared.key c.args.self.counter.shared.table_id.slots 0)
+load_new_seat-requires g c = (omega (arith, c.self.inside.wide), may_enter c.self.inside.counter.shared.key c.self.inside.counter.shared.table_id.slots 0)
 
 pub join_seat-requires : goal.join_seat-requires
 join_seat-requires g c =
     let s = c.seat.invariant in
-    (c.loop-seat.invariant.table, s.table ∙ sym c.args.self.named, s.empty, omega (arith, c.args.self.wide), may_gather c.args.self.counter.shared.key c.loop-seat.all.id c.seat.inside.seat.id c.loop-seat.all.me.0 c.seat.inside.seat.me.0 (omega (arith, s.one)))
+    (c.loop-seat.invariant.table, s.table ∙ sym c.self.inside.named, s.empty, omega (arith, c.self.inside.wide), may_gather c.self.inside.counter.shared.key c.loop-seat.all.id c.seat.inside.seat.id c.loop-seat.all.me.0 c.seat.inside.seat.me.0 (omega (arith, s.one)))
 
 pub loop-seat-preserved : goal.loop-seat-preserved
 loop-seat-preserved g c =
@@ -36,6 +36,6 @@ pub returns : goal.returns
 returns g c =
     let i = c.loop-seat.invariant in
     let none : c.loop-seat.seats.items ≡ [] = no_seats c.loop-seat.seats.items (omega (arith, c.loop-seat.seats.ok.0, c.in_default.ensures.cases.0)) in
-    let full : c.loop-seat.all.me.0.seats ≡ c.args.self.counter.shared.key.seats = let l = ap length none in omega (arith, l, i.counts, c.requires.every, c.args.self.keyed) in
-    let seen = all_seen c.args.self.counter.shared.key c.loop-seat.all.id c.loop-seat.all.me.0 _ _ c.word-stands_at.result c.close_with-closed.ensures.values.2 full c.word-stands_at.ensures in
+    let full : c.loop-seat.all.me.0.seats ≡ c.self.inside.counter.shared.key.seats = let l = ap length none in omega (arith, l, i.counts, c.requires.every, c.self.inside.keyed) in
+    let seen = all_seen c.self.inside.counter.shared.key c.loop-seat.all.id c.loop-seat.all.me.0 _ _ c.word-stands_at.result c.close_with-closed.ensures.values.2 full c.word-stands_at.ensures in
     λ x. let h = i.tells x in let e = ap (λ l. times x (all_drawn l)) none in sym (omega (arith, h, e)) ∙ seen x

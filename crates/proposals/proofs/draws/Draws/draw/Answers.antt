@@ -8,8 +8,8 @@ use Rattle.proposals.proofs.draws.Draws.draw.Goals as goal
 pub fetch_add-found-requires : goal.fetch_add-found-requires
 fetch_add-found-requires g c =
     let i = c.seat.invariant in
-    let w = c.args.self.now.wide in
-    (i.table ∙ sym c.args.self.now.named, omega (arith, w), may_draw c.args.self.now.counter.shared.key c.args.self.now.counter.shared.table_id.slots c.seat.inside.seat.id c.seat.inside.seat.me i.one (i.ended_is ∙ ap one_if c.if-seat.false))
+    let w = c.self.inside.wide in
+    (i.table ∙ sym c.self.inside.named, omega (arith, w), may_draw c.self.inside.counter.shared.key c.self.inside.counter.shared.table_id.slots c.seat.inside.seat.id c.seat.inside.seat.me i.one (i.ended_is ∙ ap one_if c.if-seat.false))
 
 pub invariant_of-seat : goal.invariant_of-seat
 invariant_of-seat g c =

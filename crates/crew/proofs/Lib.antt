@@ -1,0 +1,3 @@
+pub mod FirstFound
+pub mod Known
+pub mod Sharing

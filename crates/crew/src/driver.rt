@@ -1,0 +1,111 @@
+//! What the driver does between sweeps and at the end: it decides the first merger arc, and answers by the tree that is left.
+ghost use Rattle.std.specs.Prelude.{◌≡◌, filter, nat_lt, IfOk, IfErr};
+ghost use Rattle.faults.specs.Refused.{no_memory};
+ghost use Rattle.pit_model.specs.Tree.{is_merger};
+ghost use Rattle.pit_model.specs.FirstRun.{IsFirstMerger};
+ghost use Rattle.crew.specs.Solved.{EndsBy, DecidesFirst, IsEnded, IsSolvedTogether};
+
+use certificate::of_tree;
+use faults::Fault;
+use merging::Outcome;
+use norm_tree::NormTree;
+use rayon::prelude::*;
+use std::sync::Wait;
+use std::thread::Threads;
+use tree_lock::{Entry, Holder, Site, Verdict};
+
+// The merger arc with the least number, over as many threads as there are processors; None where there is none.
+fn first_merger<R: Threads + Sync>(rt: &R, tree: &NormTree) -> Option<u32>
+    ensures { IsFirstMerger tree.now.mine tree.now.tree result }
+{
+    (0..tree.instance().graph().arcs())
+        .into_par_iter()
+        .find_first(
+            rt,
+            |arc: &u32| -> bool
+                ensures { result ≡ is_merger tree.entry.now.mine tree.entry.now.tree arc.now }
+            { tree.is_merger(*arc) },
+        )
+}
+
+/// Decides the merger arc with the least number, with an entry under the driver's seat; None where none is left.
+/// Refused for want of memory alone, and then nothing changed.
+pub fn decide_first<S: Site, R: Threads + Wait + Sync>(
+    rt: &R,
+    holder: &mut Holder<S>,
+) -> Result<Option<Verdict>, Fault>
+    ensures decided { IfOk result (DecidesFirst holder.old holder.new) }
+    ensures refused { IfErr result (λ e. e ≡ no_memory) }
+{
+    holder.law();
+    match first_merger(rt, holder.tree()) {
+        None => Ok(None),
+        Some(arc) => Ok(Some(holder.apply(rt, arc)?)),
+    }
+}
+
+/// Decides the first merger arc again and again, until none is left or the budget is used up.
+/// Refused for want of memory alone.
+pub fn finish<S: Site, R: Threads + Wait + Sync>(
+    rt: &R,
+    holder: &mut Holder<S>,
+) -> Result<(), Fault>
+    ensures ended { IfOk result (λ _. IsEnded holder.new) }
+    ensures refused { IfErr result (λ e. e ≡ no_memory) }
+{
+    holder.law();
+    'mergers: while let Some(verdict) = decide_first(rt, holder)? {
+        match verdict {
+            Verdict::Spent => return Ok(()),
+            Verdict::Applied | Verdict::Stale => {}
+        }
+        holder.law();
+    }
+    Ok(())
+}
+
+// The certificate of the holder's tree, or that the budget is used up.
+fn outcome_of<S: Site>(holder: &Holder<S>) -> Result<Outcome, Fault>
+    requires { IsEnded holder.now }
+    ensures ends { IfOk result (EndsBy holder.now.mine holder.now.budget holder.now.journal) }
+    ensures refused { IfErr result (λ e. e ≡ no_memory) }
+{
+    holder.law();
+    if let Some(certificate) = of_tree(holder.tree())? {
+        return Ok(Outcome::Pit(certificate));
+    }
+    match holder.budget() {
+        Some(budget) => Ok(Outcome::Exhausted(budget)),
+        None => unreachable!(),
+    }
+}
+
+// Leaves out the entries of arcs that the mine does not have. Workers ask for none, and each would be stale; but a seat's
+// type does not say so.
+fn keep_known(journal: &mut Vec<Entry>, arcs: u32)
+    ensures { journal.new.items ≡ filter (λ entry. nat_lt entry.arc arcs) journal.old.items }
+{
+    let mut kept = 0;
+    for i in 0..journal.len() {
+        if journal[i].arc < arcs {
+            journal.swap(kept, i);
+            kept += 1;
+        }
+    }
+    journal.truncate(kept);
+}
+
+/// The outcome of the holder's tree, and its journal. Refused for want of memory alone.
+pub fn end_of<S: Site, R: Wait>(rt: &R, holder: Holder<S>) -> Result<(Outcome, Vec<Entry>), Fault>
+    requires { IsEnded holder }
+    ensures solved { IfOk result (λ r. IsSolvedTogether S.mine S.workers S.budget r.0 r.1.items) }
+    ensures refused { IfErr result (λ e. e ≡ no_memory) }
+{
+    holder.law();
+    let outcome = outcome_of(&holder);
+    let arcs = holder.tree().instance().graph().arcs();
+    let (_, mut journal) = holder.into_parts(rt);
+    let outcome = outcome?;
+    keep_known(&mut journal, arcs);
+    Ok((outcome, journal))
+}

@@ -1,0 +1,139 @@
+//! Many workers solve one instance at one tree: each asks for merger arcs on the board, and whoever holds the lock decides what
+//! stands there (flat combining: Hendler, Incze, Shavit and Tzafrir 2010). The driver makes what they left over.
+ghost use Rattle.std.specs.Prelude.{◌≡◌, IfOk, IfErr};
+ghost use Rattle.faults.specs.Refused.{no_seat, IsNoRoom};
+ghost use Rattle.pit_model.specs.Tree.{opening};
+ghost use Rattle.crew.specs.Solved.{IsSolvedTogether};
+
+use crate::driver::{end_of, finish};
+use crate::gate::Gate;
+use crate::guide::Guide;
+use crate::sweeps::Crew;
+use crate::worker::Worker;
+use faults::Fault;
+use merging::Outcome;
+use mine_graph::Instance;
+use norm_tree::NormTree;
+use proposals::{Board, UnnamedBoard, WorkerSeat};
+use std::alloc::Global;
+use std::marker::Brand;
+use std::sync::Wait;
+use std::thread::Threads;
+use tree_lock::{Entry, Holder, SharedTree, Site, UnnamedList};
+
+// What a solve begins with: the opening tree and its budget, and the list of mergers and the board, which have no name yet.
+struct Beginning {
+    tree: NormTree,
+    budget: Option<u64>,
+    list: UnnamedList,
+    unnamed: UnnamedBoard,
+}
+
+// A worker for each seat at the board, with a seat to look from.
+fn workers_of<S: Site>(
+    alloc: Global,
+    shared: &SharedTree<S>,
+    seats: Vec<WorkerSeat<S>>,
+) -> Result<Vec<Worker<S>>, Fault>
+    ensures { IfErr result IsNoRoom }
+{
+    let mut workers = Vec::with_capacity(alloc, seats.len())?;
+    let mut number = 0u32;
+    for seat in seats {
+        number = number.saturating_add(1);
+        workers.push(Worker::new(number, seat, shared.look_seat()?))?;
+    }
+    Ok(workers)
+}
+
+fn solve_at<S: Site + Send + Sync, G: Gate + Sync, R: Threads + Wait + Sync>(
+    rt: &R,
+    alloc: Global,
+    begun: Beginning,
+    chunk: u32,
+    gate: &G,
+) -> Result<(Outcome, Vec<Entry>), Fault>
+    requires book { begun.list ≡ S.book }
+    requires opening { begun.tree.tree ≡ opening begun.tree.mine }
+    requires mine { begun.tree.mine ≡ S.mine }
+    requires budget { begun.budget ≡ S.budget }
+    requires board { begun.unnamed ≡ S.board }
+    requires workers { begun.unnamed.words ≡ S.workers }
+    ensures solved { IfOk result (λ r. IsSolvedTogether S.mine S.workers S.budget r.0 r.1.items) }
+    ensures refused { IfErr result IsNoRoom }
+{
+    let Beginning {
+        tree,
+        budget,
+        list,
+        unnamed,
+    } = begun;
+    let guide = Guide::new(alloc, &tree)?;
+    let (board, seats, holder_seat) = Board::<S>::new(alloc, unnamed)?;
+    let mut shared = SharedTree::<S>::new(alloc, list, tree, budget, &board, holder_seat)?;
+    let swept = match workers_of(alloc, &shared, seats) {
+        Ok(workers) => {
+            let mut crew = Crew {
+                board: &board,
+                workers,
+                guide,
+                chunk,
+                gate,
+            };
+            crew.run(rt, alloc, &mut shared)
+        }
+        Err(fault) => Err(fault),
+    };
+    end_after(rt, shared.into_holder(), swept)
+}
+
+// What the driver makes of the holder after the sweeps. The holder is given up where they were refused.
+fn end_after<S: Site, R: Threads + Wait + Sync>(
+    rt: &R,
+    holder: Holder<S>,
+    swept: Result<(), Fault>,
+) -> Result<(Outcome, Vec<Entry>), Fault>
+    requires { IfErr swept IsNoRoom }
+    ensures solved { IfOk result (λ r. IsSolvedTogether S.mine S.workers S.budget r.0 r.1.items) }
+    ensures refused { IfErr result IsNoRoom }
+{
+    if let Err(fault) = swept {
+        holder.into_parts(rt);
+        return Err(fault);
+    }
+    let mut holder = holder;
+    match finish(rt, &mut holder) {
+        Ok(()) => end_of(rt, holder),
+        Err(fault) => {
+            holder.into_parts(rt);
+            Err(fault)
+        }
+    }
+}
+
+/// Solves with so many workers, 1 to 64, at one tree, each of which draws so many arcs at once, and gives the journal of what
+/// was decided: it is lawful for the instance and the budget, whatever the schedule. `Exhausted` comes where the budget is
+/// used up and a merger arc is left. The gate is told of the workers' steps.
+///
+/// Refused for want of memory (1), and where a seat was refused or a worker could not be started (22); those that were have
+/// then ended.
+pub fn solve_shared<G: Gate + Sync, R: Threads + Wait + Sync>(
+    rt: &R,
+    alloc: Global,
+    instance: &Instance,
+    workers: u32,
+    budget: Option<u64>,
+    chunk: u32,
+    gate: &G,
+) -> Result<(Outcome, Vec<Entry>), Fault>
+    ensures solved { IfOk result (λ r. IsSolvedTogether instance.now workers budget r.0 r.1.items) }
+    ensures refused { IfErr result IsNoRoom }
+{
+    let begun = Beginning {
+        tree: NormTree::start(alloc, instance)?,
+        budget,
+        list: UnnamedList::new()?,
+        unnamed: UnnamedBoard::new(alloc, workers)?,
+    };
+    solve_at::<Brand, G, R>(rt, alloc, begun, chunk, gate)
+}

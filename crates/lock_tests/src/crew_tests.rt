@@ -1,0 +1,129 @@
+//! Workers at one tree: that two of them work at once, that their asks make the mergers, and that the journal leads to the
+//! same tree when it is followed by one thread. Which worker does what differs from run to run.
+use crate::mines::{cut_once, dug_whole, pairs_of_blocks};
+use crate::outcomes::{exhausted_at, leads_to, mergers_in, pit_in};
+use crew::{Gate, OpenGate, solve_shared};
+use std::sync::atomic::{AtomicBool, Ordering};
+use std::test::*;
+use std::thread;
+
+// Holds each of two workers back at its first ask until both have asked, and then the first until the second was served.
+#[derive(Drop)]
+struct Meeting {
+    asked: [AtomicBool; 2],
+    served: AtomicBool,
+    is_over: AtomicBool,
+}
+
+impl Meeting {
+    fn new() -> Meeting {
+        Meeting {
+            asked: [AtomicBool::new(false), AtomicBool::new(false)],
+            served: AtomicBool::new(false),
+            is_over: AtomicBool::new(false),
+        }
+    }
+
+    // Waits a million turns at most.
+    fn wait_for(&self, flag: &AtomicBool) {
+        for _turn in 0..1_000_000 {
+            if flag.load(Ordering::SeqCst) {
+                return;
+            }
+            thread::yield_now();
+        }
+        self.is_over.store(true, Ordering::SeqCst);
+    }
+}
+
+impl Gate for Meeting {
+    fn asked(&self, worker: u32) {
+        let first = worker == 1;
+        self.asked[usize::from(!first)].store(true, Ordering::SeqCst);
+        self.wait_for(&self.asked[usize::from(first)]);
+        if first {
+            self.wait_for(&self.served);
+        }
+    }
+
+    fn served(&self, worker: u32) {
+        if worker == 2 {
+            self.served.store(true, Ordering::SeqCst);
+        }
+    }
+}
+
+#[test]
+fn two_workers_work_at_once(rt: HostRuntime) -> Result<(), Fail> {
+    let mine = pairs_of_blocks(rt.alloc(), 2)?;
+    let gate = Meeting::new();
+    let (outcome, journal) = solve_shared(&rt, rt.alloc(), &mine, 2, None, 1, &gate)?;
+    assert!(rt;
+        !gate.is_over.load(Ordering::SeqCst),
+        "both asked before either was served"
+    );
+    assert_eq!(rt; pit_in(&outcome), Some([0, 1, 2, 3].as_slice()));
+    assert_eq!(rt; (journal.len(), mergers_in(&journal)), (2, 2));
+    for number in 0..2 {
+        let is_asked = journal.iter().any(|entry| entry.arc == number);
+        assert!(rt; is_asked, "arc {number} was asked for");
+        let has_asked = journal.iter().any(|entry| entry.seat == number + 1);
+        assert!(rt; has_asked, "a merger is of worker {number} from 0");
+    }
+    Ok(())
+}
+
+#[test]
+fn asks_of_workers_make_the_mergers(rt: HostRuntime) -> Result<(), Fail> {
+    let mine = pairs_of_blocks(rt.alloc(), 1000)?;
+    let (_, journal) = solve_shared(&rt, rt.alloc(), &mine, 2, None, 1, &OpenGate)?;
+    assert_eq!(rt; (journal.len(), mergers_in(&journal)), (1000, 1000));
+    let by_driver = journal.iter().any(|entry| entry.seat == 0);
+    assert!(rt; !by_driver, "no merger is the driver's");
+    let mut seen = vec![in rt.alloc(); false; 1000]?;
+    for entry in journal.as_slice() {
+        match seen.get_mut(entry.arc as usize) {
+            Some(seen) if !*seen => *seen = true,
+            _ => assert!(rt; false, "each arc is merged over once"),
+        }
+    }
+    Ok(())
+}
+
+#[test]
+fn workers_find_the_pit(rt: HostRuntime) -> Result<(), Fail> {
+    let mine = cut_once(rt.alloc())?;
+    for workers in 1..5 {
+        let (outcome, journal) = solve_shared(&rt, rt.alloc(), &mine, workers, None, 1, &OpenGate)?;
+        assert_eq!(rt;
+            pit_in(&outcome),
+            Some([1, 2].as_slice()),
+            "with {workers} workers"
+        );
+        let is_led = leads_to(rt.alloc(), &mine, &journal, &[1, 2])?;
+        assert!(rt;
+            is_led,
+            "one thread follows the journal of {workers} workers to the pit"
+        );
+    }
+    Ok(())
+}
+
+#[test]
+fn workers_stop_at_the_budget(rt: HostRuntime) -> Result<(), Fail> {
+    let mine = dug_whole(rt.alloc())?;
+    for workers in 1..3 {
+        let (outcome, journal) = solve_shared(
+            &rt,
+            rt.alloc(),
+            &mine,
+            workers,
+            Some(2),
+            1,
+            &OpenGate,
+        )?;
+        assert_eq!(rt; exhausted_at(&outcome), Some(2), "with {workers} workers");
+        assert_eq!(rt; mergers_in(&journal), 2, "with {workers} workers");
+    }
+    Ok(())
+}

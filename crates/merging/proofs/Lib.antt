@@ -1,0 +1,7 @@
+pub mod Falling
+pub mod FirstMergers
+pub mod Gathered
+pub mod Joining
+pub mod Ordering
+pub mod Shown
+pub mod SolvedPart

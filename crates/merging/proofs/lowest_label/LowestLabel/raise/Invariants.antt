@@ -1,0 +1,6 @@
+-- The number of blocks stays.
+use Rattle.std.proofs.Common.{◌≡◌}
+use Rattle.merging.proofs.lowest_label.LowestLabel.raise.Given as goal
+
+abbrev pub invariant-loop-place : goal.invariant-loop-place
+invariant-loop-place l = l.self ≡ l.initial.self

@@ -1,0 +1,3 @@
+pub mod Solved
+pub mod Order
+pub mod Parts

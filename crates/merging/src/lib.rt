@@ -1,0 +1,18 @@
+//! Solves an instance without sharing the tree: by one thread, or by its parts at once. It merges until no merger arc is left,
+//! and gives the certificate of the tree, or the pit alone, or says that the budget of mergers is used up.
+#![tactic(auto)]
+
+mod closing;
+mod first_mergers;
+mod joined;
+mod lowest_label;
+mod outcome;
+mod parts;
+mod single;
+mod solved_part;
+mod waiting;
+
+pub use lowest_label::merge_by_lowest_label;
+pub use outcome::Outcome;
+pub use parts::{pit_by_parts, solve_parts};
+pub use single::{pit_of, solve_single};

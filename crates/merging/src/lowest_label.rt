@@ -1,0 +1,323 @@
+//! The order of mergers by lowest label (Hochbaum 2008; Chandran and Hochbaum 2009). It proposes arcs and proves nothing:
+//! the tree decides each merger, and what the order leaves over the closing loop of `single` finds.
+//!
+//! A label is a lower bound on how far a block is from the weak ones: 0 at first for a weak block, 1 for a strong one.
+//! A turn takes a strong root of the lowest label and looks, in its branch, for a pair to a block one label lower. Where
+//! it finds one the branches merge; else the blocks of that label in the branch get the next one.
+ghost use Rattle.std.specs.Prelude.{◌≡◌, ◌<◌, ◌≤◌, ◌+◌, length, IfOk, IfErr, IfSome};
+ghost use Rattle.faults.specs.Refused.{no_memory};
+ghost use Rattle.forest.specs.Forest.{size};
+ghost use Rattle.merging.specs.Order.{AreBelow};
+
+use crate::waiting::Waiting;
+use faults::Fault;
+use forest::Forest;
+use mine_graph::Graph;
+use norm_tree::BareTree;
+use std::alloc::{AllocError, Global};
+use std::marker::Model;
+use std::ops::Range;
+
+/// To a contract it is the number of blocks.
+#[derive(Drop)]
+pub struct LowestLabel {
+    labels: Vec<u32>,
+    /// The arc of each block from which the look for a lower label goes on.
+    arcs: Vec<u32>,
+    /// How many blocks have each label.
+    counts: Vec<u32>,
+    /// The blocks of one label in the branch that a turn looks through, and how many they are.
+    branch: Vec<u32>,
+    found: usize,
+    waiting: Waiting,
+}
+
+impl Model for LowestLabel {
+    ghost use Rattle.std.specs.Prelude.{◌≡◌, ℕ, length};
+    ghost use Rattle.merging.specs.Order.{AreOrdered};
+
+    ghost Value = { ℕ };
+
+    ghost view = { λ o. length o.labels.items };
+
+    ghost invariant = { λ o. AreOrdered (length o.labels.items) o.labels.items o.arcs.items o.counts.items o.branch.items o.found × (o.waiting ≡ length o.labels.items) };
+}
+
+/// The first arc of each block.
+fn first_arcs(alloc: Global, graph: &Graph) -> Result<Vec<u32>, AllocError>
+    ensures { IfOk result (λ v. length v.items ≡ graph.now.blocks) }
+{
+    Ok(
+        (0..graph.n())
+            .map(|u| graph.arcs_of(u).start)
+            .collect(alloc)?,
+    )
+}
+
+/// The first pair in a range of numbers that leads to a block with this label.
+fn first_to(graph: &Graph, labels: &[u32], arcs: Range<u32>, label: u32) -> Option<u32>
+    requires labels { length labels.now ≡ graph.now.blocks }
+    requires arcs { arcs.end ≤ length graph.now.pairs }
+{
+    graph.law();
+    for arc in arcs.start..arcs.end {
+        let needed = graph.arc(arc).1;
+        if labels[needed as usize] == label {
+            return Some(arc);
+        }
+    }
+    None
+}
+
+/// Adds the children of a block that have this label to the branch, of which so many blocks are found; it answers how many
+/// are then.
+fn add_children(
+    forest: &Forest,
+    block: u32,
+    labels: &[u32],
+    label: u32,
+    branch: &mut [u32],
+    found: usize,
+) -> usize
+    requires block { block < size forest.now }
+    requires labels { length labels.now ≡ size forest.now }
+    requires room { length branch.old ≡ size forest.now }
+    requires found { found ≤ size forest.now }
+    requires branch { AreBelow branch.old (size forest.now) }
+    ensures branch { AreBelow branch.new (size forest.now) }
+    ensures found { result ≤ size forest.now }
+{
+    forest.law();
+    let mut found = found;
+    let mut next = forest.first_child(block);
+    for _child in 0..forest.blocks() {
+        match next {
+            Some(child) if found < branch.len() => {
+                if labels[child as usize] == label {
+                    branch[found] = child;
+                    found += 1;
+                }
+                next = forest.next_sibling(child);
+            }
+            _ => return found,
+        }
+    }
+    found
+}
+
+impl LowestLabel {
+    /// Each block has label 0, and none waits. Refused for want of memory alone.
+    fn opening(alloc: Global, graph: &Graph) -> Result<LowestLabel, Fault>
+        ensures blocks { IfOk result (λ o. o ≡ graph.now.blocks) }
+        ensures no_memory { IfErr result (λ e. e ≡ no_memory) }
+    {
+        graph.law();
+        let n = graph.n() as usize;
+        let mut counts = vec![in alloc; 0; n + 2]?;
+        counts[0] = graph.n();
+        Ok(LowestLabel {
+            labels: vec![in alloc; 0; n]?,
+            arcs: first_arcs(alloc, graph)?,
+            counts,
+            branch: vec![in alloc; 0; n]?,
+            found: 0,
+            waiting: Waiting::new(alloc, graph.n())?,
+        })
+    }
+
+    /// The order at a tree: the strong roots wait. Refused for want of memory alone.
+    pub fn new(alloc: Global, tree: &BareTree) -> Result<LowestLabel, Fault>
+        ensures blocks { IfOk result (λ o. o ≡ tree.now.mine.blocks) }
+        ensures no_memory { IfErr result (λ e. e ≡ no_memory) }
+    {
+        let graph = tree.instance().graph();
+        let mut order = LowestLabel::opening(alloc, graph)?;
+        for root in 0..graph.n() {
+            order.wait(tree, root);
+        }
+        Ok(order)
+    }
+
+    /// Lets a block wait where it is a strong root.
+    fn wait(&mut self, tree: &BareTree, block: u32)
+        requires same { self.old ≡ tree.now.mine.blocks }
+        requires block { block < self.old }
+        ensures { self.new ≡ self.old }
+    {
+        if tree.parent(block).is_some() || tree.excess(block) <= 0 {
+            return;
+        }
+        if self.labels[block as usize] == 0 {
+            self.relabel(block, 1);
+        }
+        let label = self.labels[block as usize];
+        self.waiting.push(label, block);
+    }
+
+    /// Gives a block another label.
+    fn relabel(&mut self, block: u32, label: u32)
+        requires block { block < self.old }
+        requires label { label < self.old + 2 }
+        ensures { self.new ≡ self.old }
+    {
+        let old = self.labels[block as usize] as usize;
+        self.counts[old] = self.counts[old].saturating_sub(1);
+        self.counts[label as usize] = self.counts[label as usize].saturating_add(1);
+        self.labels[block as usize] = label;
+    }
+
+    /// The first pair of a block, from its kept arc on, that leads to a block with this label.
+    fn scan(&mut self, graph: &Graph, block: u32, label: u32) -> Option<u32>
+        requires same { self.old ≡ graph.now.blocks }
+        requires block { block < self.old }
+        ensures same { self.new ≡ self.old }
+    {
+        let end = graph.arcs_of(block).end;
+        let from = self.arcs[block as usize];
+        let arc = first_to(graph, &self.labels, from..end, label);
+        self.arcs[block as usize] = arc.unwrap_or(end);
+        arc
+    }
+
+    /// The branch that is looked through begins with its root.
+    fn begin(&mut self, root: u32)
+        requires { root < self.old }
+        ensures { self.new ≡ self.old }
+    {
+        self.branch[0] = root;
+        self.found = 1;
+    }
+
+    /// The block that was found at a place, if so many were found.
+    fn found_at(&self, place: usize) -> Option<u32>
+        ensures { IfSome result (λ u. u < self.now) }
+    {
+        if place < self.found {
+            Some(self.branch[place])
+        } else {
+            None
+        }
+    }
+
+    /// Adds the children of a block that have this label to those that were found.
+    fn find_children(&mut self, forest: &Forest, block: u32, label: u32)
+        requires same { self.old ≡ size forest.now }
+        requires block { block < self.old }
+        ensures { self.new ≡ self.old }
+    {
+        self.found = add_children(
+            forest,
+            block,
+            &self.labels,
+            label,
+            &mut self.branch,
+            self.found,
+        );
+    }
+
+    /// Looks through the branch of a root, along the blocks with its label, for a pair to a block one label lower.
+    fn look(&mut self, tree: &BareTree, root: u32, label: u32) -> Option<u32>
+        requires same { self.old ≡ tree.now.mine.blocks }
+        requires root { root < self.old }
+        requires label { 0 < label }
+        ensures { self.new ≡ self.old }
+    {
+        tree.law();
+        self.begin(root);
+        for place in 0..tree.forest().blocks() as usize {
+            let block = self.found_at(place)?;
+            let arc = self.scan(tree.instance().graph(), block, label - 1);
+            if arc.is_some() {
+                return arc;
+            }
+            self.find_children(tree.forest(), block, label);
+        }
+        None
+    }
+
+    /// Gives the blocks that were found the next label, and lets their root wait for a turn with it.
+    fn raise(&mut self, graph: &Graph, root: u32, label: u32)
+        requires same { self.old ≡ graph.now.blocks }
+        requires root { root < self.old }
+        requires label { label + 1 < self.old + 2 }
+        ensures { self.new ≡ self.old }
+    {
+        graph.law();
+        for place in 0..graph.n() as usize {
+            match self.found_at(place) {
+                Some(block) => {
+                    self.relabel(block, label + 1);
+                    self.arcs[block as usize] = graph.arcs_of(block).start;
+                }
+                None => break,
+            }
+        }
+        self.waiting.push(label + 1, root);
+    }
+
+    /// Lets the strong roots of the last merger's path wait.
+    fn wait_along(&mut self, tree: &BareTree)
+        requires same { self.old ≡ tree.now.mine.blocks }
+        ensures { self.new ≡ self.old }
+    {
+        tree.law();
+        for block in tree.path() {
+            self.wait(tree, *block);
+        }
+    }
+
+    /// Merges over the arc, and lets the strong roots that its path then has wait; it answers whether the tree merged.
+    fn merge(&mut self, tree: &mut BareTree, arc: u32) -> bool
+        requires same { self.old ≡ tree.old.mine.blocks }
+        ensures same { self.new ≡ self.old }
+        ensures mine { tree.new.mine ≡ tree.old.mine }
+    {
+        if !tree.try_merge(arc) {
+            return false;
+        }
+        self.wait_along(tree);
+        true
+    }
+
+    /// One turn; it answers whether there may be another. It ends where no block is one label lower than the lowest strong
+    /// root: then no strong branch reaches a weak block.
+    fn turn(&mut self, tree: &mut BareTree) -> bool
+        requires same { self.old ≡ tree.old.mine.blocks }
+        ensures same { self.new ≡ self.old }
+        ensures mine { tree.new.mine ≡ tree.old.mine }
+    {
+        let Some((label, root)) = self.waiting.pop() else {
+            return false;
+        };
+        if label == 0
+            || self.counts[label as usize - 1] == 0
+            || label > tree.instance().graph().n()
+        {
+            return false;
+        }
+        match self.look(tree, root, label) {
+            Some(arc) => self.merge(tree, arc),
+            None => {
+                self.raise(tree.instance().graph(), root, label);
+                true
+            }
+        }
+    }
+}
+
+/// So many turns no run takes: a bound that the loop ends by, whatever the order does.
+const MOST_TURNS: u64 = 1 << 63;
+
+/// Makes mergers by lowest label. Refused for want of memory alone, and then it made none.
+pub fn merge_by_lowest_label(alloc: Global, tree: &mut BareTree) -> Result<(), Fault>
+    ensures mine { tree.new.mine ≡ tree.old.mine }
+    ensures refused { IfErr result (λ e. (e ≡ no_memory) × (tree.new ≡ tree.old)) }
+{
+    let mut order = LowestLabel::new(alloc, tree)?;
+    for _turn in 0..MOST_TURNS {
+        if !order.turn(tree) {
+            break;
+        }
+    }
+    Ok(())
+}

@@ -1,0 +1,128 @@
+//! Each part of an instance that no pair joins to another is solved by itself, several at once. What the parts answer is
+//! written where their blocks and pairs stand in the whole: each condition of a certificate speaks of one block and its
+//! pairs, so the certificates of the parts are together one of the whole (Picard 1976: a closed set of a graph is one of each
+//! of its parts).
+ghost use Rattle.std.specs.Prelude.{◌≡◌, ◌<◌, ℕ, false, pos, length, get_or, IfOk, IfErr, IfSome, MatchResult};
+ghost use Rattle.std.specs.List.{All, AllZip};
+ghost use Rattle.faults.specs.Refused.{no_memory};
+ghost use Rattle.pit_model.specs.Mine.{value};
+ghost use Rattle.certificate.specs.Certificate.{IsCertificateOf};
+ghost use Rattle.certificate.specs.Check.{ShowsPit};
+ghost use Rattle.merging.specs.Parts.{graph_of, IsPartOf, IsSolvedPart};
+
+use crate::joined::join_parts;
+use crate::single::{certificate_of, pit_of};
+use crate::solved_part::SolvedPart;
+use certificate::Certificate;
+use faults::Fault;
+use mine_graph::{Graph, Instance, Part};
+use rayon::prelude::*;
+use std::alloc::{AllocError, Global};
+use std::sync::Arc;
+use std::thread::Threads;
+
+// The values of some blocks.
+fn values_of(alloc: Global, instance: &Instance, blocks: &[u32]) -> Result<Vec<i128>, AllocError>
+    requires { (u : ℕ) → u < length blocks.now → get_or blocks.now u 0 < instance.now.blocks }
+    ensures count { IfOk result (λ v. length v.items ≡ length blocks.now) }
+    ensures each { IfOk result (λ v. (u : ℕ) → u < length blocks.now → get_or v.items u (pos 0) ≡ value instance.now (get_or blocks.now u 0)) }
+{
+    let mut values = Vec::with_capacity(alloc, blocks.len())?;
+    for i in 0..blocks.len() {
+        values.push(instance.value(blocks[i]))?;
+    }
+    Ok(values)
+}
+
+// The part as an instance, with its certificate.
+fn solve_part(alloc: Global, instance: &Instance, part: Part) -> Result<SolvedPart, Fault>
+    requires { IsPartOf instance.now part }
+    ensures { MatchResult result (IsSolvedPart instance.now part) (λ e. e ≡ no_memory) }
+{
+    instance.law();
+    let values = values_of(alloc, instance, &part.blocks)?;
+    let mine = Instance::new(Arc::new(alloc, part.graph)?, values);
+    mine.law();
+    let certificate = certificate_of(alloc, &mine)?;
+    Ok(SolvedPart {
+        blocks: part.blocks,
+        mine,
+        certificate,
+    })
+}
+
+// The parts, each solved, over as many threads as there are processors.
+fn solve_each<R: Threads + Sync>(
+    rt: &R,
+    alloc: Global,
+    instance: &Instance,
+    parts: Vec<Part>,
+) -> Result<Vec<SolvedPart>, Fault>
+    requires { All (IsPartOf instance.now) parts.items }
+    ensures { MatchResult result (λ v. AllZip (IsSolvedPart instance.now) parts.items v.items) (λ e. e ≡ no_memory) }
+{
+    let solved: Result<Vec<SolvedPart>, Fault> = parts
+        .into_par_iter()
+        .with_min_len(1)
+        .map(
+            |part: Part| -> Result<SolvedPart, Fault>
+                requires { IsPartOf instance.now part }
+                ensures { MatchResult result (IsSolvedPart instance.entry.now part) (λ e. e ≡ no_memory) }
+            { solve_part(alloc, instance, part) },
+        )
+        .collect(rt, alloc)?;
+    solved
+}
+
+// The certificates of the parts, joined; None where there are fewer than two parts.
+fn join_of_parts<R: Threads + Sync>(
+    rt: &R,
+    alloc: Global,
+    instance: &Instance,
+) -> Result<Option<Certificate>, Fault>
+    ensures answer { IfOk result (λ joined. IfSome joined (IsCertificateOf instance.now)) }
+    ensures refused { IfErr result (λ e. e ≡ no_memory) }
+{
+    instance.law();
+    let graph: &Graph = instance.graph();
+    let classes = graph.classes()?;
+    if classes.count < 2 {
+        return Ok(None);
+    }
+    let parts = graph.parts_by(&classes)?;
+    let solved = solve_each(rt, alloc, instance, parts)?;
+    Ok(Some(join_parts(alloc, instance, &solved)?))
+}
+
+/// The smallest closed set of greatest worth, with its certificate, by its parts: each class of blocks that pairs join is
+/// solved by itself, several at once in threads. Refused for want of memory alone, also that of a single part.
+pub fn solve_parts<R: Threads + Sync>(
+    rt: &R,
+    alloc: Global,
+    instance: &Instance,
+) -> Result<Certificate, Fault>
+    ensures solved { IfOk result (IsCertificateOf instance.now) }
+    ensures refused { IfErr result (λ e. e ≡ no_memory) }
+{
+    match join_of_parts(rt, alloc, instance)? {
+        Some(joined) => Ok(joined),
+        None => certificate_of(alloc, instance),
+    }
+}
+
+/// The smallest closed set of greatest worth by its parts. Of an instance that is one part no flow is made.
+/// Refused for want of memory alone, also that of a single part.
+pub fn pit_by_parts<R: Threads + Sync>(
+    rt: &R,
+    alloc: Global,
+    instance: &Instance,
+) -> Result<Vec<u32>, Fault>
+    ensures shown { IfOk result (λ pit. ShowsPit instance.now pit.items) }
+    ensures refused { IfErr result (λ e. e ≡ no_memory) }
+{
+    instance.law();
+    match join_of_parts(rt, alloc, instance)? {
+        Some(joined) => Ok(joined.pit),
+        None => pit_of(alloc, instance),
+    }
+}

@@ -1,0 +1,88 @@
+//! One thread solves the whole instance.
+ghost use Rattle.std.specs.Prelude.{◌≡◌, ℕ, false, Some, None, IfOk, IfErr};
+ghost use Rattle.faults.specs.Refused.{no_memory};
+ghost use Rattle.pit_model.specs.Tree.{is_merger};
+ghost use Rattle.certificate.specs.Certificate.{IsCertificateOf};
+ghost use Rattle.certificate.specs.Check.{ShowsPit};
+ghost use Rattle.merging.specs.Solved.{IsSolvedAlone};
+
+use crate::closing::merge_rest;
+use crate::first_mergers::make_first_mergers;
+use crate::lowest_label::merge_by_lowest_label;
+use crate::outcome::Outcome;
+use certificate::{Certificate, of_tree};
+use faults::Fault;
+use mine_graph::Instance;
+use norm_tree::{BareTree, NormTree};
+use std::alloc::Global;
+
+// The tree with no merger arc left, by mergers in whatever order.
+fn solved_tree(alloc: Global, instance: &Instance) -> Result<NormTree, Fault>
+    ensures mine { IfOk result (λ t. t.mine ≡ instance.now) }
+    ensures none_left { IfOk result (λ t. (k : ℕ) → is_merger t.mine t.tree k ≡ false) }
+    ensures refused { IfErr result (λ e. e ≡ no_memory) }
+{
+    let mut bare = BareTree::start(alloc, instance)?;
+    merge_by_lowest_label(alloc, &mut bare)?;
+    merge_rest(NormTree::from_bare(bare)?)
+}
+
+/// The pit with its certificate. Refused for want of memory alone.
+pub(crate) fn certificate_of(alloc: Global, instance: &Instance) -> Result<Certificate, Fault>
+    ensures answer { IfOk result (IsCertificateOf instance.now) }
+    ensures refused { IfErr result (λ e. e ≡ no_memory) }
+{
+    let tree = solved_tree(alloc, instance)?;
+    match of_tree(&tree)? {
+        Some(certificate) => Ok(certificate),
+        None => unreachable!(),
+    }
+}
+
+/// The pit alone: the flow that shows it stays in the tree. Refused for want of memory alone.
+pub fn pit_of(alloc: Global, instance: &Instance) -> Result<Vec<u32>, Fault>
+    ensures shown { IfOk result (λ pit. ShowsPit instance.now pit.items) }
+    ensures refused { IfErr result (λ e. e ≡ no_memory) }
+{
+    let tree = solved_tree(alloc, instance)?;
+    tree.law();
+    tree.pit()
+}
+
+// The pit, by mergers in whatever order.
+fn solve_freely(alloc: Global, instance: &Instance) -> Result<Outcome, Fault>
+    ensures solved { IfOk result (IsSolvedAlone instance.now None) }
+    ensures refused { IfErr result (λ e. e ≡ no_memory) }
+{
+    Ok(Outcome::Pit(certificate_of(alloc, instance)?))
+}
+
+// The pit, where the mergers of the first run end within the budget.
+fn solve_within(alloc: Global, instance: &Instance, budget: u64) -> Result<Outcome, Fault>
+    ensures solved { IfOk result (IsSolvedAlone instance.now (Some budget)) }
+    ensures refused { IfErr result (λ e. e ≡ no_memory) }
+{
+    let mut tree = NormTree::start(alloc, instance)?.indexed()?;
+    make_first_mergers(&mut tree, budget);
+    match of_tree(&tree)? {
+        Some(certificate) => Ok(Outcome::Pit(certificate)),
+        None => Ok(Outcome::Exhausted(budget)),
+    }
+}
+
+/// The smallest closed set of greatest worth, with its certificate. With a budget the mergers are those of the first run,
+/// each over the merger arc with the least number, and `Exhausted` comes exactly where a merger arc is left after as many
+/// as the budget. Refused for want of memory alone.
+pub fn solve_single(
+    alloc: Global,
+    instance: &Instance,
+    budget: Option<u64>,
+) -> Result<Outcome, Fault>
+    ensures solved { IfOk result (IsSolvedAlone instance.now budget) }
+    ensures refused { IfErr result (λ e. e ≡ no_memory) }
+{
+    match budget {
+        None => solve_freely(alloc, instance),
+        Some(budget) => solve_within(alloc, instance, budget),
+    }
+}

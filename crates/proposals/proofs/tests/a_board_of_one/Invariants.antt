@@ -1,5 +1,0 @@
--- The run's board or counter is the one that was just made.
-use Rattle.proposals.proofs.tests.a_board_of_one.Given as goal
-
-abbrev pub ghosts-asks_go_back : goal.ghosts-asks_go_back
-ghosts-asks_go_back g a = record { board = a.unnamed.cells.shared.table_id }

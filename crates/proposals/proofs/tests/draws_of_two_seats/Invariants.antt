@@ -1,5 +1,0 @@
--- The run's board or counter is the one that was just made.
-use Rattle.proposals.proofs.tests.draws_of_two_seats.Given as goal
-
-abbrev pub ghosts-two_seats_draw : goal.ghosts-two_seats_draw
-ghosts-two_seats_draw g a = record { draws = a.unnamed.counter.shared.table_id }

@@ -1,6 +1,0 @@
--- The number of blocks stays.
-use Rattle.std.proofs.Common.{◌≡◌}
-use Rattle.solver.proofs.lowest_label.LowestLabel.look.Given as goal
-
-abbrev pub invariant-loop-place : goal.invariant-loop-place
-invariant-loop-place l = l.self ≡ l.initial.self

@@ -1,6 +1,0 @@
--- The number of blocks stays.
-use Rattle.std.proofs.Common.{◌≡◌}
-use Rattle.solver.proofs.lowest_label.LowestLabel.wait_along.Given as goal
-
-abbrev pub invariant-loop-block : goal.invariant-loop-block
-invariant-loop-block l = l.self ≡ l.initial.self
