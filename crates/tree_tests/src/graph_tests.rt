@@ -8,11 +8,17 @@ use std::test::*;
 
 /// The pairs of a graph are these, in this order, and each is found by its two blocks.
 fn lists(graph: &Graph, pairs: &[(u32, u32)]) -> bool {
-    graph.arcs() as usize == pairs.len()
-        && (0..graph.arcs()).all(|k| {
-            let (from, to) = pairs[k as usize];
-            graph.arc(k) == (from, to) && graph.arc_of(from, to) == Some(k)
-        })
+    if graph.arcs() as usize != pairs.len() {
+        return false;
+    }
+    for k in 0..graph.arcs() {
+        let (from, to) = pairs[k as usize];
+        let is_found = from < graph.n() && graph.arc_of(from, to) == Some(k);
+        if !is_found || graph.arc(k) != (from, to) {
+            return false;
+        }
+    }
+    true
 }
 
 /// The arcs of each block of a graph begin and end with these.
@@ -61,7 +67,8 @@ fn takes_pairs_that_rise_already(rt: HostRuntime) -> Result<(), Fail> {
 
 /// Whether these blocks of a mine are worth so much together, in millionths.
 fn are_worth(mine: &Instance, blocks: &[u32], worth: i128) -> bool {
-    blocks.iter().all(|&u| u < mine.graph().n()) && mine.worth(blocks) == worth
+    let n = mine.graph().n();
+    blocks.len() <= n as usize && blocks.iter().all(|&u| u < n) && mine.worth(blocks) == worth
 }
 
 #[test]
