@@ -9,12 +9,12 @@ use Rattle.minelib_reader.proofs.CheckLemmas.{passed, stopped}
 use Rattle.minelib_reader.proofs.FirstFaultLemmas.{no_fault, that_fault}
 use Rattle.pit_model.specs.Graph.{Graph}
 use Rattle.certificate.specs.CertificateLines.{State, PitAndFlow, step_at, end_at, certificate_from}
-use Rattle.certificate.specs.CertificateFault.{state_or, state_behind, line_fault, fault_behind}
+use Rattle.certificate.specs.CertificateFault.{state_or, state_behind, certificate_line_fault, fault_behind}
 
 module _ (graph : Graph) (count : ℕ) where
   -- behind a line that passes, the places of the others
   behind : (s t : State) (r : Row) (rows : List Row) (k : ℕ) → step_at graph s.due s.pit s.flow r ≡ Ok t → fault_behind graph count s (r ∷ rows) (suc k) ≡ fault_behind graph count t rows k
-  behind s t r rows k h = ap (λ (x : Result State Fault). line_fault graph count (state_behind graph (state_or s x) (take k rows)) (slice_get rows k)) h
+  behind s t r rows k h = ap (λ (x : Result State Fault). certificate_line_fault graph count (state_behind graph (state_or s x) (take k rows)) (slice_get rows k)) h
 
   pub fails_first : (s : State) (rows : List Row) (e : Fault) → certificate_from graph count s rows ≡ Err e → IsFirstFault (fault_behind graph count s rows) e
   unfolding certificate_from

@@ -1,6 +1,6 @@
 -- A text of plain lines has exactly these lines, and a line of words with one space between them exactly these fields;
 -- and the digits that `decimal` writes are read as the number.
-use Rattle.std.proofs.Common.{◌≡◌, ℕ, ◌+◌, ◌-◌, ◌*◌, ◌/◌, ◌%◌, ◌^◌, ◌<◌, ◌≤◌, ◌&&◌, Bool, true, false, cond, eqb, leb, ltb, List, [], ◌∷◌, ◌++◌, length, get_or, take, filter, Some, None, refl, ap, ◌∙◌, arith, ⊎_elim}
+use Rattle.std.proofs.Common.{◌≡◌, ℕ, ◌+◌, ◌-◌, ◌/◌, ◌%◌, ◌^◌, ◌<◌, ◌≤◌, ◌&&◌, Bool, true, false, cond, eqb, leb, ltb, List, [], ◌∷◌, ◌++◌, length, get_or, take, filter, Some, None, refl, ap, ◌∙◌, arith, ⊎_elim}
 use Rattle.std.specs.Prelude.{◌||◌, decimal}
 use Rattle.std.specs.List.{All, slice_split}
 use Rattle.std.specs.Char.{is_ascii_digit}
@@ -12,7 +12,11 @@ use Rattle.std.proofs.lemmas.List.{length_push}
 use Rattle.std.proofs.lemmas.List.Elements.{All-append, All-cons, All-nil}
 use Rattle.std.proofs.lemmas.List.Splits.{slice_split_none, slice_split_at}
 use Rattle.std.proofs.lemmas.Fmt.{decimal_by_steps_wide, length-decimal-le_wide}
-use Rattle.minelib_reader.specs.Number.{number_after, digits_of}
+use Rattle.minelib_reader.specs.Number.{digits_of}
+use Rattle.std.specs.Char.{digit_value}
+use Rattle.std.specs.Str.Parse.{digits_value}
+use Rattle.std.proofs.lemmas.Str.{digit_value_digit}
+use Rattle.std.proofs.lemmas.Int.Digits.{digits_value_push}
 use Rattle.minelib_reader.specs.Text.{is_blank, is_field, fields_of}
 
 -- bytes of a line, and of a word
@@ -83,7 +87,7 @@ next_word w rest h some = ap (filter is_field) (slice_split_at is_blank w 32 res
 
 pub record IsNumeral (n : ℕ) (ds : List ℕ) : Type 0 where
   pub digits : all_ascii_digits ds ≡ true
-  pub value : number_after 0 ds ≡ n
+  pub value : digits_value 10 ds ≡ n
   pub some : 0 < length ds
   pub word : IsWord ds
 
@@ -93,9 +97,8 @@ digits-append (x ∷ xs) ys p q =
     let parts = and_parts (is_ascii_digit x) (all_ascii_digits xs) p in
     and_from (is_ascii_digit x) (all_ascii_digits (xs ++ ys)) parts.0 (digits-append xs ys parts.1 q)
 
-value-append : (n : ℕ) (xs : List ℕ) (c : ℕ) → number_after n (xs ++ c ∷ []) ≡ number_after n xs * 10 + (c - 48)
-value-append n [] c = refl
-value-append n (x ∷ xs) c = value-append (n * 10 + (x - 48)) xs c
+digit_byte : (n : ℕ) → n < 10 → digit_value (48 + n) ≡ n
+digit_byte n small = let sum = digit_value_digit (48 + n) (omega arith, omega arith) in omega (arith, sum)
 
 digit : (n : ℕ) → n < 10 → all_ascii_digits ((48 + n) ∷ []) ≡ true
 digit n small = and_from (is_ascii_digit (48 + n)) true (and_from (leb 48 (48 + n)) (leb (48 + n) 57) (le-leb 48 (48 + n) (omega arith)) (le-leb (48 + n) 57 (omega arith))) refl
@@ -103,7 +106,7 @@ digit n small = and_from (is_ascii_digit (48 + n)) true (and_from (leb 48 (48 + 
 one_digit : (n : ℕ) → n < 10 → IsNumeral n ((48 + n) ∷ [])
 one_digit n small = record {
   digits = digit n small;
-  value = omega arith;
+  value = ap (λ (d : ℕ). 0 + d) (digit_byte n small) ∙ omega arith;
   some = omega arith;
   word = All-cons (λ b. 48 ≤ b) (48 + n) [] (omega arith) (All-nil (λ b. 48 ≤ b));
 }
@@ -113,7 +116,7 @@ more_digits n ds more h =
     let last = one_digit (n % 10) (omega arith) in
     record {
       digits = digits-append ds ((48 + n % 10) ∷ []) h.digits last.digits;
-      value = (let e = value-append 0 ds (48 + n % 10) in let v = h.value in omega arith);
+      value = (let e = digits_value_push 10 ds (48 + n % 10) in let v = h.value in let d = digit_byte (n % 10) (omega arith) in omega (arith, e, v, d));
       some = omega (arith, length_push ds (48 + n % 10));
       word = All-append (λ b. 48 ≤ b) ds ((48 + n % 10) ∷ []) h.word last.word;
     }
@@ -129,4 +132,4 @@ digits_read most n some small fits =
     let test : ((ltb 0 (length (decimal n)) && leb (length (decimal n)) most) && all_ascii_digits (decimal n)) ≡ true =
     and_from (ltb 0 (length (decimal n)) && leb (length (decimal n)) most) (all_ascii_digits (decimal n))
     (and_from (ltb 0 (length (decimal n))) (leb (length (decimal n)) most) (lt-ltb 0 (length (decimal n)) h.some) (le-leb (length (decimal n)) most short)) h.digits in
-    ap (λ (v : Bool). cond v (Some (number_after 0 (decimal n))) None) test ∙ ap (λ (m : ℕ). Some m) h.value
+    ap (λ (v : Bool). cond v (Some (digits_value 10 (decimal n))) None) test ∙ ap (λ (m : ℕ). Some m) h.value

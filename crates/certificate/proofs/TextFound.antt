@@ -41,7 +41,7 @@ module _ (graph : Graph) (count : ℕ) where
   step_back : (s : State) (r : Row) (rows : List Row) (c : PitAndFlow) → certificate_from graph count s (r ∷ rows) ≡ Ok c
       → (t : State) × (step_at graph s.due s.pit s.flow r ≡ Ok t) × (certificate_from graph count t rows ≡ Ok c)
   unfolding certificate_from
-  step_back s r rows c e = passed (step_at graph s.due s.pit s.flow r) (λ t. certificate_from graph count t rows) c e
+  step_back s r rows c e = let line = passed (step_at graph s.due s.pit s.flow r) (λ t. certificate_from graph count t rows) c e in (line.value, line.here, line.behind)
 
   end_back : (from : ℕ) (pit : List ℕ) (now : List ℤ) (c : PitAndFlow) → certificate_from graph count (state (Arc 0 from) pit now) [] ≡ Ok c → pit_and_flow pit now ≡ c
   unfolding certificate_from end_at

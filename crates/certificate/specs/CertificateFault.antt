@@ -18,12 +18,12 @@ state_behind graph s [] = s
 state_behind graph s (r ∷ rows) = state_behind graph (state_or s (step_at graph s.due s.pit s.flow r)) rows
 
 -- the first check that a line breaks in a state, or the end of the text where there is no line
-abbrev pub line_fault : Graph → ℕ → State → Option Row → Option Fault
-line_fault graph count s None = result_err (end_at count s.due s.pit s.flow)
-line_fault graph count s (Some r) = result_err (step_at graph s.due s.pit s.flow r)
+abbrev pub certificate_line_fault : Graph → ℕ → State → Option Row → Option Fault
+certificate_line_fault graph count s None = result_err (end_at count s.due s.pit s.flow)
+certificate_line_fault graph count s (Some r) = result_err (step_at graph s.due s.pit s.flow r)
 
 abbrev pub fault_behind : Graph → ℕ → State → List Row → ℕ → Option Fault
-fault_behind graph count s rows k = line_fault graph count (state_behind graph s (take k rows)) (slice_get rows k)
+fault_behind graph count s rows k = certificate_line_fault graph count (state_behind graph s (take k rows)) (slice_get rows k)
 
 -- the first check that the text breaks in its line with fields number k, counted from 0
 abbrev pub certificate_fault_at : Graph → List ℕ → ℕ → Option Fault

@@ -1,7 +1,6 @@
 //! A pit with the flow that shows that it is the smallest closed set of greatest worth.
 #![tactic(auto)]
 
-mod amount;
 mod conditions;
 mod due;
 mod excess;

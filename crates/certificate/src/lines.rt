@@ -6,10 +6,9 @@ ghost use Rattle.minelib_reader.specs.Answer.{Gives};
 ghost use Rattle.minelib_reader.specs.Text.{row, fields_of};
 ghost use Rattle.certificate.specs.CertificateLines.{in_certificate, one_of, three_of, arc_of, title_line, number_line, same_line, count_line, id_line, arc_line};
 
-use crate::amount::amount_digits;
 use faults::{Fault, Refusal, Source};
 use mine_graph::Graph;
-use minelib_reader::{Row, digits, next_field, two_fields};
+use minelib_reader::{Row, digits, next_field, two_fields, whole_number};
 
 const MOST_AMOUNT: u128 = 1_000_000_000_000_000_000_000_000_000_000;
 
@@ -66,7 +65,7 @@ fn read_number(word: &[u8], r: Row) -> Result<u64, Fault>
     if first != word {
         return Err(in_certificate(Refusal::WrongHeader, r.line));
     }
-    match digits(second, 10) {
+    match whole_number(second) {
         Some(number) => Ok(number),
         None => Err(in_certificate(Refusal::NotWhole, r.line)),
     }
@@ -105,7 +104,7 @@ pub fn read_id(n: u32, from: u32, r: Row) -> Result<u32, Fault>
     let Some(field) = one_field(r.text) else {
         return Err(in_certificate(Refusal::WrongFieldCount, r.line));
     };
-    let Some(id) = digits(field, 10) else {
+    let Some(id) = whole_number(field) else {
         return Err(in_certificate(Refusal::NotWhole, r.line));
     };
     if id >= u64::from(n) || id < u64::from(from) {
@@ -137,10 +136,10 @@ pub fn read_arc(graph: &Graph, from: u32, r: Row) -> Result<(u32, u128), Fault>
     let Some((first, second, third)) = three_fields(r.text) else {
         return Err(in_certificate(Refusal::WrongFieldCount, r.line));
     };
-    let Some(u) = digits(first, 10) else {
+    let Some(u) = whole_number(first) else {
         return Err(in_certificate(Refusal::NotWhole, r.line));
     };
-    let Some(p) = digits(second, 10) else {
+    let Some(p) = whole_number(second) else {
         return Err(in_certificate(Refusal::NotWhole, r.line));
     };
     let Some(arc) = arc_of(graph, u, p) else {
@@ -149,7 +148,7 @@ pub fn read_arc(graph: &Graph, from: u32, r: Row) -> Result<(u32, u128), Fault>
     if arc < from {
         return Err(in_certificate(Refusal::IdOutOfPlace, r.line));
     }
-    let Some(amount) = amount_digits(third) else {
+    let Some(amount) = digits(third, 31) else {
         return Err(in_certificate(Refusal::NotWhole, r.line));
     };
     if amount == 0 || amount > MOST_AMOUNT {

@@ -10,7 +10,7 @@ use Rattle.minelib_reader.specs.FirstFault.{IsFirstFault}
 use Rattle.minelib_reader.specs.Text.{Row}
 use Rattle.minelib_reader.specs.Table.{Place, Table, table}
 use Rattle.minelib_reader.specs.Blocks.{most_columns, in_blocks, width_line, block_line, blocks_from, as_table, table_of_rows}
-use Rattle.minelib_reader.specs.BlocksFault.{line_fault, fault_in_rows}
+use Rattle.minelib_reader.specs.BlocksFault.{block_line_fault, fault_in_rows}
 use Rattle.minelib_reader.proofs.CheckLemmas.{passed, stopped, passing, same_value}
 use Rattle.minelib_reader.proofs.FirstFaultLemmas.{no_fault, that_fault}
 
@@ -78,11 +78,11 @@ blocks_clear width i (r ∷ rows) b h k =
     none_before_next (fault_from width i (r ∷ rows)) (fault_from width (i + 1) rows) k (from_first width i r rows ∙ no_fault (block_line width i r) a.value a.here) (from_next width i r rows) (λ j lt. behind j) k (omega arith)
 
 -- where the first line gives the width, the faults of the text are those of its blocks
-same_faults_by : (r : Row) (rows : List Row) (w : ℕ) → width_line r ≡ Ok w → (k : ℕ) → line_fault w k (slice_get (r ∷ rows) k) ≡ block_fault w k (slice_get (r ∷ rows) k)
+same_faults_by : (r : Row) (rows : List Row) (w : ℕ) → width_line r ≡ Ok w → (k : ℕ) → block_line_fault w k (slice_get (r ∷ rows) k) ≡ block_fault w k (slice_get (r ∷ rows) k)
 same_faults_by r rows w e zero = ap (λ (x : Result ℕ Fault). result_err (x >>= λ v. block_line v 0 r)) e
 same_faults_by r rows w e (suc k) = later (slice_get rows k)
   where
-    later : (o : Option Row) → line_fault w (suc k) o ≡ block_fault w (suc k) o
+    later : (o : Option Row) → block_line_fault w (suc k) o ≡ block_fault w (suc k) o
     later None = refl
     later (Some x) = refl
 
@@ -90,7 +90,7 @@ from_start : (w k : ℕ) (o : Option Row) → block_fault w k o ≡ block_fault 
 from_start w k o = let same : k ≡ 0 + k = omega arith in ap (λ (j : ℕ). block_fault w j o) same
 
 same_faults : (r : Row) (rows : List Row) (w : ℕ) → width_line r ≡ Ok w → (k : ℕ) → fault_in_rows (r ∷ rows) k ≡ fault_from w 0 (r ∷ rows) k
-same_faults r rows w e k = ap (λ (v : ℕ). line_fault v k (slice_get (r ∷ rows) k)) (width_is r w e) ∙ same_faults_by r rows w e k ∙ from_start w k (slice_get (r ∷ rows) k)
+same_faults r rows w e k = ap (λ (v : ℕ). block_line_fault v k (slice_get (r ∷ rows) k)) (width_is r w e) ∙ same_faults_by r rows w e k ∙ from_start w k (slice_get (r ∷ rows) k)
 
 abbrev with_width : ℕ → List Place × List ℤ → Result Table Fault
 with_width w b = passing (table w b.0 b.1)

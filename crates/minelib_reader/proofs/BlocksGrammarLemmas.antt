@@ -12,7 +12,7 @@ use Rattle.std.specs.Option.{ok_or}
 use Rattle.minelib_reader.specs.Text.{Row, four_and_more}
 use Rattle.minelib_reader.specs.Number.{whole_of, signed_of, decimal_of}
 use Rattle.minelib_reader.specs.Table.{Place, Table, table}
-use Rattle.minelib_reader.specs.Upit.{most_blocks}
+use Rattle.pit_model.specs.Size.{most_blocks}
 use Rattle.minelib_reader.specs.Blocks.{most_columns, in_blocks, width_line, is_coordinate, coordinate_of, front_of, attribute_of, attributes_of, block_line, blocks_from, as_table, table_of_rows}
 use Rattle.minelib_reader.specs.BlocksGrammar.{SpellsCoordinate, SpellsBlock, SpellsBlocks, SpellsRows}
 use Rattle.minelib_reader.proofs.CheckLemmas.{passed, passing, same_value, value_there, test_holds}

@@ -2,6 +2,7 @@
 use Rattle.std.proofs.Common.{◌≡◌, ℕ, ℤ, suc, ◌+◌, ◌*◌, ◌^◌, ◌<◌, arith, length-append, List, [], ◌∷◌, ◌++◌, length, Result, Ok, Err, refl, sym, ap, ◌∙◌, append_assoc}
 use Rattle.std.proofs.lemmas.List.{append-nil}
 use Rattle.faults.specs.declared.fault.Fault.{Fault}
+use Rattle.pit_model.specs.Size.{most_blocks}
 use Rattle.minelib_reader.specs.Checks.{◌>>=◌}
 use Rattle.minelib_reader.specs.Text.{Row}
 use Rattle.std.specs.List.{All}
@@ -118,7 +119,7 @@ end width i rows places old all none so_far =
     sym so_far ∙ one ∙ ap (λ (ps : List Place). Ok (ps, old ++ [])) (append-nil places) ∙ ap (λ (vs : List ℤ). Ok (places, vs)) (append-nil old)
 
 -- one block more, with its attributes, keeps the limits
-pub stays_whole : (width : ℕ) (r : Row) (places : List Place) (place : Place) (old new : List ℤ) → IsWhole width places old → length places < 4194304 → AddsBlock width (length places) r place old new
+pub stays_whole : (width : ℕ) (r : Row) (places : List Place) (place : Place) (old new : List ℤ) → IsWhole width places old → length places < most_blocks → AddsBlock width (length places) r place old new
     → All (IsWithin (10 ^ 18)) new → IsWhole width (places ++ place ∷ []) new
 stays_whole width r places place old new whole lt a small =
     let size = length-append places (place ∷ []) in

@@ -12,7 +12,7 @@ use Rattle.minelib_reader.specs.FirstFault.{IsFirstFault}
 use Rattle.minelib_reader.specs.Text.{Row, two_and_more}
 use Rattle.minelib_reader.specs.Number.{whole_of}
 use Rattle.minelib_reader.specs.Prec.{most_pairs, in_precedence, needs_from, front_of, needs_line, pairs_of, pairs_from}
-use Rattle.minelib_reader.specs.PrecFault.{number_or_zero, id_in, count_in, from_behind, total_behind, line_fault, fault_behind}
+use Rattle.minelib_reader.specs.PrecFault.{number_or_zero, id_in, count_in, from_behind, total_behind, needs_line_fault, fault_behind}
 use Rattle.minelib_reader.proofs.CheckLemmas.{passed, stopped, passing, same_value, value_there, test_holds}
 use Rattle.std.proofs.lemmas.Option.{same_Some}
 use Rattle.minelib_reader.proofs.FirstFaultLemmas.{no_fault, that_fault}
@@ -97,8 +97,8 @@ count_is n from total r line f = ap count_in f.front.fields ∙ ap number_or_zer
 behind_line : (n from total : ℕ) (r : Row) (rows : List Row) (line : ℕ × List ℕ) → needs_line n from total r ≡ Ok line → (k : ℕ) → fault_behind n from total (r ∷ rows) (suc k) ≡ fault_behind n (line.0 + 1) (total + length line.1) rows k
 behind_line n from total r rows line h k =
     let f = line_found n from total r line h in
-    ap (λ (i : ℕ). line_fault n (from_behind (i + 1) (take k rows)) (total_behind (total + count_in r.fields) (take k rows)) (slice_get rows k)) (id_is n from total r line f)
-    ∙ ap (λ (c : ℕ). line_fault n (from_behind (line.0 + 1) (take k rows)) (total_behind (total + c) (take k rows)) (slice_get rows k)) (count_is n from total r line f)
+    ap (λ (i : ℕ). needs_line_fault n (from_behind (i + 1) (take k rows)) (total_behind (total + count_in r.fields) (take k rows)) (slice_get rows k)) (id_is n from total r line f)
+    ∙ ap (λ (c : ℕ). needs_line_fault n (from_behind (line.0 + 1) (take k rows)) (total_behind (total + c) (take k rows)) (slice_get rows k)) (count_is n from total r line f)
 
 abbrev with_line : ℕ × List ℕ → List (ℕ × ℕ) → Result (List (ℕ × ℕ)) Fault
 with_line line others = passing (pairs_of line.0 line.1 ++ others)

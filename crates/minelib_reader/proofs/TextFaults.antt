@@ -10,13 +10,14 @@ use Rattle.faults.specs.declared.refusal.Refusal.TheVariants.{NoSeat, Exhausted}
 use Rattle.minelib_reader.specs.Checks.{◌>>=◌, ok_if}
 use Rattle.std.specs.Result.{result_err}
 use Rattle.minelib_reader.specs.Text.{two_of, two_and_more, Row, rows_of, count_of_lines, four_and_more}
-use Rattle.minelib_reader.specs.Upit.{most_blocks, name_line, type_line, blocks_line, objective_line, value_line}
-use Rattle.minelib_reader.specs.UpitFault.{line_fault, place_fault, blocks_named, IsFirstUpitFault}
+use Rattle.pit_model.specs.Size.{most_blocks}
+use Rattle.minelib_reader.specs.Upit.{name_line, type_line, blocks_line, objective_line, value_line}
+use Rattle.minelib_reader.specs.UpitFault.{model_line_fault, place_fault, blocks_named, IsFirstUpitFault}
 use Rattle.minelib_reader.specs.Prec.{most_pairs, is_among, need_of, needs_from, front_of, needs_line}
 use Rattle.minelib_reader.specs.Table.{Place}
 use Rattle.minelib_reader.specs.Blocks.{most_columns, is_coordinate, width_line, coordinate_of, front_of as place_front, attribute_of, attributes_of, block_line}
-use Rattle.minelib_reader.specs.BlocksFault.{IsFirstTableFault, line_fault as table_line_fault, width_named}
-use Rattle.minelib_reader.specs.PrecFault.{IsFirstPrecFault, line_fault as needs_fault, from_behind, total_behind}
+use Rattle.minelib_reader.specs.BlocksFault.{IsFirstTableFault, block_line_fault, width_named}
+use Rattle.minelib_reader.specs.PrecFault.{IsFirstPrecFault, needs_line_fault, from_behind, total_behind}
 
 abbrev pub IsOfText : Refusal → Type 0
 IsOfText NoSeat = ⊥
@@ -115,7 +116,7 @@ line_of_text n from total r =
     (λ front. then_of_text (needs_from n front.0 r.line [] front.2) (λ needs. Ok (front.0, needs)) (needs_of_text n front.0 r.line [] front.2) (λ needs. tt))
 
 -- a line of a model, by its place
-row_of_text : (n place : ℕ) (r : Row) → MaybeOfText (line_fault n place r)
+row_of_text : (n place : ℕ) (r : Row) → MaybeOfText (model_line_fault n place r)
 row_of_text n zero r = maybe_of_text (name_line r) (name_of_text r)
 row_of_text n (suc zero) r = maybe_of_text (type_line r) (type_of_text r)
 row_of_text n (suc (suc zero)) r = maybe_of_text (blocks_line r) (blocks_of_text r)
@@ -126,7 +127,7 @@ place_of_text : (count n place : ℕ) (o : Option Row) → MaybeOfText (place_fa
 place_of_text count n place None = by_test (nat_lt place (n + 4)) (λ e. rw e tt) (λ e. rw e tt)
 place_of_text count n place (Some r) = row_of_text n place r
 
-prec_row_of_text : (n from total : ℕ) (o : Option Row) → MaybeOfText (needs_fault n from total o)
+prec_row_of_text : (n from total : ℕ) (o : Option Row) → MaybeOfText (needs_line_fault n from total o)
 prec_row_of_text n from total None = tt
 prec_row_of_text n from total (Some r) = maybe_of_text (needs_line n from total r) (line_of_text n from total r)
 
@@ -186,7 +187,7 @@ block_of_text width i r =
     then_of_text (place_front width i r) (λ front. attributes_of r.line front.1 >>= (λ attributes. Ok (front.0, attributes))) (place_front_of_text width i r)
     (λ front. then_of_text (attributes_of r.line front.1) (λ attributes. Ok (front.0, attributes)) (attributes_of_text r.line front.1) (λ attributes. tt))
 
-table_row_of_text : (width k : ℕ) (o : Option Row) → MaybeOfText (table_line_fault width k o)
+table_row_of_text : (width k : ℕ) (o : Option Row) → MaybeOfText (block_line_fault width k o)
 table_row_of_text width k None = tt
 table_row_of_text width zero (Some r) = maybe_of_text (width_line r >>= (λ w. block_line w 0 r)) (then_of_text (width_line r) (λ w. block_line w 0 r) (width_of_text r) (λ w. block_of_text w 0 r))
 table_row_of_text width (suc k) (Some r) = maybe_of_text (block_line width (suc k) r) (block_of_text width (suc k) r)

@@ -9,7 +9,8 @@ use Rattle.minelib_reader.specs.Checks.{◌>>=◌, ok_if}
 use Rattle.std.specs.Option.{ok_or}
 use Rattle.minelib_reader.specs.Text.{Row, two_of}
 use Rattle.minelib_reader.specs.Number.{whole_of, decimal_of}
-use Rattle.minelib_reader.specs.Upit.{Upit, upit, most_blocks, starts_by, is_word, is_pair, in_model, due, name_line, type_line, blocks_line, objective_line, value_line, values_from, ended, header_of, upit_of_rows}
+use Rattle.pit_model.specs.Size.{most_blocks}
+use Rattle.minelib_reader.specs.Upit.{Upit, upit, starts_by, is_word, is_pair, in_model, due, name_line, type_line, blocks_line, objective_line, value_line, values_from, ended, header_of, upit_of_rows}
 use Rattle.minelib_reader.specs.UpitGrammar.{SpellsValue, SpellsValues, SpellsHeader, SpellsRows}
 use Rattle.minelib_reader.proofs.CheckLemmas.{passed, passing, same_value, value_there, test_holds, both_fields}
 use Rattle.std.proofs.lemmas.Slice.Eq.{bytes_eq-Decides}

@@ -1,11 +1,11 @@
--- The digits at the front of a text, one after the other, and the field that they are where a blank or nothing follows.
-use Rattle.std.proofs.Common.{◌≡◌, ℕ, zero, suc, ◌+◌, ◌-◌, ◌*◌, ◌<◌, ◌≤◌, Bool, true, false, cond, not, ◌&&◌, ◌||◌, eqb, leb, List, [], ◌∷◌, ◌++◌, length, take, drop, get_or, Some, refl, sym, ap, ◌∙◌, ◌⊎◌, inl, inr, arith, length-take}
+-- The digits at the front of a text are its first field where a blank or nothing follows.
+use Rattle.std.proofs.Common.{◌≡◌, ℕ, zero, suc, ◌+◌, ◌<◌, ◌≤◌, Bool, true, false, cond, not, ◌&&◌, ◌||◌, eqb, leb, List, [], ◌∷◌, length, take, drop, get_or, Some, refl, sym, ap, ◌∙◌, ◌⊎◌, inl, inr, arith, length-take}
 use Rattle.std.specs.List.{position_or_len, prefix_len}
 use Rattle.std.specs.Str.{all_ascii_digits}
+use Rattle.std.specs.Str.Parse.{digits_value}
 use Rattle.std.specs.Char.{is_ascii_digit}
 use Rattle.std.proofs.lemmas.Bool.{leb-true, eqb-true}
-use Rattle.std.proofs.lemmas.List.{take_more}
-use Rattle.minelib_reader.specs.Number.{number_after, digits_of, whole_of}
+use Rattle.minelib_reader.specs.Number.{digits_of, whole_of}
 use Rattle.minelib_reader.specs.Text.{is_blank, fields_of}
 use Rattle.minelib_reader.proofs.TextLemmas.{some_field}
 
@@ -13,22 +13,6 @@ both : (a b : Bool) → (a && b) ≡ true → (a ≡ true) × (b ≡ true)
 both true true e = (refl, refl)
 both true false e = absurd cc
 both false b e = absurd cc
-
-number_more : (n : ℕ) (ds : List ℕ) (c : ℕ) → number_after n (ds ++ c ∷ []) ≡ number_after n ds * 10 + (c - 48)
-number_more n [] c = refl
-number_more n (d ∷ ds) c = number_more (n * 10 + (d - 48)) ds c
-
-digits_more : (ds : List ℕ) (c : ℕ) → all_ascii_digits ds ≡ true → is_ascii_digit c ≡ true → all_ascii_digits (ds ++ c ∷ []) ≡ true
-digits_more [] c all e = ap (λ (b : Bool). b && true) e
-digits_more (d ∷ ds) c all e =
-    let parts = both (is_ascii_digit d) (all_ascii_digits ds) all in
-    ap (λ (b : Bool). b && all_ascii_digits (ds ++ c ∷ [])) parts.0 ∙ digits_more ds c parts.1 e
-
-pub number_step : (text : List ℕ) (i : ℕ) → i < length text → number_after 0 (take (i + 1) text) ≡ number_after 0 (take i text) * 10 + (get_or text i 0 - 48)
-number_step text i lt = ap (number_after 0) (take_more text i 0 lt) ∙ number_more 0 (take i text) (get_or text i 0)
-
-pub digits_step : (text : List ℕ) (i : ℕ) → i < length text → all_ascii_digits (take i text) ≡ true → is_ascii_digit (get_or text i 0) ≡ true → all_ascii_digits (take (i + 1) text) ≡ true
-digits_step text i lt all e = ap all_ascii_digits (take_more text i 0 lt) ∙ digits_more (take i text) (get_or text i 0) all e
 
 not_blank_by : (c : ℕ) (v w : Bool) → eqb c 32 ≡ v → eqb c 9 ≡ w → 48 ≤ c → (v || w) ≡ false
 not_blank_by c true w e f le = absurd (let same = eqb-true c 32 e in omega (arith, same, le))
@@ -53,12 +37,12 @@ ends (c ∷ cs) (suc k) le all end =
     tail (inl e) = inl (omega (arith, e))
     tail (inr e) = inr e
 
-whole_is : (ds : List ℕ) → 0 < length ds → length ds ≤ 10 → all_ascii_digits ds ≡ true → whole_of ds ≡ Some (number_after 0 ds)
+whole_is : (ds : List ℕ) → 0 < length ds → length ds ≤ 10 → all_ascii_digits ds ≡ true → whole_of ds ≡ Some (digits_value 10 ds)
 unfolding digits_of
 whole_is ds some few all = grind (arith, all)
 
 -- the first field is the digits at the front
-pub whole_first : (text rest : List ℕ) (skipped len value : ℕ) → skipped ≡ prefix_len is_blank text → rest ≡ drop skipped text → len ≤ length rest → all_ascii_digits (take len rest) ≡ true → value ≡ number_after 0 (take len rest)
+pub whole_first : (text rest : List ℕ) (skipped len value : ℕ) → skipped ≡ prefix_len is_blank text → rest ≡ drop skipped text → len ≤ length rest → all_ascii_digits (take len rest) ≡ true → value ≡ digits_value 10 (take len rest)
     → 0 < len → len ≤ 10 → (len ≡ length rest) ⊎ (is_blank (get_or rest len 0) ≡ true) → (fields_of text ≡ take len rest ∷ fields_of (drop len rest)) × (Some value ≡ whole_of (take len rest))
 whole_first text rest skipped len value e r inside all v some few end =
     let size = length-take len rest in (

@@ -10,7 +10,7 @@ use Rattle.faults.specs.Refused.{at_line}
 use Rattle.minelib_reader.specs.Text.{Row, rows_of, four_and_more}
 use Rattle.minelib_reader.specs.Number.{whole_of, signed_of, decimal_of}
 use Rattle.minelib_reader.specs.Table.{Place, Table, table}
-use Rattle.minelib_reader.specs.Upit.{most_blocks}
+use Rattle.pit_model.specs.Size.{most_blocks}
 
 -- the most attributes of a block
 abbrev pub most_columns : ℕ

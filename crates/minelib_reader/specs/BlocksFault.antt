@@ -14,13 +14,13 @@ width_named [] = 0
 width_named (r ∷ rows) = length r.fields - 4
 
 -- the first check that a line breaks, if there is the line, by its place; the first line also says how wide the table is
-abbrev pub line_fault : ℕ → ℕ → Option Row → Option Fault
-line_fault width k None = None
-line_fault width zero (Some r) = result_err (width_line r >>= λ w. block_line w 0 r)
-line_fault width (suc k) (Some r) = result_err (block_line width (suc k) r)
+abbrev pub block_line_fault : ℕ → ℕ → Option Row → Option Fault
+block_line_fault width k None = None
+block_line_fault width zero (Some r) = result_err (width_line r >>= λ w. block_line w 0 r)
+block_line_fault width (suc k) (Some r) = result_err (block_line width (suc k) r)
 
 abbrev pub fault_in_rows : List Row → ℕ → Option Fault
-fault_in_rows rows k = line_fault (width_named rows) k (slice_get rows k)
+fault_in_rows rows k = block_line_fault (width_named rows) k (slice_get rows k)
 
 -- the first check that the text breaks in its line with fields number k, counted from 0
 abbrev pub table_fault_at : List ℕ → ℕ → Option Fault

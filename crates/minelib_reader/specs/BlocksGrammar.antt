@@ -4,7 +4,7 @@ use Rattle.minelib_reader.specs.Text.{Row, rows_of}
 use Rattle.minelib_reader.specs.Number.{whole_of, signed_of, decimal_of}
 use Rattle.minelib_reader.specs.Table.{Place, Table, table}
 use Rattle.minelib_reader.specs.Blocks.{most_columns}
-use Rattle.minelib_reader.specs.Upit.{most_blocks}
+use Rattle.pit_model.specs.Size.{most_blocks}
 
 -- the field writes this coordinate, which lies from -2^31 up to 2^31
 pub record SpellsCoordinate (field : List ℕ) (c : ℤ) : Type 0 where

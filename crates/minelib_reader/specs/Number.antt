@@ -1,16 +1,12 @@
 -- The numbers that a field writes.
-use Rattle.std.specs.Prelude.{ℕ, ℤ, pos, neg_ℤ, ◌≤ℤ◌, ◌+◌, ◌-◌, ◌*◌, ◌^◌, ◌==◌, nat_lt, nat_le, ◌&&◌, if◌then◌else◌, List, [], ◌∷◌, length, take, drop, position, slice_index, Option, Some, None, option_and_then}
+use Rattle.std.specs.Prelude.{ℕ, ℤ, pos, neg_ℤ, ◌≤ℤ◌, ◌+◌, ◌-◌, ◌*◌, ◌^◌, ◌==◌, nat_lt, nat_le, ◌&&◌, if◌then◌else◌, List, length, take, drop, position, slice_index, Option, Some, None, option_and_then}
 use Rattle.std.specs.Option.{option_map}
 use Rattle.std.specs.Str.{all_ascii_digits}
-
--- the number that the digits write when they follow those of n
-abbrev pub number_after : ℕ → List ℕ → ℕ
-number_after n [] = n
-number_after n (c ∷ cs) = number_after (n * 10 + (c - 48)) cs
+use Rattle.std.specs.Str.Parse.{digits_value}
 
 -- the number that 1 to `most` digits write
 unfoldable pub digits_of : ℕ → List ℕ → Option ℕ
-digits_of most ds = if (nat_lt 0 (length ds) && nat_le (length ds) most) && all_ascii_digits ds then Some (number_after 0 ds) else None
+digits_of most ds = if (nat_lt 0 (length ds) && nat_le (length ds) most) && all_ascii_digits ds then Some (digits_value 10 ds) else None
 
 -- a whole number: 1 to 10 digits
 abbrev pub whole_of : List ℕ → Option ℕ

@@ -33,12 +33,12 @@ total_behind total [] = total
 total_behind total (r ∷ rows) = total_behind (total + count_in r.fields) rows
 
 -- the first check that a line breaks, if there is the line
-abbrev pub line_fault : ℕ → ℕ → ℕ → Option Row → Option Fault
-line_fault n from total None = None
-line_fault n from total (Some r) = result_err (needs_line n from total r)
+abbrev pub needs_line_fault : ℕ → ℕ → ℕ → Option Row → Option Fault
+needs_line_fault n from total None = None
+needs_line_fault n from total (Some r) = result_err (needs_line n from total r)
 
 abbrev pub fault_behind : ℕ → ℕ → ℕ → List Row → ℕ → Option Fault
-fault_behind n from total rows k = line_fault n (from_behind from (take k rows)) (total_behind total (take k rows)) (slice_get rows k)
+fault_behind n from total rows k = needs_line_fault n (from_behind from (take k rows)) (total_behind total (take k rows)) (slice_get rows k)
 
 -- the first check that the text breaks in its line with fields number k, counted from 0
 abbrev pub prec_fault_at : ℕ → List ℕ → ℕ → Option Fault

@@ -1,6 +1,7 @@
 -- A block model: a place for each block, and as many attributes for each as the table is wide.
 use Rattle.std.specs.Prelude.{◌≡◌, ℕ, ◌+◌, ◌*◌, ◌^◌, ◌≤◌, ℤ, pos, List, length, get_or}
 use Rattle.std.specs.List.{All}
+use Rattle.pit_model.specs.Size.{most_blocks}
 use Rattle.minelib_reader.specs.Number.{IsWithin}
 
 -- the place of a block, along x, y and z
@@ -26,6 +27,6 @@ attribute_in t u k = get_or t.attributes (u * t.width + k) (pos 0)
 -- the limits of a table that was read, each attribute within 10^18 of 0
 pub record IsWhole (width : ℕ) (places : List Place) (attributes : List ℤ) : Type 0 where
   pub narrow : width ≤ 64
-  pub few : length places ≤ 4194304
+  pub few : length places ≤ most_blocks
   pub full : length attributes ≡ length places * width
   pub small : All (IsWithin (10 ^ 18)) attributes

@@ -8,12 +8,9 @@ use Rattle.faults.specs.declared.source.Source.TheVariants.{Model}
 use Rattle.minelib_reader.specs.Checks.{◌>>=◌, ok_if}
 use Rattle.std.specs.Option.{ok_or}
 use Rattle.faults.specs.Refused.{at_line}
+use Rattle.pit_model.specs.Size.{most_blocks}
 use Rattle.minelib_reader.specs.Text.{Row, rows_of, count_of_lines, two_of}
 use Rattle.minelib_reader.specs.Number.{whole_of, decimal_of}
-
--- the most blocks of a model
-abbrev pub most_blocks : ℕ
-most_blocks = 4194304
 
 abbrev pub in_model : Refusal → ℕ → Fault
 in_model refusal line = at_line Model refusal line

@@ -18,17 +18,17 @@ blocks_named None = 0
 blocks_named (Some r) = number_in (blocks_line r)
 
 -- the first check that a line with fields breaks, by its place: four header lines, then those of n blocks
-abbrev pub line_fault : ℕ → ℕ → Row → Option Fault
-line_fault n zero r = result_err (name_line r)
-line_fault n (suc zero) r = result_err (type_line r)
-line_fault n (suc (suc zero)) r = result_err (blocks_line r)
-line_fault n (suc (suc (suc zero))) r = result_err (objective_line r)
-line_fault n (suc (suc (suc (suc i)))) r = if nat_lt i n then result_err (value_line i r) else Some (in_model AfterEnd r.line)
+abbrev pub model_line_fault : ℕ → ℕ → Row → Option Fault
+model_line_fault n zero r = result_err (name_line r)
+model_line_fault n (suc zero) r = result_err (type_line r)
+model_line_fault n (suc (suc zero)) r = result_err (blocks_line r)
+model_line_fault n (suc (suc (suc zero))) r = result_err (objective_line r)
+model_line_fault n (suc (suc (suc (suc i)))) r = if nat_lt i n then result_err (value_line i r) else Some (in_model AfterEnd r.line)
 
 -- the same of a place that may have no line: a fault where a line is due, in the line behind the last of count
 abbrev pub place_fault : ℕ → ℕ → ℕ → Option Row → Option Fault
 place_fault count n place None = if nat_lt place (n + 4) then Some (in_model EndsEarly (count + 1)) else None
-place_fault count n place (Some r) = line_fault n place r
+place_fault count n place (Some r) = model_line_fault n place r
 
 abbrev pub fault_in_rows : ℕ → List Row → ℕ → Option Fault
 fault_in_rows count rows k = place_fault count (blocks_named (slice_get rows 2)) k (slice_get rows k)

@@ -2,7 +2,8 @@
 use Rattle.std.specs.Prelude.{◌≡◌, ℕ, ℤ, ◌+◌, ◌≤◌, List, [], ◌∷◌, length, Some, codes}
 use Rattle.minelib_reader.specs.Text.{Row, rows_of}
 use Rattle.minelib_reader.specs.Number.{whole_of, decimal_of}
-use Rattle.minelib_reader.specs.Upit.{Upit, most_blocks}
+use Rattle.pit_model.specs.Size.{most_blocks}
+use Rattle.minelib_reader.specs.Upit.{Upit}
 
 -- the line of block i with this value
 pub record SpellsValue (i : ℕ) (r : Row) (value : ℤ) : Type 0 where

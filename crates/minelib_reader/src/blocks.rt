@@ -14,17 +14,17 @@ ghost use Rattle.minelib_reader.specs.BlocksGrammar.{SpellsTable};
 ghost use Rattle.minelib_reader.specs.Number.{IsWithin};
 ghost use Rattle.minelib_reader.specs.Table.{Table};
 ghost use Rattle.minelib_reader.specs.Text.{row, rows_of, fields_of};
+ghost use Rattle.pit_model.specs.Size.{most_blocks};
 
 use crate::device::InBytes;
 use crate::input::read_all;
+use crate::limits::MOST_BLOCKS;
 use crate::lines::{count_fields, first_four, next_field};
-use crate::number::{decimal, digits, signed};
+use crate::number::{decimal, signed, whole_number};
 use crate::rows::{Row, Rows};
 use crate::table::BlockTable;
 use faults::{Fault, Refusal, Source};
 use std::alloc::Global;
-
-const MOST_BLOCKS: u64 = 4_194_304;
 
 const MOST_COLUMNS: usize = 64;
 
@@ -86,7 +86,7 @@ fn read_coordinate(line: u64, field: &[u8]) -> Result<i32, Fault>
 #[tactic(auto, unfolding(crate::specs::Blocks::front_of))]
 fn read_front<'a>(width: u32, id: u64, r: Row<'a>) -> Result<Front<'a>, Fault>
     ensures gives { Gives (λ f. (f.place, fields_of f.rest.now)) result (front_of width id (row r.entry.line (fields_of r.entry.text.now))) }
-    ensures known { IfOk result (λ _. id < 4194304) }
+    ensures known { IfOk result (λ _. id < most_blocks) }
     ensures wide { IfOk result (λ f. length (fields_of f.rest.now) ≡ width) }
 {
     let Some((named, x, y, z, rest)) = first_four(r.text) else {
@@ -95,7 +95,7 @@ fn read_front<'a>(width: u32, id: u64, r: Row<'a>) -> Result<Front<'a>, Fault>
     if count_fields(rest) != width as usize {
         return Err(in_blocks(Refusal::WrongFieldCount, r.line));
     }
-    let Some(named) = digits(named, 10) else {
+    let Some(named) = whole_number(named) else {
         return Err(in_blocks(Refusal::NotWhole, r.line));
     };
     if named != id {
@@ -150,7 +150,7 @@ fn read_block(
     requires small { All (IsWithin (10 ^ 18)) attributes.old.items }
     ensures ok { IfOk result (λ place. AddsBlock width id (row r.entry.line (fields_of r.entry.text.now)) place attributes.old.items attributes.new.items) }
     ensures err { IfErr result (λ e. FailsBy e.refusal e (block_line width id (row r.entry.line (fields_of r.entry.text.now)))) }
-    ensures known { IfOk result (λ _. id < 4194304) }
+    ensures known { IfOk result (λ _. id < most_blocks) }
     ensures small { All (IsWithin (10 ^ 18)) attributes.new.items }
 {
     let front = read_front(width, id, r)?;

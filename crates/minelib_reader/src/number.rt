@@ -1,16 +1,42 @@
 //! The numbers that a field writes: whole numbers, and decimals as millionths.
 //! The lines of a file are read by them; the limits of each number are the caller's.
-ghost use Rattle.std.specs.Prelude.{◌≡◌, ◌≤◌, ◌<◌, ◌^◌, ◌*◌, ◌-◌, ◌+◌, ◌==◌, length, IfSome, position};
+ghost use Rattle.std.specs.Prelude.{◌≡◌, true, false, ◌≤◌, ◌<◌, ◌^◌, ◌*◌, ◌-◌, ◌+◌, ◌==◌, length, take, slice_index, IfSome, position};
+ghost use Rattle.std.specs.Char.{is_ascii_digit};
 ghost use Rattle.std.specs.Option.{option_map};
-ghost use Rattle.minelib_reader.specs.Number.{digits_of, cut_at, millionths_of, decimal_of, signed_of, IsWithin};
+ghost use Rattle.std.specs.Str.{all_ascii_digits};
+ghost use Rattle.std.specs.Str.Parse.{digits_value};
+ghost use Rattle.minelib_reader.specs.Number.{digits_of, whole_of, cut_at, millionths_of, decimal_of, signed_of, IsWithin};
 
 /// A decimal, as a whole number of millionths.
 pub type Decimal = i128;
 
-/// The number that 1 to `most` digits write.
+/// The most digits of a whole number.
+pub(crate) const MOST_DIGITS: usize = 10;
+
+/// The number that the digits at the front write, and how many they are; of more than `most`, the first `most`.
+pub(crate) fn front_digits(text: &[u8], most: usize) -> (u128, usize)
+    requires { most ≤ 38 }
+    ensures inside { result.1 ≤ length text.now }
+    ensures digits { all_ascii_digits (take result.1 text.now) ≡ true }
+    ensures value { result.0 ≡ digits_value 10 (take result.1 text.now) }
+    ensures small { result.0 < 10 ^ result.1 }
+    ensures whole { result.1 < most → result.1 < length text.now → is_ascii_digit (slice_index text.now result.1) ≡ false }
+{
+    let end = text.len().min(most);
+    let mut value = 0u128;
+    for i in 0..end {
+        if !text[i].is_ascii_digit() {
+            return (value, i);
+        }
+        value = value * 10 + u128::from(text[i] - b'0');
+    }
+    (value, end)
+}
+
+/// The number that 1 to `most` digits write, which stand alone in the text.
 #[tactic(auto, unfolding(crate::specs::Number::digits_of))]
-pub fn digits(text: &[u8], most: usize) -> Option<u64>
-    requires { most ≤ 19 }
+pub fn digits(text: &[u8], most: usize) -> Option<u128>
+    requires { most ≤ 38 }
     ensures value { result ≡ digits_of most text.now }
     ensures small { IfSome result (λ n. n < 10 ^ length text.now) }
     ensures short { IfSome result (λ _. length text.now ≤ most) }
@@ -19,14 +45,19 @@ pub fn digits(text: &[u8], most: usize) -> Option<u64>
     if text.is_empty() || text.len() > most {
         return None;
     }
-    let mut value = 0u64;
-    for byte in text {
-        if !byte.is_ascii_digit() {
-            return None;
-        }
-        value = value * 10 + u64::from(*byte - b'0');
+    let (value, len) = front_digits(text, most);
+    if len < text.len() {
+        return None;
     }
     Some(value)
+}
+
+/// A whole number: 1 to 10 digits.
+pub fn whole_number(field: &[u8]) -> Option<u64>
+    ensures value { result ≡ whole_of field.now }
+    ensures bounded { IfSome result (λ n. n < 10 ^ 10) }
+{
+    Some(digits(field, MOST_DIGITS)? as u64)
 }
 
 /// A sign `-` or none, and 1 to 10 digits.
@@ -35,8 +66,8 @@ pub(crate) fn signed(field: &[u8]) -> Option<i64>
     ensures value { result ≡ signed_of field.now }
 {
     match field {
-        [b'-', rest @ ..] => Some(-(digits(rest, 10)? as i64)),
-        _ => Some(digits(field, 10)? as i64),
+        [b'-', rest @ ..] => Some(-(whole_number(rest)? as i64)),
+        _ => Some(whole_number(field)? as i64),
     }
 }
 
@@ -61,18 +92,18 @@ pub fn cut(text: &[u8], byte: u8) -> Option<(&[u8], &[u8])>
 }
 
 /// So many digits behind the point, in millionths.
-fn scaled(part: u64, len: usize) -> u64
+fn scaled(part: u128, len: usize) -> u128
     requires short { len ≤ 6 }
     requires small { part < 10 ^ len }
     ensures value { result ≡ part * 10 ^ (6 - len) }
     ensures small { result < 1000000 }
 {
-    part * 10u64.pow(6 - len as u32)
+    part * 10u128.pow(6 - len as u32)
 }
 
 /// 1 to 12 digits, and behind a point 1 to 6 more, as millionths.
 #[tactic(auto, unfolding(crate::specs::Number::millionths_of))]
-fn millionths(text: &[u8]) -> Option<u64>
+fn millionths(text: &[u8]) -> Option<u128>
     ensures value { result ≡ millionths_of text.now }
     ensures bounded { IfSome result (λ m. m < 10 ^ 18) }
 {
@@ -93,8 +124,8 @@ pub fn decimal(field: &[u8]) -> Option<Decimal>
     ensures bounded { IfSome result (IsWithin (10 ^ 18)) }
 {
     match field {
-        [b'-', rest @ ..] => Some(-i128::from(millionths(rest)?)),
-        [b'+', rest @ ..] => Some(i128::from(millionths(rest)?)),
-        _ => Some(i128::from(millionths(field)?)),
+        [b'-', rest @ ..] => Some(-(millionths(rest)? as i128)),
+        [b'+', rest @ ..] => Some(millionths(rest)? as i128),
+        _ => Some(millionths(field)? as i128),
     }
 }

@@ -19,7 +19,7 @@ ghost use Rattle.minelib_reader.specs.Text.{row, fields_of};
 use crate::device::InBytes;
 use crate::input::read_all;
 use crate::lines::{count_fields, first_two, next_whole};
-use crate::number::digits;
+use crate::number::whole_number;
 use crate::rows::{Row, Rows};
 use faults::{Fault, Refusal, Source};
 use std::alloc::Global;
@@ -125,13 +125,13 @@ fn read_front<'a>(n: u32, before: Before, r: Row<'a>) -> Result<Front<'a>, Fault
     let Some((first, second, rest)) = first_two(r.text) else {
         return Err(in_precedence(Refusal::WrongFieldCount, r.line));
     };
-    let Some(id) = digits(first, 10) else {
+    let Some(id) = whole_number(first) else {
         return Err(in_precedence(Refusal::NotWhole, r.line));
     };
     if id >= u64::from(n) || id < u64::from(before.from) {
         return Err(in_precedence(Refusal::IdOutOfPlace, r.line));
     }
-    let Some(count) = digits(second, 10) else {
+    let Some(count) = whole_number(second) else {
         return Err(in_precedence(Refusal::NotWhole, r.line));
     };
     if before.total + count > MOST_PAIRS {

@@ -2,6 +2,7 @@
 //! `blocks` reads one, and `column` takes one attribute of all blocks out of it.
 ghost use Rattle.std.specs.Prelude.{◌≡◌, ◌<◌, ◌≤◌, ◌^◌, length};
 ghost use Rattle.minelib_reader.specs.Number.{IsWithin};
+ghost use Rattle.pit_model.specs.Size.{most_blocks};
 ghost use Rattle.minelib_reader.specs.Table.{table, place_in, attribute_in, IsWhole};
 
 use std::marker::Model;
@@ -43,7 +44,7 @@ impl BlockTable {
     /// The number of blocks, at most 4,194,304.
     pub fn len(&self) -> u32
         ensures value { result ≡ length self.now.places }
-        ensures few { result ≤ 4194304 }
+        ensures few { result ≤ most_blocks }
     {
         self.places.len() as u32
     }

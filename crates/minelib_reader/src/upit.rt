@@ -11,16 +11,16 @@ ghost use Rattle.minelib_reader.specs.Upit.{Upit, upit, in_model, due, name_line
 ghost use Rattle.minelib_reader.specs.UpitFault.{IsFirstUpitFault};
 ghost use Rattle.minelib_reader.specs.UpitGrammar.{SpellsUpit};
 ghost use Rattle.minelib_reader.specs.UpitLimits.{AreSmall, IsSmallModel};
+ghost use Rattle.pit_model.specs.Size.{most_blocks};
 
 use crate::device::InBytes;
 use crate::input::read_all;
+use crate::limits::MOST_BLOCKS;
 use crate::lines::{next_field, two_fields};
-use crate::number::{Decimal, decimal, digits};
+use crate::number::{Decimal, decimal, whole_number};
 use crate::rows::{Row, Rows};
 use faults::{Fault, Refusal, Source};
 use std::alloc::Global;
-
-const MOST_BLOCKS: u64 = 4_194_304;
 
 /// An optimisation model: a number of blocks, and the value of each, in millionths.
 #[derive(Debug, Drop)]
@@ -58,7 +58,7 @@ fn check_type(r: Row) -> Result<(), Fault>
 #[tactic(auto, unfolding(crate::specs::Upit::blocks_line))]
 fn read_count(r: Row) -> Result<u32, Fault>
     ensures gives { Gives (λ n. n) result (blocks_line (row r.entry.line (fields_of r.entry.text.now))) }
-    ensures few { IfOk result (λ n. n ≤ 4194304) }
+    ensures few { IfOk result (λ n. n ≤ most_blocks) }
 {
     let Some((word, number)) = two_fields(r.text) else {
         return Err(in_model(Refusal::WrongHeader, r.line));
@@ -66,7 +66,7 @@ fn read_count(r: Row) -> Result<u32, Fault>
     if word != b"NBLOCKS:".as_slice() {
         return Err(in_model(Refusal::WrongHeader, r.line));
     }
-    let Some(n) = digits(number, 10) else {
+    let Some(n) = whole_number(number) else {
         return Err(in_model(Refusal::NotWhole, r.line));
     };
     if n > MOST_BLOCKS {
@@ -83,7 +83,7 @@ fn read_value(id: u32, r: Row) -> Result<Decimal, Fault>
     let Some((first, second)) = two_fields(r.text) else {
         return Err(in_model(Refusal::WrongFieldCount, r.line));
     };
-    let Some(named) = digits(first, 10) else {
+    let Some(named) = whole_number(first) else {
         return Err(in_model(Refusal::NotWhole, r.line));
     };
     if named != u64::from(id) {
@@ -140,7 +140,7 @@ fn read_header(rows: &mut Rows) -> Result<u32, Fault>
     ensures gives { Gives (λ n. (n, rows_at rows.new.number rows.new.rest.now)) result
         (header_of (lines_at rows.old.number rows.old.rest.now) (rows_at rows.old.number rows.old.rest.now)) }
     ensures count { lines_at rows.new.number rows.new.rest.now ≡ lines_at rows.old.number rows.old.rest.now }
-    ensures few { IfOk result (λ n. n ≤ 4194304) }
+    ensures few { IfOk result (λ n. n ≤ most_blocks) }
 {
     let name = next_due(rows)?;
     check_name(name)?;

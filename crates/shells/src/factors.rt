@@ -6,7 +6,7 @@ ghost use Rattle.shells.specs.FactorList.{numbers_of, IsFirstItemFault, SpellsFa
 
 use crate::items::{check_item, next_item};
 use faults::Fault;
-use minelib_reader::digits;
+use minelib_reader::whole_number;
 use std::alloc::Global;
 use std::marker::Model;
 
@@ -100,7 +100,7 @@ fn read_items(alloc: Global, text: &[u8]) -> Result<Vec<u32>, Fault>
     let mut rest = Some(text);
     while let Some(left) = rest {
         let (item, behind) = next_item(left);
-        let factor = check_item(list.len(), before, digits(item, 10))?;
+        let factor = check_item(list.len(), before, whole_number(item))?;
         list.push(factor)?;
         before = Some(factor);
         rest = behind;

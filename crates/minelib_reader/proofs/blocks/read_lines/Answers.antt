@@ -1,6 +1,7 @@
 -- Each way through the loop is one step of `blocks_from`.
 use Rattle.std.proofs.Common.{◌≡◌, ◌<◌, ℕ, List, [], ◌∷◌, ◌++◌, length, ap, subst, sym, ◌∙◌, arith, rules, length-append}
 use Rattle.std.proofs.lemmas.Result.{err_from_is_err_and}
+use Rattle.pit_model.specs.Size.{most_blocks}
 use Rattle.minelib_reader.specs.Table.{Place, Table, IsWhole}
 use Rattle.minelib_reader.specs.Text.{row, rows_at, rows_of, fields_of}
 use Rattle.minelib_reader.specs.Added.{AddsBlock}
@@ -38,7 +39,7 @@ loop-row-preserved c =
     let r = row c.in-Some.row.line (fields_of c.in-Some.row.text.now) in
     let len : c.len.result ≡ length places = search rules in
     let known = c.in_ok-place.ensures.known in
-    let below : length places < 4194304 = omega (arith, known, len) in
+    let below : length places < most_blocks = omega (arith, known, len) in
     let adds : AddsBlock c.args.width (length places) r place old new = subst (λ (k : ℕ). AddsBlock c.args.width k r place old new) len c.in_ok-place.ensures.ok in
     let all = blocks_from c.args.width 0 (rows_of c.args.text.now) in
     let items : c.push.new.self.items ≡ places ++ place ∷ [] = c.in_ok-push.ensures.items in

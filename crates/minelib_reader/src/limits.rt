@@ -1,0 +1,4 @@
+//! The size of the largest mine that is taken.
+
+/// The most blocks of a model, and of a block model.
+pub(crate) const MOST_BLOCKS: u64 = 1 << 22;

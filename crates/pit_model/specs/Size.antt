@@ -1,0 +1,5 @@
+-- The size of the largest mine that is taken.
+use Rattle.std.specs.Prelude.{ℕ, ◌^◌}
+
+abbrev pub most_blocks : ℕ
+most_blocks = 2 ^ 22
