@@ -6,6 +6,7 @@ ghost use Rattle.pit_model.specs.Graph.{first_of, second_of};
 ghost use Rattle.pit_model.specs.Mine.{arcs};
 ghost use Rattle.certificate.specs.Check.{amount, has, AreExcesses, AreReached};
 ghost use Rattle.certificate.specs.Queue.{IsExtended, IsTrail};
+ghost use Rattle.pit_model.specs.Size.{most_blocks};
 
 use mine_graph::{Graph, Instance};
 use std::alloc::{AllocError, Global};
@@ -29,7 +30,7 @@ fn visit(block: u32, inside: &[bool], seen: &mut [bool], queue: &mut [u32], tail
 
 /// Visits the blocks of positive excess.
 fn visit_starts(excesses: &[i128], inside: &[bool], seen: &mut [bool], queue: &mut [u32]) -> usize
-    requires few { length seen.old ≤ 4194304 }
+    requires few { length seen.old ≤ most_blocks }
     requires count { length excesses.now ≡ length seen.old }
     requires same { length inside.now ≡ length seen.old }
     requires trail { IsTrail seen.old queue.old 0 }

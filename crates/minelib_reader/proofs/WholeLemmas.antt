@@ -4,15 +4,10 @@ use Rattle.std.specs.List.{position_or_len, prefix_len}
 use Rattle.std.specs.Str.{all_ascii_digits}
 use Rattle.std.specs.Str.Parse.{digits_value}
 use Rattle.std.specs.Char.{is_ascii_digit}
-use Rattle.std.proofs.lemmas.Bool.{leb-true, eqb-true}
+use Rattle.std.proofs.lemmas.Bool.{leb-true, eqb-true, and_parts}
 use Rattle.minelib_reader.specs.Number.{digits_of, whole_of}
 use Rattle.minelib_reader.specs.Text.{is_blank, fields_of}
 use Rattle.minelib_reader.proofs.TextLemmas.{some_field}
-
-both : (a b : Bool) → (a && b) ≡ true → (a ≡ true) × (b ≡ true)
-both true true e = (refl, refl)
-both true false e = absurd cc
-both false b e = absurd cc
 
 not_blank_by : (c : ℕ) (v w : Bool) → eqb c 32 ≡ v → eqb c 9 ≡ w → 48 ≤ c → (v || w) ≡ false
 not_blank_by c true w e f le = absurd (let same = eqb-true c 32 e in omega (arith, same, le))
@@ -20,7 +15,7 @@ not_blank_by c false true e f le = absurd (let same = eqb-true c 9 f in omega (a
 not_blank_by c false false e f le = refl
 
 not_blank : (c : ℕ) → is_ascii_digit c ≡ true → is_blank c ≡ false
-not_blank c e = let low = both (leb 48 c) (leb c 57) e in not_blank_by c (eqb c 32) (eqb c 9) refl refl (leb-true 48 c low.0)
+not_blank c e = let low = and_parts (leb 48 c) (leb c 57) e in not_blank_by c (eqb c 32) (eqb c 9) refl refl (leb-true 48 c low.0)
 
 -- no digit is a blank, so the field of digits ends where a blank or nothing follows
 ends : (text : List ℕ) (len : ℕ) → len ≤ length text → all_ascii_digits (take len text) ≡ true → (len ≡ length text) ⊎ (is_blank (get_or text len 0) ≡ true) → len ≡ position_or_len is_blank text
@@ -28,7 +23,7 @@ ends [] len le all end = omega (arith, le)
 ends (c ∷ cs) zero le all (inl e) = absurd (omega (arith, e))
 ends (c ∷ cs) zero le all (inr e) = sym (ap (λ (v : Bool). cond (not v) (1 + position_or_len is_blank cs) 0) e)
 ends (c ∷ cs) (suc k) le all end =
-    let parts = both (is_ascii_digit c) (all_ascii_digits (take k cs)) all in
+    let parts = and_parts (is_ascii_digit c) (all_ascii_digits (take k cs)) all in
     let e : position_or_len is_blank (c ∷ cs) ≡ 1 + position_or_len is_blank cs = ap (λ (v : Bool). cond (not v) (1 + position_or_len is_blank cs) 0) (not_blank c parts.0) in
     let behind = ends cs k (omega (arith, le)) parts.1 (tail end) in
     omega (arith, e, behind)

@@ -1,5 +1,6 @@
 -- What two columns of a table of blocks say: the revenue and the cost of each block.
 use Rattle.std.specs.Prelude.{◌⊎◌, ◌≤◌, ◌^◌, ℕ, ℤ, pos, List, length, get_or}
+use Rattle.pit_model.specs.Size.{most_blocks}
 use Rattle.faults.specs.declared.fault.Fault.{Fault}
 use Rattle.minelib_reader.specs.Table.{Table}
 use Rattle.minelib_reader.specs.Column.{IsColumn, RefusesColumn}
@@ -13,7 +14,7 @@ pub record Prices : Type 0 where
 
 -- as many of one as of the other, within the limits
 pub record ArePrices (revenues costs : List ℤ) : Type 0 where
-  pub few : length revenues ≤ 2 ^ 22
+  pub few : length revenues ≤ most_blocks
   pub revenue : IsAmount (length revenues) revenues
   pub cost : IsAmount (length revenues) costs
 

@@ -6,6 +6,7 @@ ghost use Rattle.pit_model.specs.Deposit.{priced};
 ghost use Rattle.pit_model.specs.Sum.{total};
 ghost use Rattle.shells.specs.Outermost.{amounts_of};
 ghost use Rattle.shells.specs.Prices.{price_of, AreColumns, ArePrices, RefusesColumns};
+ghost use Rattle.pit_model.specs.Size.{most_blocks};
 
 use faults::Fault;
 use minelib_reader::{BlockTable, column};
@@ -109,7 +110,7 @@ impl Columns {
 
     /// The rows of some blocks, as columns of their own. Refused for want of memory alone.
     pub(crate) fn at(&self, alloc: Global, blocks: &[u32]) -> Result<Columns, AllocError>
-        requires few { length blocks.now ≤ 2 ^ 22 }
+        requires few { length blocks.now ≤ most_blocks }
         requires blocks { All (λ u. u < length self.now.revenues) blocks.now }
         ensures revenues { IfOk result (λ c. c.revenues ≡ amounts_of self.now.revenues blocks.now) }
         ensures costs { IfOk result (λ c. c.costs ≡ amounts_of self.now.costs blocks.now) }
@@ -122,7 +123,7 @@ impl Columns {
 
     /// The summed value of a list of blocks at a factor in per mille, in billionths.
     pub(crate) fn worth(&self, blocks: &[u32], factor: u32) -> i128
-        requires few { length blocks.now ≤ 2 ^ 22 }
+        requires few { length blocks.now ≤ most_blocks }
         requires blocks { All (λ u. u < length self.now.revenues) blocks.now }
         requires factor { factor ≤ 100000 }
         ensures { result ≡ total (length blocks.now) (λ i. price_of self.now factor (get_or blocks.now i 0)) }

@@ -10,6 +10,7 @@ ghost use Rattle.certificate.specs.Check.{ShowsPit};
 ghost use Rattle.solver.specs.Modes.{EndsWithin, RefusesSolve};
 ghost use Rattle.shells.specs.Prices.{deposit_of, Prices};
 ghost use Rattle.shells.specs.Grown.{marked, rest_at, IsGrown, RefusesShells, RestEndsWithin};
+ghost use Rattle.pit_model.specs.Size.{most_blocks};
 
 use crate::columns::Columns;
 use crate::factors::Factors;
@@ -101,7 +102,7 @@ pub fn mark(marks: &mut [bool], blocks: &[u32], found: &[u32])
 
 /// The marked blocks, rising.
 pub fn marked_blocks(alloc: Global, marks: &[bool]) -> Result<Vec<u32>, AllocError>
-    requires { length marks.now ≤ 2 ^ 22 }
+    requires { length marks.now ≤ most_blocks }
     ensures { IfOk result (λ v. v.items ≡ members (length marks.now) (marked marks.now)) }
 {
     let n = marks.len() as u32;

@@ -5,6 +5,7 @@ ghost use Rattle.faults.specs.Refused.{no_memory};
 ghost use Rattle.shells.specs.Grown.{IsFree};
 ghost use Rattle.shells.specs.Outermost.{IsOutermost, IsLiftedShell, AreLifted, IsPlacedIn};
 ghost use Rattle.std.specs.List.{All};
+ghost use Rattle.pit_model.specs.Size.{most_blocks};
 
 use crate::columns::Columns;
 use crate::growing::{mark, marked_blocks, solve_rest, start};
@@ -78,7 +79,7 @@ pub fn outermost_shell<G: Gate + Sync, R: Threads + Wait + Sync>(
 
 /// A shell by the numbers that its blocks have in a list.
 fn lift(alloc: Global, n: u32, blocks: &[u32], shell: &Shell) -> Result<Shell, AllocError>
-    requires few { n ≤ 2 ^ 22 }
+    requires few { n ≤ most_blocks }
     requires blocks { (i : ℕ) → i < length blocks.now → get_or blocks.now i 0 < n }
     requires pit { IsPlacedIn blocks.now shell.now }
     ensures { IfOk result (IsLiftedShell n blocks.now shell.now) }
@@ -100,7 +101,7 @@ pub fn lift_all(
     blocks: &[u32],
     shells: &[Shell],
 ) -> Result<Vec<Shell>, AllocError>
-    requires few { n ≤ 2 ^ 22 }
+    requires few { n ≤ most_blocks }
     requires blocks { (i : ℕ) → i < length blocks.now → get_or blocks.now i 0 < n }
     requires pits { All (IsPlacedIn blocks.now) shells.now }
     ensures { IfOk result (λ v. AreLifted n blocks.now shells.now v.items (length shells.now)) }
