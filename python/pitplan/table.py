@@ -1,0 +1,126 @@
+"""The planner's table of blocks: read from a CSV file or taken from pandas, and checked whole.
+
+A row is counted as a spreadsheet counts it: the header is row 1, the first block row 2.
+"""
+
+from __future__ import annotations
+
+from typing import Optional
+
+import numpy as np
+import pandas as pd
+
+from .errors import PlanError
+from .project import Project
+
+HEADER_ROWS = 2
+
+
+def read(project: Project) -> pd.DataFrame:
+    """The table of `project.table.file` (.csv, also .csv.gz), with the columns that the project names.
+
+    Codes (id, rock, region) are texts, all others float64. Raises PlanError, with file, row and column, where a column
+    is missing or a field is no number.
+    """
+    columns = project.table
+    try:
+        head = pd.read_csv(columns.file, sep=columns.separator, nrows=0)
+        wanted = names_of(project)
+        demand_columns(head, wanted, str(columns.file))
+        codes = {name: str for name in (columns.id, columns.rock, columns.region) if name}
+        frame = pd.read_csv(
+            columns.file,
+            sep=columns.separator,
+            usecols=wanted,
+            dtype=codes,
+            keep_default_na=False,
+            na_values={name: [""] for name in wanted if name not in codes},
+            float_precision="round_trip",
+            low_memory=False,
+        )
+    except OSError as error:
+        raise PlanError(f"{columns.file}: cannot be read: {error.strerror or error}") from error
+    except (pd.errors.ParserError, pd.errors.EmptyDataError, UnicodeDecodeError, EOFError) as error:
+        raise PlanError(f"{columns.file}: is no table: {' '.join(str(error).split())}") from error
+    return checked(frame, project, str(columns.file))
+
+
+def names_of(project: Project) -> list[str]:
+    """The columns that the project names, each once."""
+    t = project.table
+    named = [t.id, t.x, t.y, t.z, t.tonnes, t.rock, t.region, *(metal.column for metal in project.metals)]
+    return list(dict.fromkeys(name for name in named if name))
+
+
+def demand_columns(frame: pd.DataFrame, wanted: list[str], source: str) -> None:
+    for name in wanted:
+        if name not in frame.columns:
+            there = ", ".join(map(str, frame.columns))
+            raise PlanError(f"{source} row 1: there is no column {name}; the columns are {there}")
+
+
+def checked(frame: pd.DataFrame, project: Project, source: str = "table") -> pd.DataFrame:
+    """A copy with the named columns alone, numbers as float64 and codes as texts. Raises PlanError as `read` does.
+
+    Empty tonnes and grades are refused, or made 0 where the project says `empty = "zero"`; how many they were stands in
+    the column `filled` of the answer's rows.
+    """
+    columns = project.table
+    demand_columns(frame, names_of(project), source)
+    if frame.empty:
+        raise PlanError(f"{source}: has no blocks")
+    codes = [name for name in (columns.id, columns.rock, columns.region) if name]
+    result = pd.DataFrame(index=pd.RangeIndex(len(frame)))
+    result["filled"] = 0
+    for name in names_of(project):
+        if name in codes:
+            result[name] = frame[name].astype(str).str.strip().to_numpy()
+            continue
+        numbers = numbers_of(frame[name], f"{source}", name)
+        may_fill = columns.empty == "zero" and name not in (columns.x, columns.y, columns.z)
+        empty = np.isnan(numbers)
+        if empty.any() and not may_fill:
+            raise at_row(source, int(empty.argmax()), name, "is empty")
+        result["filled"] += empty
+        result[name] = np.where(empty, 0.0, numbers)
+    demand_not_negative(result, project, source)
+    demand_ids(result, columns.id, source)
+    return result
+
+
+def numbers_of(column: pd.Series, source: str, name: str) -> np.ndarray:
+    """float64, nan where the field is empty."""
+    numbers = pd.to_numeric(column, errors="coerce").to_numpy(dtype=np.float64)
+    texts = column.astype(str).str.strip() if column.dtype == object else None
+    if texts is not None:
+        bad = np.isnan(numbers) & ~column.isna().to_numpy() & (texts != "").to_numpy()
+        if bad.any():
+            row = int(bad.argmax())
+            raise at_row(source, row, name, f'"{texts.iloc[row]}" is not a number')
+    infinite = np.isinf(numbers)
+    if infinite.any():
+        raise at_row(source, int(infinite.argmax()), name, "is infinite")
+    return numbers
+
+
+def demand_not_negative(frame: pd.DataFrame, project: Project, source: str) -> None:
+    for name in [project.table.tonnes, *(metal.column for metal in project.metals)]:
+        negative = (frame[name] < 0).to_numpy()
+        if negative.any():
+            row = int(negative.argmax())
+            raise at_row(source, row, name, f"{frame[name].iloc[row]:g} is negative")
+
+
+def demand_ids(frame: pd.DataFrame, name: Optional[str], source: str) -> None:
+    if name is None:
+        return
+    twice = frame[name].duplicated().to_numpy()
+    if twice.any():
+        row = int(twice.argmax())
+        first = int((frame[name] == frame[name].iloc[row]).to_numpy().argmax())
+        raise at_row(source, row, name, f"{frame[name].iloc[row]} stands in row {first + HEADER_ROWS} too")
+
+
+def at_row(source: str, row: int, column: str, why: str) -> PlanError:
+    """`row` counts the blocks from 0."""
+    return PlanError(f"{source} row {row + HEADER_ROWS} column {column}: {why}")
