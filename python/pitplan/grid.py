@@ -110,13 +110,24 @@ def axis_of(frame: pd.DataFrame, name: str, k: int, rules: GridRules, source: st
     else:
         size = float(gaps.min())
         size = float(distinct[-1] - first) / round(float(distinct[-1] - first) / size)
+    first = most_common_lattice(values, first, size, rules.tolerance)
     place = np.rint((values - first) / size)
     off = np.abs(values - (first + place * size))
     if off.max() > rules.tolerance:
         row = int((off > rules.tolerance).argmax())
         why = f"{values[row]:g} is off the grid {first:g}, {first + size:g}, {first + 2 * size:g}, .. by {off[row]:g} m"
         raise at_row(source, row, name, f"{why}: reblock sub-blocks first, and turn a rotated model to its own axes")
-    return Axis(first, size, int(place.max()) + 1, place.astype(np.int64))
+    least = place.min()
+    return Axis(float(first + least * size), size, int(place.max() - least) + 1, (place - least).astype(np.int64))
+
+
+def most_common_lattice(values: np.ndarray, first: float, size: float, tolerance: float) -> float:
+    """A centre of the lattice on which most values lie, so that what is off it are the few."""
+    shift = values - first
+    shift = shift - np.rint(shift / size) * size
+    group = np.rint(shift / max(tolerance, 1e-6))
+    groups, counts = np.unique(group, return_counts=True)
+    return first + float(np.median(shift[group == groups[counts.argmax()]]))
 
 
 def demand_once(cells: np.ndarray, frame: pd.DataFrame, columns: TableColumns, source: str) -> None:

@@ -104,6 +104,7 @@ class Plan:
             "notes": self.notes,
             "codes": codes_of(self.project),
             "tonnes": self.project.table.tonnes,
+            "metals": [{"name": m.name, "column": m.column, "sign": m.sign} for m in self.project.metals],
             "libraries": {"python": sys.version.split()[0], "numpy": np.__version__, "pandas": pd.__version__},
         }
 

@@ -5,6 +5,7 @@ A row is counted as a spreadsheet counts it: the header is row 1, the first bloc
 
 from __future__ import annotations
 
+import warnings
 from typing import Optional
 
 import numpy as np
@@ -24,25 +25,32 @@ def read(project: Project) -> pd.DataFrame:
     """
     columns = project.table
     try:
-        head = pd.read_csv(columns.file, sep=columns.separator, nrows=0)
-        wanted = names_of(project)
-        demand_columns(head, wanted, str(columns.file))
-        codes = {name: str for name in (columns.id, columns.rock, columns.region) if name}
-        frame = pd.read_csv(
+        frame = read_csv(project)
+    except OSError as error:
+        raise PlanError(f"{columns.file}: cannot be read: {error.strerror or error}") from error
+    except (pd.errors.ParserError, pd.errors.EmptyDataError, pd.errors.ParserWarning, UnicodeDecodeError, EOFError) as error:
+        raise PlanError(f"{columns.file}: is no table: {' '.join(str(error).split())}") from error
+    return checked(frame, project, str(columns.file))
+
+
+def read_csv(project: Project) -> pd.DataFrame:
+    """The file as it is: numbers where a column has no other field, codes as texts, and an empty number as nan."""
+    columns = project.table
+    wanted = names_of(project)
+    codes = {name: str for name in (columns.id, columns.rock, columns.region) if name}
+    with warnings.catch_warnings():
+        # All columns are read, and a line with more fields than the header is an error: pandas would drop the rest.
+        warnings.simplefilter("error", pd.errors.ParserWarning)
+        return pd.read_csv(
             columns.file,
             sep=columns.separator,
-            usecols=wanted,
+            index_col=False,
             dtype=codes,
             keep_default_na=False,
             na_values={name: [""] for name in wanted if name not in codes},
             float_precision="round_trip",
             low_memory=False,
         )
-    except OSError as error:
-        raise PlanError(f"{columns.file}: cannot be read: {error.strerror or error}") from error
-    except (pd.errors.ParserError, pd.errors.EmptyDataError, UnicodeDecodeError, EOFError) as error:
-        raise PlanError(f"{columns.file}: is no table: {' '.join(str(error).split())}") from error
-    return checked(frame, project, str(columns.file))
 
 
 def names_of(project: Project) -> list[str]:

@@ -1,0 +1,72 @@
+"""What the tests share: small projects and tables, written where a test may write."""
+
+import sys
+from pathlib import Path
+
+import pandas as pd
+import pytest
+from hypothesis import settings
+
+ROOT = Path(__file__).resolve().parents[2]
+sys.path.insert(0, str(ROOT / "python"))
+
+settings.register_profile("plan", deadline=None, max_examples=40, derandomize=True)
+settings.load_profile("plan")
+
+PROJECT = """
+title = "Test hill"
+[table]
+file = "blocks.csv"
+id = "name"
+rock = "rock"
+region = "region"
+[grid]
+size = [10, 10, 10]
+[money]
+mining_cost = 2
+processing_cost = 10
+[[metals]]
+name = "copper"
+column = "cu"
+unit = "percent"
+price = 8000
+recovery = 0.5
+[slopes]
+levels = 3
+[[slopes.walls]]
+pattern = "1:5"
+[shells]
+factors = [500, 1000, 1500]
+rate = 0.1
+ore_per_year = 100
+"""
+
+
+def rows(columns, rows_, levels, **more):
+    """A full box of blocks of 10 m, from the floor up; each further column is a function of (column, row, level)."""
+    places = [(i, j, k) for k in range(levels) for j in range(rows_) for i in range(columns)]
+    defaults = {"tonnes": lambda i, j, k: 100, "cu": lambda i, j, k: 0, "rock": lambda i, j, k: "R", "region": lambda i, j, k: "1"}
+    frame = pd.DataFrame({"name": [f"b{i}-{j}-{k}" for i, j, k in places]})
+    for number, axis in enumerate("xyz"):
+        frame[axis] = [5.0 + 10 * place[number] for place in places]
+    for name, value in {**defaults, **more}.items():
+        frame[name] = [value(*place) for place in places]
+    return frame
+
+
+@pytest.fixture
+def plan_folder(tmp_path):
+    """Writes a project and its table into a folder of the test's own; gives the project's path."""
+
+    def write(table, text=PROJECT, *changes):
+        for old, new in changes:
+            assert text.count(old) == 1, f"{old} stands {text.count(old)} times in the project"
+            text = text.replace(old, new)
+        (tmp_path / "project.toml").write_text(text)
+        if isinstance(table, str):
+            (tmp_path / "blocks.csv").write_text(table)
+        else:
+            table.to_csv(tmp_path / "blocks.csv", index=False)
+        return tmp_path / "project.toml"
+
+    return write
