@@ -105,18 +105,16 @@ def test_walls_that_stand_upright_and_lists_without_width():
 
 @given(st.integers(25, 75), st.integers(1, 8))
 def test_errors_are_those_of_a_high_wall(angle, levels):
-    """The wall of 60 levels that the list makes, cell by cell, within a block of the computed one."""
+    """The wall of 60 levels that the list makes, step by step, is less than a list's height of steps off the computed one."""
     offsets = slopes.cone(((0.0, float(angle)),), CUBE, levels)
     computed = slopes.wall_angles(offsets, CUBE)
-    far = {0: 0.0, 90: 0.0}
     for azimuth, axis in ((0, 1), (90, 0)):
         steps = [(step[axis], step[2]) for step in offsets if step[1 - axis] == 0]
         best = [0] * 61
         for up in range(1, 61):
             best[up] = max(best[up - c] + a for a, c in steps if c <= up)
-        far[azimuth] = best[60]
-        walls = math.degrees(math.atan2(60, best[60]))
-        assert walls >= computed[azimuth] - 1e-6
+        flatness = 1 / math.tan(math.radians(computed[azimuth]))
+        assert 60 * flatness + 1e-6 >= best[60] >= (60 - levels) * flatness - 1e-6
 
 
 def test_angles_between_azimuths_go_by_the_cotangent():
