@@ -1,7 +1,7 @@
 #!/usr/bin/python3
 """Makes a synthetic deposit as a planner's table of blocks: a porphyry of copper with some gold under a hillside.
 
-    tools/make_table.py --columns 26 --rows 22 --levels 14 --seed 4 --out examples/plan/blocks.csv
+    tools/make_table.py --columns 26 --rows 22 --levels 15 --seed 4 --out examples/plan/blocks.csv
 
 Blocks are 20 x 20 x 15 m. Columns: id, x, y, z (centres in metres), tonnes, cu_pct, au_gpt, rock (OX oxide, POR porphyry,
 AND andesite) and region (east and west of a fault, with different walls). Cells above the ground have no row. The same
@@ -34,13 +34,13 @@ def deposit(columns, rows, levels, seed):
     rng = np.random.default_rng(seed)
     level, row, column = np.meshgrid(np.arange(levels), np.arange(rows), np.arange(columns), indexing="ij")
     east, north, up = (column + 0.5) / columns, (row + 0.5) / rows, (level + 0.5) / levels
-    ground = levels * (0.84 + 0.10 * np.sin(3.0 * east[0] + 0.5) * np.cos(2.2 * north[0]) + 0.06 * (1 - east[0]))
+    ground = levels * (0.72 + 0.14 * np.sin(3.0 * east[0] + 0.5) * np.cos(2.2 * north[0]) + 0.16 * (1 - east[0]))
     depth = ground[None] - level
-    body = np.exp(-(((east - 0.52) / 0.16) ** 2 + ((north - 0.5) / 0.19) ** 2 + ((up - 0.52) / 0.26) ** 2))
-    root = np.exp(-(((east - 0.58) / 0.11) ** 2 + ((north - 0.46) / 0.12) ** 2 + ((up - 0.22) / 0.24) ** 2))
+    body = np.exp(-(((east - 0.52) / 0.16) ** 2 + ((north - 0.5) / 0.19) ** 2 + ((up - 0.56) / 0.2) ** 2))
+    root = np.exp(-(((east - 0.58) / 0.11) ** 2 + ((north - 0.48) / 0.12) ** 2 + ((up - 0.36) / 0.15) ** 2))
     strength = body + 0.8 * root
-    copper = 0.95 * strength * np.exp(0.35 * smooth_noise(rng, level.shape, (1.5, 2.5, 2.5)))
-    gold = 0.32 * strength**1.3 * np.exp(0.5 * smooth_noise(rng, level.shape, (1.5, 2, 2)))
+    copper = 0.62 * strength * np.exp(0.35 * smooth_noise(rng, level.shape, (1.5, 2.5, 2.5)))
+    gold = 0.26 * strength**1.3 * np.exp(0.5 * smooth_noise(rng, level.shape, (1.5, 2, 2)))
     return depth > 0.5, np.where(copper > 0.08, copper, 0), np.where(copper > 0.08, gold, 0), depth
 
 
@@ -66,7 +66,7 @@ def main():
     parser = argparse.ArgumentParser(description="Makes a synthetic deposit as a table of blocks.")
     parser.add_argument("--columns", type=int, default=26, help="blocks from west to east (default 26)")
     parser.add_argument("--rows", type=int, default=22, help="blocks from south to north (default 22)")
-    parser.add_argument("--levels", type=int, default=14, help="blocks from the floor up (default 14)")
+    parser.add_argument("--levels", type=int, default=15, help="blocks from the floor up (default 15)")
     parser.add_argument("--seed", type=int, default=4, help="default 4")
     parser.add_argument("--out", required=True, help="the file, .csv or .csv.gz")
     options = parser.parse_args()

@@ -22,7 +22,7 @@ from .outlines import edges  # noqa: E402
 from .project import Metal  # noqa: E402
 
 ORE, WASTE, GROUND = "#3b6ea5", "#cfc9bd", "#ece8df"
-BEST, WORST, PLAIN = "#1b7f4b", "#c0392b", "#444444"
+BEST, WORST, PLAIN, CHOSEN = "#1b7f4b", "#c0392b", "#444444", "#ffe9a6"
 STYLE = {"font.size": 9, "axes.spines.top": False, "axes.titlesize": 10, "axes.titlelocation": "left", "savefig.dpi": 120}
 MOST_TICKS = 11
 
@@ -85,8 +85,9 @@ def pit_by_pit(table: pd.DataFrame, currency: str, chosen: int, path: Path) -> N
             peak = int(table[column].to_numpy().argmax())
             right.plot(factors[peak], table[column].iloc[peak] / money, "o", markersize=9, markerfacecolor="none", markeredgecolor=colour)
         right.set_ylabel(f"worth at the price as given, {mark} {currency}".replace("  ", " "))
-        right.axvline(chosen, color="#d9a400", linewidth=6, alpha=0.35, zorder=0, label=f"chosen: {chosen}")
-        right.set_ylim(min(0.0, right.get_ylim()[0]), right.get_ylim()[1] * 1.05)
+        left.axvspan(chosen - 0.65 * wide, chosen + 0.65 * wide, color=CHOSEN, zorder=0, label=f"chosen: {chosen}")
+        lowest = float(table[["worth", "npv_best", "npv_worst"]].min().min())
+        right.set_ylim(min(0.0, 1.1 * lowest / money), right.get_ylim()[1] * 1.05)
         handles = [*left.get_legend_handles_labels()[0], *right.get_legend_handles_labels()[0]]
         names = [*left.get_legend_handles_labels()[1], *right.get_legend_handles_labels()[1]]
         figure.legend(handles, names, ncol=6, loc="upper center", frameon=False)
@@ -146,7 +147,7 @@ def sections(scene: Scene, path: Path) -> None:
 def panels(rows: int, columns: int, wide: float, high: float):
     """A figure of panels whose maps have the ground's proportions, and its axes in a row."""
     share = min(max(high / wide, 0.3), 1.3)
-    figure, axes = plt.subplots(rows, columns, figsize=(12, 12 * share * rows / columns * 0.8 + 1.2 * rows), constrained_layout=True)
+    figure, axes = plt.subplots(rows, columns, figsize=(12, 12 * share * rows / columns * 0.78 + 0.55 * rows), constrained_layout=True)
     return figure, list(axes.flat)
 
 

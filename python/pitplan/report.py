@@ -10,7 +10,7 @@ import pandas as pd
 from jinja2 import Environment, FileSystemLoader, select_autoescape
 
 from .pictures import scaled
-from .project import Project
+from .project import Metal, Project
 
 TEMPLATES = Environment(
     loader=FileSystemLoader(Path(__file__).parent / "templates"), autoescape=select_autoescape(), trim_blocks=True, lstrip_blocks=True
@@ -36,12 +36,20 @@ def columns_of(table: pd.DataFrame, project: Project) -> list[tuple[str, str, fl
         ("strip_ratio", "strip ratio", 1.0, 2),
     ]
     for metal in project.metals:
-        size, sign = scaled(float(table[f"metal_{metal.name}"].max()))
+        size, unit = metal_unit(float(table[f"metal_{metal.name}"].max()), metal)
         columns.append((f"grade_{metal.name}", f"{metal.name}, {metal.sign}", 1.0, 3))
-        columns.append((f"metal_{metal.name}", f"{metal.name}, {sign}{metal.quantity}", size, 2))
+        columns.append((f"metal_{metal.name}", f"{metal.name}, {unit}", size, 2))
     for name, heading in (("worth", "worth"), ("npv_best", "NPV best"), ("npv_worst", "NPV worst")):
         columns.append((name, f"{heading}, {currency}", money, 1))
     return [*columns, ("years", "years", 1.0, 1)]
+
+
+def metal_unit(most: float, metal: Metal) -> tuple[float, str]:
+    """A unit in which quantities of a metal are short: grams become kilograms and tonnes."""
+    if metal.quantity != "g":
+        size, sign = scaled(most)
+        return size, f"{sign}t"
+    return (1e6, "t") if most >= 1e6 else (1e3, "kg") if most >= 1e3 else (1.0, "g")
 
 
 def cells_of(table: pd.DataFrame, columns: list[tuple[str, str, float, int]]) -> list[list[str]]:
