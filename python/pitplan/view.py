@@ -32,10 +32,10 @@ def write(path: Path, folder: Folder) -> None:
 def model_of(folder: Folder) -> dict[str, Any]:
     """What the page is told: the grid, a byte of factor and one of grade for each cell, and colours."""
     grid, blocks = folder.grid, folder.blocks
-    used = sorted(int(factor) for factor in blocks["factor"].unique() if factor > 0)
-    if len(used) > MOST_FACTORS:
-        raise PlanError(f"the 3D page can show {MOST_FACTORS} shells, and there are {len(used):,}: give fewer factors")
-    place = np.searchsorted(used, blocks["factor"].to_numpy()) + 1
+    factors = folder.factors
+    if len(factors) > MOST_FACTORS:
+        raise PlanError(f"the 3D page can show {MOST_FACTORS} shells, and there are {len(factors):,}: give fewer factors")
+    place = np.searchsorted(factors, blocks["factor"].to_numpy()) + 1
     solid = (blocks[folder.record["tonnes"]] > 0).to_numpy()
     shell = np.where(solid, np.where(blocks["factor"] > 0, place, 0), AIR).astype(np.uint8)
     metal = folder.record["metals"][0]
@@ -49,13 +49,13 @@ def model_of(folder: Folder) -> dict[str, Any]:
         "size": list(grid.size),
         "corner": [west, south, floor],
         "top": top,
-        "factors": used,
+        "factors": factors,
         "chosen": folder.record["shells"]["chosen"],
         "shell": encoded(grid.spread(shell, AIR)),
         "grade": encoded(grid.spread(tint, 0)),
         "grade_most": most,
         "grade_name": f"{metal['name']}, {metal['sign']}",
-        "shell_colours": colours("viridis_r", np.linspace(0.02, 1, max(1, len(used)))),
+        "shell_colours": colours("viridis_r", np.linspace(0.02, 1, len(factors))),
         "grade_colours": colours("YlOrRd", np.linspace(0, 1, 256)),
     }
 

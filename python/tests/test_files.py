@@ -2,6 +2,7 @@
 
 import json
 import os
+import shutil
 import subprocess
 import sys
 import xml.etree.ElementTree as xml
@@ -19,11 +20,21 @@ from pitplan.progress import silent
 ORE = {"cu": lambda i, j, k: {(3, 3, 1): 6, (4, 3, 1): 2.5, (3, 4, 0): 9}.get((i, j, k), 0)}
 
 
-@pytest.fixture
-def solved(plan_folder):
-    """A small mine with its shells; the project and the folder of the plan."""
-    project = load(plan_folder(rows(9, 8, 4, **ORE)))
+@pytest.fixture(scope="module")
+def solved_once(tmp_path_factory):
+    """A small mine with its shells, solved for all tests."""
+    place = tmp_path_factory.mktemp("solved")
+    rows(9, 8, 4, **ORE).to_csv(place / "blocks.csv", index=False)
+    (place / "project.toml").write_text(PROJECT)
+    project = load(place / "project.toml")
     commands.shells(project, project.folder, silent)
+    return place
+
+
+@pytest.fixture
+def solved(solved_once, tmp_path):
+    """The small mine in a folder of the test's own; the project and the folder of the plan."""
+    project = load(shutil.copytree(solved_once, tmp_path / "mine") / "project.toml")
     return project, project.folder
 
 

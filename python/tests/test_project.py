@@ -31,7 +31,8 @@ from pitplan import PlanError
         ("rate = 0.1", "rate = 0.1\nchosen = 900", "[shells] chosen: 900 is not among the factors"),
         ("ore_per_year = 100", "", "[shells] ore_per_year: is missing"),
         ("[money]", "[[money]]", "[money] must be a section of its own"),
-        ("[slopes]", "[other]", "slopes: is missing"),
+        ("[slopes]\n", "", "[metals 1] levels: is no key here"),
+        ("[shells]\n", "[shell]\n", "shells: is missing"),
         ('title = "Test hill"', "title = 3", "title: must be a text in quotes"),
     ],
 )
@@ -44,7 +45,7 @@ def test_a_mistake_is_named_by_section_and_key(plan_folder, old, new, words):
 
 def test_broken_toml_is_named_by_its_line(plan_folder):
     path = plan_folder(rows(2, 2, 2), PROJECT, ("[money]", "[money"))
-    with pytest.raises(PlanError, match=r"project.toml: .*\(at line 9, column 7\)"):
+    with pytest.raises(PlanError, match=r"project.toml: .*\(at line 10, column 7\)"):
         pitplan.load(path)
 
 
