@@ -1,5 +1,5 @@
 # `make` builds the program and solves the small mine; `make build` does the first alone; `make test` runs the gate.
-.PHONY: all build demo test
+.PHONY: all build demo test test-plan setup
 
 all: build demo
 
@@ -14,5 +14,18 @@ demo:
 	head -n 8 build/pit.txt
 	cmp build/pit.txt examples/small_mine/pit.txt
 
-test:
+# The gate, and then the planner's layer over the program that the gate has just proved and built.
+test: setup
 	rt ci
+	mkdir -p build
+	cp crates/pitshell/out/pitshell build/pitshell
+	$(MAKE) test-plan
+
+# The tests of the planner's layer alone. Where there is no program yet it is proved and built first, for ten minutes or more.
+test-plan: setup
+	test -x build/pitshell || $(MAKE) build
+	/usr/bin/python3 -m pytest python/tests -q -p no:cacheprovider
+
+# Installs what the planner's layer and its tests need of Debian's packages, where anything is missing.
+setup:
+	@tools/setup.sh

@@ -91,7 +91,11 @@ def shells(plan: Plan, solution: Solution) -> pd.DataFrame:
     rows = []
     for number, factor in enumerate(schedule.factors):
         inside = (cells.factor > 0) & (cells.factor <= factor)
-        row = {"factor": factor, **amounts(plan, cells, inside, factor), **best.iloc[number].to_dict()}
+        row: dict[str, object] = {
+            "factor": factor,
+            **amounts(plan, cells, inside, factor),
+            **best.iloc[number].to_dict(),
+        }
         dug = dug_in_order(cells, np.flatnonzero(inside))
         row["npv_worst"] = float(dug.present_worths(schedule).sum())
         row["worth_at_factor"] = solution.worth[factor]
@@ -171,6 +175,11 @@ def edge_notes(plan: Plan, solution: Solution) -> list[str]:
 def least_factor(plan: Plan, cells: Cells, side: str) -> Optional[int]:
     """The least factor whose pit touches a side."""
     cube = plan.grid.cube(np.where(cells.tonnes > 0, cells.factor, 0))
-    places = {"west side": cube[:, :, 0], "east side": cube[:, :, -1], "south side": cube[:, 0], "north side": cube[:, -1]}
+    places = {
+        "west side": cube[:, :, 0],
+        "east side": cube[:, :, -1],
+        "south side": cube[:, 0],
+        "north side": cube[:, -1],
+    }
     there = places.get(side, cube[-1])
     return int(there[there > 0].min())

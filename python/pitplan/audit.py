@@ -19,7 +19,14 @@ from .files import Folder
 
 REPOSITORY = Path(__file__).resolve().parents[2]
 CHECKER = REPOSITORY / "tools" / "check_certificate.py"
-MODEL, PREC, CERTIFICATE, PIT, RECORD, SCRIPT = "shell.upit", "shell.prec", "shell.cert", "pit.txt", "audit.json", "check.sh"
+MODEL, PREC, CERTIFICATE, PIT, RECORD, SCRIPT = (
+    "shell.upit",
+    "shell.prec",
+    "shell.cert",
+    "pit.txt",
+    "audit.json",
+    "check.sh",
+)
 GREATEST = 10**18
 
 CHECK_SCRIPT = """#!/bin/sh
@@ -62,7 +69,9 @@ def write(stage: Path, folder: Folder, factor: int) -> None:
     worth = demand_same(stage, folder, factor)
     names = [MODEL, PREC, CERTIFICATE, PIT, CHECKER.name]
     hashes = files.hashes(stage, names)
-    (stage / "hashes.txt").write_text("".join(f"{digest}  {name}\n" for name, digest in hashes.items()), encoding="ascii")
+    (stage / "hashes.txt").write_text(
+        "".join(f"{digest}  {name}\n" for name, digest in hashes.items()), encoding="ascii"
+    )
     record = {
         "title": folder.record["title"],
         "factor": factor,
@@ -73,7 +82,13 @@ def write(stage: Path, folder: Folder, factor: int) -> None:
         "not_proved": "how mine.blocks and mine.prec were made from the table",
     }
     files.write_json(stage / RECORD, record)
-    words = {"factor": factor, "title": folder.record["title"], "model": MODEL, "prec": PREC, "certificate": CERTIFICATE}
+    words = {
+        "factor": factor,
+        "title": folder.record["title"],
+        "model": MODEL,
+        "prec": PREC,
+        "certificate": CERTIFICATE,
+    }
     (stage / SCRIPT).write_text(CHECK_SCRIPT.format(**words), encoding="utf-8")
     (stage / SCRIPT).chmod(0o755)
 

@@ -135,8 +135,8 @@ class Folder:
     @property
     def grid(self) -> Grid:
         box = self.record["grid"]
-        rows = self.blocks["id"].to_numpy()
-        return Grid(tuple(box["shape"]), tuple(box["origin"]), tuple(box["size"]), rows)
+        (levels, rows, columns), (x, y, z), (dx, dy, dz) = box["shape"], box["origin"], box["size"]
+        return Grid((levels, rows, columns), (x, y, z), (dx, dy, dz), self.blocks["id"].to_numpy())
 
     @property
     def factors(self) -> list[int]:

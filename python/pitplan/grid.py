@@ -135,7 +135,9 @@ def demand_once(cells: np.ndarray, frame: pd.DataFrame, columns: TableColumns, s
     if twice.any():
         row = int(twice.argmax())
         first = int((cells == cells[row]).argmax())
-        raise at_row(source, row, f"{columns.x}, {columns.y}, {columns.z}", f"the block of row {first + 2} lies there too")
+        raise at_row(
+            source, row, f"{columns.x}, {columns.y}, {columns.z}", f"the block of row {first + 2} lies there too"
+        )
 
 
 def demand_neighbours(grid: Grid, columns: TableColumns, source: str) -> None:

@@ -21,8 +21,8 @@ from .project import GRADE_UNITS, ByRock, Metal, Project
 from .table import at_row
 
 MILLIONTHS = 6
-# The files' decimals have twelve digits before the point.
-GREATEST = 10**18
+# The files' decimals have twelve digits before the point, and a fixed cut-off adds two amounts.
+GREATEST = 10**17
 
 
 @dataclass(frozen=True)
@@ -74,85 +74,99 @@ class Values:
         return np.where(gain > 0, gain, 0) - 1000 * self.mining.astype(object)
 
 
+@dataclass(frozen=True)
+class Rows:
+    """The table's rows while they are weighed: a rock's code and exact tonnes of each."""
+
+    frame: pd.DataFrame
+    grid: Grid
+    project: Project
+    source: str
+    rock: np.ndarray
+    tonnes: Exact
+
+    def every(self, value: Decimal) -> Exact:
+        return Exact.of(value, len(self.frame))
+
+    def by_rock(self, price: ByRock, needed: np.ndarray, key: str) -> Exact:
+        """One number a row by its rock. Raises PlanError where a row in `needed` is of a rock that has none."""
+        if not isinstance(price, dict):
+            return self.every(price)
+        codes, inverse = np.unique(self.rock, return_inverse=True)
+        for number, code in enumerate(codes):
+            lacking = needed & (inverse == number)
+            if code not in price and lacking.any():
+                column = self.project.table.rock or "rock"
+                raise at_row(self.source, int(lacking.argmax()), column, f'[money] {key} names no rock "{code}"')
+        table = Exact.of_decimals([price.get(code, Decimal(0)) for code in codes])
+        return Exact(table.whole[inverse], table.places)
+
+    def mining(self) -> Exact:
+        """Cost of mining, which rises with the level below the highest."""
+        money, solid = self.project.money, np.array(self.tonnes.whole > 0, dtype=bool)
+        _, _, level = self.grid.indices(self.grid.rows)
+        deeper = Exact(whole_numbers(level), 0).times(self.every(money.mining_cost_per_level))
+        return self.tonnes.times(self.by_rock(money.mining_cost, solid, "mining_cost").plus(deeper))
+
+    def recovered(self, metal: Metal) -> Exact:
+        """The quantity of a metal that is recovered: tonnes, or grams where the grade is in grams a tonne."""
+        grade = Exact.of_floats(self.frame[metal.column].to_numpy()).times(self.every(GRADE_UNITS[metal.unit]))
+        nowhere = np.zeros(len(self.frame), dtype=bool)
+        return self.tonnes.times(grade).times(self.by_rock(metal.recovery, nowhere, "recovery"))
+
+    def millionths(self, value: Exact, name: str) -> tuple[np.ndarray, Rounding]:
+        """int64 millionths, rounded to the decimals that the project keeps. Raises PlanError from 10^11 on."""
+        decimals = self.project.money.decimals
+        rounded, rounding = value.rounded(decimals)
+        millionths = rounded * 10 ** (MILLIONTHS - decimals)
+        too_great = np.array(millionths >= GREATEST, dtype=bool)
+        if too_great.any():
+            why = "the amount is 10^11 or more: give prices and costs in a greater unit of money"
+            raise at_row(self.source, int(too_great.argmax()), name, why)
+        return millionths.astype(np.int64), rounding
+
+
 def values_of(frame: pd.DataFrame, grid: Grid, project: Project, source: str = "table") -> Values:
     """The values of a checked table's blocks, exact but for one rounding to the decimals that the project asks for.
 
-    Raises PlanError where a rock has no cost, a value is 10^12 or more, or there are too many nodes.
+    Raises PlanError where a rock has no cost, an amount is 10^11 or more, or there are too many nodes.
     """
-    money, count = project.money, len(frame)
-    rock = frame[project.table.rock].to_numpy() if project.table.rock else np.full(count, "")
-    tonnes = Exact.of_floats(frame[project.table.tonnes].to_numpy())
-    solid = np.array(tonnes.whole > 0, dtype=bool)
-    _, _, level = grid.indices(grid.rows)
-    per_level = Exact((whole_numbers(level)), 0).times(Exact.of(money.mining_cost_per_level, count))
-    mining = tonnes.times(of_rocks(money.mining_cost, rock, solid, "[money] mining_cost", source).plus(per_level))
-    metal = {m.name: recovered(frame, rock, tonnes, m) for m in project.metals}
-    revenue, selling = Exact.of(0, count), Exact.of(0, count)
+    rock = frame[project.table.rock].to_numpy() if project.table.rock else np.full(len(frame), "")
+    rows = Rows(frame, grid, project, source, rock, Exact.of_floats(frame[project.table.tonnes].to_numpy()))
+    metal = {m.name: rows.recovered(m) for m in project.metals}
+    revenue = selling = rows.every(Decimal(0))
     for m in project.metals:
-        revenue = revenue.plus(metal[m.name].times(Exact.of(m.price, count)))
-        selling = selling.plus(metal[m.name].times(Exact.of(m.selling_cost, count)))
+        revenue = revenue.plus(metal[m.name].times(rows.every(m.price)))
+        selling = selling.plus(metal[m.name].times(rows.every(m.selling_cost)))
     yields = np.array(revenue.whole > 0, dtype=bool)
-    processing = tonnes.times(of_rocks(money.processing_cost, rock, yields, "[money] processing_cost", source)).plus(selling)
-    kept = {"mining cost": mining, "revenue": revenue, "processing cost": processing}
-    whole = {name: in_millionths(value, money.decimals, name, source) for name, value in kept.items()}
-    return spread_values(grid, project, whole, {name: value.floats() for name, value in metal.items()}, tonnes.floats(), rock)
+    treatment = rows.tonnes.times(rows.by_rock(project.money.processing_cost, yields, "processing_cost"))
+    amounts = {"mining cost": rows.mining(), "revenue": revenue, "processing cost": treatment.plus(selling)}
+    kept = {name: rows.millionths(value, name) for name, value in amounts.items()}
+    return spread_values(rows, metal, kept)
 
 
-def spread_values(grid, project, whole, metal, tonnes, rock) -> Values:
-    """From one value a row of the table to one a cell."""
-    revenue = whole["revenue"][0]
-    ore_rows = revenue > 0
-    ore = np.sort(grid.rows[ore_rows])
-    nodes = grid.count + (len(ore) if project.money.cutoff == "moving" else 0)
+def spread_values(rows: Rows, metal: dict[str, Exact], kept: dict[str, tuple[np.ndarray, Rounding]]) -> Values:
+    """From one value a row of the table to one a cell. Raises PlanError where there are too many nodes."""
+    grid, cutoff = rows.grid, rows.project.money.cutoff
+    revenue, tonnes = kept["revenue"][0], rows.tonnes.floats()
+    ore = np.sort(grid.rows[revenue > 0])
+    nodes = grid.count + (len(ore) if cutoff == "moving" else 0)
     if nodes > MOST_BLOCKS:
         raise PlanError(
             f"{grid.count:,} blocks and {len(ore):,} processing nodes are {nodes:,} nodes, and the program takes at most "
             f'{MOST_BLOCKS:,}: give a smaller model, or [money] cutoff = "fixed"'
         )
     return Values(
-        mining=grid.spread(whole["mining cost"][0]),
+        mining=grid.spread(kept["mining cost"][0]),
         revenue=grid.spread(revenue),
-        processing=grid.spread(np.where(ore_rows, whole["processing cost"][0], 0)),
+        processing=grid.spread(np.where(revenue > 0, kept["processing cost"][0], 0)),
         ore=ore,
         tonnes=grid.spread(tonnes),
-        metal={name: grid.spread(amounts) for name, amounts in metal.items()},
-        cutoff=project.money.cutoff,
-        roundings={name: rounding for name, (_, rounding) in whole.items()},
-        notes=tuple(rock_notes(project, rock, tonnes > 0)),
+        metal={name: grid.spread(amounts.floats()) for name, amounts in metal.items()},
+        cutoff=cutoff,
+        roundings={name: rounding for name, (_, rounding) in kept.items()},
+        notes=tuple(rock_notes(rows.project, rows.rock, tonnes > 0)),
     )
-
-
-def recovered(frame: pd.DataFrame, rock: np.ndarray, tonnes: Exact, metal: Metal) -> Exact:
-    """The quantity of metal that is recovered of each row: tonnes, or grams where the grade is in grams a tonne."""
-    grade = Exact.of_floats(frame[metal.column].to_numpy()).times(Exact.of(GRADE_UNITS[metal.unit], len(frame)))
-    share = metal.recovery
-    if isinstance(share, dict):
-        share = {**{code: Decimal(0) for code in np.unique(rock)}, **share}
-    return tonnes.times(grade).times(of_rocks(share, rock, np.ones(len(rock), bool), "", ""))
-
-
-def of_rocks(price: ByRock, rock: np.ndarray, needed: np.ndarray, key: str, source: str) -> Exact:
-    """One number a row by its rock. Raises PlanError where a row in `needed` is of a rock that has none."""
-    if not isinstance(price, dict):
-        return Exact.of(price, len(rock))
-    codes, inverse = np.unique(rock, return_inverse=True)
-    for k, code in enumerate(codes):
-        if code not in price and (needed & (inverse == k)).any():
-            row = int((needed & (inverse == k)).argmax())
-            raise at_row(source, row, "rock", f'{key} names no rock "{code}"')
-    table = Exact.of_decimals([price.get(code, Decimal(0)) for code in codes])
-    return Exact(table.whole[inverse], table.places)
-
-
-def in_millionths(value: Exact, decimals: int, name: str, source: str) -> tuple[np.ndarray, Rounding]:
-    """int64 millionths, rounded to `decimals` of the currency."""
-    rounded, rounding = value.rounded(decimals)
-    millionths = rounded * 10 ** (MILLIONTHS - decimals)
-    too_great = np.array(millionths >= GREATEST, dtype=bool)
-    if too_great.any():
-        row = int(too_great.argmax())
-        raise at_row(source, row, name, "the amount is 10^12 or more: give prices and costs in a greater unit of money")
-    return millionths.astype(np.int64), rounding
 
 
 def whole_numbers(values: np.ndarray) -> np.ndarray:

@@ -31,12 +31,14 @@ def edges(mask: np.ndarray) -> np.ndarray:
 def rings(mask: np.ndarray) -> list[list[Point]]:
     """The edges as closed rings of corners; a hole's ring runs the other way. Corners on a straight line are left out."""
     following: dict[Point, list[Point]] = {}
-    for begin, end in edges(mask).tolist():
-        following.setdefault(tuple(begin), []).append(tuple(end))
+    for (x, y), (to_x, to_y) in edges(mask).tolist():
+        following.setdefault((x, y), []).append((to_x, to_y))
     found = []
     while following:
         ring = one_ring(following)
-        found.append([p for before, p, after in zip([ring[-1], *ring], ring, [*ring[1:], ring[0]]) if bends(before, p, after)])
+        found.append(
+            [p for before, p, after in zip([ring[-1], *ring], ring, [*ring[1:], ring[0]]) if bends(before, p, after)]
+        )
     return found
 
 

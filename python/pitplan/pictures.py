@@ -4,6 +4,7 @@ from __future__ import annotations
 
 from dataclasses import dataclass
 from pathlib import Path
+from typing import Any
 
 import matplotlib
 
@@ -15,7 +16,8 @@ import pandas as pd  # noqa: E402
 from matplotlib.axes import Axes  # noqa: E402
 from matplotlib.collections import LineCollection  # noqa: E402
 from matplotlib.colors import BoundaryNorm, ListedColormap  # noqa: E402
-from matplotlib.ticker import FuncFormatter  # noqa: E402
+from matplotlib.figure import Figure  # noqa: E402
+from matplotlib.image import AxesImage  # noqa: E402
 
 from .grid import Grid  # noqa: E402
 from .outlines import edges  # noqa: E402
@@ -23,8 +25,27 @@ from .project import Metal  # noqa: E402
 
 ORE, WASTE, GROUND = "#3b6ea5", "#cfc9bd", "#ece8df"
 BEST, WORST, PLAIN, CHOSEN = "#1b7f4b", "#c0392b", "#444444", "#ffe9a6"
-STYLE = {"font.size": 9, "axes.spines.top": False, "axes.titlesize": 10, "axes.titlelocation": "left", "savefig.dpi": 120}
+STYLE = {
+    "font.size": 9,
+    "axes.spines.top": False,
+    "axes.titlesize": 10,
+    "axes.titlelocation": "left",
+    "savefig.dpi": 120,
+}
 MOST_TICKS = 11
+# Rows are shown from the bottom of the picture up, each cell as it is.
+MAP: dict[str, Any] = {"origin": "lower", "interpolation": "nearest"}
+
+
+@dataclass(frozen=True)
+class Plane:
+    """A level or a section; arrays of rows from the south or the bottom, and where its sides lie in metres."""
+
+    factor: np.ndarray
+    solid: np.ndarray
+    grade: np.ndarray
+    dug: np.ndarray
+    extent: tuple[float, float, float, float]
 
 
 @dataclass(frozen=True)
@@ -48,6 +69,21 @@ class Scene:
         """The cells of the chosen pit that hold rock."""
         return (self.factor > 0) & (self.factor <= self.chosen) & self.solid
 
+    def level(self, number: int) -> Plane:
+        west, east, south, north, _, _ = self.grid.extent()
+        return self.plane((number,), (west, east, south, north))
+
+    def from_west_to_east(self, row: int) -> Plane:
+        west, east, _, _, bottom, top = self.grid.extent()
+        return self.plane((slice(None, None, -1), row), (west, east, bottom, top))
+
+    def from_south_to_north(self, column: int) -> Plane:
+        _, _, south, north, bottom, top = self.grid.extent()
+        return self.plane((slice(None, None, -1), slice(None), column), (south, north, bottom, top))
+
+    def plane(self, cut: Any, extent: tuple[float, float, float, float]) -> Plane:
+        return Plane(self.factor[cut], self.solid[cut], self.grade[cut], self.dug[cut], extent)
+
     @property
     def shades(self) -> tuple[ListedColormap, BoundaryNorm, list[int]]:
         """A colour for each factor at which cells come in, from the first shells to the last."""
@@ -58,9 +94,9 @@ class Scene:
 
 
 def scaled(most: float) -> tuple[float, str]:
-    """A unit in which numbers up to `most` are short: its size and its sign."""
-    for size, sign in ((1e9, "G"), (1e6, "M"), (1e3, "k")):
-        if most >= size:
+    """A unit in which numbers up to `most` have two digits before the point or more: its size and its sign."""
+    for size, sign in ((1e6, "M"), (1e3, "k")):
+        if most >= 10 * size:
             return size, sign
     return 1.0, ""
 
@@ -79,11 +115,24 @@ def pit_by_pit(table: pd.DataFrame, currency: str, chosen: int, path: Path) -> N
         left.set_xlabel("price factor, per mille of the price as given")
         left.set_ylabel(f"rock in the pit, {sign}t")
         money, mark = scaled(float(table[["worth", "npv_best", "npv_worst"]].abs().max().max()))
-        curves = (("worth", "undiscounted", PLAIN, "--"), ("npv_best", "NPV, best case", BEST, "-"), ("npv_worst", "NPV, worst case", WORST, "-"))
+        curves = (
+            ("worth", "undiscounted", PLAIN, "--"),
+            ("npv_best", "NPV, best case", BEST, "-"),
+            ("npv_worst", "NPV, worst case", WORST, "-"),
+        )
         for column, label, colour, line in curves:
-            right.plot(factors, table[column] / money, line, color=colour, marker="o", markersize=3, linewidth=1.4, label=label)
+            right.plot(
+                factors, table[column] / money, line, color=colour, marker="o", markersize=3, linewidth=1.4, label=label
+            )
             peak = int(table[column].to_numpy().argmax())
-            right.plot(factors[peak], table[column].iloc[peak] / money, "o", markersize=9, markerfacecolor="none", markeredgecolor=colour)
+            right.plot(
+                factors[peak],
+                table[column].iloc[peak] / money,
+                "o",
+                markersize=9,
+                markerfacecolor="none",
+                markeredgecolor=colour,
+            )
         right.set_ylabel(f"worth at the price as given, {mark} {currency}".replace("  ", " "))
         left.axvspan(chosen - 0.65 * wide, chosen + 0.65 * wide, color=CHOSEN, zorder=0, label=f"chosen: {chosen}")
         lowest = float(table[["worth", "npv_best", "npv_worst"]].min().min())
@@ -99,20 +148,12 @@ def plans(scene: Scene, path: Path) -> None:
     """The depth of the chosen pit, and the shells on three of its levels."""
     with plt.rc_context(STYLE):
         west, east, south, north, _, top = scene.grid.extent()
-        figure, axes = panels(2, 2, (east - west), (north - south))
-        extent = (west, east, south, north)
+        figure, axes = panels(east - west, north - south)
+        draw_floor(figure, axes[0], scene)
         height = scene.grid.size[2]
-        level = np.arange(scene.grid.shape[0])[:, None, None]
-        deepest = np.where(scene.dug, level, -1).max(axis=0)
-        floor = np.where(deepest >= 0, top - (deepest + 1) * height, np.nan)
-        image = axes[0].imshow(floor, origin="lower", extent=extent, cmap="cividis", interpolation="nearest")
-        axes[0].set_title(f"Floor of the pit at factor {scene.chosen}, elevation in m")
-        figure.colorbar(image, ax=axes[0], shrink=0.85)
-        for axis, k in zip(axes[1:], levels_to_show(scene)):
-            shown = draw_shells(axis, scene, scene.factor[k], scene.solid[k], extent)
-            outline(axis, scene.dug[k], extent)
-            axis.set_title(f"Shells on the level {top - (k + 1) * height:g} to {top - k * height:g} m")
-            colour_bar(figure, shown, axis, scene)
+        for axis, number in zip(axes[1:], levels_to_show(scene)):
+            draw_shells(figure, axis, scene, scene.level(number))
+            axis.set_title(f"Shells on the level {top - (number + 1) * height:g} to {top - number * height:g} m")
         for axis in axes:
             axis.set_xlabel("east, m")
             axis.set_ylabel("north, m")
@@ -122,73 +163,82 @@ def plans(scene: Scene, path: Path) -> None:
 def sections(scene: Scene, path: Path) -> None:
     """A section from west to east and one from south to north through the chosen pit: shells, and grades."""
     with plt.rc_context(STYLE):
-        west, east, south, north, bottom, top = scene.grid.extent()
+        west, east, _, _, bottom, top = scene.grid.extent()
         row, column = busiest(scene.dug, 1), busiest(scene.dug, 2)
-        _, y, _ = (float(v) for v in scene.grid.centres(np.array(row * scene.grid.shape[2])))
-        x, _, _ = (float(v) for v in scene.grid.centres(np.array(column)))
+        x, y, _ = scene.grid.centres(np.array(row * scene.grid.shape[2] + column))
+        figure, axes = panels(east - west, top - bottom)
         cuts = (
-            ("west to east", f"north {y:g}", (slice(None), row), (west, east, bottom, top), "east, m"),
-            ("south to north", f"east {x:g}", (slice(None), slice(None), column), (south, north, bottom, top), "north, m"),
+            (scene.from_west_to_east(row), f"west to east at north {float(y):g}", "east, m"),
+            (scene.from_south_to_north(column), f"south to north at east {float(x):g}", "north, m"),
         )
-        figure, axes = panels(2, 2, east - west, top - bottom)
-        for k, (name, where, cut, extent, label) in enumerate(cuts):
-            for axis in (axes[2 * k], axes[2 * k + 1]):
+        for (plane, where, label), left, right in zip(cuts, axes[::2], axes[1::2]):
+            draw_shells(figure, left, scene, plane)
+            left.set_title(f"Shells, {where}")
+            draw_grade(figure, right, scene, plane)
+            for axis in (left, right):
                 axis.set_xlabel(label)
                 axis.set_ylabel("elevation, m")
-            shown = draw_shells(axes[2 * k], scene, scene.factor[cut][::-1], scene.solid[cut][::-1], extent)
-            colour_bar(figure, shown, axes[2 * k], scene)
-            axes[2 * k].set_title(f"Shells, {name} at {where}")
-            draw_grade(figure, axes[2 * k + 1], scene, cut, extent)
-            for axis in (axes[2 * k], axes[2 * k + 1]):
-                outline(axis, scene.dug[cut][::-1], extent)
         finish(figure, path)
 
 
-def panels(rows: int, columns: int, wide: float, high: float):
-    """A figure of panels whose maps have the ground's proportions, and its axes in a row."""
+def panels(wide: float, high: float) -> tuple[Figure, list[Axes]]:
+    """A figure of two by two maps in the ground's proportions, and its axes."""
     share = min(max(high / wide, 0.3), 1.3)
-    figure, axes = plt.subplots(rows, columns, figsize=(12, 12 * share * rows / columns * 0.78 + 0.55 * rows), constrained_layout=True)
+    figure, axes = plt.subplots(2, 2, figsize=(12, 9.4 * share + 1.1), constrained_layout=True)
     return figure, list(axes.flat)
 
 
-def draw_shells(axis: Axes, scene: Scene, factor: np.ndarray, solid: np.ndarray, extent):
-    """The factors of a plane's cells, south or bottom first, over the ground."""
+def draw_floor(figure: Figure, axis: Axes, scene: Scene) -> None:
+    """The elevation of the chosen pit's floor."""
+    west, east, south, north, _, top = scene.grid.extent()
+    level = np.arange(scene.grid.shape[0])[:, None, None]
+    deepest = np.where(scene.dug, level, -1).max(axis=0)
+    floor = np.where(deepest >= 0, top - (deepest + 1) * scene.grid.size[2], np.nan)
+    image = axis.imshow(floor, extent=(west, east, south, north), cmap="cividis", **MAP)
+    axis.set_title(f"Floor of the pit at factor {scene.chosen}, elevation in m")
+    figure.colorbar(image, ax=axis, shrink=0.85)
+
+
+def draw_shells(figure: Figure, axis: Axes, scene: Scene, plane: Plane) -> None:
+    """The first factors of a plane's cells over the ground, and the chosen pit's outline."""
     colours, norm, _ = scene.shades
-    ground(axis, solid, extent)
-    shown = np.ma.masked_where((factor == 0) | ~solid, factor)
-    return axis.imshow(shown, origin="lower", extent=extent, cmap=colours, norm=norm, interpolation="nearest")
+    draw_ground(axis, plane)
+    shown = np.ma.masked_where((plane.factor == 0) | ~plane.solid, plane.factor)
+    image = axis.imshow(shown, extent=plane.extent, cmap=colours, norm=norm, **MAP)
+    colour_bar(figure, image, axis, scene)
+    draw_outline(axis, plane)
 
 
-def draw_grade(figure, axis: Axes, scene: Scene, cut, extent) -> None:
-    solid, grade = scene.solid[cut][::-1], scene.grade[cut][::-1]
-    ground(axis, solid, extent)
-    shown = np.ma.masked_where(~solid | (grade <= 0), grade)
-    image = axis.imshow(shown, origin="lower", extent=extent, cmap="YlOrRd", interpolation="nearest", vmin=0)
+def draw_grade(figure: Figure, axis: Axes, scene: Scene, plane: Plane) -> None:
+    draw_ground(axis, plane)
+    shown = np.ma.masked_where(~plane.solid | (plane.grade <= 0), plane.grade)
+    image = axis.imshow(shown, extent=plane.extent, cmap="YlOrRd", vmin=0, **MAP)
     axis.set_title(f"{scene.metal.name.capitalize()} and the outline of the pit at factor {scene.chosen}")
     figure.colorbar(image, ax=axis, shrink=0.85, label=f"{scene.metal.name}, {scene.metal.sign}")
+    draw_outline(axis, plane)
 
 
-def ground(axis: Axes, solid: np.ndarray, extent) -> None:
-    axis.imshow(np.where(solid, 1.0, np.nan), origin="lower", extent=extent, cmap=ListedColormap([GROUND]), interpolation="nearest")
+def draw_ground(axis: Axes, plane: Plane) -> None:
+    rock = np.where(plane.solid, 1.0, np.nan)
+    axis.imshow(rock, extent=plane.extent, cmap=ListedColormap([GROUND]), **MAP)
     axis.set_aspect("equal")
 
 
-def outline(axis: Axes, mask: np.ndarray, extent) -> None:
-    """The edges of a plane's cells, south or bottom first, as a black line."""
-    left, right, low, high = extent
-    rows, columns = mask.shape
+def draw_outline(axis: Axes, plane: Plane) -> None:
+    """The edges of the chosen pit's cells as a black line."""
+    left, right, low, high = plane.extent
+    rows, columns = plane.dug.shape
     size = np.array([(right - left) / columns, (high - low) / rows])
-    axis.add_collection(LineCollection(edges(mask) * size + (left, low), colors="black", linewidths=1.3))
+    axis.add_collection(LineCollection(edges(plane.dug) * size + (left, low), colors="black", linewidths=1.3))
 
 
-def colour_bar(figure, image, axis: Axes, scene: Scene) -> None:
-    used = scene.shades[2]
-    bar = figure.colorbar(image, ax=axis, shrink=0.85, label="first factor, per mille", spacing="uniform")
-    bounds = image.norm.boundaries
-    middles = [(a + b) / 2 for a, b in zip(bounds, bounds[1:])]
+def colour_bar(figure: Figure, image: AxesImage, axis: Axes, scene: Scene) -> None:
+    """A step of colour a factor, with as many of the factors written as are legible."""
+    _, norm, used = scene.shades
     step = -(-len(used) // MOST_TICKS)
-    bar.set_ticks(middles[::step])
-    bar.ax.yaxis.set_major_formatter(FuncFormatter(lambda _, k: str(used[::step][k]) if k is not None and k < len(used[::step]) else ""))
+    middles = [(a + b) / 2 for a, b in zip(norm.boundaries, norm.boundaries[1:])]
+    bar = figure.colorbar(image, ax=axis, shrink=0.85, label="first factor, per mille", spacing="uniform")
+    bar.set_ticks(middles[::step], labels=[str(factor) for factor in used[::step]])
     bar.ax.minorticks_off()
 
 
@@ -206,7 +256,7 @@ def busiest(dug: np.ndarray, axis: int) -> int:
     return int(dug.sum(axis=others).argmax()) if dug.any() else dug.shape[axis] // 2
 
 
-def finish(figure, path: Path) -> None:
+def finish(figure: Figure, path: Path) -> None:
     # Without the library's version in it, the same plan gives the same bytes.
     figure.savefig(path, metadata={"Software": None})
     plt.close(figure)

@@ -74,7 +74,11 @@ class Plan:
         missing = self.grid.count - len(self.table)
         return {
             "title": self.project.title,
-            "table": {"file": self.source, "rows": len(self.table), "fields_filled_with_0": int(self.table["filled"].sum())},
+            "table": {
+                "file": self.source,
+                "rows": len(self.table),
+                "fields_filled_with_0": int(self.table["filled"].sum()),
+            },
             "grid": {
                 "shape": list(self.grid.shape),
                 "origin": list(self.grid.origin),
@@ -153,7 +157,9 @@ def notes_of(plan: Plan) -> list[str]:
         notes.append("factor 1000, the price as given, was added to the factors")
     for name, rounding in plan.values.roundings.items():
         if rounding.changed:
-            notes.append(f"{name}: {rounding.changed:,} of {rounding.values:,} amounts were rounded, by {rounding.largest:.2g} at most")
+            notes.append(
+                f"{name}: {rounding.changed:,} of {rounding.values:,} amounts were rounded, by {rounding.largest:.2g} at most"
+            )
     return notes
 
 

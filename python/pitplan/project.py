@@ -155,6 +155,9 @@ def of_data(data: dict, path: Path) -> Project:
     )
     output.finish()
     top.finish()
+    priced = [project.money.mining_cost, project.money.processing_cost, *(metal.recovery for metal in project.metals)]
+    if project.table.rock is None and any(isinstance(price, dict) for price in priced):
+        raise PlanError(f"{path}: [table] rock: is missing, and prices or recoveries are given by rock")
     names = [metal.name for metal in project.metals]
     if len(set(names)) < len(names):
         raise PlanError(f"{path}: two [[metals]] have one name")

@@ -13,7 +13,10 @@ from .pictures import scaled
 from .project import Metal, Project
 
 TEMPLATES = Environment(
-    loader=FileSystemLoader(Path(__file__).parent / "templates"), autoescape=select_autoescape(), trim_blocks=True, lstrip_blocks=True
+    loader=FileSystemLoader(Path(__file__).parent / "templates"),
+    autoescape=select_autoescape(),
+    trim_blocks=True,
+    lstrip_blocks=True,
 )
 
 
@@ -49,7 +52,7 @@ def metal_unit(most: float, metal: Metal) -> tuple[float, str]:
     if metal.quantity != "g":
         size, sign = scaled(most)
         return size, f"{sign}t"
-    return (1e6, "t") if most >= 1e6 else (1e3, "kg") if most >= 1e3 else (1.0, "g")
+    return (1e6, "t") if most >= 1e7 else (1e3, "kg") if most >= 1e4 else (1.0, "g")
 
 
 def cells_of(table: pd.DataFrame, columns: list[tuple[str, str, float, int]]) -> list[list[str]]:

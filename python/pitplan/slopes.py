@@ -19,6 +19,9 @@ from .grid import Grid
 from .project import Slopes, Wall
 
 Offset = tuple[int, int, int]
+# Pairs of azimuth and angle in degrees.
+Angles = tuple[tuple[float, float], ...]
+Point = tuple[float, float]
 FIVE: tuple[Offset, ...] = ((0, 0, 1), (-1, 0, 1), (1, 0, 1), (0, -1, 1), (0, 1, 1))
 NINE: tuple[Offset, ...] = tuple((x, y, 1) for y in (-1, 0, 1) for x in (-1, 0, 1))
 PATTERN_OFFSETS = {"1:5": FIVE, "1:9": NINE}
@@ -76,14 +79,14 @@ class Walls:
     code: np.ndarray
 
 
-def cotangents(angles: tuple[tuple[float, float], ...], azimuths: np.ndarray) -> np.ndarray:
+def cotangents(angles: Angles, azimuths: np.ndarray) -> np.ndarray:
     """Cotangent of the asked angle at each azimuth in degrees: linear between two that are named, and round the circle."""
     given = np.array([azimuth for azimuth, _ in angles])
     flatness = np.array([1 / math.tan(math.radians(angle)) if angle < 90 else 0.0 for _, angle in angles])
     return np.interp(np.asarray(azimuths) % 360.0, given, flatness, period=360.0)
 
 
-def cone(angles: tuple[tuple[float, float], ...], size: tuple[float, float, float], levels: int, widened: float = 1.0):
+def cone(angles: Angles, size: tuple[float, float, float], levels: int, widened: float = 1.0) -> tuple[Offset, ...]:
     """The least list of steps that leads to every cell of the cone in so many levels, and to none outside it.
 
     (Where the asked walls make a cone that is not convex, steps together lead outside it, as they do in the ground.)
@@ -95,7 +98,7 @@ def cone(angles: tuple[tuple[float, float], ...], size: tuple[float, float, floa
     flatness = widened * cotangents(angles, np.degrees(np.arctan2(east * dx, north * dy)))
     distance = np.hypot(east * dx, north * dy)
     offsets: list[Offset] = []
-    reached = [set() for _ in range(levels + 1)]
+    reached: list[set[tuple[int, int]]] = [set() for _ in range(levels + 1)]
     reached[0] = {(0, 0)}
     for up in range(1, levels + 1):
         inside = distance <= up * dz * flatness * (1 + SLACK) + SLACK
@@ -121,11 +124,11 @@ def wall_angles(offsets: tuple[Offset, ...], size: tuple[float, float, float]) -
     return np.degrees(np.arctan2(1.0, np.maximum(reach, 0.0)))
 
 
-def hull_of(points: list[tuple[float, float]]) -> list[tuple[float, float]]:
+def hull_of(points: list[Point]) -> list[Point]:
     """The convex hull of sorted points, anticlockwise (Andrew's monotone chain)."""
 
-    def half(ordered):
-        chain: list[tuple[float, float]] = []
+    def half(ordered: list[Point]) -> list[Point]:
+        chain: list[Point] = []
         for p in ordered:
             while len(chain) > 1 and turn(chain[-2], chain[-1], p) <= 0:
                 chain.pop()
@@ -135,7 +138,7 @@ def hull_of(points: list[tuple[float, float]]) -> list[tuple[float, float]]:
     return half(points) + half(points[::-1]) if len(points) > 1 else list(points)
 
 
-def turn(a: tuple[float, float], b: tuple[float, float], c: tuple[float, float]) -> float:
+def turn(a: Point, b: Point, c: Point) -> float:
     return (b[0] - a[0]) * (c[1] - a[1]) - (b[1] - a[1]) * (c[0] - a[0])
 
 
@@ -149,7 +152,11 @@ def pattern_of(wall: Wall, size: tuple[float, float, float], slopes: Slopes) -> 
     widened = widening(wall, size, slopes.levels, asked) if slopes.never_steeper else 1.0
     offsets = cone(wall.angles, size, slopes.levels, widened)
     angles = wall_angles(offsets, size)
-    said = " ".join(f"{angle:g} at {azimuth:g}" for azimuth, angle in wall.angles) if len(wall.angles) > 1 else f"{wall.angles[0][1]:g}"
+    said = (
+        " ".join(f"{angle:g} at {azimuth:g}" for azimuth, angle in wall.angles)
+        if len(wall.angles) > 1
+        else f"{wall.angles[0][1]:g}"
+    )
     return Pattern(f"{where}, {said} degrees", offsets, angles, angles - asked, widened)
 
 

@@ -28,7 +28,13 @@ def read(project: Project) -> pd.DataFrame:
         frame = read_csv(project)
     except OSError as error:
         raise PlanError(f"{columns.file}: cannot be read: {error.strerror or error}") from error
-    except (pd.errors.ParserError, pd.errors.EmptyDataError, pd.errors.ParserWarning, UnicodeDecodeError, EOFError) as error:
+    except (
+        pd.errors.ParserError,
+        pd.errors.EmptyDataError,
+        pd.errors.ParserWarning,
+        UnicodeDecodeError,
+        EOFError,
+    ) as error:
         raise PlanError(f"{columns.file}: is no table: {' '.join(str(error).split())}") from error
     return checked(frame, project, str(columns.file))
 

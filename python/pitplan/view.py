@@ -25,7 +25,9 @@ MOST_FACTORS = 254
 def write(path: Path, folder: Folder) -> None:
     """Raises MissingPackage without libjs-three, and PlanError where there are more factors than the page can tell apart."""
     scripts = three_scripts()
-    page = TEMPLATES.get_template("view.html").render(title=folder.record["title"], scripts=scripts, model=model_of(folder))
+    page = TEMPLATES.get_template("view.html").render(
+        title=folder.record["title"], scripts=scripts, model=model_of(folder)
+    )
     path.write_text(page, encoding="utf-8")
 
 
@@ -34,7 +36,9 @@ def model_of(folder: Folder) -> dict[str, Any]:
     grid, blocks = folder.grid, folder.blocks
     factors = folder.factors
     if len(factors) > MOST_FACTORS:
-        raise PlanError(f"the 3D page can show {MOST_FACTORS} shells, and there are {len(factors):,}: give fewer factors")
+        raise PlanError(
+            f"the 3D page can show {MOST_FACTORS} shells, and there are {len(factors):,}: give fewer factors"
+        )
     place = np.searchsorted(factors, blocks["factor"].to_numpy()) + 1
     solid = (blocks[folder.record["tonnes"]] > 0).to_numpy()
     shell = np.where(solid, np.where(blocks["factor"] > 0, place, 0), AIR).astype(np.uint8)

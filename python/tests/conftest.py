@@ -1,5 +1,6 @@
 """What the tests share: small projects and tables, written where a test may write."""
 
+import shutil
 import sys
 from pathlib import Path
 
@@ -10,7 +11,7 @@ from hypothesis import settings
 ROOT = Path(__file__).resolve().parents[2]
 sys.path.insert(0, str(ROOT / "python"))
 
-settings.register_profile("plan", deadline=None, max_examples=40, derandomize=True)
+settings.register_profile("plan", deadline=None, max_examples=40, derandomize=True, database=None)
 settings.load_profile("plan")
 
 PROJECT = """
@@ -45,7 +46,12 @@ ore_per_year = 100
 def rows(columns, rows_, levels, **more):
     """A full box of blocks of 10 m, from the floor up; each further column is a function of (column, row, level)."""
     places = [(i, j, k) for k in range(levels) for j in range(rows_) for i in range(columns)]
-    defaults = {"tonnes": lambda i, j, k: 100, "cu": lambda i, j, k: 0, "rock": lambda i, j, k: "R", "region": lambda i, j, k: "1"}
+    defaults = {
+        "tonnes": lambda i, j, k: 100,
+        "cu": lambda i, j, k: 0,
+        "rock": lambda i, j, k: "R",
+        "region": lambda i, j, k: "1",
+    }
     frame = pd.DataFrame({"name": [f"b{i}-{j}-{k}" for i, j, k in places]})
     for number, axis in enumerate("xyz"):
         frame[axis] = [5.0 + 10 * place[number] for place in places]
@@ -70,3 +76,27 @@ def plan_folder(tmp_path):
         return tmp_path / "project.toml"
 
     return write
+
+
+@pytest.fixture(scope="session")
+def solved_once(tmp_path_factory):
+    """A hill with three ores whose shells differ at each factor, solved for all tests; its folder."""
+    from pitplan import commands, load
+    from pitplan.progress import silent
+
+    place = tmp_path_factory.mktemp("solved")
+    table = rows(10, 9, 5, cu=lambda i, j, k: {(4, 4, 1): 6, (6, 4, 1): 0.9, (4, 7, 2): 0.8}.get((i, j, k), 0))
+    table[(table["z"] < 40) | (table["x"] < 50)].to_csv(place / "blocks.csv", index=False)
+    (place / "project.toml").write_text(PROJECT)
+    project = load(place / "project.toml")
+    commands.shells(project, project.folder, silent)
+    return place
+
+
+@pytest.fixture
+def solved(solved_once, tmp_path):
+    """The solved hill in a folder of the test's own; its project and the folder of its plan."""
+    from pitplan import load
+
+    project = load(shutil.copytree(solved_once, tmp_path / "mine") / "project.toml")
+    return project, project.folder

@@ -2,7 +2,6 @@
 
 import json
 import os
-import shutil
 import subprocess
 import sys
 import xml.etree.ElementTree as xml
@@ -20,29 +19,24 @@ from pitplan.progress import silent
 ORE = {"cu": lambda i, j, k: {(3, 3, 1): 6, (4, 3, 1): 2.5, (3, 4, 0): 9}.get((i, j, k), 0)}
 
 
-@pytest.fixture(scope="module")
-def solved_once(tmp_path_factory):
-    """A small mine with its shells, solved for all tests."""
-    place = tmp_path_factory.mktemp("solved")
-    rows(9, 8, 4, **ORE).to_csv(place / "blocks.csv", index=False)
-    (place / "project.toml").write_text(PROJECT)
-    project = load(place / "project.toml")
-    commands.shells(project, project.folder, silent)
-    return place
-
-
-@pytest.fixture
-def solved(solved_once, tmp_path):
-    """The small mine in a folder of the test's own; the project and the folder of the plan."""
-    project = load(shutil.copytree(solved_once, tmp_path / "mine") / "project.toml")
-    return project, project.folder
-
-
 def test_shells_write_tables_pictures_and_a_page_that_needs_no_other_file(solved):
     project, folder = solved
     names = {path.name for path in folder.iterdir()}
     pictures = set(commands.PICTURES.values())
-    assert names == {"mine.blocks", "mine.upit", "mine.prec", "prepare.json", "blocks.csv", "shells.csv", "shells.txt", "report.html"} | pictures
+    assert (
+        names
+        == {
+            "mine.blocks",
+            "mine.upit",
+            "mine.prec",
+            "prepare.json",
+            "blocks.csv",
+            "shells.csv",
+            "shells.txt",
+            "report.html",
+        }
+        | pictures
+    )
     page = (folder / "report.html").read_text()
     assert page.count('<img src="data:image/png;base64,') == 3 and "http" not in page.replace("http-equiv", "")
     for name in pictures:
@@ -54,16 +48,23 @@ def test_the_record_has_hashes_of_all_that_was_read_and_written(solved):
     record = json.loads((folder / "prepare.json").read_text())
     names = [*record["files"], *record["inputs"]]
     places = [folder / name for name in record["files"]] + [project.path.parent / name for name in record["inputs"]]
-    said = subprocess.run(["sha256sum", *map(str, places)], capture_output=True, text=True, check=True).stdout.split("\n")
+    said = subprocess.run(["sha256sum", *map(str, places)], capture_output=True, text=True, check=True).stdout.split(
+        "\n"
+    )
     assert dict(zip(names, (line.split()[0] for line in said if line))) == {**record["files"], **record["inputs"]}
-    assert record["needs"]["written"] == sum(int(line.split()[1]) for line in open(folder / "mine.prec")) - record["needs"]["of_processing_nodes"]
+    assert (
+        record["needs"]["written"]
+        == sum(int(line.split()[1]) for line in open(folder / "mine.prec")) - record["needs"]["of_processing_nodes"]
+    )
 
 
 def test_a_file_changed_since_is_refused(solved):
     _, folder = solved
     with open(folder / "mine.blocks", "a") as file:
         file.write("\n")
-    with pytest.raises(PlanError, match="mine.blocks: has changed since prepare.json was written: run pitplan shells again"):
+    with pytest.raises(
+        PlanError, match="mine.blocks: has changed since prepare.json was written: run pitplan shells again"
+    ):
         files.read_folder(folder)
 
 
@@ -119,7 +120,9 @@ def test_csv_has_the_blocks_of_all_pits(solved):
     _, folder = solved
     table = pd.read_csv(commands.export(folder, "csv", 1000, silent))
     blocks = pd.read_csv(folder / "blocks.csv")
-    assert len(table) == (blocks["factor"] > 0).sum() > 0 and set(table["name"]) == set(blocks["name"][blocks["factor"] > 0])
+    assert len(table) == (blocks["factor"] > 0).sum() > 0 and set(table["name"]) == set(
+        blocks["name"][blocks["factor"] > 0]
+    )
 
 
 def test_vti_is_read_back_by_vtk_cell_by_cell(solved):
@@ -131,10 +134,10 @@ def test_vti_is_read_back_by_vtk_cell_by_cell(solved):
     reader.SetFileName(str(commands.export(folder, "vti", 1000, silent)))
     reader.Update()
     image = reader.GetOutput()
-    assert image.GetDimensions() == (10, 9, 5) and image.GetBounds() == (0, 90, 0, 80, 0, 40)
+    assert image.GetDimensions() == (11, 10, 6) and image.GetBounds() == (0, 100, 0, 90, 0, 50)
     factor = vtk_to_numpy(image.GetCellData().GetArray("factor"))
     for _, block in pd.read_csv(folder / "blocks.csv").iterrows():
-        place = int(block.z // 10) * 72 + int(block.y // 10) * 9 + int(block.x // 10)
+        place = int(block.z // 10) * 90 + int(block.y // 10) * 10 + int(block.x // 10)
         assert factor[place] == block.factor
 
 
@@ -222,7 +225,9 @@ def test_the_command_line_refuses_in_one_sentence(plan_folder, capsys):
 
 def test_the_script_runs_by_itself(plan_folder):
     path = plan_folder(rows(4, 4, 3, **ORE))
-    ran = subprocess.run([str(ROOT / "tools" / "pitplan"), "prepare", str(path)], capture_output=True, text=True, check=True)
+    ran = subprocess.run(
+        [str(ROOT / "tools" / "pitplan"), "prepare", str(path)], capture_output=True, text=True, check=True
+    )
     assert ran.stdout.strip() == str(path.parent / "plan") and "reading" in ran.stderr
 
 

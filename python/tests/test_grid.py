@@ -46,7 +46,14 @@ def split(table, chosen):
     """The block of that row as its eight sub-blocks of half the size."""
     row = table.iloc[chosen]
     eighths = [
-        {**row, "name": f"{row['name']}/{n}", "x": row.x + dx, "y": row.y + dy, "z": row.z + dz, "tonnes": row.tonnes / 8}
+        {
+            **row,
+            "name": f"{row['name']}/{n}",
+            "x": row.x + dx,
+            "y": row.y + dy,
+            "z": row.z + dz,
+            "tonnes": row.tonnes / 8,
+        }
         for n, (dx, dy, dz) in enumerate((a, b, c) for a in (-2.5, 2.5) for b in (-2.5, 2.5) for c in (-2.5, 2.5))
     ]
     return pd.concat([table.drop(index=chosen), pd.DataFrame(eighths)], ignore_index=True)
@@ -75,6 +82,8 @@ def test_one_level_needs_the_size(plan_folder):
 
 
 def test_too_many_cells_are_refused(plan_folder):
-    table = pd.concat([rows(2, 2, 2), rows(2, 2, 2).assign(x=lambda t: t.x + 30_000_000, name=lambda t: t.name + "far")])
+    table = pd.concat(
+        [rows(2, 2, 2), rows(2, 2, 2).assign(x=lambda t: t.x + 30_000_000, name=lambda t: t.name + "far")]
+    )
     with pytest.raises(PlanError, match="cells, and the program takes at most 4,194,304 blocks"):
         pitplan.prepare(plan_folder(table))

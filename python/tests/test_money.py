@@ -24,7 +24,9 @@ def test_values_of_a_block_by_hand(plan_folder):
 
 
 def test_cost_rises_with_the_level_from_the_top(plan_folder):
-    plan = pitplan.prepare(plan_folder(rows(2, 1, 3), PROJECT, ("mining_cost = 2", "mining_cost = 2\nmining_cost_per_level = 0.25")))
+    plan = pitplan.prepare(
+        plan_folder(rows(2, 1, 3), PROJECT, ("mining_cost = 2", "mining_cost = 2\nmining_cost_per_level = 0.25"))
+    )
     assert (plan.values.mining / MILLION).tolist() == [200, 200, 225, 225, 250, 250]
 
 
@@ -50,12 +52,19 @@ def test_amounts_are_exact_in_decimals(plan_folder):
 
 def test_whole_money_is_rounded_and_said(plan_folder):
     table = rows(2, 2, 2, cu=lambda i, j, k: 0.111 if i else 0)
-    plan = pitplan.prepare(plan_folder(table, PROJECT, ("mining_cost = 2", "mining_cost = 2\ndecimals = 0"), ("price = 8000", "price = 8010")))
+    plan = pitplan.prepare(
+        plan_folder(
+            table, PROJECT, ("mining_cost = 2", "mining_cost = 2\ndecimals = 0"), ("price = 8000", "price = 8010")
+        )
+    )
     # 100 t of 0.111 %, half recovered, at 8010: 444.555, kept as 445.
     said = plan.values.roundings["revenue"]
     assert plan.values.revenue.max() == 445 * MILLION
     assert (said.values, said.changed, said.largest) == (8, 4, Decimal("0.445"))
-    assert "revenue: 4 of 8 amounts were rounded, by 0.44 at most" in plan.notes or "revenue: 4 of 8 amounts were rounded, by 0.45 at most" in plan.notes
+    assert (
+        "revenue: 4 of 8 amounts were rounded, by 0.44 at most" in plan.notes
+        or "revenue: 4 of 8 amounts were rounded, by 0.45 at most" in plan.notes
+    )
     assert plan.values.roundings["mining cost"].changed == 0
 
 
@@ -82,8 +91,11 @@ def test_a_fixed_cutoff_settles_ore_at_the_price_as_given(plan_folder, tmp_path)
     "change, words",
     [
         (("mining_cost = 2", "mining_cost = { S = 2 }"), r'row 2 column rock: \[money\] mining_cost names no rock "R"'),
-        (("processing_cost = 10", "processing_cost = { S = 2 }"), r'row 3 column rock: \[money\] processing_cost names no rock "R"'),
-        (("price = 8000", "price = 3_000_000_000_000"), "row 3 column revenue: the amount is 10\\^12 or more"),
+        (
+            ("processing_cost = 10", "processing_cost = { S = 2 }"),
+            r'row 3 column rock: \[money\] processing_cost names no rock "R"',
+        ),
+        (("price = 8000", "price = 3_000_000_000_000"), "row 3 column revenue: the amount is 10\\^11 or more"),
     ],
 )
 def test_missing_prices_and_huge_amounts_are_refused(plan_folder, change, words):

@@ -39,7 +39,9 @@ def closed_sets(columns, rows_, levels):
         level, rest = divmod(block, columns * rows_)
         row, column = divmod(rest, columns)
         places = [(level - up, row + north, column + east) for east, north, up in FIVE]
-        needs.append([(z * rows_ + y) * columns + x for z, y, x in places if z >= 0 and 0 <= y < rows_ and 0 <= x < columns])
+        needs.append(
+            [(z * rows_ + y) * columns + x for z, y, x in places if z >= 0 and 0 <= y < rows_ and 0 <= x < columns]
+        )
     for chosen in product((False, True), repeat=count):
         if all(chosen[p] for block in range(count) if chosen[block] for p in needs[block]):
             yield chosen
@@ -155,8 +157,13 @@ def test_pits_that_touch_the_model_are_warned_of(plan_folder):
     plan = pitplan.prepare(plan_folder(table))
     notes = analyse.edge_notes(plan, pitplan.solve(plan))
     touched = [note.split(" of the model")[0] for note in notes]
-    assert touched == [f"WARNING: the greatest pit touches the {side}" for side in ("west side", "south side", "north side", "floor")]
-    assert notes[0].endswith("in 3 blocks, from factor 500 on: a larger model may give another pit") or "blocks, from factor 500" in notes[0]
+    assert touched == [
+        f"WARNING: the greatest pit touches the {side}" for side in ("west side", "south side", "north side", "floor")
+    ]
+    assert (
+        notes[0].endswith("in 3 blocks, from factor 500 on: a larger model may give another pit")
+        or "blocks, from factor 500" in notes[0]
+    )
 
 
 def test_factor_1000_is_always_there(plan_folder):

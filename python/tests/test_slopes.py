@@ -161,16 +161,24 @@ def test_each_region_has_its_walls(plan_folder, tmp_path):
 def test_air_takes_the_walls_of_the_ground_below(plan_folder):
     table = rows(3, 3, 3, region=lambda i, j, k: "a" if i == 0 else "b")
     walls = 'region = "a"\npattern = "1:5"\n[[slopes.walls]]\nregion = "b"\npattern = "1:9"'
-    plan = pitplan.prepare(plan_folder(table[table["z"] < 20], PROJECT, ('[[slopes.walls]]\npattern = "1:5"', f"[[slopes.walls]]\n{walls}")))
+    plan = pitplan.prepare(
+        plan_folder(
+            table[table["z"] < 20], PROJECT, ('[[slopes.walls]]\npattern = "1:5"', f"[[slopes.walls]]\n{walls}")
+        )
+    )
     assert plan.grid.shape == (2, 3, 3)
     top = table[(table["z"] < 20) | ((table["x"] == 5) & (table["y"] == 5))]
-    plan = pitplan.prepare(plan_folder(top, PROJECT, ('[[slopes.walls]]\npattern = "1:5"', f"[[slopes.walls]]\n{walls}")))
+    plan = pitplan.prepare(
+        plan_folder(top, PROJECT, ('[[slopes.walls]]\npattern = "1:5"', f"[[slopes.walls]]\n{walls}"))
+    )
     assert plan.walls.code[:9].tolist() == [0, 1, 1] * 3
 
 
 def test_a_region_without_walls_is_refused(plan_folder):
     walls = 'region = "2"\npattern = "1:5"'
-    with pytest.raises(PlanError, match=r"\[slopes\] no \[\[slopes.walls\]\] is for region 1, and none is without a region"):
+    with pytest.raises(
+        PlanError, match=r"\[slopes\] no \[\[slopes.walls\]\] is for region 1, and none is without a region"
+    ):
         pitplan.prepare(plan_folder(rows(2, 2, 2), PROJECT, ('pattern = "1:5"', walls)))
 
 

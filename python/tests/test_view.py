@@ -7,29 +7,27 @@ import subprocess
 import numpy as np
 import pandas as pd
 import pytest
-from conftest import rows
 
-from pitplan import commands, load
+from pitplan import commands
 from pitplan.progress import silent
 
 CHROMIUM = shutil.which("chromium")
-FLAGS = ["--headless", "--no-sandbox", "--use-gl=angle", "--use-angle=swiftshader", "--enable-unsafe-swiftshader", "--window-size=900,600"]
+FLAGS = [
+    "--headless",
+    "--no-sandbox",
+    "--use-gl=angle",
+    "--use-angle=swiftshader",
+    "--enable-unsafe-swiftshader",
+    "--window-size=900,600",
+]
 needs_chromium = pytest.mark.skipif(CHROMIUM is None, reason="Chromium is not installed")
 
 
 @pytest.fixture(scope="module")
-def page(tmp_path_factory):
-    """A page of a small mine with a hill, and the blocks that it shows."""
-    from conftest import PROJECT
-
-    place = tmp_path_factory.mktemp("view")
-    ore = {(4, 4, 1): 6, (6, 4, 1): 0.9, (4, 7, 2): 0.8}
-    table = rows(10, 9, 5, cu=lambda i, j, k: ore.get((i, j, k), 0))
-    table[(table["z"] < 40) | (table["x"] < 50)].to_csv(place / "blocks.csv", index=False)
-    (place / "project.toml").write_text(PROJECT)
-    project = load(place / "project.toml")
-    commands.shells(project, project.folder, silent)
-    return commands.view(project.folder, silent), pd.read_csv(project.folder / "blocks.csv")
+def page(solved_once, tmp_path_factory):
+    """A page of the solved hill, and the blocks that it shows."""
+    folder = shutil.copytree(solved_once / "plan", tmp_path_factory.mktemp("view") / "plan")
+    return commands.view(folder, silent), pd.read_csv(folder / "blocks.csv")
 
 
 def opened(page, state, *flags):
