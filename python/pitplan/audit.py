@@ -34,7 +34,8 @@ CHECK_SCRIPT = """#!/bin/sh
 # a short program in Python that shares nothing with it. PITSHELL names the program, PYTHON the interpreter.
 set -eu
 cd "$(dirname "$0")"
-sha256sum --check --quiet hashes.txt && echo "hashes: yes"
+sha256sum --check --quiet hashes.txt
+echo "hashes: yes"
 printf 'pitshell check: '
 "${{PITSHELL:-pitshell}}" check --model {model} --prec {prec} --certificate {certificate}
 printf 'check_certificate.py: '
@@ -76,7 +77,7 @@ def write(stage: Path, folder: Folder, factor: int) -> None:
         "title": folder.record["title"],
         "factor": factor,
         "worth_at_factor": str(worth),
-        "program": run.version(),
+        "program": run.identity(),
         "files": hashes,
         "plan": {**folder.record["inputs"], **folder.record["files"]},
         "not_proved": "how mine.blocks and mine.prec were made from the table",

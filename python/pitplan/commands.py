@@ -31,7 +31,7 @@ def prepare(project: Project, folder: Path, progress: Progress) -> dict[str, Any
 
 def shells(project: Project, folder: Path, progress: Progress) -> tuple[pd.DataFrame, dict[str, Any]]:
     """Prepares, runs the program, and writes tables, pictures and the report; gives the table of shells and the record."""
-    version = run.version()
+    identity = run.identity()
     plan = prepare_plan(project, progress=progress)
     with files.staged(folder) as stage:
         record = write_prepared(plan, stage, progress)
@@ -43,7 +43,7 @@ def shells(project: Project, folder: Path, progress: Progress) -> tuple[pd.DataF
             shown(table).to_csv(stage / files.SHELLS, index=False)
             plan.notes += analyse.edge_notes(plan, solution)
         chosen = analyse.chosen_factor(table, project.schedule)
-        record["shells"] = {"factors": list(project.schedule.factors), "chosen": chosen, "version": version}
+        record["shells"] = {"factors": list(project.schedule.factors), "chosen": chosen, "program": identity}
         record["notes"] = plan.notes
         with progress.step("drawing"):
             draw(plan, solution, table, chosen, stage)
@@ -73,6 +73,7 @@ def finish(plan: Plan, record: dict[str, Any], names: list[str], stage: Path) ->
 def shown(table: pd.DataFrame) -> pd.DataFrame:
     """The table of shells as shells.csv has it: sums to a thousandth, grades and ratios to a millionth."""
     result = table.copy()
+    result["worth_at_factor"] = result["worth_at_factor"].map("{:f}".format)
     for name in result.columns:
         if result[name].dtype == np.float64:
             result[name] = result[name].round(6 if name.startswith("grade_") or name in ("strip_ratio", "years") else 3)
@@ -102,7 +103,7 @@ def write_report(project: Project, table: pd.DataFrame, record: dict[str, Any], 
         "pictures": {name: stage / file for name, file in PICTURES.items()},
         "notes": record["notes"],
         "files": {**record["inputs"], **record["files"]},
-        "version": record["shells"]["version"],
+        "program": record["shells"]["program"],
     }
     report.write(stage / REPORT, project, table, facts)
 

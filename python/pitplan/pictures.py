@@ -184,7 +184,7 @@ def sections(scene: Scene, path: Path) -> None:
 def panels(wide: float, high: float) -> tuple[Figure, list[Axes]]:
     """A figure of two by two maps in the ground's proportions, and its axes."""
     share = min(max(high / wide, 0.3), 1.3)
-    figure, axes = plt.subplots(2, 2, figsize=(12, 9.4 * share + 1.1), constrained_layout=True)
+    figure, axes = plt.subplots(2, 2, figsize=(12, 9.4 * share + 1.5), constrained_layout=True)
     return figure, list(axes.flat)
 
 

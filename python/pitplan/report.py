@@ -57,14 +57,17 @@ def metal_unit(most: float, metal: Metal) -> tuple[float, str]:
 
 def cells_of(table: pd.DataFrame, columns: list[tuple[str, str, float, int]]) -> list[list[str]]:
     """The table as texts; a dash where a number is not defined."""
-    return [
-        ["–" if pd.isna(row[name]) else f"{row[name] / size:,.{places}f}" for name, _, size, places in columns]
-        for _, row in table.iterrows()
-    ]
+
+    def cell(row: pd.Series, name: str, size: float, places: int) -> str:
+        if name == "factor":
+            return str(row[name])
+        return "–" if pd.isna(row[name]) else f"{row[name] / size:,.{places}f}"
+
+    return [[cell(row, name, size, places) for name, _, size, places in columns] for _, row in table.iterrows()]
 
 
 def write(path: Path, project: Project, table: pd.DataFrame, facts: dict[str, Any]) -> None:
-    """`facts`: chosen factor, pictures by name, notes, files with their hashes, and the program's version."""
+    """`facts`: chosen factor, pictures by name, notes, files with their hashes, and the program's identity."""
     columns = columns_of(table, project)
     rows = [
         {"cells": cells, "chosen": factor == facts["chosen"], "given": factor == 1000}
@@ -79,6 +82,6 @@ def write(path: Path, project: Project, table: pd.DataFrame, facts: dict[str, An
         notes=[note for note in facts["notes"] if note not in warnings],
         pictures={name: picture(place) for name, place in facts["pictures"].items()},
         rate=project.schedule.rate,
-        **{name: facts[name] for name in ("chosen", "files", "version")},
+        **{name: facts[name] for name in ("chosen", "files", "program")},
     )
     path.write_text(page, encoding="utf-8")

@@ -62,9 +62,9 @@ def call(*arguments: Union[str, Path], fine: tuple[int, ...] = (0,)) -> bytes:
     raise ProgramError(f"pitshell {arguments[0]} ended with status {ran.returncode}: {said}")
 
 
-def version() -> str:
-    """What the program says of itself."""
-    return call("--version").decode().strip()
+def identity() -> dict[str, str]:
+    """What the program says of itself, and the SHA-256 of its file."""
+    return {"version": call("--version").decode().strip(), "sha256": files.hash_of(program())}
 
 
 def solve_files(blocks: Path, prec: Path, factors: tuple[int, ...]) -> Solution:

@@ -87,7 +87,7 @@ def test_an_audit_is_confirmed_by_the_program_and_by_the_short_checker(solved, f
     record = json.loads((target / "audit.json").read_text())
     table = pd.read_csv(folder / "shells.csv", dtype={"worth_at_factor": str}).set_index("factor")
     assert Decimal(record["worth_at_factor"]) == Decimal(table["worth_at_factor"][factor])
-    assert record["program"] == run.version() and record["plan"]["mine.prec"] == files.hash_of(target / "shell.prec")
+    assert record["program"] == run.identity() and record["plan"]["mine.prec"] == files.hash_of(target / "shell.prec")
 
 
 def test_a_bent_audit_is_not_confirmed(solved):
@@ -210,7 +210,7 @@ def test_the_command_line_from_table_to_export(plan_folder, capsys):
     path = plan_folder(rows(9, 8, 4, **ORE))
     assert main(["shells", str(path)]) == 0
     said = capsys.readouterr()
-    assert [line.split()[0] for line in said.out.splitlines()[2:5]] == ["500", "1,000", "1,500"]
+    assert [line.split()[0] for line in said.out.splitlines()[2:5]] == ["500", "1000", "1500"]
     assert "solving 3 factors" in said.err and "WARNING" not in said.err.split("walls")[0]
     assert main(["export", str(path), "--to", "csv", "--quiet"]) == 0
     said = capsys.readouterr()
