@@ -8,7 +8,6 @@ pit level after level. What a real schedule earns lies between them.
 from __future__ import annotations
 
 from dataclasses import dataclass
-from typing import Optional
 
 import numpy as np
 import pandas as pd
@@ -46,6 +45,7 @@ class Cells:
     processed  the least factor at which the cell is processed; 0: never
     ore        whether it is processed at the price as given, once it is dug
     worth      its worth at the price as given, once it is dug, in money
+    content    tonnes times grade of each metal
     """
 
     factor: np.ndarray
@@ -53,6 +53,7 @@ class Cells:
     ore: np.ndarray
     worth: np.ndarray
     tonnes: np.ndarray
+    content: dict[str, np.ndarray]
 
 
 def cells_of(plan: Plan, solution: Solution) -> Cells:
@@ -64,7 +65,11 @@ def cells_of(plan: Plan, solution: Solution) -> Cells:
     else:
         processed = np.where(values.pays, factor, 0)
     gain = np.where(values.pays, values.revenue - values.processing, 0)
-    return Cells(factor, processed, values.pays, (gain - values.mining) / MILLION, values.tonnes)
+    content = {
+        metal.name: values.tonnes * plan.grid.spread(plan.table[metal.column].to_numpy())
+        for metal in plan.project.metals
+    }
+    return Cells(factor, processed, values.pays, (gain - values.mining) / MILLION, values.tonnes, content)
 
 
 def blocks(plan: Plan, solution: Solution) -> pd.DataFrame:
@@ -116,9 +121,9 @@ def amounts(plan: Plan, cells: Cells, inside: np.ndarray, factor: int) -> dict[s
         "processed_tonnes": float(cells.tonnes[(cells.processed > 0) & (cells.processed <= factor)].sum()),
     }
     for metal in plan.project.metals:
-        grade = plan.grid.spread(plan.table[metal.column].to_numpy())
-        content = float((cells.tonnes[ore] * grade[ore]).sum())
-        row[f"grade_{metal.name}"] = content / ore_tonnes if ore_tonnes else float("nan")
+        row[f"grade_{metal.name}"] = (
+            float(cells.content[metal.name][ore].sum()) / ore_tonnes if ore_tonnes else float("nan")
+        )
         row[f"metal_{metal.name}"] = float(plan.values.metal[metal.name][ore].sum())
     row["worth"] = float(cells.worth[inside].sum())
     return row
@@ -152,7 +157,7 @@ def chosen_factor(table: pd.DataFrame, schedule: Schedule) -> int:
 def edge_notes(plan: Plan, solution: Solution) -> list[str]:
     """Warnings where the greatest pit touches a side or the floor of the model: beyond it nothing is known."""
     cells = cells_of(plan, solution)
-    cube = plan.grid.cube((cells.factor > 0) & (cells.tonnes > 0))
+    cube = plan.grid.cube(np.where(cells.tonnes > 0, cells.factor, 0))
     sides = {
         "west side": cube[:, :, 0],
         "east side": cube[:, :, -1],
@@ -161,25 +166,11 @@ def edge_notes(plan: Plan, solution: Solution) -> list[str]:
         "floor": cube[-1],
     }
     notes = []
-    for name, blocks_there in sides.items():
-        count = int(np.count_nonzero(blocks_there))
-        if count:
-            least = least_factor(plan, cells, name)
+    for name, factors in sides.items():
+        touching = factors[factors > 0]
+        if len(touching):
             notes.append(
-                f"WARNING: the greatest pit touches the {name} of the model in {count:,} blocks, from factor {least} on: "
-                "a larger model may give another pit"
+                f"WARNING: the greatest pit touches the {name} of the model in {len(touching):,} blocks, "
+                f"from factor {touching.min()} on: a larger model may give another pit"
             )
     return notes
-
-
-def least_factor(plan: Plan, cells: Cells, side: str) -> Optional[int]:
-    """The least factor whose pit touches a side."""
-    cube = plan.grid.cube(np.where(cells.tonnes > 0, cells.factor, 0))
-    places = {
-        "west side": cube[:, :, 0],
-        "east side": cube[:, :, -1],
-        "south side": cube[:, 0],
-        "north side": cube[:, -1],
-    }
-    there = places.get(side, cube[-1])
-    return int(there[there > 0].min())

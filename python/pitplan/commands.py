@@ -18,10 +18,12 @@ from .project import Project
 PREPARED = [files.BLOCKS, files.MODEL, files.PREC]
 PICTURES = {"pit_by_pit": "pit_by_pit.png", "plans": "plans.png", "sections": "sections.png"}
 REPORT, VIEW = "report.html", "view.html"
+WRITTEN = {*PREPARED, files.RECORD, files.TABLE, files.SHELLS, files.ANSWER, REPORT, VIEW, *PICTURES.values()}
 
 
 def prepare(project: Project, folder: Path, progress: Progress) -> dict[str, Any]:
     """Writes the program's files, blocks.csv and prepare.json; gives the record. Raises PlanError, with nothing written."""
+    demand_apart(project, folder)
     plan = prepare_plan(project, progress=progress)
     with files.staged(folder) as stage:
         record = write_prepared(plan, stage, progress)
@@ -31,6 +33,7 @@ def prepare(project: Project, folder: Path, progress: Progress) -> dict[str, Any
 
 def shells(project: Project, folder: Path, progress: Progress) -> tuple[pd.DataFrame, dict[str, Any]]:
     """Prepares, runs the program, and writes tables, pictures and the report; gives the table of shells and the record."""
+    demand_apart(project, folder)
     identity = run.identity()
     plan = prepare_plan(project, progress=progress)
     with files.staged(folder) as stage:
@@ -51,6 +54,13 @@ def shells(project: Project, folder: Path, progress: Progress) -> tuple[pd.DataF
         finish(plan, record, names, stage)
         write_report(project, table, record, stage)
     return table, record
+
+
+def demand_apart(project: Project, folder: Path) -> None:
+    """Refuses a folder in which a file of the plan would take the place of the table or of the project."""
+    for path in (project.table.file, project.path):
+        if path.parent.resolve() == folder.resolve() and path.name in WRITTEN:
+            raise PlanError(f"{path}: the plan would be written over it: give another folder by --out")
 
 
 def write_prepared(plan: Plan, stage: Path, progress: Progress) -> dict[str, Any]:

@@ -21,6 +21,8 @@ from .slopes import Walls
 
 MOST_PAIRS = 67_108_864
 MILLION = 1_000_000
+# The columns that blocks.csv has of its own; one of the planner's with such a name is called planner_NAME there.
+OWN_COLUMNS = ("id", "mining_cost", "revenue", "processing_cost", "factor", "process_factor")
 
 
 @dataclass
@@ -32,6 +34,9 @@ class Plan:
     values  cost and revenue of each cell
     walls   the needs' patterns
     used    a truth for each cell: whether its needs are written
+    source  the table's file, or "table" where it came from pandas
+    filled  how many empty fields were taken as 0
+    notes   sentences that a planner should read before trusting the plan
     """
 
     project: Project
@@ -41,15 +46,14 @@ class Plan:
     walls: Walls
     used: np.ndarray
     source: str
+    filled: int
     notes: list[str] = field(default_factory=list)
 
     @property
     def blocks(self) -> pd.DataFrame:
         """One row a block of the table, by the program's id: the planner's columns, and costs and revenue in money."""
         ids = self.grid.rows
-        frame = self.table.drop(columns="filled").copy()
-        if "id" in frame.columns:
-            frame = frame.rename(columns={"id": "planner_id"})
+        frame = self.table.rename(columns=shown_name)
         frame.insert(0, "id", ids)
         for name in ("mining", "revenue", "processing"):
             frame[name if name == "revenue" else f"{name}_cost"] = getattr(self.values, name)[ids] / MILLION
@@ -77,7 +81,7 @@ class Plan:
             "table": {
                 "file": self.source,
                 "rows": len(self.table),
-                "fields_filled_with_0": int(self.table["filled"].sum()),
+                "fields_filled_with_0": self.filled,
             },
             "grid": {
                 "shape": list(self.grid.shape),
@@ -107,8 +111,8 @@ class Plan:
             "factor_1000_added": self.project.schedule.reference_added,
             "notes": self.notes,
             "codes": codes_of(self.project),
-            "tonnes": self.project.table.tonnes,
-            "metals": [{"name": m.name, "column": m.column, "sign": m.sign} for m in self.project.metals],
+            "tonnes": shown_name(self.project.table.tonnes),
+            "metals": [{"name": m.name, "column": shown_name(m.column), "sign": m.sign} for m in self.project.metals],
             "libraries": {"python": sys.version.split()[0], "numpy": np.__version__, "pandas": pd.__version__},
         }
 
@@ -124,7 +128,8 @@ def prepare(
     project = project if isinstance(project, Project) else load(project)
     source = str(project.table.file) if table is None else "table"
     with progress.step(f"reading {source}"):
-        frame = tables.read(project) if table is None else tables.checked(table, project)
+        checked = tables.read(project) if table is None else tables.checked(table, project)
+        frame = checked.frame
     with progress.step("laying the grid and weighing the blocks"):
         grid = grids.of_table(frame, project, source)
         values = money.values_of(frame, grid, project, source)
@@ -133,7 +138,7 @@ def prepare(
         walls = slopes.walls_of(region, grid, project.slopes)
         paying = np.array(values.greatest_value(project.schedule.factors[-1]) > 0, dtype=bool)
         used = trim.used_blocks(grid, walls, paying)
-    plan = Plan(project, frame, grid, values, walls, used, source)
+    plan = Plan(project, frame, grid, values, walls, used, source, checked.filled)
     plan.notes = notes_of(plan)
     return plan
 
@@ -148,9 +153,8 @@ def notes_of(plan: Plan) -> list[str]:
     below = cells_below_blocks(grid)
     if below:
         notes.append(f"WARNING: {below:,} of these cells lie below a block of the table: is rock missing from it?")
-    filled = int(plan.table["filled"].sum())
-    if filled:
-        notes.append(f"{filled:,} empty fields were taken as 0")
+    if plan.filled:
+        notes.append(f"{plan.filled:,} empty fields were taken as 0")
     notes += [pattern.sentence() for pattern in plan.walls.patterns]
     notes += plan.values.notes
     if plan.project.schedule.reference_added:
@@ -182,4 +186,9 @@ def greatest_shift(table: pd.DataFrame, grid: Grid, project: Project) -> float:
 def codes_of(project: Project) -> list[str]:
     """The columns of blocks.csv that are texts, whatever they look like."""
     named = [project.table.id, project.table.rock, project.table.region]
-    return ["planner_id" if name == "id" else name for name in named if name]
+    return [shown_name(name) for name in named if name]
+
+
+def shown_name(column: str) -> str:
+    """The name in blocks.csv of a column of the planner's table."""
+    return f"planner_{column}" if column in OWN_COLUMNS else column

@@ -188,6 +188,8 @@ def walls_of(region: np.ndarray, grid: Grid, slopes: Slopes) -> Walls:
     by_region = {name: k for k, wall in enumerate(slopes.walls) for name in wall.regions or ()}
     others = next((k for k, wall in enumerate(slopes.walls) if wall.regions is None), None)
     codes, inverse = np.unique(region.astype(str), return_inverse=True)
+    if others is None and not any(codes):
+        raise PlanError("[slopes] all [[slopes.walls]] are for regions, and [table] names no column as region")
     numbers = []
     for name in codes:
         number = by_region.get(str(name), others)

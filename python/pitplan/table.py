@@ -6,6 +6,7 @@ A row is counted as a spreadsheet counts it: the header is row 1, the first bloc
 from __future__ import annotations
 
 import warnings
+from dataclasses import dataclass
 from typing import Optional
 
 import numpy as np
@@ -17,17 +18,30 @@ from .project import Project
 HEADER_ROWS = 2
 
 
-def read(project: Project) -> pd.DataFrame:
+@dataclass(frozen=True)
+class Table:
+    """A checked table.
+
+    frame   one row a block, in the file's order: numbers as float64, codes (id, rock, region) as texts
+    source  the file, or "table" where it came from pandas
+    filled  how many empty fields were taken as 0
+    """
+
+    frame: pd.DataFrame
+    source: str
+    filled: int
+
+
+def read(project: Project) -> Table:
     """The table of `project.table.file` (.csv, also .csv.gz), with the columns that the project names.
 
-    Codes (id, rock, region) are texts, all others float64. Raises PlanError, with file, row and column, where a column
-    is missing or a field is no number.
+    Raises PlanError, with file, row and column, where a column is missing or a field is not usable.
     """
-    columns = project.table
+    file = project.table.file
     try:
         frame = read_csv(project)
     except OSError as error:
-        raise PlanError(f"{columns.file}: cannot be read: {error.strerror or error}") from error
+        raise PlanError(f"{file}: cannot be read: {error.strerror or error}") from error
     except (
         pd.errors.ParserError,
         pd.errors.EmptyDataError,
@@ -35,8 +49,8 @@ def read(project: Project) -> pd.DataFrame:
         UnicodeDecodeError,
         EOFError,
     ) as error:
-        raise PlanError(f"{columns.file}: is no table: {' '.join(str(error).split())}") from error
-    return checked(frame, project, str(columns.file))
+        raise PlanError(f"{file}: is no table: {' '.join(str(error).split())}") from error
+    return checked(frame, project, str(file))
 
 
 def read_csv(project: Project) -> pd.DataFrame:
@@ -55,6 +69,7 @@ def read_csv(project: Project) -> pd.DataFrame:
             keep_default_na=False,
             na_values={name: [""] for name in wanted if name not in codes},
             float_precision="round_trip",
+            encoding="utf-8-sig",
             low_memory=False,
         )
 
@@ -73,11 +88,10 @@ def demand_columns(frame: pd.DataFrame, wanted: list[str], source: str) -> None:
             raise PlanError(f"{source} row 1: there is no column {name}; the columns are {there}")
 
 
-def checked(frame: pd.DataFrame, project: Project, source: str = "table") -> pd.DataFrame:
-    """A copy with the named columns alone, numbers as float64 and codes as texts. Raises PlanError as `read` does.
+def checked(frame: pd.DataFrame, project: Project, source: str = "table") -> Table:
+    """The named columns alone. Raises PlanError as `read` does.
 
-    Empty tonnes and grades are refused, or made 0 where the project says `empty = "zero"`; how many they were stands in
-    the column `filled` of the answer's rows.
+    Empty tonnes and grades are refused, or taken as 0 where the project says `empty = "zero"`.
     """
     columns = project.table
     demand_columns(frame, names_of(project), source)
@@ -85,21 +99,32 @@ def checked(frame: pd.DataFrame, project: Project, source: str = "table") -> pd.
         raise PlanError(f"{source}: has no blocks")
     codes = [name for name in (columns.id, columns.rock, columns.region) if name]
     result = pd.DataFrame(index=pd.RangeIndex(len(frame)))
-    result["filled"] = 0
+    filled = 0
     for name in names_of(project):
         if name in codes:
             result[name] = frame[name].astype(str).str.strip().to_numpy()
             continue
-        numbers = numbers_of(frame[name], f"{source}", name)
-        may_fill = columns.empty == "zero" and name not in (columns.x, columns.y, columns.z)
+        numbers = numbers_of(frame[name], source, name)
         empty = np.isnan(numbers)
+        may_fill = columns.empty == "zero" and name not in (columns.x, columns.y, columns.z)
         if empty.any() and not may_fill:
             raise at_row(source, int(empty.argmax()), name, "is empty")
-        result["filled"] += empty
+        filled += int(empty.sum())
         result[name] = np.where(empty, 0.0, numbers)
     demand_not_negative(result, project, source)
-    demand_ids(result, columns.id, source)
-    return result
+    demand_codes(result, project, source)
+    return Table(result, source, filled)
+
+
+def demand_codes(frame: pd.DataFrame, project: Project, source: str) -> None:
+    """Every block has an id of its own, and every block of rock its rock and region, where these are named."""
+    columns = project.table
+    demand_ids(frame, columns.id, source)
+    for name in (columns.rock, columns.region):
+        if name:
+            empty = ((frame[name] == "") & (frame[columns.tonnes] > 0)).to_numpy()
+            if empty.any():
+                raise at_row(source, int(empty.argmax()), name, "is empty")
 
 
 def numbers_of(column: pd.Series, source: str, name: str) -> np.ndarray:

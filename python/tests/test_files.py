@@ -167,6 +167,34 @@ def test_rings_go_round_exactly_the_cells(seed):
     assert area == mask.sum()
 
 
+def test_the_planners_own_table_is_never_written_over(plan_folder):
+    path = plan_folder(rows(4, 4, 3, **ORE))
+    before = (path.parent / "blocks.csv").read_bytes()
+    for command in (commands.prepare, commands.shells):
+        with pytest.raises(
+            PlanError, match="blocks.csv: the plan would be written over it: give another folder by --out"
+        ):
+            command(load(path), path.parent, silent)
+    assert (path.parent / "blocks.csv").read_bytes() == before and len(list(path.parent.iterdir())) == 2
+
+
+@pytest.mark.parametrize(
+    "module, limit, words",
+    [
+        ("money", "MOST_BLOCKS", "144 blocks and 3 processing nodes are 147 nodes, and the program takes at most 100"),
+        ("plan", "MOST_PAIRS", "needs, and the program takes at most 100: give fewer"),
+        ("view", "MOST_FACTORS", "the 3D page can show 2 shells, and there are 3: give fewer factors"),
+    ],
+)
+def test_what_is_above_a_limit_is_refused(plan_folder, monkeypatch, solved, module, limit, words):
+    monkeypatch.setattr(f"pitplan.{module}.{limit}", 2 if module == "view" else 100)
+    path = plan_folder(rows(6, 6, 4, **ORE))
+    with pytest.raises(PlanError, match=words):
+        commands.view(solved[1], silent) if module == "view" else commands.prepare(
+            load(path), path.parent / "out", silent
+        )
+
+
 def test_nothing_half_written_stays(plan_folder, monkeypatch):
     project = load(plan_folder(rows(4, 4, 3, **ORE)))
     monkeypatch.setattr(files, "write_prec", lambda *_: (_ for _ in ()).throw(OSError(28, "No space left on device")))

@@ -1,7 +1,9 @@
 """Shells against every closed set of small mines, and the numbers of shells against sums done by hand."""
 
+from dataclasses import replace
 from decimal import Decimal
 from itertools import product
+from pathlib import Path
 
 import numpy as np
 import pytest
@@ -11,7 +13,8 @@ from hypothesis import strategies as st
 
 import pitplan
 from pitplan import analyse
-from pitplan.project import of_data
+from pitplan.project import of_data, read_slopes
+from pitplan.section import Section
 from pitplan.slopes import FIVE
 
 SMALL = settings(max_examples=25, suppress_health_check=[HealthCheck.function_scoped_fixture])
@@ -97,15 +100,9 @@ def test_trimmed_needs_give_the_same_shells(seed, walls, cutoff):
     rng = np.random.default_rng(seed)
     table = rows(9, 8, 5, tonnes=lambda i, j, k: 100 if k < 4 or i % 3 else 0)
     table["cu"] = np.where(rng.random(len(table)) < 0.06, rng.random(len(table)).round(3) * 8, 0.0)
-    from pathlib import Path
-
     project = project_of(Path("."), cutoff=cutoff)
     wall = {"angle": Decimal(walls)} if walls.isdigit() else {"pattern": walls}
-    from pitplan.project import Section, read_slopes
-
     slopes = read_slopes(Section("test", "slopes", {"levels": 3, "walls": [wall]}))
-    from dataclasses import replace
-
     plan = pitplan.prepare(replace(project, slopes=slopes), table=table)
     trimmed = pitplan.solve(plan)
     assert plan.used.sum() < plan.grid.count

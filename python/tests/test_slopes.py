@@ -182,6 +182,22 @@ def test_a_region_without_walls_is_refused(plan_folder):
         pitplan.prepare(plan_folder(rows(2, 2, 2), PROJECT, ('pattern = "1:5"', walls)))
 
 
+def test_walls_for_regions_alone_need_a_region_column(plan_folder):
+    path = plan_folder(
+        rows(2, 2, 2), PROJECT, ('region = "region"\n', ""), ('pattern = "1:5"', 'region = 1\npattern = "1:5"')
+    )
+    with pytest.raises(
+        PlanError, match=r"all \[\[slopes.walls\]\] are for regions, and \[table\] names no column as region"
+    ):
+        pitplan.prepare(path)
+
+
+def test_a_list_that_cannot_hold_a_flat_wall_is_refused():
+    wall = Wall(None, None, ((0.0, 1.0),))
+    with pytest.raises(PlanError, match="1 levels of these blocks hold no wall flat enough: give more levels"):
+        slopes.pattern_of(wall, (10.0, 10.0, 0.001), Slopes(1, True, (wall,)))
+
+
 def test_needs_that_leave_the_grid_at_its_sides_are_counted(plan_folder, tmp_path):
     plan = pitplan.prepare(plan_folder(rows(3, 3, 2)))
     plan.used[:] = True

@@ -29,6 +29,8 @@ def refused(project):
         ("cu", "n/a", 'row 4 column cu: "n/a" is not a number'),
         ("x", "", "row 4 column x: is empty"),
         ("name", "b0-0-0", "row 4 column name: b0-0-0 stands in row 2 too"),
+        ("rock", " ", "row 4 column rock: is empty"),
+        ("region", "", "row 4 column region: is empty"),
         ("z", "5.4", "row 4 column z: 5.4 is off the grid"),
         ("x", "15", "row 4 column x, y, z: the block of row 3 lies there too"),
     ],
@@ -77,10 +79,26 @@ def test_a_compressed_table_with_another_separator_is_the_same(plan_folder):
     pd.testing.assert_frame_equal(pitplan.prepare(path).blocks, plain.blocks)
 
 
+def test_a_spreadsheets_mark_at_the_beginning_is_passed_over(plan_folder):
+    path = plan_folder("\ufeff" + rows(2, 2, 2).to_csv(index=False))
+    assert (
+        pitplan.prepare(path).blocks["name"].tolist()
+        == pitplan.prepare(plan_folder(rows(2, 2, 2))).blocks["name"].tolist()
+    )
+
+
+def test_columns_with_names_of_the_plans_own_are_kept_beside_them(plan_folder):
+    table = rows(3, 2, 2).rename(columns={"name": "id", "cu": "revenue"})
+    path = plan_folder(table, PROJECT, ('id = "name"', 'id = "id"'), ('column = "cu"', 'column = "revenue"'))
+    blocks = pitplan.prepare(path).blocks
+    assert blocks["id"].tolist() == list(range(12)) and blocks["planner_id"][0] == "b0-0-1"
+    assert blocks["planner_revenue"].tolist() == [0] * 12 == blocks["revenue"].tolist()
+
+
 def test_codes_stay_texts(plan_folder):
     table = rows(2, 2, 2, region=lambda i, j, k: "01", rock=lambda i, j, k: "NA")
     project = pitplan.load(plan_folder(table))
-    assert set(read(project)["region"]) == {"01"} and set(read(project)["rock"]) == {"NA"}
+    assert set(read(project).frame["region"]) == {"01"} and set(read(project).frame["rock"]) == {"NA"}
 
 
 def test_a_table_of_pandas_is_taken_as_it_is(plan_folder):
