@@ -1,7 +1,10 @@
 """What the tests share: small projects and tables, written where a test may write."""
 
+import io
 import shutil
 import sys
+from contextlib import redirect_stderr, redirect_stdout
+from dataclasses import dataclass
 from pathlib import Path
 
 import pandas as pd
@@ -78,19 +81,27 @@ def plan_folder(tmp_path):
     return write
 
 
+@dataclass(frozen=True)
+class Solved:
+    """The folder of a solved mine, and what the command line said on standard output and on standard error."""
+
+    place: Path
+    out: str
+    err: str
+
+
 @pytest.fixture(scope="session")
 def solved_once(tmp_path_factory):
-    """A hill with three ores whose shells differ at each factor, solved for all tests; its folder."""
-    from pitplan import commands, load
-    from pitplan.progress import silent
+    """A hill with three ores whose shells differ at each factor, solved for all tests by the command line."""
+    from pitplan.cli import main
 
     place = tmp_path_factory.mktemp("solved")
     table = rows(10, 9, 5, cu=lambda i, j, k: {(4, 4, 1): 6, (6, 4, 1): 0.9, (4, 7, 2): 0.8}.get((i, j, k), 0))
     table[(table["z"] < 40) | (table["x"] < 50)].to_csv(place / "blocks.csv", index=False)
     (place / "project.toml").write_text(PROJECT)
-    project = load(place / "project.toml")
-    commands.shells(project, project.folder, silent)
-    return place
+    with redirect_stdout(io.StringIO()) as out, redirect_stderr(io.StringIO()) as err:
+        assert main(["shells", str(place / "project.toml")]) == 0
+    return Solved(place, out.getvalue(), err.getvalue())
 
 
 @pytest.fixture
@@ -98,5 +109,5 @@ def solved(solved_once, tmp_path):
     """The solved hill in a folder of the test's own; its project and the folder of its plan."""
     from pitplan import load
 
-    project = load(shutil.copytree(solved_once, tmp_path / "mine") / "project.toml")
+    project = load(shutil.copytree(solved_once.place, tmp_path / "mine") / "project.toml")
     return project, project.folder

@@ -234,15 +234,21 @@ def test_a_refusal_of_the_program_is_passed_on(tmp_path):
         run.solve_files(tmp_path / "mine.blocks", tmp_path / "mine.prec", (1000,))
 
 
-def test_the_command_line_from_table_to_export(plan_folder, capsys):
-    path = plan_folder(rows(9, 8, 4, **ORE))
-    assert main(["shells", str(path)]) == 0
+def test_the_command_line_tells_table_steps_and_warnings(solved_once):
+    lines = solved_once.out.splitlines()
+    assert lines[0].split()[:3] == ["factor", "blocks", "rock"] and lines[1].split()[:3] == ["per", "mille", "t"]
+    assert [line.split()[0] for line in lines[2:5]] == ["500", "1000", "1500"]
+    assert lines[-1] == str(solved_once.place / "plan" / "report.html")
+    steps = ["reading", "laying the walls", "writing blocks and needs", "solving 3 factors", "drawing"]
+    assert all(f"{step}" in solved_once.err for step in steps)
+    assert "WARNING: the greatest pit touches the north side of the model" in solved_once.err
+
+
+def test_the_command_line_exports_in_silence(solved, capsys):
+    project, folder = solved
+    assert main(["export", str(project.path), "--to", "csv", "--quiet"]) == 0
     said = capsys.readouterr()
-    assert [line.split()[0] for line in said.out.splitlines()[2:5]] == ["500", "1000", "1500"]
-    assert "solving 3 factors" in said.err and "WARNING" not in said.err.split("walls")[0]
-    assert main(["export", str(path), "--to", "csv", "--quiet"]) == 0
-    said = capsys.readouterr()
-    assert said.err == "" and said.out == f"{path.parent / 'plan' / 'pit.csv'}\n"
+    assert said.err == "" and said.out == f"{folder / 'pit.csv'}\n"
 
 
 def test_the_command_line_refuses_in_one_sentence(plan_folder, capsys):

@@ -26,7 +26,7 @@ needs_chromium = pytest.mark.skipif(CHROMIUM is None, reason="Chromium is not in
 @pytest.fixture(scope="module")
 def page(solved_once, tmp_path_factory):
     """A page of the solved hill, and the blocks that it shows."""
-    folder = shutil.copytree(solved_once / "plan", tmp_path_factory.mktemp("view") / "plan")
+    folder = shutil.copytree(solved_once.place / "plan", tmp_path_factory.mktemp("view") / "plan")
     return commands.view(folder, silent), pd.read_csv(folder / "blocks.csv")
 
 
@@ -43,27 +43,32 @@ def exposed(seen):
     return sum(int((padded & ~np.roll(padded, step, axis)).sum()) for axis in range(3) for step in (1, -1))
 
 
-@needs_chromium
-@pytest.mark.parametrize("show, factor, cut", [("ground", 1000, 0), ("pit", 1500, 1)])
-def test_the_page_draws_each_side_that_can_be_seen(page, show, factor, cut):
-    path, blocks = page
-    dug = (blocks["factor"] > 0) & (blocks["factor"] <= factor)
-    assert 0 < dug.sum() and blocks["factor"].nunique() == 4
+def demand_drawn(document, blocks, shown, at):
+    """The document's count of faces is that of the shown blocks, and its words are those of the factor and the bench."""
+    factor, cut = at
     cube = np.zeros((5, 9, 10), dtype=bool)
-    shown = blocks[dug if show == "pit" else ~dug]
-    cube[(45 - shown["z"]).astype(int) // 10, shown["y"].astype(int) // 10, shown["x"].astype(int) // 10] = True
-    document = opened(path, f"show={show}&factor={factor}&cut={cut}", "--dump-dom")
+    seen = blocks[shown]
+    cube[(45 - seen["z"]).astype(int) // 10, seen["y"].astype(int) // 10, seen["x"].astype(int) // 10] = True
     assert re.search(r'data-faces="(\d+)"', document)[1] == str(exposed(cube[cut:]))
     assert f'<output id="factorText">{factor}</output>' in document
     assert f'<output id="cutText">{50 - 10 * cut} m</output>' in document
 
 
 @needs_chromium
-def test_the_picture_shows_ground_and_pit(page, tmp_path):
-    """Not a golden picture: that ground, shells and background are there, each on a fair share of the page."""
+def test_the_page_draws_the_blocks_of_a_pit_below_a_bench(page):
+    path, blocks = page
+    assert set(blocks["factor"]) == {0, 500, 1000, 1500}
+    document = opened(path, "show=pit&factor=1500&cut=1", "--dump-dom")
+    demand_drawn(document, blocks, blocks["factor"] > 0, (1500, 1))
+
+
+@needs_chromium
+def test_the_page_draws_the_ground_with_a_pit(page, tmp_path):
+    """By its faces, and by its picture: ground, shells and background are there, each on a fair share of the page."""
     image = pytest.importorskip("matplotlib.image")
-    path, _ = page
-    opened(path, "show=ground&factor=500", f"--screenshot={tmp_path / 'page.png'}")
+    path, blocks = page
+    document = opened(path, "show=ground&factor=500", "--dump-dom", f"--screenshot={tmp_path / 'page.png'}")
+    demand_drawn(document, blocks, (blocks["factor"] == 0) | (blocks["factor"] > 500), (500, 0))
     pixels = (image.imread(tmp_path / "page.png")[:, 300:, :3] * 255).round().astype(int)
     background = (abs(pixels - [247, 246, 243]) <= 2).all(axis=2).mean()
     red, green, blue = pixels[..., 0], pixels[..., 1], pixels[..., 2]
