@@ -30,7 +30,8 @@ echo "installing from Debian:$missing"
 export DEBIAN_FRONTEND=noninteractive
 # A list of packages or a mirror may be out for a moment: once more before it counts.
 for try in first second; do
-    if apt-get update -qq && $line -qq > /dev/null; then
+    apt-get update -qq || echo "the list of packages could not be renewed" >&2
+    if $line -qq > /dev/null; then
         exit 0
     fi
     echo "the $try try to install failed" >&2

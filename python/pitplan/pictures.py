@@ -106,42 +106,46 @@ def pit_by_pit(table: pd.DataFrame, currency: str, chosen: int, path: Path) -> N
     with plt.rc_context(STYLE):
         figure, left = plt.subplots(figsize=(9.5, 4.8))
         right = left.twinx()
-        factors = table["factor"].to_numpy()
-        wide = 0.75 * float(np.diff(factors).min()) if len(factors) > 1 else 20.0
-        size, sign = scaled(float(table["tonnes"].max()))
-        ore, waste = table["ore_tonnes"] / size, table["waste_tonnes"] / size
-        left.bar(factors, ore, wide, color=ORE, label="ore", linewidth=0)
-        left.bar(factors, waste, wide, bottom=ore, color=WASTE, label="waste", linewidth=0)
-        left.set_xlabel("price factor, per mille of the price as given")
-        left.set_ylabel(f"rock in the pit, {sign}t")
-        money, mark = scaled(float(table[["worth", "npv_best", "npv_worst"]].abs().max().max()))
-        curves = (
-            ("worth", "undiscounted", PLAIN, "--"),
-            ("npv_best", "NPV, best case", BEST, "-"),
-            ("npv_worst", "NPV, worst case", WORST, "-"),
-        )
-        for column, label, colour, line in curves:
-            right.plot(
-                factors, table[column] / money, line, color=colour, marker="o", markersize=3, linewidth=1.4, label=label
-            )
-            peak = int(table[column].to_numpy().argmax())
-            right.plot(
-                factors[peak],
-                table[column].iloc[peak] / money,
-                "o",
-                markersize=9,
-                markerfacecolor="none",
-                markeredgecolor=colour,
-            )
-        right.set_ylabel(f"worth at the price as given, {mark} {currency}".replace("  ", " "))
-        left.axvspan(chosen - 0.65 * wide, chosen + 0.65 * wide, color=CHOSEN, zorder=0, label=f"chosen: {chosen}")
-        lowest = float(table[["worth", "npv_best", "npv_worst"]].min().min())
-        right.set_ylim(min(0.0, 1.1 * lowest / money), right.get_ylim()[1] * 1.05)
-        handles = [*left.get_legend_handles_labels()[0], *right.get_legend_handles_labels()[0]]
-        names = [*left.get_legend_handles_labels()[1], *right.get_legend_handles_labels()[1]]
+        draw_tonnes(left, table, chosen)
+        draw_worth(right, table, currency)
+        shown = [axis.get_legend_handles_labels() for axis in (left, right)]
+        handles, names = ([*shown[0][k], *shown[1][k]] for k in (0, 1))
         figure.legend(handles, names, ncol=6, loc="upper center", frameon=False)
         figure.tight_layout(rect=(0, 0, 1, 0.94))
         finish(figure, path)
+
+
+def draw_tonnes(axis: Axes, table: pd.DataFrame, chosen: int) -> None:
+    """A bar a factor, and a band behind that of the chosen one."""
+    factors = table["factor"].to_numpy()
+    wide = 0.75 * float(np.diff(factors).min()) if len(factors) > 1 else 20.0
+    size, sign = scaled(float(table["tonnes"].max()))
+    ore, waste = table["ore_tonnes"] / size, table["waste_tonnes"] / size
+    axis.axvspan(chosen - 0.65 * wide, chosen + 0.65 * wide, color=CHOSEN, zorder=0, label=f"chosen: {chosen}")
+    axis.bar(factors, ore, wide, color=ORE, label="ore", linewidth=0)
+    axis.bar(factors, waste, wide, bottom=ore, color=WASTE, label="waste", linewidth=0)
+    axis.set_xlabel("price factor, per mille of the price as given")
+    axis.set_ylabel(f"rock in the pit, {sign}t")
+
+
+def draw_worth(axis: Axes, table: pd.DataFrame, currency: str) -> None:
+    """A line each for worth and both NPVs, with a ring round its greatest."""
+    curves = (
+        ("worth", "undiscounted", PLAIN, "--"),
+        ("npv_best", "NPV, best case", BEST, "-"),
+        ("npv_worst", "NPV, worst case", WORST, "-"),
+    )
+    amounts = table[[column for column, _, _, _ in curves]]
+    size, sign = scaled(float(amounts.abs().max().max()))
+    for column, label, colour, line in curves:
+        axis.plot(
+            table["factor"], amounts[column] / size, line + "o", color=colour, markersize=3, linewidth=1.4, label=label
+        )
+        peak = amounts[column].idxmax()
+        ring = {"markersize": 9, "markerfacecolor": "none", "markeredgecolor": colour}
+        axis.plot(table["factor"][peak], amounts[column][peak] / size, "o", **ring)
+    axis.set_ylabel(f"worth at the price as given, {sign} {currency}".replace(",  ", ", "))
+    axis.set_ylim(min(0.0, 1.1 * float(amounts.min().min()) / size), axis.get_ylim()[1] * 1.05)
 
 
 def plans(scene: Scene, path: Path) -> None:

@@ -75,45 +75,48 @@ class Plan:
 
     def record(self, pairs: Pairs) -> dict[str, Any]:
         """All that was rounded, dropped, clipped or added between the table and the files."""
-        missing = self.grid.count - len(self.table)
+        project = self.project
         return {
-            "title": self.project.title,
-            "table": {
-                "file": self.source,
-                "rows": len(self.table),
-                "fields_filled_with_0": self.filled,
-            },
-            "grid": {
-                "shape": list(self.grid.shape),
-                "origin": list(self.grid.origin),
-                "size": list(self.grid.size),
-                "cells": self.grid.count,
-                "cells_taken_as_air": missing,
-                "of_these_below_a_block": cells_below_blocks(self.grid),
-                "greatest_shift_of_a_centre": greatest_shift(self.table, self.grid, self.project),
-            },
+            "title": project.title,
+            "table": {"file": self.source, "rows": len(self.table), "fields_filled_with_0": self.filled},
+            "grid": self.record_of_grid(),
             "money": {
                 "cutoff": self.values.cutoff,
-                "decimals": self.project.money.decimals,
+                "decimals": project.money.decimals,
                 "processing_nodes": len(self.values.processed),
                 "rounded": {name: rounding.as_json() for name, rounding in self.values.roundings.items()},
             },
             "walls": [pattern.as_json() for pattern in self.walls.patterns],
-            "needs": {
-                "written": pairs.written,
-                "of_processing_nodes": pairs.processing,
-                "clipped_at_the_sides": pairs.clipped,
-                "blocks_whose_needs_are_written": int(self.used.sum()),
-                "blocks_whose_needs_are_trimmed": int(self.grid.count - self.used.sum()),
-                "trimmed_for_factors_up_to": self.project.schedule.factors[-1],
-            },
-            "factors": list(self.project.schedule.factors),
-            "factor_1000_added": self.project.schedule.reference_added,
+            "needs": self.record_of_needs(pairs),
+            "factors": list(project.schedule.factors),
+            "factor_1000_added": project.schedule.reference_added,
             "notes": self.notes,
-            "codes": codes_of(self.project),
-            "tonnes": shown_name(self.project.table.tonnes),
-            "metals": [{"name": m.name, "column": shown_name(m.column), "sign": m.sign} for m in self.project.metals],
+            "codes": codes_of(project),
+            "tonnes": shown_name(project.table.tonnes),
+            "metals": [{"name": m.name, "column": shown_name(m.column), "sign": m.sign} for m in project.metals],
             "libraries": {"python": sys.version.split()[0], "numpy": np.__version__, "pandas": pd.__version__},
+        }
+
+    def record_of_grid(self) -> dict[str, Any]:
+        return {
+            "shape": list(self.grid.shape),
+            "origin": list(self.grid.origin),
+            "size": list(self.grid.size),
+            "cells": self.grid.count,
+            "cells_taken_as_air": self.grid.count - len(self.table),
+            "of_these_below_a_block": cells_below_blocks(self.grid),
+            "greatest_shift_of_a_centre": greatest_shift(self.table, self.grid, self.project),
+        }
+
+    def record_of_needs(self, pairs: Pairs) -> dict[str, int]:
+        used = int(self.used.sum())
+        return {
+            "written": pairs.written,
+            "of_processing_nodes": pairs.processing,
+            "clipped_at_the_sides": pairs.clipped,
+            "blocks_whose_needs_are_written": used,
+            "blocks_whose_needs_are_trimmed": self.grid.count - used,
+            "trimmed_for_factors_up_to": self.project.schedule.factors[-1],
         }
 
 

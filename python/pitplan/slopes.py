@@ -196,7 +196,7 @@ def walls_of(region: np.ndarray, grid: Grid, slopes: Slopes) -> Walls:
         if number is None and name != "":
             raise PlanError(f"[slopes] no [[slopes.walls]] is for region {name}, and none is without a region")
         numbers.append(0 if number is None else number)
-    return Walls(patterns, np.array(numbers, dtype=np.int8)[inverse])
+    return Walls(patterns, np.array(numbers, dtype=np.int16)[inverse])
 
 
 def regions_of(frame: pd.DataFrame, grid: Grid, column: str | None) -> np.ndarray:

@@ -24,7 +24,8 @@ def solved_example():
 
 
 def test_the_table_of_shells_is_the_expected_one(solved_example):
-    _, _, table = solved_example
+    _, solution, table = solved_example
+    assert solution.answer == (EXAMPLE / "expected" / "shells.txt").read_bytes()
     expected = pd.read_csv(EXAMPLE / "expected" / "shells.csv", dtype={"worth_at_factor": str})
     pd.testing.assert_frame_equal(commands.shown(table), expected, check_dtype=False, rtol=1e-9)
 

@@ -43,6 +43,17 @@ def test_shells_write_tables_pictures_and_a_page_that_needs_no_other_file(solved
         assert (folder / name).read_bytes().startswith(b"\x89PNG")
 
 
+def test_a_mine_without_ore_has_a_report_and_a_page_too(plan_folder):
+    project = load(plan_folder(rows(4, 4, 3), PROJECT, ("[500, 1000, 1500]", "[1000]")))
+    table, _ = commands.shells(project, project.folder, silent)
+    assert table["blocks"].tolist() == [0] and table["worth"].tolist() == [0]
+    commands.view(project.folder, silent)
+    assert (
+        "–" in (project.folder / "report.html").read_text()
+        and 'grade_most": 1.0' in (project.folder / "view.html").read_text()
+    )
+
+
 def test_the_record_has_hashes_of_all_that_was_read_and_written(solved):
     project, folder = solved
     record = json.loads((folder / "prepare.json").read_text())
