@@ -1,5 +1,5 @@
 # `make try` runs the program at once, unproved; `make` proves it, builds it and solves the small mine; `make test` runs the gate.
-.PHONY: all try build demo test
+.PHONY: all try build demo test test-plan setup
 
 SMALL_MINE = examples/small_mine
 
@@ -23,6 +23,19 @@ demo:
 	head -n 8 build/pit.txt
 	cmp build/pit.txt $(SMALL_MINE)/pit.txt
 
-test:
+# The gate, and then the planner's layer over the program that the gate has just proved and built.
+test: setup
 	tools/uncited.py
 	rt ci
+	mkdir -p build
+	cp crates/pitshell/out/pitshell build/pitshell
+	$(MAKE) test-plan
+
+# The tests of the planner's layer alone. Where there is no program yet it is proved and built first, for ten minutes or more.
+test-plan: setup
+	test -x build/pitshell || $(MAKE) build
+	/usr/bin/python3 -m pytest python/tests -q -p no:cacheprovider
+
+# Installs what the planner's layer and its tests need of Debian's packages, where anything is missing.
+setup:
+	@tools/setup.sh

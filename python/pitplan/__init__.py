@@ -1,0 +1,33 @@
+"""The planner's layer over the proved program `pitshell`: from a table of blocks to shells, numbers and pictures.
+
+    import pitplan
+
+    plan = pitplan.prepare("project.toml")      # plan.blocks: one row a block, with costs and revenue
+    solution = pitplan.solve(plan)              # the program's shells
+    pitplan.blocks(plan, solution)              # plan.blocks with the least factor of each block
+    pitplan.shells(plan, solution)              # one row a factor: tonnes, grades, strip ratio, worth, NPV
+
+That a shell is the smallest set of greatest worth that keeps the needs is proved of the program, for the files that it
+reads. This layer, which writes those files, is not proved; `plan.notes` says what it rounded, dropped and clipped.
+"""
+
+from .analyse import blocks, shells
+from .errors import BudgetUsedUp, MissingPackage, PlanError, ProgramError
+from .plan import Plan, prepare
+from .project import Project, load
+from .run import Solution, solve
+
+__all__ = [
+    "BudgetUsedUp",
+    "MissingPackage",
+    "Plan",
+    "PlanError",
+    "ProgramError",
+    "Project",
+    "Solution",
+    "blocks",
+    "load",
+    "prepare",
+    "shells",
+    "solve",
+]

@@ -1,0 +1,106 @@
+"""A folder by which others can check one shell, with the program and without it.
+
+The shell of factor f is the pit of the mine whose values are `f * revenue - 1000 * cost`. In money that has up to nine
+decimals; a model has six, so its values are written a thousandfold, exactly.
+"""
+
+from __future__ import annotations
+
+import shutil
+from decimal import Decimal
+from pathlib import Path
+
+import numpy as np
+import pandas as pd
+
+from . import files, run
+from .errors import PlanError
+from .files import Folder
+
+REPOSITORY = Path(__file__).resolve().parents[2]
+CHECKER = REPOSITORY / "tools" / "check_certificate.py"
+MODEL, PREC, CERTIFICATE, PIT, RECORD, SCRIPT = (
+    "shell.upit",
+    "shell.prec",
+    "shell.cert",
+    "pit.txt",
+    "audit.json",
+    "check.sh",
+)
+GREATEST = 10**18
+
+CHECK_SCRIPT = """#!/bin/sh
+# Checks the shell of factor {factor} of "{title}": the files' hashes, then the certificate by the proved program, then by
+# a short program in Python that shares nothing with it. PITSHELL names the program, PYTHON the interpreter.
+set -eu
+cd "$(dirname "$0")"
+sha256sum --check --quiet hashes.txt
+echo "hashes: yes"
+printf 'pitshell check: '
+"${{PITSHELL:-pitshell}}" check --model {model} --prec {prec} --certificate {certificate}
+printf 'check_certificate.py: '
+"${{PYTHON:-python3}}" check_certificate.py {model} {prec} {certificate}
+"""
+
+
+def values_at(blocks: Path, factor: int) -> np.ndarray:
+    """Each node's value at a factor, in billionths: `factor * revenue - 1000 * cost` of the millionths in the file."""
+    columns = pd.read_csv(blocks, sep=" ", header=None, usecols=[4, 5], dtype=str)
+    revenue, cost = (np.array([int(Decimal(text).scaleb(6)) for text in columns[k]], dtype=object) for k in (4, 5))
+    values = factor * revenue - 1000 * cost
+    if max(abs(values), default=0) >= GREATEST:
+        raise PlanError(
+            f"{blocks}: a value at factor {factor}, a thousandfold, is 10^12 or more and does not fit a model: "
+            "give prices and costs in a greater unit of money"
+        )
+    return values.astype(np.int64)
+
+
+def write(stage: Path, folder: Folder, factor: int) -> None:
+    """Writes model, precedence, certificate, pit, hashes, the program's identity and the script that checks them.
+
+    Raises ProgramError where the program refuses, and PlanError where its pit is not the shell of the plan.
+    """
+    values = values_at(folder.path / files.BLOCKS, factor)
+    files.write_model(stage / MODEL, f"shell {factor} of {folder.record['title']}", values)
+    shutil.copyfile(folder.path / files.PREC, stage / PREC)
+    shutil.copyfile(CHECKER, stage / CHECKER.name)
+    options = ("--model", stage / MODEL, "--prec", stage / PREC, "--certificate", stage / CERTIFICATE)
+    (stage / PIT).write_bytes(run.call("solve", *options))
+    worth = demand_same(stage, folder, factor)
+    names = [MODEL, PREC, CERTIFICATE, PIT, CHECKER.name]
+    hashes = files.hashes(stage, names)
+    (stage / "hashes.txt").write_text(
+        "".join(f"{digest}  {name}\n" for name, digest in hashes.items()), encoding="ascii"
+    )
+    record = {
+        "title": folder.record["title"],
+        "factor": factor,
+        "worth_at_factor": str(worth),
+        "program": run.identity(),
+        "files": hashes,
+        "plan": {**folder.record["inputs"], **folder.record["files"]},
+        "not_proved": "how mine.blocks and mine.prec were made from the table",
+    }
+    files.write_json(stage / RECORD, record)
+    words = {
+        "factor": factor,
+        "title": folder.record["title"],
+        "model": MODEL,
+        "prec": PREC,
+        "certificate": CERTIFICATE,
+    }
+    (stage / SCRIPT).write_text(CHECK_SCRIPT.format(**words), encoding="utf-8")
+    (stage / SCRIPT).chmod(0o755)
+
+
+def demand_same(stage: Path, folder: Folder, factor: int) -> Decimal:
+    """The shell's worth, once the audited pit holds the same nodes with the same worth. Raises PlanError where it does not."""
+    solution = run.read_answer((folder.path / files.ANSWER).read_bytes())
+    lines = (stage / PIT).read_text(encoding="ascii").split("\n")
+    pit = np.array(lines[4:-1], dtype=np.int64)
+    worth = Decimal(lines[3].split()[1]) / 1000
+    expected = np.flatnonzero((solution.entry > 0) & (solution.entry <= factor))
+    if not np.array_equal(pit, expected) or worth != solution.worth[factor]:
+        raise PlanError(f"{stage / PIT}: the audited pit is not the shell of factor {factor}")
+    return worth

@@ -1,0 +1,83 @@
+"""The command line: `pitplan prepare | shells | view | export | audit`."""
+
+from __future__ import annotations
+
+import argparse
+import sys
+from pathlib import Path
+from typing import Optional, Sequence
+
+from . import commands, report
+from .errors import PlanError
+from .progress import Progress, on_standard_error, silent
+from .project import REFERENCE_FACTOR, Project, load
+
+
+def parser() -> argparse.ArgumentParser:
+    top = argparse.ArgumentParser(prog="pitplan", description="From a table of blocks and wall angles to nested pits.")
+    subs = top.add_subparsers(dest="command", required=True)
+    words = {
+        "prepare": "write the program's files and prepare.json, which says what was rounded, dropped and clipped",
+        "shells": "prepare, run the program, and write tables, pictures and the report",
+        "view": "write a page that shows the shells in 3D (libjs-three)",
+        "export": "write the shells for other programs",
+        "audit": "write a folder by which others can check one shell",
+    }
+    for name, help_text in words.items():
+        sub = subs.add_parser(name, help=help_text, description=help_text)
+        sub.add_argument("project", type=Path, help="project.toml")
+        sub.add_argument("--out", type=Path, help="the folder of the plan (default: the project's output folder)")
+        sub.add_argument("--quiet", action="store_true", help="tell no progress on standard error")
+        if name == "export":
+            sub.add_argument("--to", required=True, choices=("csv", "vti", "dxf"))
+        if name in ("export", "audit"):
+            is_needed = name == "audit"
+            sub.add_argument("--factor", type=int, required=is_needed, default=None if is_needed else REFERENCE_FACTOR)
+    return top
+
+
+def main(arguments: Optional[Sequence[str]] = None) -> int:
+    """Runs one subcommand: 0 where it is done, 1 where the input is refused, with a sentence on standard error."""
+    options = parser().parse_args(arguments)
+    progress = silent if options.quiet else on_standard_error()
+    try:
+        project = load(options.project)
+        run_command(options, project, options.out or project.folder, progress)
+    except PlanError as error:
+        print(f"pitplan: {error}", file=sys.stderr)
+        return 1
+    return 0
+
+
+def run_command(options: argparse.Namespace, project: Project, folder: Path, progress: Progress) -> None:
+    if options.command == "prepare":
+        record = commands.prepare(project, folder, progress)
+        tell_notes(record["notes"])
+        print(folder)
+    elif options.command == "shells":
+        table, record = commands.shells(project, folder, progress)
+        columns = report.columns_of(table, project)
+        print_table([heading for _, heading, _, _ in columns], report.cells_of(table, columns))
+        tell_notes(record["notes"])
+        print(folder / commands.REPORT)
+    elif options.command == "view":
+        print(commands.view(folder, progress))
+    elif options.command == "export":
+        print(commands.export(folder, options.to, options.factor, progress))
+    else:
+        print(commands.audit(folder, options.factor, progress))
+
+
+def tell_notes(notes: list[str]) -> None:
+    for note in notes:
+        print(note, file=sys.stderr)
+
+
+def print_table(headings: list[str], rows: list[list[str]]) -> None:
+    """Columns to the right, under two lines of headings."""
+    upper = [heading.split(", ")[0] for heading in headings]
+    lower = [heading.split(", ")[1] if ", " in heading else "" for heading in headings]
+    lines = [upper, lower, *rows]
+    wide = [max(len(line[k]) for line in lines) for k in range(len(headings))]
+    for line in lines:
+        print("  ".join(field.rjust(width) for field, width in zip(line, wide)))

@@ -1,0 +1,148 @@
+"""What each subcommand writes: `prepare`, `shells`, `view`, `export` and `audit`."""
+
+from __future__ import annotations
+
+from pathlib import Path
+from typing import Any
+
+import numpy as np
+import pandas as pd
+
+from . import analyse, audit as audits, export as exports, files, pictures, report, run, view as views
+from .errors import PlanError
+from .pictures import Scene
+from .plan import Plan, prepare as prepare_plan
+from .progress import Progress
+from .project import Project
+
+PREPARED = [files.BLOCKS, files.MODEL, files.PREC]
+PICTURES = {"pit_by_pit": "pit_by_pit.png", "plans": "plans.png", "sections": "sections.png"}
+REPORT, VIEW = "report.html", "view.html"
+WRITTEN = {*PREPARED, files.RECORD, files.TABLE, files.SHELLS, files.ANSWER, REPORT, VIEW, *PICTURES.values()}
+
+
+def prepare(project: Project, folder: Path, progress: Progress) -> dict[str, Any]:
+    """Writes the program's files, blocks.csv and prepare.json; gives the record. Raises PlanError, with nothing written."""
+    demand_apart(project, folder)
+    plan = prepare_plan(project, progress=progress)
+    with files.staged(folder) as stage:
+        record = write_prepared(plan, stage, progress)
+        write_table(plan.blocks, stage)
+        return finish(plan, record, [*PREPARED, files.TABLE], stage)
+
+
+def shells(project: Project, folder: Path, progress: Progress) -> tuple[pd.DataFrame, dict[str, Any]]:
+    """Prepares, runs the program, and writes tables, pictures and the report; gives the table of shells and the record."""
+    demand_apart(project, folder)
+    identity = run.identity()
+    plan = prepare_plan(project, progress=progress)
+    with files.staged(folder) as stage:
+        record = write_prepared(plan, stage, progress)
+        solution = run.solve(plan, stage, progress)
+        with progress.step("counting the shells"):
+            table = analyse.shells(plan, solution)
+            (stage / files.ANSWER).write_bytes(solution.answer)
+            write_table(analyse.blocks(plan, solution), stage)
+            shown(table).to_csv(stage / files.SHELLS, index=False)
+            plan.notes += analyse.edge_notes(plan, solution)
+        chosen = analyse.chosen_factor(table, project.schedule)
+        record["shells"] = {"factors": list(project.schedule.factors), "chosen": chosen, "program": identity}
+        record["notes"] = plan.notes
+        with progress.step("drawing"):
+            draw(plan, solution, table, chosen, stage)
+        names = [*PREPARED, files.ANSWER, files.TABLE, files.SHELLS, *PICTURES.values()]
+        finish(plan, record, names, stage)
+        write_report(project, table, record, stage)
+    return table, record
+
+
+def demand_apart(project: Project, folder: Path) -> None:
+    """Refuses a folder in which a file of the plan would take the place of the table or of the project."""
+    for path in (project.table.file, project.path):
+        if path.parent.resolve() == folder.resolve() and path.name in WRITTEN:
+            raise PlanError(f"{path}: the plan would be written over it: give another folder by --out")
+
+
+def write_prepared(plan: Plan, stage: Path, progress: Progress) -> dict[str, Any]:
+    with progress.step("writing blocks and needs"):
+        return plan.write(stage)
+
+
+def write_table(blocks: pd.DataFrame, stage: Path) -> None:
+    blocks.to_csv(stage / files.TABLE, index=False)
+
+
+def finish(plan: Plan, record: dict[str, Any], names: list[str], stage: Path) -> dict[str, Any]:
+    """Writes the record with the hashes of what was read and of what was written."""
+    record["inputs"] = {path.name: files.hash_of(path) for path in (plan.project.path, plan.project.table.file)}
+    record["files"] = files.hashes(stage, names)
+    files.write_json(stage / files.RECORD, record)
+    return record
+
+
+def shown(table: pd.DataFrame) -> pd.DataFrame:
+    """The table of shells as shells.csv has it: sums to a thousandth, grades and ratios to a millionth."""
+    result = table.copy()
+    result["worth_at_factor"] = result["worth_at_factor"].map("{:f}".format)
+    for name in result.columns:
+        if result[name].dtype == np.float64:
+            result[name] = result[name].round(6 if name.startswith("grade_") or name in ("strip_ratio", "years") else 3)
+    return result
+
+
+def draw(plan: Plan, solution: run.Solution, table: pd.DataFrame, chosen: int, stage: Path) -> None:
+    first = plan.project.metals[0]
+    cells = analyse.cells_of(plan, solution)
+    grid = plan.grid
+    scene = Scene(
+        grid=grid,
+        factor=grid.cube(cells.factor),
+        solid=grid.cube(cells.tonnes > 0),
+        grade=grid.cube(grid.spread(plan.table[first.column].to_numpy())),
+        metal=first,
+        chosen=chosen,
+    )
+    pictures.pit_by_pit(table, plan.project.money.currency, chosen, stage / PICTURES["pit_by_pit"])
+    pictures.plans(scene, stage / PICTURES["plans"])
+    pictures.sections(scene, stage / PICTURES["sections"])
+
+
+def write_report(project: Project, table: pd.DataFrame, record: dict[str, Any], stage: Path) -> None:
+    facts = {
+        "chosen": record["shells"]["chosen"],
+        "pictures": {name: stage / file for name, file in PICTURES.items()},
+        "notes": record["notes"],
+        "files": {**record["inputs"], **record["files"]},
+        "program": record["shells"]["program"],
+    }
+    report.write(stage / REPORT, project, table, facts)
+
+
+def view(folder: Path, progress: Progress) -> Path:
+    """Writes view.html beside the shells; gives its path. Raises MissingPackage without libjs-three."""
+    result = files.read_folder(folder)
+    with progress.step("writing the 3D page"), files.staged_file(folder / VIEW) as path:
+        views.write(path, result)
+    return folder / VIEW
+
+
+def export(folder: Path, kind: str, factor: int, progress: Progress) -> Path:
+    """Writes shells.csv, .vti or .dxf files for other programs; gives the path. Raises PlanError and MissingPackage."""
+    result = files.read_folder(folder)
+    if factor not in result.factors:
+        raise PlanError(f"factor {factor} is not among the factors {', '.join(map(str, result.factors))}")
+    target = folder / exports.name_of(kind, factor)
+    with progress.step(f"writing {target.name}"), files.staged_file(target) as path:
+        exports.WRITERS[kind](path, result, factor)
+    return target
+
+
+def audit(folder: Path, factor: int, progress: Progress) -> Path:
+    """Writes a folder by which others can check one shell; gives its path. Raises PlanError and ProgramError."""
+    result = files.read_folder(folder)
+    if factor not in result.factors:
+        raise PlanError(f"factor {factor} is not among the factors {', '.join(map(str, result.factors))}")
+    target = folder / f"audit-{factor}"
+    with progress.step(f"writing {target.name}"), files.staged(target) as stage:
+        audits.write(stage, result, factor)
+    return target

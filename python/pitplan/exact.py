@@ -1,0 +1,98 @@
+"""Decimals held exactly, so that what is called a rounding is one, and not the noise of binary fractions.
+
+A number that stands in a table as `0.1` is held as 1 of 10**-1. Sums and products are exact; the only rounding is the
+one that is asked for at the end, and it says how many values it changed.
+"""
+
+from __future__ import annotations
+
+from dataclasses import dataclass
+from decimal import Decimal
+from typing import Union
+
+import numpy as np
+
+# Up to here a float64 holds every whole number, so a decimal of so many digits is told from its float.
+EXACT_WHOLE = 2**53
+MOST_PLACES = 15
+
+
+@dataclass(frozen=True)
+class Rounding:
+    """What a rounding did: how many values there were, how many it changed, and by how much at most."""
+
+    values: int
+    changed: int
+    largest: Decimal
+
+    def as_json(self) -> dict[str, object]:
+        return {"values": self.values, "changed": self.changed, "largest": f"{self.largest:f}"}
+
+
+@dataclass(frozen=True)
+class Exact:
+    """Values `whole * 10**-places`; `whole` is an array of Python's whole numbers, without a limit of size."""
+
+    whole: np.ndarray
+    places: int
+
+    @staticmethod
+    def of(value: Union[int, Decimal], count: int) -> "Exact":
+        """The same value `count` times."""
+        whole, places = whole_and_places(value)
+        return Exact(np.full(count, whole, dtype=object), places)
+
+    @staticmethod
+    def of_floats(values: np.ndarray) -> "Exact":
+        """The shortest decimal that reads back as each float: 0.1 for 0.1. The floats must be finite."""
+        numbers = np.asarray(values, dtype=np.float64)
+        for places in range(MOST_PLACES + 1):
+            scaled = np.rint(numbers * 10.0**places)
+            if np.abs(scaled).max(initial=0.0) >= EXACT_WHOLE:
+                break
+            if (scaled / 10.0**places == numbers).all():
+                return Exact(scaled.astype(np.int64).astype(object), places)
+        return Exact.of_decimals([Decimal(repr(float(number))) for number in numbers])
+
+    @staticmethod
+    def of_decimals(values: list[Decimal]) -> "Exact":
+        pairs = [whole_and_places(value) for value in values]
+        most = max((places for _, places in pairs), default=0)
+        whole = np.empty(len(pairs), dtype=object)
+        whole[:] = [number * 10 ** (most - places) for number, places in pairs]
+        return Exact(whole, most)
+
+    def at(self, places: int) -> np.ndarray:
+        """The whole numbers of 10**-places; `places` may not be less than the value's own."""
+        return self.whole * 10 ** (places - self.places)
+
+    def times(self, other: "Exact") -> "Exact":
+        return Exact(self.whole * other.whole, self.places + other.places)
+
+    def plus(self, other: "Exact") -> "Exact":
+        places = max(self.places, other.places)
+        return Exact(self.at(places) + other.at(places), places)
+
+    def floats(self) -> np.ndarray:
+        """The nearest floats, for pictures and reports."""
+        return np.array([number / 10**self.places for number in self.whole], dtype=np.float64)
+
+    def rounded(self, places: int) -> tuple[np.ndarray, Rounding]:
+        """Whole numbers of 10**-places, halves to the even one, and what the rounding did."""
+        if self.places <= places:
+            return self.at(places), Rounding(len(self.whole), 0, Decimal(0))
+        unit = 10 ** (self.places - places)
+        below, over = self.whole // unit, self.whole % unit
+        up = (2 * over > unit) | ((2 * over == unit) & (below % 2 == 1))
+        result = below + up.astype(bool).astype(int).astype(object)
+        off = np.abs(result * unit - self.whole)
+        largest = Decimal(int(max(off, default=0))).scaleb(-self.places)
+        return result, Rounding(len(off), int(np.count_nonzero(off != 0)), largest)
+
+
+def whole_and_places(value: Union[int, Decimal]) -> tuple[int, int]:
+    """`(whole, places)` with value = whole * 10**-places and places not negative."""
+    sign, digits, exponent = Decimal(value).as_tuple()
+    whole = int("".join(map(str, digits))) * (-1 if sign else 1)
+    power = int(exponent)
+    return (whole * 10**power, 0) if power >= 0 else (whole, -power)

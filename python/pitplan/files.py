@@ -1,0 +1,161 @@
+"""The files of a plan: written into a folder beside their place and moved there whole, and read back with their hashes."""
+
+from __future__ import annotations
+
+import hashlib
+import json
+import os
+import shutil
+import tempfile
+from contextlib import contextmanager
+from dataclasses import dataclass
+from pathlib import Path
+from typing import Any, Iterator
+
+import numpy as np
+import pandas as pd
+
+from . import text
+from .errors import PlanError
+from .grid import Grid
+from .needs import ABSENT, slices
+from .slopes import Walls
+
+BLOCKS, MODEL, PREC = "mine.blocks", "mine.upit", "mine.prec"
+RECORD, TABLE, SHELLS, ANSWER = "prepare.json", "blocks.csv", "shells.csv", "shells.txt"
+CHUNK = 200_000
+
+
+@contextmanager
+def staged(folder: Path) -> Iterator[Path]:
+    """A new folder to write into; where no error comes, its files are moved to `folder`, each whole, the record last.
+
+    Raises PlanError where the folder cannot be made or written.
+    """
+    try:
+        folder.mkdir(parents=True, exist_ok=True)
+        stage = Path(tempfile.mkdtemp(prefix=".pitplan-", dir=folder))
+        try:
+            yield stage
+            for path in sorted(stage.iterdir(), key=lambda it: it.name == RECORD):
+                os.replace(path, folder / path.name)
+        finally:
+            shutil.rmtree(stage, ignore_errors=True)
+    except OSError as error:
+        raise PlanError(f"{error.filename or folder}: cannot be written: {error.strerror or error}") from error
+
+
+@contextmanager
+def staged_file(path: Path) -> Iterator[Path]:
+    """A name to write one file to; where no error comes, it is moved to `path`."""
+    with staged(path.parent) as stage:
+        yield stage / path.name
+
+
+def write_blocks(path: Path, grid: Grid, processed: np.ndarray, nodes: tuple[np.ndarray, np.ndarray]) -> None:
+    """`id x y z revenue cost` a node, x, y, z being its block's column, row and level from the floor."""
+    revenue, cost = nodes
+    block = np.concatenate([np.arange(grid.count), processed])
+    with open(path, "wb") as file:
+        for start in range(0, len(block), CHUNK):
+            part = slice(start, min(start + CHUNK, len(block)))
+            column, row, level = grid.indices(block[part])
+            places = [text.whole(axis) for axis in (column, row, grid.shape[0] - 1 - level)]
+            numbers = text.whole(np.arange(part.start, part.stop))
+            file.write(text.lines([numbers, *places, text.decimals(revenue[part]), text.decimals(cost[part])]))
+
+
+def write_model(path: Path, name: str, values: np.ndarray) -> None:
+    """An optimisation model: one value a node, in millionths."""
+    with open(path, "wb") as file:
+        file.write(f"NAME: {name}\nTYPE: UPIT\nNBLOCKS: {len(values)}\nOBJECTIVE_FUNCTION:\n".encode())
+        for start in range(0, len(values), CHUNK):
+            part = values[start : start + CHUNK]
+            numbers = np.arange(start, start + len(part))
+            file.write(text.lines([text.whole(numbers), text.decimals(part)]))
+
+
+@dataclass(frozen=True)
+class Pairs:
+    """What was written of needs: how many, how many of them lead off the sides, and how many bind processing to mining."""
+
+    written: int
+    clipped: int
+    processing: int
+
+
+def write_prec(path: Path, grid: Grid, walls: Walls, used: np.ndarray, processed: np.ndarray) -> Pairs:
+    """The needs of the used blocks, and of each processing node its block."""
+    written = clipped = 0
+    with open(path, "wb") as file:
+        for part in slices(grid, walls, np.flatnonzero(used)):
+            count = (part.needs != ABSENT).sum(axis=1)
+            some = count > 0
+            written += int(count.sum())
+            clipped += part.clipped
+            if some.any():
+                heads = [text.whole(part.ids[some]), text.whole(count[some])]
+                file.write(text.ragged(heads, part.needs[some], ABSENT))
+        for start in range(0, len(processed), CHUNK):
+            needed = processed[start : start + CHUNK]
+            ids = np.arange(grid.count + start, grid.count + start + len(needed))
+            file.write(text.lines([text.whole(ids), text.whole(np.ones(len(ids))), text.whole(needed)]))
+    return Pairs(written, clipped, len(processed))
+
+
+def hash_of(path: Path) -> str:
+    """SHA-256 of a file, in hexadecimal digits."""
+    digest = hashlib.sha256()
+    with open(path, "rb") as file:
+        for piece in iter(lambda: file.read(1 << 20), b""):
+            digest.update(piece)
+    return digest.hexdigest()
+
+
+def hashes(folder: Path, names: list[str]) -> dict[str, str]:
+    return {name: hash_of(folder / name) for name in names}
+
+
+def write_json(path: Path, record: dict[str, Any]) -> None:
+    path.write_text(json.dumps(record, indent=2, ensure_ascii=False) + "\n", encoding="utf-8")
+
+
+@dataclass(frozen=True)
+class Folder:
+    """The files of a plan, read back.
+
+    blocks  one row a block of the planner's table, with `id` and the shell's `factor` (0: in none)
+    record  what prepare.json says
+    """
+
+    path: Path
+    blocks: pd.DataFrame
+    record: dict[str, Any]
+
+    @property
+    def grid(self) -> Grid:
+        box = self.record["grid"]
+        (levels, rows, columns), (x, y, z), (dx, dy, dz) = box["shape"], box["origin"], box["size"]
+        return Grid((levels, rows, columns), (x, y, z), (dx, dy, dz), self.blocks["id"].to_numpy())
+
+    @property
+    def factors(self) -> list[int]:
+        return list(self.record["shells"]["factors"])
+
+
+def read_folder(path: Path) -> Folder:
+    """Raises PlanError where `pitplan shells` has not written the folder, or a file has changed since."""
+    try:
+        record = json.loads((path / RECORD).read_text(encoding="utf-8"))
+        for name, digest in record["files"].items():
+            if hash_of(path / name) != digest:
+                raise PlanError(f"{path / name}: has changed since {RECORD} was written: run pitplan shells again")
+        if "shells" not in record:
+            raise PlanError(f"{path}: has no shells yet: run pitplan shells first")
+        codes = {name: str for name in record["codes"]}
+        blocks = pd.read_csv(path / TABLE, dtype=codes, keep_default_na=False, na_values={})
+    except OSError as error:
+        raise PlanError(f"{error.filename}: cannot be read: run pitplan shells first") from error
+    except (ValueError, KeyError) as error:
+        raise PlanError(f"{path / RECORD}: is no record of a plan: {error}") from error
+    return Folder(path, blocks, record)

@@ -1,0 +1,158 @@
+"""A table of blocks as a regular grid: blocks are numbered from the top level down, row by row from the south-west."""
+
+from __future__ import annotations
+
+from dataclasses import dataclass
+
+import numpy as np
+import pandas as pd
+
+from .errors import PlanError
+from .project import GridRules, Project, TableColumns
+from .table import at_row
+
+MOST_BLOCKS = 4_194_304
+
+
+@dataclass(frozen=True)
+class Grid:
+    """All cells of the box round the table's blocks.
+
+    shape   levels (from the top), rows (from the south), columns (from the west)
+    origin  x, y, z in metres of the centre of block 0: west, south, top
+    size    a block's size in metres, east, north and up
+    rows    for each row of the table the number of its cell
+    """
+
+    shape: tuple[int, int, int]
+    origin: tuple[float, float, float]
+    size: tuple[float, float, float]
+    rows: np.ndarray
+
+    @property
+    def count(self) -> int:
+        """How many cells there are."""
+        return self.shape[0] * self.shape[1] * self.shape[2]
+
+    @property
+    def per_level(self) -> int:
+        return self.shape[1] * self.shape[2]
+
+    def spread(self, values: np.ndarray, fill: float = 0) -> np.ndarray:
+        """One value a cell from one a row of the table; `fill` where the table has no row."""
+        result = np.full(self.count, fill, dtype=np.asarray(values).dtype)
+        result[self.rows] = values
+        return result
+
+    def cube(self, values: np.ndarray) -> np.ndarray:
+        """One value a cell as an array of levels, rows and columns."""
+        return np.asarray(values).reshape(self.shape)
+
+    def indices(self, ids: np.ndarray) -> tuple[np.ndarray, np.ndarray, np.ndarray]:
+        """Column from the west, row from the south and level from the top, of each id."""
+        level, rest = np.divmod(ids, self.per_level)
+        row, column = np.divmod(rest, self.shape[2])
+        return column, row, level
+
+    def centres(self, ids: np.ndarray) -> tuple[np.ndarray, np.ndarray, np.ndarray]:
+        """x, y, z in metres of the centre of each id."""
+        column, row, level = self.indices(ids)
+        (x, y, z), (dx, dy, dz) = self.origin, self.size
+        return x + column * dx, y + row * dy, z - level * dz
+
+    def extent(self) -> tuple[float, float, float, float, float, float]:
+        """West, east, south, north, floor and top of the box in metres."""
+        (x, y, z), (dx, dy, dz), (levels, rows, columns) = self.origin, self.size, self.shape
+        west, south, top = x - dx / 2, y - dy / 2, z + dz / 2
+        return west, west + columns * dx, south, south + rows * dy, top - levels * dz, top
+
+
+@dataclass(frozen=True)
+class Axis:
+    """One axis of the grid: least centre, block size, number of blocks, and each row's place."""
+
+    first: float
+    size: float
+    count: int
+    place: np.ndarray
+
+
+def of_table(frame: pd.DataFrame, project: Project, source: str = "table") -> Grid:
+    """The grid of a checked table. Raises PlanError where a centre lies off it, a cell stands twice, or it is too large."""
+    columns, rules = project.table, project.grid
+    axes = [axis_of(frame, name, k, rules, source) for k, name in enumerate((columns.x, columns.y, columns.z))]
+    east, north, up = axes
+    count = east.count * north.count * up.count
+    if count > MOST_BLOCKS:
+        raise PlanError(f"{source}: the grid has {count:,} cells, and the program takes at most {MOST_BLOCKS:,} blocks")
+    cells = ((up.count - 1 - up.place) * north.count + north.place) * east.count + east.place
+    demand_once(cells, frame, columns, source)
+    grid = Grid(
+        shape=(up.count, north.count, east.count),
+        origin=(east.first, north.first, up.first + (up.count - 1) * up.size),
+        size=(east.size, north.size, up.size),
+        rows=cells,
+    )
+    if rules.size is None:
+        demand_neighbours(grid, columns, source)
+    return grid
+
+
+def axis_of(frame: pd.DataFrame, name: str, k: int, rules: GridRules, source: str) -> Axis:
+    values = frame[name].to_numpy()
+    distinct = np.unique(values)
+    first, gaps = float(distinct[0]), np.diff(distinct)
+    gaps = gaps[gaps > rules.tolerance]
+    if rules.size is not None:
+        size = rules.size[k]
+    elif len(gaps) == 0:
+        raise PlanError(f"{source} column {name}: all blocks lie at {first:g}: give the blocks' size as [grid] size")
+    else:
+        size = float(gaps.min())
+        size = float(distinct[-1] - first) / round(float(distinct[-1] - first) / size)
+    first = most_common_lattice(values, first, size, rules.tolerance)
+    place = np.rint((values - first) / size)
+    off = np.abs(values - (first + place * size))
+    if off.max() > rules.tolerance:
+        row = int((off > rules.tolerance).argmax())
+        why = f"{values[row]:g} is off the grid {first:g}, {first + size:g}, {first + 2 * size:g}, .. by {off[row]:g} m"
+        raise at_row(source, row, name, f"{why}: reblock sub-blocks first, and turn a rotated model to its own axes")
+    least = place.min()
+    return Axis(float(first + least * size), size, int(place.max() - least) + 1, (place - least).astype(np.int64))
+
+
+def most_common_lattice(values: np.ndarray, first: float, size: float, tolerance: float) -> float:
+    """A centre of the lattice on which most values lie, so that what is off it are the few."""
+    shift = values - first
+    shift = shift - np.rint(shift / size) * size
+    group = np.rint(shift / max(tolerance, 1e-6))
+    groups, counts = np.unique(group, return_counts=True)
+    return first + float(np.median(shift[group == groups[counts.argmax()]]))
+
+
+def demand_once(cells: np.ndarray, frame: pd.DataFrame, columns: TableColumns, source: str) -> None:
+    twice = pd.Series(cells).duplicated().to_numpy()
+    if twice.any():
+        row = int(twice.argmax())
+        first = int((cells == cells[row]).argmax())
+        raise at_row(
+            source, row, f"{columns.x}, {columns.y}, {columns.z}", f"the block of row {first + 2} lies there too"
+        )
+
+
+def demand_neighbours(grid: Grid, columns: TableColumns, source: str) -> None:
+    """Refuses a size found from coordinates at which hardly any two blocks touch: the mark of sub-blocks."""
+    filled = np.zeros(grid.count, dtype=bool)
+    filled[grid.rows] = True
+    cube = grid.cube(filled)
+    for axis, name in enumerate((columns.z, columns.y, columns.x)):
+        beside = cube & np.roll(cube, 1, axis)
+        beside[(slice(None),) * axis + (0,)] = False
+        touching = int(np.count_nonzero(beside))
+        layers = grid.shape[axis]
+        if touching < 0.5 * len(grid.rows) * (layers - 1) / layers:
+            size = grid.size[2 - axis]
+            raise PlanError(
+                f"{source} column {name}: at the smallest step between centres, {size:g} m, most blocks have no neighbour: "
+                "reblock sub-blocks first, or give the blocks' size as [grid] size"
+            )

@@ -1,0 +1,187 @@
+"""From prices and costs to what the program weighs: a revenue and a cost for each node.
+
+A block's first node is mining it: a cost, and no revenue. A block that holds metal has a second node, processing it:
+the revenue of its metal, and the cost of processing and selling, and it needs the first. So at each price factor the
+program processes a mined block exactly where that pays, and the cut-off moves with the price. With a fixed cut-off
+there is one node a block, and what is ore is settled at the reference price.
+"""
+
+from __future__ import annotations
+
+from dataclasses import dataclass
+from decimal import Decimal
+
+import numpy as np
+import pandas as pd
+
+from .errors import PlanError
+from .exact import Exact, Rounding
+from .grid import MOST_BLOCKS, Grid
+from .project import GRADE_UNITS, ByRock, Metal, Project
+from .table import at_row
+
+MILLIONTHS = 6
+# The files' decimals have twelve digits before the point, and a fixed cut-off adds two amounts.
+GREATEST = 10**17
+
+
+@dataclass(frozen=True)
+class Values:
+    """What each cell costs and yields, in millionths of the currency at the reference price; arrays of one a cell.
+
+    mining      cost of mining the block
+    revenue     price of its recovered metal; 0 where none is
+    processing  cost of processing it and of selling its metal; 0 where the revenue is 0
+    ore         ids of the blocks with a revenue, rising
+    tonnes, metal   for reports: tonnes of rock, and the recovered quantity of each metal
+    cutoff      "moving" or "fixed"
+    """
+
+    mining: np.ndarray
+    revenue: np.ndarray
+    processing: np.ndarray
+    ore: np.ndarray
+    tonnes: np.ndarray
+    metal: dict[str, np.ndarray]
+    cutoff: str
+    roundings: dict[str, Rounding]
+    notes: tuple[str, ...]
+
+    @property
+    def processed(self) -> np.ndarray:
+        """Ids of the blocks that have a node of their own for processing, rising."""
+        return self.ore if self.cutoff == "moving" else self.ore[:0]
+
+    @property
+    def pays(self) -> np.ndarray:
+        """Whether processing a mined block pays at the reference price; one truth a cell."""
+        return self.revenue > self.processing
+
+    def nodes(self) -> tuple[np.ndarray, np.ndarray]:
+        """Revenue and cost in millionths of every node: the cells, then the processing nodes."""
+        if self.cutoff == "moving":
+            nothing = np.zeros_like(self.mining)
+            revenue = np.concatenate([nothing, self.revenue[self.ore]])
+            return revenue, np.concatenate([self.mining, self.processing[self.ore]])
+        return np.where(self.pays, self.revenue, 0), self.mining + np.where(self.pays, self.processing, 0)
+
+    def greatest_value(self, factor: int) -> np.ndarray:
+        """The most that each cell can be worth at a factor, in billionths: less than 0 where it cannot pay for itself."""
+        revenue, cost = factor * self.revenue.astype(object), 1000 * self.processing.astype(object)
+        gain = revenue - cost
+        if self.cutoff == "fixed":
+            return np.where(self.pays, gain, 0) - 1000 * self.mining.astype(object)
+        return np.where(gain > 0, gain, 0) - 1000 * self.mining.astype(object)
+
+
+@dataclass(frozen=True)
+class Rows:
+    """The table's rows while they are weighed: a rock's code and exact tonnes of each."""
+
+    frame: pd.DataFrame
+    grid: Grid
+    project: Project
+    source: str
+    rock: np.ndarray
+    tonnes: Exact
+
+    def every(self, value: Decimal) -> Exact:
+        return Exact.of(value, len(self.frame))
+
+    def by_rock(self, price: ByRock, needed: np.ndarray, key: str) -> Exact:
+        """One number a row by its rock. Raises PlanError where a row in `needed` is of a rock that has none."""
+        if not isinstance(price, dict):
+            return self.every(price)
+        codes, inverse = np.unique(self.rock, return_inverse=True)
+        for number, code in enumerate(codes):
+            lacking = needed & (inverse == number)
+            if code not in price and lacking.any():
+                column = self.project.table.rock or "rock"
+                raise at_row(self.source, int(lacking.argmax()), column, f'[money] {key} names no rock "{code}"')
+        table = Exact.of_decimals([price.get(code, Decimal(0)) for code in codes])
+        return Exact(table.whole[inverse], table.places)
+
+    def mining(self) -> Exact:
+        """Cost of mining, which rises with the level below the highest."""
+        money, solid = self.project.money, np.array(self.tonnes.whole > 0, dtype=bool)
+        _, _, level = self.grid.indices(self.grid.rows)
+        deeper = Exact(whole_numbers(level), 0).times(self.every(money.mining_cost_per_level))
+        return self.tonnes.times(self.by_rock(money.mining_cost, solid, "mining_cost").plus(deeper))
+
+    def recovered(self, metal: Metal) -> Exact:
+        """The quantity of a metal that is recovered: tonnes, or grams where the grade is in grams a tonne."""
+        grade = Exact.of_floats(self.frame[metal.column].to_numpy()).times(self.every(GRADE_UNITS[metal.unit]))
+        nowhere = np.zeros(len(self.frame), dtype=bool)
+        return self.tonnes.times(grade).times(self.by_rock(metal.recovery, nowhere, "recovery"))
+
+    def millionths(self, value: Exact, name: str) -> tuple[np.ndarray, Rounding]:
+        """int64 millionths, rounded to the decimals that the project keeps. Raises PlanError from 10^11 on."""
+        decimals = self.project.money.decimals
+        rounded, rounding = value.rounded(decimals)
+        millionths = rounded * 10 ** (MILLIONTHS - decimals)
+        too_great = np.array(millionths >= GREATEST, dtype=bool)
+        if too_great.any():
+            why = "the amount is 10^11 or more: give prices and costs in a greater unit of money"
+            raise at_row(self.source, int(too_great.argmax()), name, why)
+        return millionths.astype(np.int64), rounding
+
+
+def values_of(frame: pd.DataFrame, grid: Grid, project: Project, source: str = "table") -> Values:
+    """The values of a checked table's blocks, exact but for one rounding to the decimals that the project asks for.
+
+    Raises PlanError where a rock has no cost, an amount is 10^11 or more, or there are too many nodes.
+    """
+    rock = frame[project.table.rock].to_numpy() if project.table.rock else np.full(len(frame), "")
+    rows = Rows(frame, grid, project, source, rock, Exact.of_floats(frame[project.table.tonnes].to_numpy()))
+    metal = {m.name: rows.recovered(m) for m in project.metals}
+    revenue = selling = rows.every(Decimal(0))
+    for m in project.metals:
+        revenue = revenue.plus(metal[m.name].times(rows.every(m.price)))
+        selling = selling.plus(metal[m.name].times(rows.every(m.selling_cost)))
+    yields = np.array(revenue.whole > 0, dtype=bool)
+    treatment = rows.tonnes.times(rows.by_rock(project.money.processing_cost, yields, "processing_cost"))
+    amounts = {"mining cost": rows.mining(), "revenue": revenue, "processing cost": treatment.plus(selling)}
+    kept = {name: rows.millionths(value, name) for name, value in amounts.items()}
+    return spread_values(rows, metal, kept)
+
+
+def spread_values(rows: Rows, metal: dict[str, Exact], kept: dict[str, tuple[np.ndarray, Rounding]]) -> Values:
+    """From one value a row of the table to one a cell. Raises PlanError where there are too many nodes."""
+    grid, cutoff = rows.grid, rows.project.money.cutoff
+    revenue, tonnes = kept["revenue"][0], rows.tonnes.floats()
+    ore = np.sort(grid.rows[revenue > 0])
+    nodes = grid.count + (len(ore) if cutoff == "moving" else 0)
+    if nodes > MOST_BLOCKS:
+        raise PlanError(
+            f"{grid.count:,} blocks and {len(ore):,} processing nodes are {nodes:,} nodes, and the program takes at most "
+            f'{MOST_BLOCKS:,}: give a smaller model, or [money] cutoff = "fixed"'
+        )
+    return Values(
+        mining=grid.spread(kept["mining cost"][0]),
+        revenue=grid.spread(revenue),
+        processing=grid.spread(np.where(revenue > 0, kept["processing cost"][0], 0)),
+        ore=ore,
+        tonnes=grid.spread(tonnes),
+        metal={name: grid.spread(amounts.floats()) for name, amounts in metal.items()},
+        cutoff=cutoff,
+        roundings={name: rounding for name, (_, rounding) in kept.items()},
+        notes=tuple(rock_notes(rows.project, rows.rock, tonnes > 0)),
+    )
+
+
+def whole_numbers(values: np.ndarray) -> np.ndarray:
+    """The same numbers as Python's own, which have no limit of size."""
+    return np.asarray(values, dtype=np.int64).astype(object)
+
+
+def rock_notes(project: Project, rock: np.ndarray, solid: np.ndarray) -> list[str]:
+    """What a planner should know of codes: rocks that are never processed, and names that no block bears."""
+    notes, present = [], set(np.unique(rock[solid]))
+    for metal in project.metals:
+        if isinstance(metal.recovery, dict):
+            for code in sorted(present - set(metal.recovery)):
+                blocks = int(np.count_nonzero(solid & (rock == code)))
+                notes.append(f"{blocks:,} blocks of rock {code} have no recovery of {metal.name} and yield none of it")
+            for code in sorted(set(metal.recovery) - present):
+                notes.append(f"recovery of {metal.name} names rock {code}, which no block is of")
+    return notes

@@ -1,0 +1,266 @@
+"""The pictures of a plan, by matplotlib: the pit-by-pit plot, plans of levels, and sections."""
+
+from __future__ import annotations
+
+from dataclasses import dataclass
+from pathlib import Path
+from typing import Any
+
+import matplotlib
+
+matplotlib.use("Agg")
+
+import matplotlib.pyplot as plt  # noqa: E402  (the backend is set first, since there may be no display)
+import numpy as np  # noqa: E402
+import pandas as pd  # noqa: E402
+from matplotlib.axes import Axes  # noqa: E402
+from matplotlib.collections import LineCollection  # noqa: E402
+from matplotlib.colors import BoundaryNorm, ListedColormap  # noqa: E402
+from matplotlib.figure import Figure  # noqa: E402
+from matplotlib.image import AxesImage  # noqa: E402
+
+from .grid import Grid  # noqa: E402
+from .outlines import edges  # noqa: E402
+from .project import Metal  # noqa: E402
+
+ORE, WASTE, GROUND = "#3b6ea5", "#cfc9bd", "#ece8df"
+BEST, WORST, PLAIN, CHOSEN = "#1b7f4b", "#c0392b", "#444444", "#ffe9a6"
+STYLE = {
+    "font.size": 9,
+    "axes.spines.top": False,
+    "axes.titlesize": 10,
+    "axes.titlelocation": "left",
+    "savefig.dpi": 120,
+}
+MOST_TICKS = 11
+# Rows are shown from the bottom of the picture up, each cell as it is.
+MAP: dict[str, Any] = {"origin": "lower", "interpolation": "nearest"}
+
+
+@dataclass(frozen=True)
+class Plane:
+    """A level or a section; arrays of rows from the south or the bottom, and where its sides lie in metres."""
+
+    factor: np.ndarray
+    solid: np.ndarray
+    grade: np.ndarray
+    dug: np.ndarray
+    extent: tuple[float, float, float, float]
+
+
+@dataclass(frozen=True)
+class Scene:
+    """What plans and sections show; arrays are of levels (from the top), rows and columns.
+
+    factor  the least factor whose pit holds the cell; 0: none
+    solid   whether there is rock
+    grade   the first metal's
+    """
+
+    grid: Grid
+    factor: np.ndarray
+    solid: np.ndarray
+    grade: np.ndarray
+    metal: Metal
+    chosen: int
+
+    @property
+    def dug(self) -> np.ndarray:
+        """The cells of the chosen pit that hold rock."""
+        return (self.factor > 0) & (self.factor <= self.chosen) & self.solid
+
+    def level(self, number: int) -> Plane:
+        west, east, south, north, _, _ = self.grid.extent()
+        return self.plane((number,), (west, east, south, north))
+
+    def from_west_to_east(self, row: int) -> Plane:
+        west, east, _, _, bottom, top = self.grid.extent()
+        return self.plane((slice(None, None, -1), row), (west, east, bottom, top))
+
+    def from_south_to_north(self, column: int) -> Plane:
+        _, _, south, north, bottom, top = self.grid.extent()
+        return self.plane((slice(None, None, -1), slice(None), column), (south, north, bottom, top))
+
+    def plane(self, cut: Any, extent: tuple[float, float, float, float]) -> Plane:
+        return Plane(self.factor[cut], self.solid[cut], self.grade[cut], self.dug[cut], extent)
+
+    @property
+    def shades(self) -> tuple[ListedColormap, BoundaryNorm, list[int]]:
+        """A colour for each factor at which cells come in, from the first shells to the last."""
+        used = [int(factor) for factor in np.unique(self.factor[self.solid]) if factor > 0] or [self.chosen]
+        colours = ListedColormap(plt.get_cmap("viridis_r")(np.linspace(0.02, 1, len(used))))
+        middles = [(a + b) / 2 for a, b in zip(used, used[1:])]
+        return colours, BoundaryNorm([used[0] - 1, *middles, used[-1] + 1], len(used)), used
+
+
+def scaled(most: float) -> tuple[float, str]:
+    """A unit in which numbers up to `most` have two digits before the point or more: its size and its sign."""
+    for size, sign in ((1e6, "M"), (1e3, "k")):
+        if most >= 10 * size:
+            return size, sign
+    return 1.0, ""
+
+
+def pit_by_pit(table: pd.DataFrame, currency: str, chosen: int, path: Path) -> None:
+    """Tonnes of ore and waste, and worth and NPV at the price as given, of each shell."""
+    with plt.rc_context(STYLE):
+        figure, left = plt.subplots(figsize=(9.5, 4.8))
+        right = left.twinx()
+        draw_tonnes(left, table, chosen)
+        draw_worth(right, table, currency)
+        shown = [axis.get_legend_handles_labels() for axis in (left, right)]
+        handles, names = ([*shown[0][k], *shown[1][k]] for k in (0, 1))
+        figure.legend(handles, names, ncol=6, loc="upper center", frameon=False)
+        figure.tight_layout(rect=(0, 0, 1, 0.94))
+        finish(figure, path)
+
+
+def draw_tonnes(axis: Axes, table: pd.DataFrame, chosen: int) -> None:
+    """A bar a factor, and a band behind that of the chosen one."""
+    factors = table["factor"].to_numpy()
+    wide = 0.75 * float(np.diff(factors).min()) if len(factors) > 1 else 20.0
+    size, sign = scaled(float(table["tonnes"].max()))
+    ore, waste = table["ore_tonnes"] / size, table["waste_tonnes"] / size
+    axis.axvspan(chosen - 0.65 * wide, chosen + 0.65 * wide, color=CHOSEN, zorder=0, label=f"chosen: {chosen}")
+    axis.bar(factors, ore, wide, color=ORE, label="ore", linewidth=0)
+    axis.bar(factors, waste, wide, bottom=ore, color=WASTE, label="waste", linewidth=0)
+    axis.set_xlabel("price factor, per mille of the price as given")
+    axis.set_ylabel(f"rock in the pit, {sign}t")
+
+
+def draw_worth(axis: Axes, table: pd.DataFrame, currency: str) -> None:
+    """A line each for worth and both NPVs, with a ring round its greatest."""
+    curves = (
+        ("worth", "undiscounted", PLAIN, "--"),
+        ("npv_best", "NPV, best case", BEST, "-"),
+        ("npv_worst", "NPV, worst case", WORST, "-"),
+    )
+    amounts = table[[column for column, _, _, _ in curves]]
+    size, sign = scaled(float(amounts.abs().max().max()))
+    for column, label, colour, line in curves:
+        axis.plot(
+            table["factor"], amounts[column] / size, line + "o", color=colour, markersize=3, linewidth=1.4, label=label
+        )
+        peak = amounts[column].idxmax()
+        ring = {"markersize": 9, "markerfacecolor": "none", "markeredgecolor": colour}
+        axis.plot(table["factor"][peak], amounts[column][peak] / size, "o", **ring)
+    axis.set_ylabel(f"worth at the price as given, {sign} {currency}".replace(",  ", ", "))
+    axis.set_ylim(min(0.0, 1.1 * float(amounts.min().min()) / size), axis.get_ylim()[1] * 1.05)
+
+
+def plans(scene: Scene, path: Path) -> None:
+    """The depth of the chosen pit, and the shells on three of its levels."""
+    with plt.rc_context(STYLE):
+        west, east, south, north, _, top = scene.grid.extent()
+        figure, axes = panels(east - west, north - south)
+        draw_floor(figure, axes[0], scene)
+        height = scene.grid.size[2]
+        for axis, number in zip(axes[1:], levels_to_show(scene)):
+            draw_shells(figure, axis, scene, scene.level(number))
+            axis.set_title(f"Shells on the level {top - (number + 1) * height:g} to {top - number * height:g} m")
+        for axis in axes:
+            axis.set_xlabel("east, m")
+            axis.set_ylabel("north, m")
+        finish(figure, path)
+
+
+def sections(scene: Scene, path: Path) -> None:
+    """A section from west to east and one from south to north through the chosen pit: shells, and grades."""
+    with plt.rc_context(STYLE):
+        west, east, _, _, bottom, top = scene.grid.extent()
+        row, column = busiest(scene.dug, 1), busiest(scene.dug, 2)
+        x, y, _ = scene.grid.centres(np.array(row * scene.grid.shape[2] + column))
+        figure, axes = panels(east - west, top - bottom)
+        cuts = (
+            (scene.from_west_to_east(row), f"west to east at north {float(y):g}", "east, m"),
+            (scene.from_south_to_north(column), f"south to north at east {float(x):g}", "north, m"),
+        )
+        for (plane, where, label), left, right in zip(cuts, axes[::2], axes[1::2]):
+            draw_shells(figure, left, scene, plane)
+            left.set_title(f"Shells, {where}")
+            draw_grade(figure, right, scene, plane)
+            for axis in (left, right):
+                axis.set_xlabel(label)
+                axis.set_ylabel("elevation, m")
+        finish(figure, path)
+
+
+def panels(wide: float, high: float) -> tuple[Figure, list[Axes]]:
+    """A figure of two by two maps in the ground's proportions, and its axes."""
+    share = min(max(high / wide, 0.3), 1.3)
+    figure, axes = plt.subplots(2, 2, figsize=(12, 9.4 * share + 1.5), constrained_layout=True)
+    return figure, list(axes.flat)
+
+
+def draw_floor(figure: Figure, axis: Axes, scene: Scene) -> None:
+    """The elevation of the chosen pit's floor."""
+    west, east, south, north, _, top = scene.grid.extent()
+    level = np.arange(scene.grid.shape[0])[:, None, None]
+    deepest = np.where(scene.dug, level, -1).max(axis=0)
+    floor = np.where(deepest >= 0, top - (deepest + 1) * scene.grid.size[2], np.nan)
+    image = axis.imshow(floor, extent=(west, east, south, north), cmap="cividis", **MAP)
+    axis.set_title(f"Floor of the pit at factor {scene.chosen}, elevation in m")
+    figure.colorbar(image, ax=axis, shrink=0.85)
+
+
+def draw_shells(figure: Figure, axis: Axes, scene: Scene, plane: Plane) -> None:
+    """The first factors of a plane's cells over the ground, and the chosen pit's outline."""
+    colours, norm, _ = scene.shades
+    draw_ground(axis, plane)
+    shown = np.ma.masked_where((plane.factor == 0) | ~plane.solid, plane.factor)
+    image = axis.imshow(shown, extent=plane.extent, cmap=colours, norm=norm, **MAP)
+    colour_bar(figure, image, axis, scene)
+    draw_outline(axis, plane)
+
+
+def draw_grade(figure: Figure, axis: Axes, scene: Scene, plane: Plane) -> None:
+    draw_ground(axis, plane)
+    shown = np.ma.masked_where(~plane.solid | (plane.grade <= 0), plane.grade)
+    image = axis.imshow(shown, extent=plane.extent, cmap="YlOrRd", vmin=0, **MAP)
+    axis.set_title(f"{scene.metal.name.capitalize()} and the outline of the pit at factor {scene.chosen}")
+    figure.colorbar(image, ax=axis, shrink=0.85, label=f"{scene.metal.name}, {scene.metal.sign}")
+    draw_outline(axis, plane)
+
+
+def draw_ground(axis: Axes, plane: Plane) -> None:
+    rock = np.where(plane.solid, 1.0, np.nan)
+    axis.imshow(rock, extent=plane.extent, cmap=ListedColormap([GROUND]), **MAP)
+    axis.set_aspect("equal")
+
+
+def draw_outline(axis: Axes, plane: Plane) -> None:
+    """The edges of the chosen pit's cells as a black line."""
+    left, right, low, high = plane.extent
+    rows, columns = plane.dug.shape
+    size = np.array([(right - left) / columns, (high - low) / rows])
+    axis.add_collection(LineCollection(edges(plane.dug) * size + (left, low), colors="black", linewidths=1.3))
+
+
+def colour_bar(figure: Figure, image: AxesImage, axis: Axes, scene: Scene) -> None:
+    """A step of colour a factor, with as many of the factors written as are legible."""
+    _, norm, used = scene.shades
+    step = -(-len(used) // MOST_TICKS)
+    middles = [(a + b) / 2 for a, b in zip(norm.boundaries, norm.boundaries[1:])]
+    bar = figure.colorbar(image, ax=axis, shrink=0.85, label="first factor, per mille", spacing="uniform")
+    bar.set_ticks(middles[::step], labels=[str(factor) for factor in used[::step]])
+    bar.ax.minorticks_off()
+
+
+def levels_to_show(scene: Scene) -> list[int]:
+    """Three levels of the chosen pit: near its top, in its middle and near its floor."""
+    used = np.flatnonzero(scene.dug.any(axis=(1, 2)))
+    if not len(used):
+        used = np.arange(scene.grid.shape[0])
+    return [int(used[int(share * (len(used) - 1))]) for share in (0.2, 0.5, 0.8)]
+
+
+def busiest(dug: np.ndarray, axis: int) -> int:
+    """The row or column in which most of the pit lies."""
+    others = tuple(k for k in range(3) if k != axis)
+    return int(dug.sum(axis=others).argmax()) if dug.any() else dug.shape[axis] // 2
+
+
+def finish(figure: Figure, path: Path) -> None:
+    # Without the library's version in it, the same plan gives the same bytes.
+    figure.savefig(path, metadata={"Software": None})
+    plt.close(figure)

@@ -1,0 +1,197 @@
+"""A plan: table, grid, money and walls put together, ready for the program."""
+
+from __future__ import annotations
+
+import sys
+from dataclasses import dataclass, field
+from pathlib import Path
+from typing import Any, Optional, Union
+
+import numpy as np
+import pandas as pd
+
+from . import files, grid as grids, money, slopes, table as tables, trim
+from .errors import PlanError
+from .files import Pairs
+from .grid import Grid
+from .money import Values
+from .progress import Progress, silent
+from .project import Project, load
+from .slopes import Walls
+
+MOST_PAIRS = 67_108_864
+MILLION = 1_000_000
+# The columns that blocks.csv has of its own; one of the planner's with such a name is called planner_NAME there.
+OWN_COLUMNS = ("id", "mining_cost", "revenue", "processing_cost", "factor", "process_factor")
+
+
+@dataclass
+class Plan:
+    """What is prepared of a project.
+
+    table   the planner's rows as they were read and checked, in the file's order
+    grid    the cells; `grid.rows` has each row's id
+    values  cost and revenue of each cell
+    walls   the needs' patterns
+    used    a truth for each cell: whether its needs are written
+    source  the table's file, or "table" where it came from pandas
+    filled  how many empty fields were taken as 0
+    notes   sentences that a planner should read before trusting the plan
+    """
+
+    project: Project
+    table: pd.DataFrame
+    grid: Grid
+    values: Values
+    walls: Walls
+    used: np.ndarray
+    source: str
+    filled: int
+    notes: list[str] = field(default_factory=list)
+
+    @property
+    def blocks(self) -> pd.DataFrame:
+        """One row a block of the table, by the program's id: the planner's columns, and costs and revenue in money."""
+        ids = self.grid.rows
+        frame = self.table.rename(columns=shown_name)
+        frame.insert(0, "id", ids)
+        for name in ("mining", "revenue", "processing"):
+            frame[name if name == "revenue" else f"{name}_cost"] = getattr(self.values, name)[ids] / MILLION
+        return frame.sort_values("id").reset_index(drop=True)
+
+    def write(self, folder: Path) -> dict[str, Any]:
+        """Writes mine.blocks, mine.upit and mine.prec into a folder; gives the record of what was done. Raises PlanError."""
+        nodes = self.values.nodes()
+        processed = self.values.processed
+        files.write_blocks(folder / files.BLOCKS, self.grid, processed, nodes)
+        files.write_model(folder / files.MODEL, self.project.title, nodes[0] - nodes[1])
+        pairs = files.write_prec(folder / files.PREC, self.grid, self.walls, self.used, processed)
+        if pairs.written + pairs.processing > MOST_PAIRS:
+            raise PlanError(
+                f"{pairs.written + pairs.processing:,} needs, and the program takes at most {MOST_PAIRS:,}: "
+                "give fewer [slopes] levels, or a smaller model"
+            )
+        return self.record(pairs)
+
+    def record(self, pairs: Pairs) -> dict[str, Any]:
+        """All that was rounded, dropped, clipped or added between the table and the files."""
+        project = self.project
+        return {
+            "title": project.title,
+            "table": {"file": self.source, "rows": len(self.table), "fields_filled_with_0": self.filled},
+            "grid": self.record_of_grid(),
+            "money": {
+                "cutoff": self.values.cutoff,
+                "decimals": project.money.decimals,
+                "processing_nodes": len(self.values.processed),
+                "rounded": {name: rounding.as_json() for name, rounding in self.values.roundings.items()},
+            },
+            "walls": [pattern.as_json() for pattern in self.walls.patterns],
+            "needs": self.record_of_needs(pairs),
+            "factors": list(project.schedule.factors),
+            "factor_1000_added": project.schedule.reference_added,
+            "notes": self.notes,
+            "codes": codes_of(project),
+            "tonnes": shown_name(project.table.tonnes),
+            "metals": [{"name": m.name, "column": shown_name(m.column), "sign": m.sign} for m in project.metals],
+            "libraries": {"python": sys.version.split()[0], "numpy": np.__version__, "pandas": pd.__version__},
+        }
+
+    def record_of_grid(self) -> dict[str, Any]:
+        return {
+            "shape": list(self.grid.shape),
+            "origin": list(self.grid.origin),
+            "size": list(self.grid.size),
+            "cells": self.grid.count,
+            "cells_taken_as_air": self.grid.count - len(self.table),
+            "of_these_below_a_block": cells_below_blocks(self.grid),
+            "greatest_shift_of_a_centre": greatest_shift(self.table, self.grid, self.project),
+        }
+
+    def record_of_needs(self, pairs: Pairs) -> dict[str, int]:
+        used = int(self.used.sum())
+        return {
+            "written": pairs.written,
+            "of_processing_nodes": pairs.processing,
+            "clipped_at_the_sides": pairs.clipped,
+            "blocks_whose_needs_are_written": used,
+            "blocks_whose_needs_are_trimmed": self.grid.count - used,
+            "trimmed_for_factors_up_to": self.project.schedule.factors[-1],
+        }
+
+
+def prepare(
+    project: Union[str, Path, Project], table: Optional[pd.DataFrame] = None, progress: Progress = silent
+) -> Plan:
+    """Reads a project and its table, or takes the table from pandas, and makes grid, values and needs of it.
+
+    The table has one row a block: centres x, y, z in metres, tonnes of rock, grades, and codes of rock and region, by
+    the column names that the project gives. Raises PlanError with file, row and column where the input is not usable.
+    """
+    project = project if isinstance(project, Project) else load(project)
+    source = str(project.table.file) if table is None else "table"
+    with progress.step(f"reading {source}"):
+        checked = tables.read(project) if table is None else tables.checked(table, project)
+        frame = checked.frame
+    with progress.step("laying the grid and weighing the blocks"):
+        grid = grids.of_table(frame, project, source)
+        values = money.values_of(frame, grid, project, source)
+    with progress.step("laying the walls"):
+        region = slopes.regions_of(frame, grid, project.table.region)
+        walls = slopes.walls_of(region, grid, project.slopes)
+        paying = np.array(values.greatest_value(project.schedule.factors[-1]) > 0, dtype=bool)
+        used = trim.used_blocks(grid, walls, paying)
+    plan = Plan(project, frame, grid, values, walls, used, source, checked.filled)
+    plan.notes = notes_of(plan)
+    return plan
+
+
+def notes_of(plan: Plan) -> list[str]:
+    """Sentences that a planner should read before trusting the plan."""
+    grid, count = plan.grid, len(plan.table)
+    levels, rows, columns = grid.shape
+    notes = [f"{count:,} blocks lie on a grid of {columns} x {rows} x {levels} = {grid.count:,} cells"]
+    if grid.count > count:
+        notes.append(f"{grid.count - count:,} cells have no row and are taken as air, which costs nothing to dig")
+    below = cells_below_blocks(grid)
+    if below:
+        notes.append(f"WARNING: {below:,} of these cells lie below a block of the table: is rock missing from it?")
+    if plan.filled:
+        notes.append(f"{plan.filled:,} empty fields were taken as 0")
+    notes += [pattern.sentence() for pattern in plan.walls.patterns]
+    notes += plan.values.notes
+    if plan.project.schedule.reference_added:
+        notes.append("factor 1000, the price as given, was added to the factors")
+    for name, rounding in plan.values.roundings.items():
+        if rounding.changed:
+            notes.append(
+                f"{name}: {rounding.changed:,} of {rounding.values:,} amounts were rounded, by {rounding.largest:.2g} at most"
+            )
+    return notes
+
+
+def cells_below_blocks(grid: Grid) -> int:
+    """How many cells without a row lie below one that has a row: holes that are dug for nothing."""
+    filled = np.zeros(grid.count, dtype=bool)
+    filled[grid.rows] = True
+    cube = grid.cube(filled)
+    above = np.maximum.accumulate(cube, axis=0)
+    return int(np.count_nonzero(above & ~cube))
+
+
+def greatest_shift(table: pd.DataFrame, grid: Grid, project: Project) -> float:
+    """The greatest distance in metres, along an axis, from a row's centre to that of its cell."""
+    names = (project.table.x, project.table.y, project.table.z)
+    off = [np.abs(table[name].to_numpy() - centre).max() for name, centre in zip(names, grid.centres(grid.rows))]
+    return float(f"{max(off):.3g}")
+
+
+def codes_of(project: Project) -> list[str]:
+    """The columns of blocks.csv that are texts, whatever they look like."""
+    named = [project.table.id, project.table.rock, project.table.region]
+    return [shown_name(name) for name in named if name]
+
+
+def shown_name(column: str) -> str:
+    """The name in blocks.csv of a column of the planner's table."""
+    return f"planner_{column}" if column in OWN_COLUMNS else column

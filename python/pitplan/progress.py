@@ -1,0 +1,42 @@
+"""What a run is doing, on standard error: one line a step, with the seconds it took."""
+
+from __future__ import annotations
+
+import sys
+import time
+from contextlib import contextmanager
+from typing import Iterator, Optional, TextIO
+
+
+class Progress:
+    """Tells each step when it begins and when it ends; with no stream it tells nothing."""
+
+    def __init__(self, stream: Optional[TextIO] = None) -> None:
+        self.stream = stream
+        self.started = time.perf_counter()
+
+    @contextmanager
+    def step(self, what: str) -> Iterator[None]:
+        began = time.perf_counter()
+        self.say(f"{what} ..", end="")
+        try:
+            yield
+        except BaseException:
+            self.say("")
+            raise
+        self.say(f" {time.perf_counter() - began:.1f} s")
+
+    def say(self, words: str, end: str = "\n") -> None:
+        if self.stream is not None:
+            print(words, end=end, file=self.stream, flush=True)
+
+    def total(self) -> float:
+        """Seconds since the progress was made."""
+        return time.perf_counter() - self.started
+
+
+silent = Progress()
+
+
+def on_standard_error() -> Progress:
+    return Progress(sys.stderr)

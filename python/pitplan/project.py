@@ -1,0 +1,273 @@
+"""The one input of a plan besides the table: `project.toml`, read into typed records and checked whole."""
+
+from __future__ import annotations
+
+import tomllib
+from dataclasses import dataclass
+from decimal import Decimal
+from pathlib import Path
+from typing import Optional, Union
+
+from .errors import PlanError
+from .section import Section
+
+# A price or a cost: one for every rock, or one for each rock by its code.
+ByRock = Union[Decimal, dict[str, Decimal]]
+
+REFERENCE_FACTOR = 1000
+GREATEST_FACTOR = 100_000
+MOST_FACTORS = 1_000
+GRADE_UNITS = {"percent": Decimal("0.01"), "fraction": Decimal(1), "gram_per_tonne": Decimal(1)}
+METAL_UNITS = {"percent": "t", "fraction": "t", "gram_per_tonne": "g"}
+GRADE_SIGNS = {"percent": "%", "fraction": "t/t", "gram_per_tonne": "g/t"}
+PATTERNS = ("1:5", "1:9")
+
+
+@dataclass(frozen=True)
+class TableColumns:
+    """Where the table is, and which of its columns say what."""
+
+    file: Path
+    x: str
+    y: str
+    z: str
+    tonnes: str
+    id: Optional[str]
+    rock: Optional[str]
+    region: Optional[str]
+    separator: str
+    empty: str
+
+
+@dataclass(frozen=True)
+class GridRules:
+    """The blocks' size in metres, where it is given, and how far a centre may lie off the grid, in metres."""
+
+    size: Optional[tuple[float, float, float]]
+    tolerance: float
+
+
+@dataclass(frozen=True)
+class Metal:
+    """What is sold: its grade column, and price and selling cost for a tonne of metal (for gram_per_tonne, a gram)."""
+
+    name: str
+    column: str
+    unit: str
+    price: Decimal
+    selling_cost: Decimal
+    recovery: ByRock
+
+    @property
+    def sign(self) -> str:
+        """The grade's unit as it is written: %, g/t or t/t."""
+        return GRADE_SIGNS[self.unit]
+
+    @property
+    def quantity(self) -> str:
+        """The unit in which the metal is counted: t, or g where the grade is in grams a tonne."""
+        return METAL_UNITS[self.unit]
+
+
+@dataclass(frozen=True)
+class Money:
+    """Costs a tonne, how many decimals of the currency are kept, and whether the cut-off moves with the price."""
+
+    currency: str
+    mining_cost: ByRock
+    mining_cost_per_level: Decimal
+    processing_cost: ByRock
+    decimals: int
+    cutoff: str
+
+
+@dataclass(frozen=True)
+class Wall:
+    """The walls of some regions: a pattern of needs, or angles in degrees by azimuth (north 0, east 90)."""
+
+    regions: Optional[tuple[str, ...]]
+    pattern: Optional[str]
+    angles: tuple[tuple[float, float], ...]
+
+
+@dataclass(frozen=True)
+class Slopes:
+    """All walls, over how many levels their needs reach, and whether none may be steeper than asked."""
+
+    levels: int
+    never_steeper: bool
+    walls: tuple[Wall, ...]
+
+
+@dataclass(frozen=True)
+class Schedule:
+    """Price factors in per mille, and what discounting needs: a yearly rate and yearly capacities in tonnes."""
+
+    factors: tuple[int, ...]
+    chosen: Optional[int]
+    rate: float
+    ore_per_year: float
+    rock_per_year: Optional[float]
+    reference_added: bool
+
+
+@dataclass(frozen=True)
+class Project:
+    """All that `project.toml` says."""
+
+    path: Path
+    title: str
+    table: TableColumns
+    grid: GridRules
+    money: Money
+    metals: tuple[Metal, ...]
+    slopes: Slopes
+    schedule: Schedule
+    folder: Path
+
+
+def load(path: Union[str, Path]) -> Project:
+    """Reads a project. Raises PlanError, with the file, the section and the key, where something is missing or wrong."""
+    path = Path(path)
+    try:
+        with open(path, "rb") as file:
+            data = tomllib.load(file, parse_float=Decimal)
+    except OSError as error:
+        raise PlanError(f"{path}: cannot be read: {error.strerror}") from error
+    except tomllib.TOMLDecodeError as error:
+        raise PlanError(f"{path}: {error}") from error
+    return of_data(data, path)
+
+
+def of_data(data: dict, path: Path) -> Project:
+    top = Section(str(path), "", data)
+    output = top.section("output", optional=True)
+    project = Project(
+        path=path,
+        title=top.text("title", path.parent.name or "plan"),
+        table=read_table(top.section("table"), path.parent),
+        grid=read_grid(top.section("grid", optional=True)),
+        money=read_money(top.section("money")),
+        metals=tuple(read_metal(section) for section in top.sections("metals")),
+        slopes=read_slopes(top.section("slopes")),
+        schedule=read_schedule(top.section("shells")),
+        folder=path.parent / output.text("folder", "plan"),
+    )
+    output.finish()
+    top.finish()
+    priced = [project.money.mining_cost, project.money.processing_cost, *(metal.recovery for metal in project.metals)]
+    if project.table.rock is None and any(isinstance(price, dict) for price in priced):
+        raise PlanError(f"{path}: [table] rock: is missing, and prices or recoveries are given by rock")
+    names = [metal.name for metal in project.metals]
+    if len(set(names)) < len(names):
+        raise PlanError(f"{path}: two [[metals]] have one name")
+    return project
+
+
+def read_table(section: Section, folder: Path) -> TableColumns:
+    columns = TableColumns(
+        file=folder / section.text("file"),
+        x=section.text("x", "x"),
+        y=section.text("y", "y"),
+        z=section.text("z", "z"),
+        tonnes=section.text("tonnes", "tonnes"),
+        id=section.optional_text("id"),
+        rock=section.optional_text("rock"),
+        region=section.optional_text("region"),
+        separator=section.text("separator", ","),
+        empty=section.choice("empty", ("refuse", "zero"), "refuse"),
+    )
+    section.finish()
+    return columns
+
+
+def read_grid(section: Section) -> GridRules:
+    size = section.numbers("size", 3) if section.has("size") else None
+    if size is not None and min(size) <= 0:
+        raise section.wrong("size", "a block's size is above 0")
+    rules = GridRules(
+        size=None if size is None else (size[0], size[1], size[2]),
+        tolerance=float(section.number("tolerance", Decimal("0.01"), least=0)),
+    )
+    section.finish()
+    return rules
+
+
+def read_money(section: Section) -> Money:
+    money = Money(
+        currency=section.text("currency", "USD"),
+        mining_cost=section.by_rock("mining_cost"),
+        mining_cost_per_level=section.number("mining_cost_per_level", Decimal(0), least=0),
+        processing_cost=section.by_rock("processing_cost"),
+        decimals=section.whole("decimals", 6, 0, 6),
+        cutoff=section.choice("cutoff", ("moving", "fixed"), "moving"),
+    )
+    section.finish()
+    return money
+
+
+def read_metal(section: Section) -> Metal:
+    metal = Metal(
+        name=section.text("name"),
+        column=section.text("column"),
+        unit=section.choice("unit", tuple(GRADE_UNITS), None),
+        price=section.number("price", least=0),
+        selling_cost=section.number("selling_cost", Decimal(0), least=0),
+        recovery=section.by_rock("recovery", most=1),
+    )
+    section.finish()
+    return metal
+
+
+def read_slopes(section: Section) -> Slopes:
+    slopes = Slopes(
+        levels=section.whole("levels", 8, 1, 40),
+        never_steeper=section.truth("never_steeper", False),
+        walls=tuple(read_wall(wall) for wall in section.sections("walls")),
+    )
+    section.finish()
+    named = [region for wall in slopes.walls for region in wall.regions or ()]
+    if len(set(named)) < len(named):
+        raise section.wrong("walls", "a region is named twice")
+    if sum(wall.regions is None for wall in slopes.walls) > 1:
+        raise section.wrong("walls", "more than one entry names no region")
+    return slopes
+
+
+def read_wall(section: Section) -> Wall:
+    given = [key for key in ("pattern", "angle", "azimuths") if section.has(key)]
+    if len(given) != 1:
+        raise section.wrong("angle", "give exactly one of angle, azimuths and pattern")
+    angles: tuple[tuple[float, float], ...] = ()
+    if given == ["angle"]:
+        angles = ((0.0, float(section.number("angle"))),)
+    if given == ["azimuths"]:
+        angles = section.pairs("azimuths")
+    if any(not 1 <= angle <= 90 for _, angle in angles):
+        raise section.wrong(given[0], "a wall angle is from 1 to 90 degrees")
+    if any(not 0 <= azimuth < 360 for azimuth, _ in angles) or len({azimuth for azimuth, _ in angles}) < len(angles):
+        raise section.wrong(given[0], "azimuths are from 0 to below 360 degrees, each named once")
+    pattern = section.choice("pattern", PATTERNS, None) if given == ["pattern"] else None
+    wall = Wall(section.names("region"), pattern, tuple(sorted(angles)))
+    section.finish()
+    return wall
+
+
+def read_schedule(section: Section) -> Schedule:
+    asked = section.factors("factors", GREATEST_FACTOR)
+    factors = tuple(sorted({*asked, REFERENCE_FACTOR}))
+    if len(factors) > MOST_FACTORS:
+        raise section.wrong("factors", f"at most {MOST_FACTORS:,} factors, {REFERENCE_FACTOR} among them")
+    chosen = section.whole("chosen", REFERENCE_FACTOR, 0, GREATEST_FACTOR) if section.has("chosen") else None
+    if chosen is not None and chosen not in factors:
+        raise section.wrong("chosen", f"{chosen} is not among the factors")
+    schedule = Schedule(
+        factors=factors,
+        chosen=chosen,
+        rate=float(section.number("rate", least=0)),
+        ore_per_year=float(section.number("ore_per_year", least=1)),
+        rock_per_year=float(section.number("rock_per_year", least=1)) if section.has("rock_per_year") else None,
+        reference_added=REFERENCE_FACTOR not in asked,
+    )
+    section.finish()
+    return schedule

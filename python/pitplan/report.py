@@ -1,0 +1,87 @@
+"""The report: one HTML page with its pictures in it, which can be mailed as it is."""
+
+from __future__ import annotations
+
+import base64
+from pathlib import Path
+from typing import Any
+
+import pandas as pd
+from jinja2 import Environment, FileSystemLoader, select_autoescape
+
+from .pictures import scaled
+from .project import Metal, Project
+
+TEMPLATES = Environment(
+    loader=FileSystemLoader(Path(__file__).parent / "templates"),
+    autoescape=select_autoescape(),
+    trim_blocks=True,
+    lstrip_blocks=True,
+)
+
+
+def picture(path: Path) -> str:
+    """A PNG as an address that holds it."""
+    return "data:image/png;base64," + base64.b64encode(path.read_bytes()).decode("ascii")
+
+
+def columns_of(table: pd.DataFrame, project: Project) -> list[tuple[str, str, float, int]]:
+    """What the page's table shows: column, heading with unit, by what to divide, and decimals."""
+    tonnes, t_sign = scaled(float(table["tonnes"].max()))
+    money, m_sign = scaled(float(table[["worth", "npv_best", "npv_worst"]].abs().max().max()))
+    currency = f"{m_sign} {project.money.currency}".strip()
+    columns = [
+        ("factor", "factor, per mille", 1.0, 0),
+        ("blocks", "blocks", 1.0, 0),
+        ("tonnes", f"rock, {t_sign}t", tonnes, 2),
+        ("ore_tonnes", f"ore, {t_sign}t", tonnes, 2),
+        ("waste_tonnes", f"waste, {t_sign}t", tonnes, 2),
+        ("strip_ratio", "strip ratio", 1.0, 2),
+    ]
+    for metal in project.metals:
+        size, unit = metal_unit(float(table[f"metal_{metal.name}"].max()), metal)
+        columns.append((f"grade_{metal.name}", f"{metal.name}, {metal.sign}", 1.0, 3))
+        columns.append((f"metal_{metal.name}", f"{metal.name}, {unit}", size, 2))
+    for name, heading in (("worth", "worth"), ("npv_best", "NPV best"), ("npv_worst", "NPV worst")):
+        columns.append((name, f"{heading}, {currency}", money, 1))
+    return [*columns, ("years", "years", 1.0, 1)]
+
+
+def metal_unit(most: float, metal: Metal) -> tuple[float, str]:
+    """A unit in which quantities of a metal are short: grams become kilograms and tonnes."""
+    if metal.quantity != "g":
+        size, sign = scaled(most)
+        return size, f"{sign}t"
+    return (1e6, "t") if most >= 1e7 else (1e3, "kg") if most >= 1e4 else (1.0, "g")
+
+
+def cells_of(table: pd.DataFrame, columns: list[tuple[str, str, float, int]]) -> list[list[str]]:
+    """The table as texts; a dash where a number is not defined."""
+
+    def cell(row: pd.Series, name: str, size: float, places: int) -> str:
+        if name == "factor":
+            return str(row[name])
+        return "–" if pd.isna(row[name]) else f"{row[name] / size:,.{places}f}"
+
+    return [[cell(row, name, size, places) for name, _, size, places in columns] for _, row in table.iterrows()]
+
+
+def write(path: Path, project: Project, table: pd.DataFrame, facts: dict[str, Any]) -> None:
+    """`facts`: chosen factor, pictures by name, notes, files with their hashes, and the program's identity."""
+    columns = columns_of(table, project)
+    rows = [
+        {"cells": cells, "chosen": factor == facts["chosen"], "given": factor == 1000}
+        for cells, factor in zip(cells_of(table, columns), table["factor"])
+    ]
+    warnings = [note for note in facts["notes"] if note.startswith("WARNING")]
+    page = TEMPLATES.get_template("report.html").render(
+        title=project.title,
+        headings=[heading for _, heading, _, _ in columns],
+        rows=rows,
+        warnings=[note.removeprefix("WARNING: ") for note in warnings],
+        notes=[note for note in facts["notes"] if note not in warnings],
+        pictures={name: picture(place) for name, place in facts["pictures"].items()},
+        rate=project.schedule.rate,
+        **{name: facts[name] for name in ("chosen", "files", "program")},
+    )
+    path.write_text(page, encoding="utf-8")

@@ -1,0 +1,106 @@
+"""The proved program as a subprocess: its statuses as errors, its texts as arrays."""
+
+from __future__ import annotations
+
+import io
+import os
+import shutil
+import subprocess
+import tempfile
+from dataclasses import dataclass
+from decimal import Decimal
+from pathlib import Path
+from typing import Optional, Union
+
+import numpy as np
+import pandas as pd
+
+from . import files
+from .errors import BudgetUsedUp, ProgramError
+from .plan import Plan
+from .progress import Progress, silent
+
+BUILT = Path(__file__).resolve().parents[2] / "build" / "pitshell"
+
+
+@dataclass(frozen=True)
+class Solution:
+    """The shells that the program found.
+
+    worth   Series by factor: the worth of each whole pit in its factor's own values, exact (Decimal)
+    nodes   Series by factor: how many nodes the pit has, processing nodes among them
+    entry   for each node the least factor whose pit holds it; 0 where none does
+    answer  the program's own text
+    """
+
+    worth: pd.Series
+    nodes: pd.Series
+    entry: np.ndarray
+    answer: bytes
+
+
+def program() -> Path:
+    """The program: that of the variable PITSHELL, else build/pitshell of this repository, else the one on the path.
+
+    Raises ProgramError where there is none.
+    """
+    named = os.environ.get("PITSHELL")
+    found = named or (str(BUILT) if BUILT.is_file() else shutil.which("pitshell"))
+    if not found or not os.access(found, os.X_OK):
+        raise ProgramError(f"{named or BUILT}: there is no program to run: make build makes it, or name it by PITSHELL")
+    return Path(found)
+
+
+def call(*arguments: Union[str, Path], fine: tuple[int, ...] = (0,)) -> bytes:
+    """Standard output of the program. Raises BudgetUsedUp on its status 3, and ProgramError on others not in `fine`."""
+    ran = subprocess.run([str(program()), *map(str, arguments)], capture_output=True, check=False)
+    if ran.returncode in fine:
+        return ran.stdout
+    said = ran.stderr.decode(errors="replace").strip()
+    if ran.returncode == 3:
+        raise BudgetUsedUp(f"pitshell {arguments[0]}: {said}")
+    raise ProgramError(f"pitshell {arguments[0]} ended with status {ran.returncode}: {said}")
+
+
+def identity() -> dict[str, str]:
+    """What the program says of itself, and the SHA-256 of its file."""
+    return {"version": call("--version").decode().strip(), "sha256": files.hash_of(program())}
+
+
+def solve_files(blocks: Path, prec: Path, factors: tuple[int, ...]) -> Solution:
+    """The shells of a block model's columns 0 (revenue) and 1 (cost)."""
+    listed = ",".join(map(str, factors))
+    options = ("--blocks", blocks, "--prec", prec, "--revenue", "0", "--cost", "1", "--factors", listed)
+    return read_answer(call("shells", *options))
+
+
+def read_answer(answer: bytes) -> Solution:
+    """The program's shell text as arrays."""
+    head = answer.split(b"\n", 3)
+    nodes, count = int(head[1].split()[1]), int(head[2].split()[1])
+    *rows, rest = head[3].split(b"\n", count)
+    fields = [row.decode().split() for row in rows[:count]]
+    factors = [int(row[0]) for row in fields]
+    entry = np.zeros(nodes, dtype=np.int32)
+    if rest.strip():
+        lines = pd.read_csv(io.BytesIO(rest), sep=" ", header=None, dtype=np.int64).to_numpy()
+        entry[lines[:, 0]] = lines[:, 1]
+    return Solution(
+        worth=pd.Series([Decimal(row[2]) for row in fields], index=factors, dtype=object),
+        nodes=pd.Series([int(row[1]) for row in fields], index=factors),
+        entry=entry,
+        answer=answer,
+    )
+
+
+def solve(plan: Plan, folder: Optional[Path] = None, progress: Progress = silent) -> Solution:
+    """The shells of a plan at all its factors; its files are those in `folder`, or are written for the time being.
+
+    Raises ProgramError where the program is missing or refuses.
+    """
+    if folder is None:
+        with tempfile.TemporaryDirectory(prefix="pitplan-") as place:
+            plan.write(Path(place))
+            return solve(plan, Path(place), progress)
+    with progress.step(f"solving {len(plan.project.schedule.factors)} factors"):
+        return solve_files(folder / files.BLOCKS, folder / files.PREC, plan.project.schedule.factors)

@@ -1,0 +1,142 @@
+"""A section of a TOML file, read key by key: each mistake is answered with the file, the section and the key."""
+
+from __future__ import annotations
+
+import difflib
+from decimal import Decimal
+from typing import Any, Optional, Union
+
+from .errors import PlanError
+
+Number = Union[int, Decimal]
+
+
+class Section:
+    """One table of a TOML file. `finish` refuses keys that nothing asked for."""
+
+    def __init__(self, file: str, name: str, data: Any) -> None:
+        if not isinstance(data, dict):
+            raise PlanError(f"{file}: [{name}] must be a section of its own")
+        self.file, self.name, self.data = file, name, data
+        self.asked: set[str] = set()
+
+    def wrong(self, key: str, why: str) -> PlanError:
+        where = f"[{self.name}] " if self.name else ""
+        return PlanError(f"{self.file}: {where}{key}: {why}")
+
+    def has(self, key: str) -> bool:
+        self.asked.add(key)
+        return key in self.data
+
+    def get(self, key: str) -> Any:
+        if not self.has(key):
+            raise self.wrong(key, "is missing")
+        return self.data[key]
+
+    def finish(self) -> None:
+        """Raises PlanError where a key stands that is none of the section's, with the nearest one that is."""
+        for key in self.data:
+            if key not in self.asked:
+                near = difflib.get_close_matches(key, self.asked, 1)
+                raise self.wrong(key, "is no key here" + (f"; {near[0]} is" if near else ""))
+
+    def section(self, key: str, optional: bool = False) -> "Section":
+        data = {} if optional and not self.has(key) else self.get(key)
+        return Section(self.file, self.inner(key), data)
+
+    def sections(self, key: str) -> list["Section"]:
+        data = self.get(key)
+        if not isinstance(data, list) or not data:
+            raise self.wrong(key, f"write at least one [[{self.inner(key)}]]")
+        return [Section(self.file, f"{self.inner(key)} {k}", item) for k, item in enumerate(data, 1)]
+
+    def inner(self, key: str) -> str:
+        return f"{self.name}.{key}" if self.name else key
+
+    def text(self, key: str, default: Optional[str] = None) -> str:
+        if default is not None and not self.has(key):
+            return default
+        value = self.get(key)
+        if not isinstance(value, str) or not value:
+            raise self.wrong(key, "must be a text in quotes")
+        return value
+
+    def optional_text(self, key: str) -> Optional[str]:
+        return self.text(key) if self.has(key) else None
+
+    def choice(self, key: str, options: tuple[str, ...], default: Optional[str]) -> str:
+        value = self.text(key, default)
+        if value not in options:
+            raise self.wrong(key, f'"{value}" is none of {", ".join(options)}')
+        return value
+
+    def truth(self, key: str, default: bool) -> bool:
+        value = self.get(key) if self.has(key) else default
+        if not isinstance(value, bool):
+            raise self.wrong(key, "must be true or false")
+        return value
+
+    def number(self, key: str, default: Optional[Decimal] = None, least: Optional[int] = None) -> Decimal:
+        if default is not None and not self.has(key):
+            return default
+        value = self.as_number(key, self.get(key))
+        if least is not None and value < least:
+            raise self.wrong(key, f"{value} is below {least}")
+        return value
+
+    def as_number(self, key: str, value: Any) -> Decimal:
+        if isinstance(value, bool) or not isinstance(value, (int, Decimal)) or not Decimal(value).is_finite():
+            raise self.wrong(key, f"{value!r} is not a number")
+        return Decimal(value)
+
+    def whole(self, key: str, default: int, least: int, most: int) -> int:
+        value = self.get(key) if self.has(key) else default
+        if isinstance(value, bool) or not isinstance(value, int) or not least <= value <= most:
+            raise self.wrong(key, f"must be a whole number from {least:,} to {most:,}")
+        return value
+
+    def numbers(self, key: str, count: int) -> list[float]:
+        value = self.get(key)
+        if not isinstance(value, list) or len(value) != count:
+            raise self.wrong(key, f"must be a list of {count} numbers")
+        return [float(self.as_number(key, item)) for item in value]
+
+    def pairs(self, key: str) -> tuple[tuple[float, float], ...]:
+        value = self.get(key)
+        if not isinstance(value, list) or not value or any(not isinstance(p, list) or len(p) != 2 for p in value):
+            raise self.wrong(key, "must be a list of pairs [azimuth, angle]")
+        return tuple((float(self.as_number(key, a)), float(self.as_number(key, b))) for a, b in value)
+
+    def names(self, key: str) -> Optional[tuple[str, ...]]:
+        """Codes as texts: one, or a list of them; None where the key is missing."""
+        if not self.has(key):
+            return None
+        value = self.data[key]
+        items = value if isinstance(value, list) else [value]
+        if not items or any(isinstance(item, bool) or not isinstance(item, (str, int)) for item in items):
+            raise self.wrong(key, "must be a code or a list of codes")
+        return tuple(str(item) for item in items)
+
+    def by_rock(self, key: str, most: Optional[int] = None) -> Union[Decimal, dict[str, Decimal]]:
+        value = self.get(key)
+        given = value if isinstance(value, dict) else {"": value}
+        read = {rock: self.as_number(key, item) for rock, item in given.items()}
+        if any(item < 0 or (most is not None and item > most) for item in read.values()):
+            raise self.wrong(key, "may not be negative" if most is None else f"must lie from 0 to {most}")
+        return read if isinstance(value, dict) else read[""]
+
+    def factors(self, key: str, most: int) -> list[int]:
+        """A list of factors in per mille, or `{from, to, step}`."""
+        value = self.get(key)
+        if isinstance(value, dict):
+            span = Section(self.file, self.inner(key), value)
+            first, last = span.whole("from", 0, 0, most), span.whole("to", 0, 0, most)
+            step = span.whole("step", 0, 1, most)
+            span.finish()
+            value = list(range(first, last + 1, step))
+        if not isinstance(value, list) or not value:
+            raise self.wrong(key, "must be a list of factors, or { from, to, step }")
+        for item in value:
+            if isinstance(item, bool) or not isinstance(item, int) or not 0 <= item <= most:
+                raise self.wrong(key, f"{item!r} is not a whole number of per mille from 0 to {most:,}")
+        return value

@@ -1,0 +1,165 @@
+"""The planner's table of blocks: read from a CSV file or taken from pandas, and checked whole.
+
+A row is counted as a spreadsheet counts it: the header is row 1, the first block row 2.
+"""
+
+from __future__ import annotations
+
+import warnings
+from dataclasses import dataclass
+from typing import Optional
+
+import numpy as np
+import pandas as pd
+
+from .errors import PlanError
+from .project import Project
+
+HEADER_ROWS = 2
+
+
+@dataclass(frozen=True)
+class Table:
+    """A checked table.
+
+    frame   one row a block, in the file's order: numbers as float64, codes (id, rock, region) as texts
+    source  the file, or "table" where it came from pandas
+    filled  how many empty fields were taken as 0
+    """
+
+    frame: pd.DataFrame
+    source: str
+    filled: int
+
+
+def read(project: Project) -> Table:
+    """The table of `project.table.file` (.csv, also .csv.gz), with the columns that the project names.
+
+    Raises PlanError, with file, row and column, where a column is missing or a field is not usable.
+    """
+    file = project.table.file
+    try:
+        frame = read_csv(project)
+    except OSError as error:
+        raise PlanError(f"{file}: cannot be read: {error.strerror or error}") from error
+    except (
+        pd.errors.ParserError,
+        pd.errors.EmptyDataError,
+        pd.errors.ParserWarning,
+        UnicodeDecodeError,
+        EOFError,
+    ) as error:
+        raise PlanError(f"{file}: is no table: {' '.join(str(error).split())}") from error
+    return checked(frame, project, str(file))
+
+
+def read_csv(project: Project) -> pd.DataFrame:
+    """The file as it is: numbers where a column has no other field, codes as texts, and an empty number as nan."""
+    columns = project.table
+    wanted = names_of(project)
+    codes = {name: str for name in (columns.id, columns.rock, columns.region) if name}
+    with warnings.catch_warnings():
+        # All columns are read, and a line with more fields than the header is an error: pandas would drop the rest.
+        warnings.simplefilter("error", pd.errors.ParserWarning)
+        return pd.read_csv(
+            columns.file,
+            sep=columns.separator,
+            index_col=False,
+            dtype=codes,
+            keep_default_na=False,
+            na_values={name: [""] for name in wanted if name not in codes},
+            float_precision="round_trip",
+            encoding="utf-8-sig",
+            low_memory=False,
+        )
+
+
+def names_of(project: Project) -> list[str]:
+    """The columns that the project names, each once."""
+    t = project.table
+    named = [t.id, t.x, t.y, t.z, t.tonnes, t.rock, t.region, *(metal.column for metal in project.metals)]
+    return list(dict.fromkeys(name for name in named if name))
+
+
+def demand_columns(frame: pd.DataFrame, wanted: list[str], source: str) -> None:
+    for name in wanted:
+        if name not in frame.columns:
+            there = ", ".join(map(str, frame.columns))
+            raise PlanError(f"{source} row 1: there is no column {name}; the columns are {there}")
+
+
+def checked(frame: pd.DataFrame, project: Project, source: str = "table") -> Table:
+    """The named columns alone. Raises PlanError as `read` does.
+
+    Empty tonnes and grades are refused, or taken as 0 where the project says `empty = "zero"`.
+    """
+    columns = project.table
+    demand_columns(frame, names_of(project), source)
+    if frame.empty:
+        raise PlanError(f"{source}: has no blocks")
+    codes = [name for name in (columns.id, columns.rock, columns.region) if name]
+    result = pd.DataFrame(index=pd.RangeIndex(len(frame)))
+    filled = 0
+    for name in names_of(project):
+        if name in codes:
+            result[name] = frame[name].astype(str).str.strip().to_numpy()
+            continue
+        numbers = numbers_of(frame[name], source, name)
+        empty = np.isnan(numbers)
+        may_fill = columns.empty == "zero" and name not in (columns.x, columns.y, columns.z)
+        if empty.any() and not may_fill:
+            raise at_row(source, int(empty.argmax()), name, "is empty")
+        filled += int(empty.sum())
+        result[name] = np.where(empty, 0.0, numbers)
+    demand_not_negative(result, project, source)
+    demand_codes(result, project, source)
+    return Table(result, source, filled)
+
+
+def demand_codes(frame: pd.DataFrame, project: Project, source: str) -> None:
+    """Every block has an id of its own, and every block of rock its rock and region, where these are named."""
+    columns = project.table
+    demand_ids(frame, columns.id, source)
+    for name in (columns.rock, columns.region):
+        if name:
+            empty = ((frame[name] == "") & (frame[columns.tonnes] > 0)).to_numpy()
+            if empty.any():
+                raise at_row(source, int(empty.argmax()), name, "is empty")
+
+
+def numbers_of(column: pd.Series, source: str, name: str) -> np.ndarray:
+    """float64, nan where the field is empty."""
+    numbers = pd.to_numeric(column, errors="coerce").to_numpy(dtype=np.float64)
+    texts = column.astype(str).str.strip() if column.dtype == object else None
+    if texts is not None:
+        bad = np.isnan(numbers) & ~column.isna().to_numpy() & (texts != "").to_numpy()
+        if bad.any():
+            row = int(bad.argmax())
+            raise at_row(source, row, name, f'"{texts.iloc[row]}" is not a number')
+    infinite = np.isinf(numbers)
+    if infinite.any():
+        raise at_row(source, int(infinite.argmax()), name, "is infinite")
+    return numbers
+
+
+def demand_not_negative(frame: pd.DataFrame, project: Project, source: str) -> None:
+    for name in [project.table.tonnes, *(metal.column for metal in project.metals)]:
+        negative = (frame[name] < 0).to_numpy()
+        if negative.any():
+            row = int(negative.argmax())
+            raise at_row(source, row, name, f"{frame[name].iloc[row]:g} is negative")
+
+
+def demand_ids(frame: pd.DataFrame, name: Optional[str], source: str) -> None:
+    if name is None:
+        return
+    twice = frame[name].duplicated().to_numpy()
+    if twice.any():
+        row = int(twice.argmax())
+        first = int((frame[name] == frame[name].iloc[row]).to_numpy().argmax())
+        raise at_row(source, row, name, f"{frame[name].iloc[row]} stands in row {first + HEADER_ROWS} too")
+
+
+def at_row(source: str, row: int, column: str, why: str) -> PlanError:
+    """`row` counts the blocks from 0."""
+    return PlanError(f"{source} row {row + HEADER_ROWS} column {column}: {why}")

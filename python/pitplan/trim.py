@@ -1,0 +1,40 @@
+"""Leaves out the needs that no paying block uses.
+
+A block pays where its value at the greatest factor is above 0. The smallest best pit of that factor, and so of each
+lower one, is made of paying blocks and of what these need, directly or through others: blocks outside that set keep no
+needs, and stay as blocks that nobody digs. What is left out holds for factors up to that greatest one.
+"""
+
+from __future__ import annotations
+
+import numpy as np
+
+from .grid import Grid
+from .slopes import Walls
+
+
+def used_blocks(grid: Grid, walls: Walls, paying: np.ndarray) -> np.ndarray:
+    """The paying blocks and all that they need, directly or through others: a truth for each cell."""
+    used = grid.cube(paying).copy()
+    code = grid.cube(walls.code)
+    present = [number for number in range(len(walls.patterns)) if (walls.code == number).any()]
+    # Needs lead up alone, so a level is whole once those below it have been passed.
+    for level in range(grid.shape[0] - 1, 0, -1):
+        for number in present:
+            mine = used[level] & (code[level] == number)
+            if not mine.any():
+                continue
+            for east, north, up in walls.patterns[number].offsets:
+                if up <= level:
+                    mark(used[level - up], mine, east, north)
+    return used.ravel()
+
+
+def mark(above: np.ndarray, blocks: np.ndarray, east: int, north: int) -> None:
+    """Marks, in a level above, the blocks that lie so many steps east and north of the given ones."""
+    rows, columns = blocks.shape
+    if abs(north) >= rows or abs(east) >= columns:
+        return
+    to = (slice(max(0, north), rows + min(0, north)), slice(max(0, east), columns + min(0, east)))
+    of = (slice(max(0, -north), rows + min(0, -north)), slice(max(0, -east), columns + min(0, -east)))
+    above[to] |= blocks[of]

@@ -1,0 +1,73 @@
+"""The shells in 3D: one HTML page with three.js and the model in it, to rotate and to cut by factor and by bench.
+
+The page holds a byte a cell; which faces are seen at a factor and a bench is found in the page.
+"""
+
+from __future__ import annotations
+
+import base64
+from pathlib import Path
+from typing import Any
+
+import matplotlib
+import numpy as np
+
+from .errors import PlanError
+from .files import Folder
+from .packages import three_scripts
+from .report import TEMPLATES
+
+# A cell's byte: 0 is ground that no pit holds, 1 to 254 the place of its factor in the list, 255 air.
+AIR = 255
+MOST_FACTORS = 254
+
+
+def write(path: Path, folder: Folder) -> None:
+    """Raises MissingPackage without libjs-three, and PlanError where there are more factors than the page can tell apart."""
+    scripts = three_scripts()
+    page = TEMPLATES.get_template("view.html").render(
+        title=folder.record["title"], scripts=scripts, model=model_of(folder)
+    )
+    path.write_text(page, encoding="utf-8")
+
+
+def model_of(folder: Folder) -> dict[str, Any]:
+    """What the page is told: the grid, a byte of factor and one of grade for each cell, and colours."""
+    grid, blocks = folder.grid, folder.blocks
+    factors = folder.factors
+    if len(factors) > MOST_FACTORS:
+        raise PlanError(
+            f"the 3D page can show {MOST_FACTORS} shells, and there are {len(factors):,}: give fewer factors"
+        )
+    place = np.searchsorted(factors, blocks["factor"].to_numpy()) + 1
+    solid = (blocks[folder.record["tonnes"]] > 0).to_numpy()
+    shell = np.where(solid, np.where(blocks["factor"] > 0, place, 0), AIR).astype(np.uint8)
+    metal = folder.record["metals"][0]
+    grade = np.where(solid, blocks[metal["column"]].to_numpy(), 0.0)
+    # The highest hundredth of the grades share a colour, so that one rich block does not make all others pale.
+    most = float(np.quantile(grade[grade > 0], 0.99)) if (grade > 0).any() else 1.0
+    tint = np.rint(np.clip(grade / most, 0, 1) * 255).astype(np.uint8)
+    west, _, south, _, floor, top = grid.extent()
+    return {
+        "shape": list(grid.shape),
+        "size": list(grid.size),
+        "corner": [west, south, floor],
+        "top": top,
+        "factors": factors,
+        "chosen": folder.record["shells"]["chosen"],
+        "shell": encoded(grid.spread(shell, AIR)),
+        "grade": encoded(grid.spread(tint, 0)),
+        "grade_most": most,
+        "grade_name": f"{metal['name']}, {metal['sign']}",
+        "shell_colours": colours("viridis_r", np.linspace(0.02, 1, len(factors))),
+        "grade_colours": colours("YlOrRd", np.linspace(0, 1, 256)),
+    }
+
+
+def encoded(cells: np.ndarray) -> str:
+    return base64.b64encode(cells.astype(np.uint8).tobytes()).decode("ascii")
+
+
+def colours(name: str, places: np.ndarray) -> list[list[int]]:
+    """Red, green and blue from 0 to 255 at places from 0 to 1 of a colour map."""
+    return (matplotlib.colormaps[name](places)[:, :3] * 255).round().astype(int).tolist()

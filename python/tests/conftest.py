@@ -1,0 +1,113 @@
+"""What the tests share: small projects and tables, written where a test may write."""
+
+import io
+import shutil
+import sys
+from contextlib import redirect_stderr, redirect_stdout
+from dataclasses import dataclass
+from pathlib import Path
+
+import pandas as pd
+import pytest
+from hypothesis import settings
+
+ROOT = Path(__file__).resolve().parents[2]
+sys.path.insert(0, str(ROOT / "python"))
+
+settings.register_profile("plan", deadline=None, max_examples=40, derandomize=True, database=None)
+settings.load_profile("plan")
+
+PROJECT = """
+title = "Test hill"
+[table]
+file = "blocks.csv"
+id = "name"
+rock = "rock"
+region = "region"
+[grid]
+size = [10, 10, 10]
+[money]
+mining_cost = 2
+processing_cost = 10
+[[metals]]
+name = "copper"
+column = "cu"
+unit = "percent"
+price = 8000
+recovery = 0.5
+[slopes]
+levels = 3
+[[slopes.walls]]
+pattern = "1:5"
+[shells]
+factors = [500, 1000, 1500]
+rate = 0.1
+ore_per_year = 100
+"""
+
+
+def rows(columns, rows_, levels, **more):
+    """A full box of blocks of 10 m, from the floor up; each further column is a function of (column, row, level)."""
+    places = [(i, j, k) for k in range(levels) for j in range(rows_) for i in range(columns)]
+    defaults = {
+        "tonnes": lambda i, j, k: 100,
+        "cu": lambda i, j, k: 0,
+        "rock": lambda i, j, k: "R",
+        "region": lambda i, j, k: "1",
+    }
+    frame = pd.DataFrame({"name": [f"b{i}-{j}-{k}" for i, j, k in places]})
+    for number, axis in enumerate("xyz"):
+        frame[axis] = [5.0 + 10 * place[number] for place in places]
+    for name, value in {**defaults, **more}.items():
+        frame[name] = [value(*place) for place in places]
+    return frame
+
+
+@pytest.fixture
+def plan_folder(tmp_path):
+    """Writes a project and its table into a folder of the test's own; gives the project's path."""
+
+    def write(table, text=PROJECT, *changes):
+        for old, new in changes:
+            assert text.count(old) == 1, f"{old} stands {text.count(old)} times in the project"
+            text = text.replace(old, new)
+        (tmp_path / "project.toml").write_text(text)
+        if isinstance(table, str):
+            (tmp_path / "blocks.csv").write_text(table)
+        else:
+            table.to_csv(tmp_path / "blocks.csv", index=False)
+        return tmp_path / "project.toml"
+
+    return write
+
+
+@dataclass(frozen=True)
+class Solved:
+    """The folder of a solved mine, and what the command line said on standard output and on standard error."""
+
+    place: Path
+    out: str
+    err: str
+
+
+@pytest.fixture(scope="session")
+def solved_once(tmp_path_factory):
+    """A hill with three ores whose shells differ at each factor, solved for all tests by the command line."""
+    from pitplan.cli import main
+
+    place = tmp_path_factory.mktemp("solved")
+    table = rows(10, 9, 5, cu=lambda i, j, k: {(4, 4, 1): 6, (6, 4, 1): 0.9, (4, 7, 2): 0.8}.get((i, j, k), 0))
+    table[(table["z"] < 40) | (table["x"] < 50)].to_csv(place / "blocks.csv", index=False)
+    (place / "project.toml").write_text(PROJECT)
+    with redirect_stdout(io.StringIO()) as out, redirect_stderr(io.StringIO()) as err:
+        assert main(["shells", str(place / "project.toml")]) == 0
+    return Solved(place, out.getvalue(), err.getvalue())
+
+
+@pytest.fixture
+def solved(solved_once, tmp_path):
+    """The solved hill in a folder of the test's own; its project and the folder of its plan."""
+    from pitplan import load
+
+    project = load(shutil.copytree(solved_once.place, tmp_path / "mine") / "project.toml")
+    return project, project.folder

@@ -1,0 +1,69 @@
+"""Decimals against Python's own `decimal`."""
+
+from decimal import ROUND_HALF_EVEN, Decimal
+
+import numpy as np
+import pytest
+from hypothesis import given
+from hypothesis import strategies as st
+
+from pitplan import text
+from pitplan.exact import Exact
+
+short = st.decimals(-(10**7), 10**7, places=6, allow_nan=False)
+
+
+@given(st.lists(short, min_size=1, max_size=20))
+def test_a_float_is_the_decimal_it_was_written_as(numbers):
+    exact = Exact.of_floats(np.array([float(str(number)) for number in numbers]))
+    assert [Decimal(int(whole)).scaleb(-exact.places) for whole in exact.whole] == numbers
+
+
+@pytest.mark.parametrize("number", [0.1, 1e-7, 123456.789012345, 0.30000000000000004, 5e-324, 1e22, 2.5, 0.0])
+def test_odd_floats_are_their_shortest_decimal(number):
+    exact = Exact.of_floats(np.array([number]))
+    assert Decimal(int(exact.whole[0])).scaleb(-exact.places) == Decimal(repr(number))
+
+
+@given(st.lists(st.tuples(short, short), min_size=1, max_size=10))
+def test_products_and_sums_are_exact(pairs):
+    left, right = (Exact.of_decimals([pair[k] for pair in pairs]) for k in (0, 1))
+    product, total = left.times(right), left.plus(right)
+    for k, (a, b) in enumerate(pairs):
+        assert Decimal(int(product.whole[k])).scaleb(-product.places) == a * b
+        assert Decimal(int(total.whole[k])).scaleb(-total.places) == a + b
+
+
+@given(st.lists(short, min_size=1, max_size=20), st.integers(0, 6))
+def test_rounding_goes_to_the_even_and_is_counted(numbers, places):
+    rounded, said = Exact.of_decimals(numbers).rounded(places)
+    expected = [number.quantize(Decimal(1).scaleb(-places), ROUND_HALF_EVEN) for number in numbers]
+    assert [Decimal(int(whole)).scaleb(-places) for whole in rounded] == expected
+    assert said.changed == sum(a != b for a, b in zip(numbers, expected))
+    assert said.largest == max(abs(a - b) for a, b in zip(numbers, expected))
+
+
+def test_noise_of_floats_is_no_rounding():
+    tonnes, price = Exact.of_floats(np.array([0.1, 0.7, 1.1])), Exact.of(Decimal("0.1"), 3)
+    assert 0.7 * 0.1 != 0.07 and 1.1 * 0.1 != 0.11
+    rounded, said = tonnes.times(price).rounded(2)
+    assert list(rounded) == [1, 7, 11] and said.changed == 0 and said.largest == 0
+
+
+@given(st.lists(st.integers(-(10**18) + 1, 10**18 - 1), min_size=1, max_size=30))
+def test_decimals_are_written_exactly(millionths):
+    written = text.lines([text.decimals(np.array(millionths))]).decode().split("\n")[:-1]
+    assert [Decimal(field) for field in written] == [Decimal(number).scaleb(-6) for number in millionths]
+    for field in written:
+        whole, _, fraction = field.lstrip("-").partition(".")
+        assert 1 <= len(whole) <= 12 and len(fraction) <= 6 and (fraction or "." not in field)
+
+
+@given(st.lists(st.integers(0, 10**10), min_size=1, max_size=30))
+def test_whole_numbers_are_written_without_leading_zeros(numbers):
+    assert text.lines([text.whole(np.array(numbers))]).decode().split("\n")[:-1] == [str(number) for number in numbers]
+
+
+def test_ragged_lines_leave_out_what_is_absent():
+    many = np.array([[-1, 5, -1], [7, 10, 120], [-1, -1, 0]])
+    assert text.ragged([text.whole(np.array([1, 20, 3]))], many, -1) == b"1 5\n20 7 10 120\n3 0\n"

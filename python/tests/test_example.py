@@ -1,0 +1,76 @@
+"""The example against its expected table, and that table against sums over the example's own rows."""
+
+import csv
+import tomllib
+from collections import Counter
+from dataclasses import replace
+from math import isclose
+
+import pandas as pd
+import pytest
+from conftest import ROOT
+
+import pitplan
+from pitplan import analyse, commands
+
+EXAMPLE = ROOT / "examples" / "plan"
+
+
+@pytest.fixture(scope="module")
+def solved_example():
+    plan = pitplan.prepare(EXAMPLE / "project.toml")
+    solution = pitplan.solve(plan)
+    return plan, solution, pitplan.shells(plan, solution)
+
+
+def test_the_table_of_shells_is_the_expected_one(solved_example):
+    _, solution, table = solved_example
+    assert solution.answer == (EXAMPLE / "expected" / "shells.txt").read_bytes()
+    expected = pd.read_csv(EXAMPLE / "expected" / "shells.csv", dtype={"worth_at_factor": str})
+    pd.testing.assert_frame_equal(commands.shown(table), expected, check_dtype=False, rtol=1e-9)
+
+
+def amounts_of(row, project, top):
+    """Tonnes, worth of processing, and worth of mining of one row of the CSV, by the project's words alone."""
+    tonnes, rock = float(row["tonnes"]), row["rock"]
+    gain = -tonnes * project["money"]["processing_cost"][rock]
+    for metal in project["metals"]:
+        share = {"percent": 0.01, "gram_per_tonne": 1}[metal["unit"]]
+        amount = tonnes * float(row[metal["column"]]) * share * metal["recovery"][rock]
+        gain += amount * (metal["price"] - metal["selling_cost"])
+    level = (top - float(row["z"])) / 15
+    cost = tonnes * (project["money"]["mining_cost"] + project["money"]["mining_cost_per_level"] * level)
+    return tonnes, gain, cost
+
+
+@pytest.mark.parametrize("factor", [500, 850, 1000])
+def test_tonnes_and_worth_are_the_sums_over_the_rows(solved_example, factor):
+    plan, solution, table = solved_example
+    project = tomllib.loads((EXAMPLE / "project.toml").read_text())
+    blocks = analyse.blocks(plan, solution)
+    inside = set(blocks["planner_id"][(blocks["factor"] > 0) & (blocks["factor"] <= factor)])
+    totals = Counter()
+    with open(EXAMPLE / "blocks.csv", newline="") as file:
+        rows = list(csv.DictReader(file))
+    top = max(float(row["z"]) for row in rows)
+    for row in rows:
+        if row["id"] in inside:
+            tonnes, gain, cost = amounts_of(row, project, top)
+            totals["tonnes"] += tonnes
+            totals["ore_tonnes"] += tonnes if gain > 0 else 0
+            totals["worth"] += max(gain, 0) - cost
+    shell = table.set_index("factor").loc[factor]
+    assert shell["blocks"] == len(inside)
+    for name, total in totals.items():
+        # Each amount is kept to the cent.
+        assert isclose(shell[name], total, abs_tol=0.02 * len(inside)), name
+
+
+def test_a_fixed_cutoff_digs_no_more_and_earns_no_more(solved_example):
+    """At every factor the moving cut-off's pit is worth at least as much in the factor's own values."""
+    plan, solution, _ = solved_example
+    fixed = replace(plan.project, money=replace(plan.project.money, cutoff="fixed"))
+    other = pitplan.solve(pitplan.prepare(fixed))
+    lost = [factor for factor in plan.project.schedule.factors if other.worth[factor] < solution.worth[factor]]
+    assert all(other.worth[factor] <= solution.worth[factor] for factor in plan.project.schedule.factors)
+    assert 500 in lost and 1000 not in lost and 1200 in lost

@@ -1,0 +1,284 @@
+"""What the subcommands write: whole or not at all; audits, exports and pages of a small mine."""
+
+import json
+import os
+import subprocess
+import sys
+import xml.etree.ElementTree as xml
+from decimal import Decimal
+
+import numpy as np
+import pandas as pd
+import pytest
+from conftest import PROJECT, ROOT, rows
+
+from pitplan import PlanError, commands, files, load, outlines, packages, run
+from pitplan.cli import main
+from pitplan.progress import silent
+
+ORE = {"cu": lambda i, j, k: {(3, 3, 1): 6, (4, 3, 1): 2.5, (3, 4, 0): 9}.get((i, j, k), 0)}
+
+
+def test_shells_write_tables_pictures_and_a_page_that_needs_no_other_file(solved):
+    project, folder = solved
+    names = {path.name for path in folder.iterdir()}
+    pictures = set(commands.PICTURES.values())
+    assert (
+        names
+        == {
+            "mine.blocks",
+            "mine.upit",
+            "mine.prec",
+            "prepare.json",
+            "blocks.csv",
+            "shells.csv",
+            "shells.txt",
+            "report.html",
+        }
+        | pictures
+    )
+    page = (folder / "report.html").read_text()
+    assert page.count('<img src="data:image/png;base64,') == 3 and "http" not in page.replace("http-equiv", "")
+    for name in pictures:
+        assert (folder / name).read_bytes().startswith(b"\x89PNG")
+
+
+def test_a_mine_without_ore_has_a_report_and_a_page_too(plan_folder):
+    project = load(plan_folder(rows(4, 4, 3), PROJECT, ("[500, 1000, 1500]", "[1000]")))
+    table, _ = commands.shells(project, project.folder, silent)
+    assert table["blocks"].tolist() == [0] and table["worth"].tolist() == [0]
+    commands.view(project.folder, silent)
+    assert (
+        "–" in (project.folder / "report.html").read_text()
+        and 'grade_most": 1.0' in (project.folder / "view.html").read_text()
+    )
+
+
+def test_the_record_has_hashes_of_all_that_was_read_and_written(solved):
+    project, folder = solved
+    record = json.loads((folder / "prepare.json").read_text())
+    names = [*record["files"], *record["inputs"]]
+    places = [folder / name for name in record["files"]] + [project.path.parent / name for name in record["inputs"]]
+    said = subprocess.run(["sha256sum", *map(str, places)], capture_output=True, text=True, check=True).stdout.split(
+        "\n"
+    )
+    assert dict(zip(names, (line.split()[0] for line in said if line))) == {**record["files"], **record["inputs"]}
+    assert (
+        record["needs"]["written"]
+        == sum(int(line.split()[1]) for line in open(folder / "mine.prec")) - record["needs"]["of_processing_nodes"]
+    )
+
+
+def test_a_file_changed_since_is_refused(solved):
+    _, folder = solved
+    with open(folder / "mine.blocks", "a") as file:
+        file.write("\n")
+    with pytest.raises(
+        PlanError, match="mine.blocks: has changed since prepare.json was written: run pitplan shells again"
+    ):
+        files.read_folder(folder)
+
+
+def test_a_prepared_folder_has_no_shells_yet(plan_folder):
+    project = load(plan_folder(rows(4, 4, 3, **ORE)))
+    commands.prepare(project, project.folder, silent)
+    with pytest.raises(PlanError, match="has no shells yet: run pitplan shells first"):
+        files.read_folder(project.folder)
+    with pytest.raises(PlanError, match="nowhere/prepare.json: cannot be read: run pitplan shells first"):
+        files.read_folder(project.folder / "nowhere")
+
+
+@pytest.mark.parametrize("factor", [500, 1000, 1500])
+def test_an_audit_is_confirmed_by_the_program_and_by_the_short_checker(solved, factor):
+    _, folder = solved
+    target = commands.audit(folder, factor, silent)
+    environment = {**os.environ, "PITSHELL": str(run.program()), "PYTHON": sys.executable}
+    ran = subprocess.run(["sh", str(target / "check.sh")], capture_output=True, text=True, env=environment, check=True)
+    assert ran.stdout.split("\n") == ["hashes: yes", "pitshell check: yes", "check_certificate.py: yes", ""]
+    record = json.loads((target / "audit.json").read_text())
+    table = pd.read_csv(folder / "shells.csv", dtype={"worth_at_factor": str}).set_index("factor")
+    assert Decimal(record["worth_at_factor"]) == Decimal(table["worth_at_factor"][factor])
+    assert record["program"] == run.identity() and record["plan"]["mine.prec"] == files.hash_of(target / "shell.prec")
+
+
+def test_a_bent_audit_is_not_confirmed(solved):
+    _, folder = solved
+    target = commands.audit(folder, 1000, silent)
+    model = target / "shell.upit"
+    model.write_text(model.read_text().replace("\n0 -", "\n0 "))
+    environment = {**os.environ, "PITSHELL": str(run.program()), "PYTHON": sys.executable}
+    assert subprocess.run(["sh", str(target / "check.sh")], capture_output=True, env=environment).returncode != 0
+
+
+def test_values_of_an_audit_are_exact(tmp_path):
+    from pitplan.audit import values_at
+
+    (tmp_path / "mine.blocks").write_text("0 0 0 0 0 1.000001\n1 0 0 0 12345.678901 0.1\n")
+    assert values_at(tmp_path / "mine.blocks", 333).tolist() == [-1000001000, 333 * 12345678901 - 100000000]
+    (tmp_path / "mine.blocks").write_text("0 0 0 0 999999999999 0\n")
+    with pytest.raises(PlanError, match="does not fit a model: give prices and costs in a greater unit of money"):
+        values_at(tmp_path / "mine.blocks", 1000)
+
+
+def test_a_factor_that_is_not_solved_is_refused(solved):
+    _, folder = solved
+    for call in (lambda: commands.audit(folder, 900, silent), lambda: commands.export(folder, "dxf", 900, silent)):
+        with pytest.raises(PlanError, match="factor 900 is not among the factors 500, 1000, 1500"):
+            call()
+
+
+def test_csv_has_the_blocks_of_all_pits(solved):
+    _, folder = solved
+    table = pd.read_csv(commands.export(folder, "csv", 1000, silent))
+    blocks = pd.read_csv(folder / "blocks.csv")
+    assert len(table) == (blocks["factor"] > 0).sum() > 0 and set(table["name"]) == set(
+        blocks["name"][blocks["factor"] > 0]
+    )
+
+
+def test_vti_is_read_back_by_vtk_cell_by_cell(solved):
+    vtk = pytest.importorskip("vtk")
+    from vtk.util.numpy_support import vtk_to_numpy
+
+    _, folder = solved
+    reader = vtk.vtkXMLImageDataReader()
+    reader.SetFileName(str(commands.export(folder, "vti", 1000, silent)))
+    reader.Update()
+    image = reader.GetOutput()
+    assert image.GetDimensions() == (11, 10, 6) and image.GetBounds() == (0, 100, 0, 90, 0, 50)
+    factor = vtk_to_numpy(image.GetCellData().GetArray("factor"))
+    for _, block in pd.read_csv(folder / "blocks.csv").iterrows():
+        place = int(block.z // 10) * 90 + int(block.y // 10) * 10 + int(block.x // 10)
+        assert factor[place] == block.factor
+
+
+def test_dxf_has_the_area_of_the_pit_on_each_level(solved):
+    ezdxf = pytest.importorskip("ezdxf")
+    _, folder = solved
+    drawing = ezdxf.readfile(commands.export(folder, "dxf", 1000, silent))
+    blocks = pd.read_csv(folder / "blocks.csv")
+    dug = blocks[(blocks["factor"] > 0) & (blocks["factor"] <= 1000)]
+    areas = {}
+    for line in drawing.modelspace().query("POLYLINE"):
+        points = np.array([vertex.dxf.location for vertex in line.vertices])
+        x, y = points[:, 0], points[:, 1]
+        areas[points[0, 2]] = areas.get(points[0, 2], 0) + (x * np.roll(y, -1) - np.roll(x, -1) * y).sum() / 2
+    assert areas == {z - 5: 100.0 * len(level) for z, level in dug.groupby("z")}
+
+
+@pytest.mark.parametrize("seed", range(20))
+def test_rings_go_round_exactly_the_cells(seed):
+    mask = np.random.default_rng(seed).random((7, 9)) < 0.5
+    area = 0.0
+    for ring in outlines.rings(mask):
+        x, y = np.array(ring).T
+        area += (x * np.roll(y, -1) - np.roll(x, -1) * y).sum() / 2
+        steps = np.abs(np.diff(np.array([*ring, ring[0]]), axis=0))
+        assert ((steps == 0).sum(axis=1) == 1).all()
+    assert area == mask.sum()
+
+
+def test_the_planners_own_table_is_never_written_over(plan_folder):
+    path = plan_folder(rows(4, 4, 3, **ORE))
+    before = (path.parent / "blocks.csv").read_bytes()
+    for command in (commands.prepare, commands.shells):
+        with pytest.raises(
+            PlanError, match="blocks.csv: the plan would be written over it: give another folder by --out"
+        ):
+            command(load(path), path.parent, silent)
+    assert (path.parent / "blocks.csv").read_bytes() == before and len(list(path.parent.iterdir())) == 2
+
+
+@pytest.mark.parametrize(
+    "module, limit, words",
+    [
+        ("money", "MOST_BLOCKS", "144 blocks and 3 processing nodes are 147 nodes, and the program takes at most 100"),
+        ("plan", "MOST_PAIRS", "needs, and the program takes at most 100: give fewer"),
+        ("view", "MOST_FACTORS", "the 3D page can show 2 shells, and there are 3: give fewer factors"),
+    ],
+)
+def test_what_is_above_a_limit_is_refused(plan_folder, monkeypatch, solved, module, limit, words):
+    monkeypatch.setattr(f"pitplan.{module}.{limit}", 2 if module == "view" else 100)
+    path = plan_folder(rows(6, 6, 4, **ORE))
+    with pytest.raises(PlanError, match=words):
+        commands.view(solved[1], silent) if module == "view" else commands.prepare(
+            load(path), path.parent / "out", silent
+        )
+
+
+def test_nothing_half_written_stays(plan_folder, monkeypatch):
+    project = load(plan_folder(rows(4, 4, 3, **ORE)))
+    monkeypatch.setattr(files, "write_prec", lambda *_: (_ for _ in ()).throw(OSError(28, "No space left on device")))
+    with pytest.raises(PlanError, match="cannot be written: No space left on device"):
+        commands.prepare(project, project.folder, silent)
+    assert list(project.folder.iterdir()) == []
+
+
+def test_a_failed_run_leaves_the_earlier_one(solved, monkeypatch):
+    project, folder = solved
+    before = {path.name: path.read_bytes() for path in folder.iterdir()}
+    monkeypatch.setattr(commands, "draw", lambda *_: (_ for _ in ()).throw(PlanError("no pictures")))
+    with pytest.raises(PlanError, match="no pictures"):
+        commands.shells(project, folder, silent)
+    assert {path.name: path.read_bytes() for path in folder.iterdir()} == before
+
+
+def test_missing_libraries_are_named_with_their_packages(monkeypatch, tmp_path):
+    for module, package in (("vtk", "python3-vtk9"), ("ezdxf", "python3-ezdxf")):
+        monkeypatch.setitem(sys.modules, module, None)
+        with pytest.raises(PlanError, match=f"export needs the Debian package {package}: apt-get install {package}"):
+            packages.load(module, package, "export")
+    with pytest.raises(PlanError, match="the 3D page needs the Debian package libjs-three"):
+        packages.three_scripts(tmp_path)
+
+
+def test_a_missing_program_is_named(monkeypatch):
+    monkeypatch.setenv("PITSHELL", "/nowhere/pitshell")
+    with pytest.raises(PlanError, match="/nowhere/pitshell: there is no program to run: make build makes it"):
+        run.program()
+
+
+def test_a_refusal_of_the_program_is_passed_on(tmp_path):
+    (tmp_path / "mine.blocks").write_text("0 0 0 0 1 x\n")
+    (tmp_path / "mine.prec").write_text("")
+    with pytest.raises(PlanError, match="pitshell shells ended with status 1: error 6: not a decimal in blocks line 1"):
+        run.solve_files(tmp_path / "mine.blocks", tmp_path / "mine.prec", (1000,))
+
+
+def test_the_command_line_tells_table_steps_and_warnings(solved_once):
+    lines = solved_once.out.splitlines()
+    assert lines[0].split()[:3] == ["factor", "blocks", "rock"] and lines[1].split()[:3] == ["per", "mille", "t"]
+    assert [line.split()[0] for line in lines[2:5]] == ["500", "1000", "1500"]
+    assert lines[-1] == str(solved_once.place / "plan" / "report.html")
+    steps = ["reading", "laying the walls", "writing blocks and needs", "solving 3 factors", "drawing"]
+    assert all(f"{step}" in solved_once.err for step in steps)
+    assert "WARNING: the greatest pit touches the north side of the model" in solved_once.err
+
+
+def test_the_command_line_exports_in_silence(solved, capsys):
+    project, folder = solved
+    assert main(["export", str(project.path), "--to", "csv", "--quiet"]) == 0
+    said = capsys.readouterr()
+    assert said.err == "" and said.out == f"{folder / 'pit.csv'}\n"
+
+
+def test_the_command_line_refuses_in_one_sentence(plan_folder, capsys):
+    path = plan_folder(rows(3, 3, 3), PROJECT, ("mining_cost = 2", "mining_cost = -2"))
+    assert main(["prepare", str(path)]) == 1
+    assert capsys.readouterr().err == f"pitplan: {path}: [money] mining_cost: may not be negative\n"
+
+
+def test_the_script_runs_by_itself(plan_folder):
+    path = plan_folder(rows(4, 4, 3, **ORE))
+    ran = subprocess.run(
+        [str(ROOT / "tools" / "pitplan"), "prepare", str(path)], capture_output=True, text=True, check=True
+    )
+    assert ran.stdout.strip() == str(path.parent / "plan") and "reading" in ran.stderr
+
+
+def test_image_data_is_xml_with_raw_arrays(solved):
+    pytest.importorskip("vtk")
+    _, folder = solved
+    text = commands.export(folder, "vti", 1000, silent).read_bytes()
+    assert text.startswith(b"<?xml") or text.startswith(b"<VTKFile")
+    assert xml.fromstring(text.split(b"<AppendedData")[0] + b"</VTKFile>").attrib["type"] == "ImageData"

@@ -1,0 +1,89 @@
+"""Grids from coordinates: ids from the top down, air where no row is, and what is refused."""
+
+import numpy as np
+import pandas as pd
+import pytest
+from conftest import PROJECT, rows
+
+import pitplan
+from pitplan import PlanError
+
+NO_SIZE = ("[grid]\nsize = [10, 10, 10]\n", "")
+
+
+def test_ids_run_from_the_top_down_row_by_row(plan_folder):
+    table = rows(3, 2, 2).sample(frac=1, random_state=1)
+    blocks = pitplan.prepare(plan_folder(table)).blocks
+    expected = [f"b{i}-{j}-{k}" for k in (1, 0) for j in (0, 1) for i in (0, 1, 2)]
+    assert blocks["id"].tolist() == list(range(12)) and blocks["name"].tolist() == expected
+
+
+def test_cells_without_a_row_are_air_of_worth_0(plan_folder):
+    table = rows(3, 2, 2, cu=lambda i, j, k: 1.0)
+    plan = pitplan.prepare(plan_folder(table[table["name"] != "b1-1-1"]))
+    assert plan.grid.count == 12 and 4 not in set(plan.blocks["id"])
+    assert plan.values.mining[4] == 0 and plan.values.revenue[4] == 0 and plan.values.tonnes[4] == 0
+    assert plan.notes[1] == "1 cells have no row and are taken as air, which costs nothing to dig"
+
+
+def test_a_hole_below_a_block_is_warned_of(plan_folder):
+    table = rows(3, 2, 3)
+    notes = pitplan.prepare(plan_folder(table[~table["name"].isin(["b1-1-1", "b1-1-0", "b0-0-2"])])).notes
+    assert "WARNING: 2 of these cells lie below a block of the table: is rock missing from it?" in notes
+
+
+def test_centres_may_lie_off_by_the_tolerance(plan_folder):
+    table = rows(4, 3, 2)
+    table["x"] += np.resize([0.004, -0.004, 0.0], len(table))
+    plan = pitplan.prepare(plan_folder(table, PROJECT, NO_SIZE))
+    assert plan.grid.shape == (2, 3, 4) and abs(plan.grid.size[0] - 10) < 0.01
+    table.loc[5, "x"] += 0.3
+    with pytest.raises(PlanError, match="row .* column x: .* is off the grid .*reblock sub-blocks first"):
+        pitplan.prepare(plan_folder(table))
+
+
+def split(table, chosen):
+    """The block of that row as its eight sub-blocks of half the size."""
+    row = table.iloc[chosen]
+    eighths = [
+        {
+            **row,
+            "name": f"{row['name']}/{n}",
+            "x": row.x + dx,
+            "y": row.y + dy,
+            "z": row.z + dz,
+            "tonnes": row.tonnes / 8,
+        }
+        for n, (dx, dy, dz) in enumerate((a, b, c) for a in (-2.5, 2.5) for b in (-2.5, 2.5) for c in (-2.5, 2.5))
+    ]
+    return pd.concat([table.drop(index=chosen), pd.DataFrame(eighths)], ignore_index=True)
+
+
+def test_sub_blocks_are_refused_with_and_without_a_size(plan_folder):
+    table = split(rows(4, 4, 3), 20)
+    with pytest.raises(PlanError, match="most blocks have no neighbour: reblock sub-blocks first"):
+        pitplan.prepare(plan_folder(table, PROJECT, NO_SIZE))
+    with pytest.raises(PlanError, match="row 49 column x: .* is off the grid .*: reblock sub-blocks first"):
+        pitplan.prepare(plan_folder(table))
+
+
+def test_a_turned_model_is_refused(plan_folder):
+    table = rows(6, 5, 2)
+    x, y = table["x"] * 0.8 - table["y"] * 0.6, table["x"] * 0.6 + table["y"] * 0.8
+    with pytest.raises(PlanError, match="reblock sub-blocks first"):
+        pitplan.prepare(plan_folder(table.assign(x=x, y=y), PROJECT, NO_SIZE))
+
+
+def test_one_level_needs_the_size(plan_folder):
+    with pytest.raises(PlanError, match=r"column z: all blocks lie at 5: give the blocks' size as \[grid\] size"):
+        pitplan.prepare(plan_folder(rows(3, 2, 1), PROJECT, NO_SIZE))
+    plan = pitplan.prepare(plan_folder(rows(3, 2, 1), PROJECT, ("[10, 10, 10]", "[10, 10, 4]")))
+    assert plan.grid.size == (10, 10, 4) and plan.grid.extent() == (0, 30, 0, 20, 3, 7)
+
+
+def test_too_many_cells_are_refused(plan_folder):
+    table = pd.concat(
+        [rows(2, 2, 2), rows(2, 2, 2).assign(x=lambda t: t.x + 30_000_000, name=lambda t: t.name + "far")]
+    )
+    with pytest.raises(PlanError, match="cells, and the program takes at most 4,194,304 blocks"):
+        pitplan.prepare(plan_folder(table))

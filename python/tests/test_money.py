@@ -1,0 +1,112 @@
+"""Revenue and cost of blocks against sums done by hand, and against Python's `decimal`."""
+
+from decimal import Decimal
+
+import pytest
+from conftest import PROJECT, rows
+
+import pitplan
+from pitplan import PlanError, files
+
+MILLION = 10**6
+
+
+def test_values_of_a_block_by_hand(plan_folder):
+    # 100 t at 0.8 %, half recovered: 0.4 t of copper. It sells for 8000 a tonne and costs 500 to sell.
+    table = rows(2, 2, 2, cu=lambda i, j, k: 0.8 if (i, j, k) == (1, 0, 0) else 0)
+    plan = pitplan.prepare(plan_folder(table, PROJECT, ("price = 8000", "price = 8000\nselling_cost = 500")))
+    values = plan.values
+    assert values.ore.tolist() == [5]
+    assert values.revenue[5] == 3200 * MILLION
+    assert values.processing[5] == (1000 + 200) * MILLION
+    assert set(values.mining.tolist()) == {200 * MILLION}
+    assert values.metal["copper"][5] == pytest.approx(0.4)
+
+
+def test_cost_rises_with_the_level_from_the_top(plan_folder):
+    plan = pitplan.prepare(
+        plan_folder(rows(2, 1, 3), PROJECT, ("mining_cost = 2", "mining_cost = 2\nmining_cost_per_level = 0.25"))
+    )
+    assert (plan.values.mining / MILLION).tolist() == [200, 200, 225, 225, 250, 250]
+
+
+def test_two_metals_and_prices_by_rock(plan_folder):
+    gold = '[[metals]]\nname = "gold"\ncolumn = "au"\nunit = "gram_per_tonne"\nprice = 60\nrecovery = { R = 0.9, S = 0 }\n[slopes]'
+    table = rows(2, 1, 2, cu=lambda i, j, k: 0.5, au=lambda i, j, k: 2, rock=lambda i, j, k: "RS"[i])
+    changes = [("[slopes]", gold), ("mining_cost = 2", "mining_cost = { R = 2, S = 3 }")]
+    plan = pitplan.prepare(plan_folder(table, PROJECT, *changes))
+    # 100 t: 0.25 t of copper for 2000; of rock R also 180 g of gold for 10800.
+    assert (plan.values.revenue / MILLION).tolist() == [12800, 2000] * 2
+    assert (plan.values.mining / MILLION).tolist() == [200, 300] * 2
+
+
+def test_amounts_are_exact_in_decimals(plan_folder):
+    grades = [0.1, 0.7, 0.301, 1.07, 0.009, 2.3, 0.33, 0.0]
+    table = rows(2, 2, 2, tonnes=lambda i, j, k: 100.1 + i, cu=lambda i, j, k: grades[i + 2 * j + 4 * k])
+    changes = [("price = 8000", "price = 8123.45"), ("recovery = 0.5", "recovery = 0.87")]
+    plan = pitplan.prepare(plan_folder(table, PROJECT, *changes))
+    for _, row in plan.blocks.iterrows():
+        exact = Decimal(str(row.tonnes)) * Decimal(str(row.cu)) / 100 * Decimal("0.87") * Decimal("8123.45")
+        assert int(plan.values.revenue[row.id]) == int((exact * MILLION).to_integral_value())
+
+
+def test_whole_money_is_rounded_and_said(plan_folder):
+    table = rows(2, 2, 2, cu=lambda i, j, k: 0.111 if i else 0)
+    plan = pitplan.prepare(
+        plan_folder(
+            table, PROJECT, ("mining_cost = 2", "mining_cost = 2\ndecimals = 0"), ("price = 8000", "price = 8010")
+        )
+    )
+    # 100 t of 0.111 %, half recovered, at 8010: 444.555, kept as 445.
+    said = plan.values.roundings["revenue"]
+    assert plan.values.revenue.max() == 445 * MILLION
+    assert (said.values, said.changed, said.largest) == (8, 4, Decimal("0.445"))
+    assert (
+        "revenue: 4 of 8 amounts were rounded, by 0.44 at most" in plan.notes
+        or "revenue: 4 of 8 amounts were rounded, by 0.45 at most" in plan.notes
+    )
+    assert plan.values.roundings["mining cost"].changed == 0
+
+
+def test_an_ore_block_has_a_node_for_processing(plan_folder, tmp_path):
+    # 0.2 % yields 800 and costs 1000 to process: no ore at the price as given, but at 1500.
+    table = rows(2, 1, 2, cu=lambda i, j, k: 0.2 if (i, k) == (1, 0) else 0)
+    plan = pitplan.prepare(plan_folder(table))
+    plan.write(tmp_path)
+    lines = (tmp_path / files.BLOCKS).read_text().splitlines()
+    assert lines == ["0 0 0 1 0 200", "1 1 0 1 0 200", "2 0 0 0 0 200", "3 1 0 0 0 200", "4 1 0 0 800 1000"]
+    assert (tmp_path / files.PREC).read_text().splitlines()[-1] == "4 1 3"
+    assert (tmp_path / files.MODEL).read_text().splitlines()[4:] == ["0 -200", "1 -200", "2 -200", "3 -200", "4 -200"]
+
+
+def test_a_fixed_cutoff_settles_ore_at_the_price_as_given(plan_folder, tmp_path):
+    table = rows(2, 1, 2, cu=lambda i, j, k: 0.2 if (i, k) == (1, 0) else 0.5 if (i, k) == (0, 0) else 0)
+    plan = pitplan.prepare(plan_folder(table, PROJECT, ("mining_cost = 2", 'mining_cost = 2\ncutoff = "fixed"')))
+    plan.write(tmp_path)
+    lines = (tmp_path / files.BLOCKS).read_text().splitlines()
+    assert lines == ["0 0 0 1 0 200", "1 1 0 1 0 200", "2 0 0 0 2000 1200", "3 1 0 0 0 200"]
+
+
+@pytest.mark.parametrize(
+    "change, words",
+    [
+        (("mining_cost = 2", "mining_cost = { S = 2 }"), r'row 2 column rock: \[money\] mining_cost names no rock "R"'),
+        (
+            ("processing_cost = 10", "processing_cost = { S = 2 }"),
+            r'row 3 column rock: \[money\] processing_cost names no rock "R"',
+        ),
+        (("price = 8000", "price = 3_000_000_000_000"), "row 3 column revenue: the amount is 10\\^11 or more"),
+    ],
+)
+def test_missing_prices_and_huge_amounts_are_refused(plan_folder, change, words):
+    table = rows(2, 1, 2, cu=lambda i, j, k: 0.9 if (i, k) == (1, 0) else 0)
+    with pytest.raises(PlanError, match=words):
+        pitplan.prepare(plan_folder(table, PROJECT, change))
+
+
+def test_rocks_without_recovery_are_told(plan_folder):
+    table = rows(2, 1, 2, cu=lambda i, j, k: 0.5, rock=lambda i, j, k: "RS"[k])
+    plan = pitplan.prepare(plan_folder(table, PROJECT, ("recovery = 0.5", "recovery = { R = 0.5, OLD = 0.4 }")))
+    assert "2 blocks of rock S have no recovery of copper and yield none of it" in plan.notes
+    assert "recovery of copper names rock OLD, which no block is of" in plan.notes
+    assert plan.values.ore.tolist() == [2, 3]

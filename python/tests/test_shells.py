@@ -1,0 +1,169 @@
+"""Shells against every closed set of small mines, and the numbers of shells against sums done by hand."""
+
+from dataclasses import replace
+from decimal import Decimal
+from itertools import product
+from pathlib import Path
+
+import numpy as np
+import pytest
+from conftest import PROJECT, rows
+from hypothesis import HealthCheck, given, settings
+from hypothesis import strategies as st
+
+import pitplan
+from pitplan import analyse
+from pitplan.project import of_data, read_slopes
+from pitplan.section import Section
+from pitplan.slopes import FIVE
+
+SMALL = settings(max_examples=25, suppress_health_check=[HealthCheck.function_scoped_fixture])
+
+
+def project_of(tmp_path, metal_price=8000, factors=(300, 700, 1000, 1600), cutoff="moving"):
+    money = {"mining_cost": 2, "processing_cost": 10, "cutoff": cutoff}
+    metal = {"name": "copper", "column": "cu", "unit": "percent", "price": metal_price, "recovery": Decimal("0.5")}
+    data = {
+        "table": {"file": "blocks.csv", "id": "name"},
+        "grid": {"size": [10, 10, 10]},
+        "money": money,
+        "metals": [metal],
+        "slopes": {"walls": [{"pattern": "1:5"}]},
+        "shells": {"factors": list(factors), "rate": Decimal("0.1"), "ore_per_year": 100},
+    }
+    return of_data(data, tmp_path / "project.toml")
+
+
+def closed_sets(columns, rows_, levels):
+    """Every set of blocks of a box that keeps the slopes 1:5, as truths by id."""
+    count = columns * rows_ * levels
+    needs = []
+    for block in range(count):
+        level, rest = divmod(block, columns * rows_)
+        row, column = divmod(rest, columns)
+        places = [(level - up, row + north, column + east) for east, north, up in FIVE]
+        needs.append(
+            [(z * rows_ + y) * columns + x for z, y, x in places if z >= 0 and 0 <= y < rows_ and 0 <= x < columns]
+        )
+    for chosen in product((False, True), repeat=count):
+        if all(chosen[p] for block in range(count) if chosen[block] for p in needs[block]):
+            yield chosen
+
+
+def best_by_trying(closed, values):
+    """The greatest worth and the blocks that all best sets share (the smallest best set)."""
+    worths = [sum(value for value, inside in zip(values, chosen) if inside) for chosen in closed]
+    best = max(worths)
+    sets = [{b for b, inside in enumerate(chosen) if inside} for chosen, worth in zip(closed, worths) if worth == best]
+    return best, set.intersection(*sets)
+
+
+BOX = (3, 1, 3)
+CLOSED = list(closed_sets(*BOX))
+grades = st.lists(st.sampled_from([0, 0, 0, 0.1, 0.25, 0.3, 0.5, 1, 2, 4]), min_size=9, max_size=9)
+
+
+@SMALL
+@given(grades)
+def test_shells_are_the_best_of_all_closed_sets(tmp_path, by_id):
+    """100 t a block: mining 200, processing 1000, and 40,000 for each per cent of copper."""
+    table = rows(*BOX, cu=lambda i, j, k: by_id[(2 - k) * 3 + i])
+    plan = pitplan.prepare(project_of(tmp_path), table=table)
+    solution = pitplan.solve(plan)
+    for factor in plan.project.schedule.factors:
+        gains = [Decimal(factor) * Decimal(str(grade)) * 4000 / 1000 - 1000 for grade in by_id]
+        worth, pit = best_by_trying(CLOSED, [max(gain, Decimal(0)) - 200 for gain in gains])
+        assert solution.worth[factor] == worth
+        assert set(np.flatnonzero((solution.entry[:9] > 0) & (solution.entry[:9] <= factor))) == pit
+        processed = analyse.cells_of(plan, solution).processed
+        expected = {block for block in pit if gains[block] > 0}
+        assert set(np.flatnonzero((processed > 0) & (processed <= factor))) == expected
+
+
+@SMALL
+@given(grades)
+def test_a_fixed_cutoff_is_the_best_with_ore_settled_at_1000(tmp_path, by_id):
+    table = rows(*BOX, cu=lambda i, j, k: by_id[(2 - k) * 3 + i])
+    plan = pitplan.prepare(project_of(tmp_path, cutoff="fixed"), table=table)
+    solution = pitplan.solve(plan)
+    for factor in plan.project.schedule.factors:
+        yields = [Decimal(str(grade)) * 4000 for grade in by_id]
+        values = [factor * y / 1000 - 1200 if y > 1000 else Decimal(-200) for y in yields]
+        worth, pit = best_by_trying(CLOSED, values)
+        assert solution.worth[factor] == worth
+        assert set(np.flatnonzero((solution.entry > 0) & (solution.entry <= factor))) == pit
+
+
+@settings(max_examples=15)
+@given(st.integers(0, 10**6), st.sampled_from(["1:5", "1:9", "40"]), st.sampled_from(["moving", "fixed"]))
+def test_trimmed_needs_give_the_same_shells(seed, walls, cutoff):
+    rng = np.random.default_rng(seed)
+    table = rows(9, 8, 5, tonnes=lambda i, j, k: 100 if k < 4 or i % 3 else 0)
+    table["cu"] = np.where(rng.random(len(table)) < 0.06, rng.random(len(table)).round(3) * 8, 0.0)
+    project = project_of(Path("."), cutoff=cutoff)
+    wall = {"angle": Decimal(walls)} if walls.isdigit() else {"pattern": walls}
+    slopes = read_slopes(Section("test", "slopes", {"levels": 3, "walls": [wall]}))
+    plan = pitplan.prepare(replace(project, slopes=slopes), table=table)
+    trimmed = pitplan.solve(plan)
+    assert plan.used.sum() < plan.grid.count
+    plan.used[:] = True
+    whole = pitplan.solve(plan)
+    assert (trimmed.entry == whole.entry).all() and (trimmed.worth == whole.worth).all()
+
+
+def test_the_table_of_shells_by_hand(tmp_path):
+    """A pillar of three blocks: waste, poor ore at 0.4 %, and at the floor rich ore at 1.5 %."""
+    table = rows(1, 1, 3, cu=lambda i, j, k: [1.5, 0.4, 0][k])
+    plan = pitplan.prepare(project_of(tmp_path, factors=(200, 500, 1000)), table=table)
+    shells = pitplan.shells(plan, pitplan.solve(plan)).set_index("factor")
+    # At the price as given processing the rich block gains 6000 - 1000, the poor one 1600 - 1000. At 500 the poor one
+    # is mined and thrown away: 800 does not pay its processing. At 200 the rich one gains 200, and mining costs 600.
+    assert shells["blocks"].tolist() == [0, 3, 3]
+    assert shells["tonnes"].tolist() == [0, 300, 300]
+    assert shells["ore_tonnes"].tolist() == [0, 200, 200] and shells["waste_tonnes"].tolist() == [0, 100, 100]
+    assert shells["processed_tonnes"].tolist() == [0, 100, 200]
+    assert shells["strip_ratio"][1000] == 0.5 and np.isnan(shells["strip_ratio"][200])
+    assert shells["grade_copper"][1000] == pytest.approx(0.95) and shells["metal_copper"][1000] == pytest.approx(0.95)
+    assert shells["worth"].tolist() == [0, 5000, 5000]
+    assert shells["worth_at_factor"].tolist() == [Decimal(0), Decimal(1400), Decimal(5000)]
+    # 100 t of ore a year at 10 %: -200 at once, 400 after a year, 4800 after two.
+    npv = -200 + 400 / 1.1 + 4800 / 1.1**2
+    assert shells["npv_best"][1000] == pytest.approx(npv) and shells["npv_worst"][1000] == pytest.approx(npv)
+    assert shells["years"].tolist() == [0, 2, 2]
+
+
+def test_best_and_worst_case_by_hand(plan_folder):
+    """Two pillars: the east one is so poor that it comes in at 1000 alone. Rock is dug at 100 t a year."""
+    table = rows(2, 1, 2, cu=lambda i, j, k: 0 if k else [4, 0.4][i])
+    upright = ('pattern = "1:5"', "angle = 90")
+    changes = [upright, ("ore_per_year = 100", "ore_per_year = 100\nrock_per_year = 100")]
+    plan = pitplan.prepare(plan_folder(table, PROJECT, *changes))
+    shells = pitplan.shells(plan, pitplan.solve(plan)).set_index("factor")
+    assert shells["blocks"].to_dict() == {500: 2, 1000: 4, 1500: 4}
+    # The rich floor is worth 16000 - 1000 - 200, the poor one 1600 - 1000 - 200; each block takes a year.
+    rich, poor, top = 14800, 400, -200
+    best = top / 1.1 + rich / 1.1**2 + top / 1.1**3 + poor / 1.1**4
+    worst = top / 1.1 + top / 1.1**2 + rich / 1.1**3 + poor / 1.1**4
+    assert shells["npv_best"][500] == pytest.approx(top / 1.1 + rich / 1.1**2)
+    assert shells["npv_best"][1000] == pytest.approx(best) and shells["npv_worst"][1000] == pytest.approx(worst)
+    assert shells["years"][1000] == 4
+
+
+def test_pits_that_touch_the_model_are_warned_of(plan_folder):
+    table = rows(5, 5, 3, cu=lambda i, j, k: 8 if (i, j, k) == (1, 2, 0) else 0)
+    plan = pitplan.prepare(plan_folder(table))
+    notes = analyse.edge_notes(plan, pitplan.solve(plan))
+    touched = [note.split(" of the model")[0] for note in notes]
+    assert touched == [
+        f"WARNING: the greatest pit touches the {side}" for side in ("west side", "south side", "north side", "floor")
+    ]
+    assert (
+        notes[0].endswith("in 3 blocks, from factor 500 on: a larger model may give another pit")
+        or "blocks, from factor 500" in notes[0]
+    )
+
+
+def test_factor_1000_is_always_there(plan_folder):
+    plan = pitplan.prepare(plan_folder(rows(2, 2, 2), PROJECT, ("[500, 1000, 1500]", "[900, 500]")))
+    assert plan.project.schedule.factors == (500, 900, 1000)
+    assert "factor 1000, the price as given, was added to the factors" in plan.notes

@@ -1,0 +1,205 @@
+"""Needs of walls against the tool that makes mines, against the cone itself, and against angles by geometry."""
+
+import math
+import subprocess
+import sys
+
+import numpy as np
+import pandas as pd
+import pytest
+from conftest import PROJECT, ROOT, rows
+from hypothesis import given
+from hypothesis import strategies as st
+
+import pitplan
+from pitplan import PlanError, files, slopes
+from pitplan.project import Slopes, Wall
+
+CUBE, FLAT = (10.0, 10.0, 10.0), (20.0, 20.0, 15.0)
+
+
+def pairs_of(path):
+    return {(int(fields[0]), int(needed)) for fields in map(str.split, open(path)) for needed in fields[2:]}
+
+
+def closure(pairs, count):
+    """All that each block needs, directly or through others."""
+    needs = {block: set() for block in range(count)}
+    for block, needed in sorted(pairs):  # needed blocks have lesser numbers, so theirs are whole
+        needs[block] |= {needed} | needs[needed]
+    return needs
+
+
+def made_mine(tmp_path, blocks, pattern):
+    """A mine of the tool, and its blocks as a planner's table."""
+    tool = [sys.executable, str(ROOT / "tools" / "make_mine.py"), "--blocks", str(blocks), "--slopes", pattern]
+    subprocess.run([*tool, "--out", str(tmp_path / "made")], check=True)
+    made = pd.read_csv(tmp_path / "made.blocks", sep=" ", header=None)
+    table = pd.DataFrame({"name": made[0], "x": made[1] * 10, "y": made[2] * 10, "z": made[3] * 10})
+    return table.assign(tonnes=1, cu=0.0, rock="R", region="1")
+
+
+@pytest.mark.parametrize("pattern", ["1:5", "1:9"])
+def test_patterns_are_those_of_the_tool_byte_for_byte(plan_folder, tmp_path, pattern):
+    plan = pitplan.prepare(plan_folder(made_mine(tmp_path, 300, pattern), PROJECT, ('"1:5"', f'"{pattern}"')))
+    plan.used[:] = True
+    plan.write(tmp_path)
+    assert (tmp_path / files.PREC).read_bytes() == (tmp_path / "made.prec").read_bytes()
+
+
+def test_a_cone_of_45_degrees_needs_what_that_of_the_tool_needs(plan_folder, tmp_path):
+    table = made_mine(tmp_path, 400, "cone")
+    plan = pitplan.prepare(plan_folder(table, PROJECT, ('pattern = "1:5"', "angle = 45")))
+    plan.used[:] = True
+    plan.write(tmp_path)
+    mine, made = pairs_of(tmp_path / files.PREC), pairs_of(tmp_path / "made.prec")
+    assert len(mine) < len(made)
+    assert closure(mine, len(table)) == closure(made, len(table))
+
+
+def reached(offsets, levels):
+    """The steps east and north to which a list of steps leads, by levels up."""
+    found = [{(0, 0)}]
+    for up in range(1, levels + 1):
+        found.append({(x + a, y + b) for a, b, c in offsets if c <= up for x, y in found[up - c]})
+    return found
+
+
+@given(st.integers(20, 80), st.integers(1, 5), st.sampled_from([CUBE, FLAT, (5.0, 10.0, 4.0)]))
+def test_a_cone_reaches_exactly_the_cone(angle, levels, size):
+    offsets = slopes.cone(((0.0, float(angle)),), size, levels)
+    dx, dy, dz = size
+    for up, cells in enumerate(reached(offsets, levels)):
+        far = up * dz / math.tan(math.radians(angle)) + 1e-6
+        wide, broad = int(far / dx) + 1, int(far / dy) + 1
+        box = [(x, y) for x in range(-wide, wide + 1) for y in range(-broad, broad + 1)]
+        assert cells == {(x, y) for x, y in box if math.hypot(x * dx, y * dy) <= far}
+
+
+@given(st.integers(25, 75), st.integers(2, 5))
+def test_no_step_of_a_cone_can_be_left_out(angle, levels):
+    offsets = slopes.cone(((0.0, float(angle)),), FLAT, levels)
+    whole = reached(offsets, levels)
+    for step in offsets:
+        less = reached([other for other in offsets if other != step], levels)
+        assert less[step[2]] != whole[step[2]]
+
+
+def test_walls_of_1_to_5_and_1_to_9_by_geometry():
+    five, nine = (slopes.wall_angles(offsets, CUBE) for offsets in (slopes.FIVE, slopes.NINE))
+    diagonal = math.degrees(math.atan(math.sqrt(2)))
+    assert five.min() == pytest.approx(45) and five.max() == pytest.approx(diagonal)
+    assert five[0] == pytest.approx(45) and five[45] == pytest.approx(diagonal)
+    assert nine.max() == pytest.approx(45) and nine.min() == pytest.approx(math.degrees(math.atan(1 / math.sqrt(2))))
+    flat = slopes.wall_angles(slopes.FIVE, FLAT)
+    assert flat.min() == pytest.approx(math.degrees(math.atan(15 / 20)))
+    assert flat.max() == pytest.approx(math.degrees(math.atan(15 / (20 / math.sqrt(2)))))
+
+
+def test_walls_that_stand_upright_and_lists_without_width():
+    assert slopes.wall_angles(((0, 0, 1),), CUBE) == pytest.approx(np.full(360, 90.0))
+    line = slopes.wall_angles(((0, 0, 1), (1, 0, 1)), CUBE)
+    assert line[90] == pytest.approx(45) and line[270] == pytest.approx(90) and line[0] == pytest.approx(90)
+    assert slopes.cone(((0.0, 90.0),), CUBE, 4) == ((0, 0, 1),)
+
+
+@given(st.integers(25, 75), st.integers(1, 8))
+def test_errors_are_those_of_a_high_wall(angle, levels):
+    """The wall of 60 levels that the list makes, step by step, is less than a list's height of steps off the computed one."""
+    offsets = slopes.cone(((0.0, float(angle)),), CUBE, levels)
+    computed = slopes.wall_angles(offsets, CUBE)
+    for azimuth, axis in ((0, 1), (90, 0)):
+        steps = [(step[axis], step[2]) for step in offsets if step[1 - axis] == 0]
+        best = [0] * 61
+        for up in range(1, 61):
+            best[up] = max(best[up - c] + a for a, c in steps if c <= up)
+        flatness = 1 / math.tan(math.radians(computed[azimuth]))
+        assert 60 * flatness + 1e-6 >= best[60] >= (60 - levels) * flatness - 1e-6
+
+
+def test_angles_between_azimuths_go_by_the_cotangent():
+    angles = ((0.0, 45.0), (90.0, 30.0), (270.0, 60.0))
+    at = dict(zip((0, 45, 90, 180, 315), slopes.cotangents(angles, np.array([0, 45, 90, 180, 315]))))
+    root = math.sqrt(3)
+    assert at[0] == pytest.approx(1) and at[90] == pytest.approx(root)
+    assert at[45] == pytest.approx((1 + root) / 2)
+    assert at[180] == pytest.approx((root + 1 / root) / 2)
+    assert at[315] == pytest.approx((1 + 1 / root) / 2)
+
+
+def test_never_steeper_than_asked():
+    wall = Wall(None, None, ((0.0, 48.0), (90.0, 42.0), (180.0, 48.0), (270.0, 45.0)))
+    free = slopes.pattern_of(wall, FLAT, Slopes(6, False, (wall,)))
+    bound = slopes.pattern_of(wall, FLAT, Slopes(6, True, (wall,)))
+    assert free.errors.max() > 0.5 and free.widened == 1
+    assert bound.errors.max() <= 1e-6 and bound.widened > 1
+    inside = reached(free.offsets, 6)
+    assert all(cells <= more for cells, more in zip(inside, reached(bound.offsets, 6)))
+
+
+def test_azimuth_90_is_the_east_wall(plan_folder):
+    """Flat in the east, steep in the west: the needs of a block lie to its east."""
+    angles = "azimuths = [[0, 60], [90, 30], [180, 60], [270, 80]]"
+    plan = pitplan.prepare(plan_folder(rows(5, 5, 3), PROJECT, ('pattern = "1:5"', angles)))
+    offsets = plan.walls.patterns[0].offsets
+    assert (1, 0, 1) in offsets and (-1, 0, 1) not in offsets
+    assert max(x for x, _, _ in offsets) > -min(x for x, _, _ in offsets)
+
+
+def test_each_region_has_its_walls(plan_folder, tmp_path):
+    table = rows(4, 3, 2, region=lambda i, j, k: "soft" if i < 2 else "hard")
+    walls = 'region = "hard"\npattern = "1:5"\n[[slopes.walls]]\nregion = ["soft", "clay"]\npattern = "1:9"'
+    plan = pitplan.prepare(plan_folder(table, PROJECT, ('pattern = "1:5"', walls)))
+    plan.used[:] = True
+    plan.write(tmp_path)
+    pairs = pairs_of(tmp_path / files.PREC)
+    # Block 17 is in the soft region, in the middle of the lower level; 18 in the hard one.
+    assert {p for u, p in pairs if u == 17} == {0, 1, 2, 4, 5, 6, 8, 9, 10}
+    assert {p for u, p in pairs if u == 18} == {2, 5, 6, 7, 10}
+
+
+def test_air_takes_the_walls_of_the_ground_below(plan_folder):
+    table = rows(3, 3, 3, region=lambda i, j, k: "a" if i == 0 else "b")
+    walls = 'region = "a"\npattern = "1:5"\n[[slopes.walls]]\nregion = "b"\npattern = "1:9"'
+    plan = pitplan.prepare(
+        plan_folder(
+            table[table["z"] < 20], PROJECT, ('[[slopes.walls]]\npattern = "1:5"', f"[[slopes.walls]]\n{walls}")
+        )
+    )
+    assert plan.grid.shape == (2, 3, 3)
+    top = table[(table["z"] < 20) | ((table["x"] == 5) & (table["y"] == 5))]
+    plan = pitplan.prepare(
+        plan_folder(top, PROJECT, ('[[slopes.walls]]\npattern = "1:5"', f"[[slopes.walls]]\n{walls}"))
+    )
+    assert plan.walls.code[:9].tolist() == [0, 1, 1] * 3
+
+
+def test_a_region_without_walls_is_refused(plan_folder):
+    walls = 'region = "2"\npattern = "1:5"'
+    with pytest.raises(
+        PlanError, match=r"\[slopes\] no \[\[slopes.walls\]\] is for region 1, and none is without a region"
+    ):
+        pitplan.prepare(plan_folder(rows(2, 2, 2), PROJECT, ('pattern = "1:5"', walls)))
+
+
+def test_walls_for_regions_alone_need_a_region_column(plan_folder):
+    path = plan_folder(
+        rows(2, 2, 2), PROJECT, ('region = "region"\n', ""), ('pattern = "1:5"', 'region = 1\npattern = "1:5"')
+    )
+    with pytest.raises(
+        PlanError, match=r"all \[\[slopes.walls\]\] are for regions, and \[table\] names no column as region"
+    ):
+        pitplan.prepare(path)
+
+
+def test_a_list_that_cannot_hold_a_flat_wall_is_refused():
+    wall = Wall(None, None, ((0.0, 1.0),))
+    with pytest.raises(PlanError, match="1 levels of these blocks hold no wall flat enough: give more levels"):
+        slopes.pattern_of(wall, (10.0, 10.0, 0.001), Slopes(1, True, (wall,)))
+
+
+def test_needs_that_leave_the_grid_at_its_sides_are_counted(plan_folder, tmp_path):
+    plan = pitplan.prepare(plan_folder(rows(3, 3, 2)))
+    plan.used[:] = True
+    # Of the nine lower blocks the four corners lack two neighbours each, and the four edges one.
+    assert plan.write(tmp_path)["needs"]["clipped_at_the_sides"] == 4 * 2 + 4 * 1

@@ -1,0 +1,111 @@
+"""Tables that are refused, each by a sentence with file, row and column; and those that are read."""
+
+import gzip
+
+import numpy as np
+import pandas as pd
+import pytest
+from conftest import PROJECT, rows
+
+import pitplan
+from pitplan import PlanError
+from pitplan.table import read
+
+
+def refused(project):
+    with pytest.raises(PlanError) as said:
+        pitplan.prepare(project)
+    return str(said.value)
+
+
+@pytest.mark.parametrize(
+    "column, value, words",
+    [
+        ("tonnes", "many", 'row 4 column tonnes: "many" is not a number'),
+        ("tonnes", "", "row 4 column tonnes: is empty"),
+        ("tonnes", "-1", "row 4 column tonnes: -1 is negative"),
+        ("tonnes", "inf", "row 4 column tonnes: is infinite"),
+        ("cu", "-99", "row 4 column cu: -99 is negative"),
+        ("cu", "n/a", 'row 4 column cu: "n/a" is not a number'),
+        ("x", "", "row 4 column x: is empty"),
+        ("name", "b0-0-0", "row 4 column name: b0-0-0 stands in row 2 too"),
+        ("rock", " ", "row 4 column rock: is empty"),
+        ("region", "", "row 4 column region: is empty"),
+        ("z", "5.4", "row 4 column z: 5.4 is off the grid"),
+        ("x", "15", "row 4 column x, y, z: the block of row 3 lies there too"),
+    ],
+)
+def test_a_bad_field_is_named_by_row_and_column(plan_folder, column, value, words):
+    table = rows(3, 2, 2).astype(object)
+    table.loc[2, column] = value
+    path = plan_folder(table)
+    assert refused(path).startswith(f"{path.parent / 'blocks.csv'} {words}")
+
+
+def test_a_missing_column_is_named_with_those_that_are_there(plan_folder):
+    path = plan_folder(rows(2, 2, 2).drop(columns="cu"))
+    words = "row 1: there is no column cu; the columns are name, x, y, z, tonnes, rock, region"
+    assert refused(path) == f"{path.parent / 'blocks.csv'} {words}"
+
+
+def test_a_missing_file_and_an_empty_one_are_named(plan_folder):
+    path = plan_folder("")
+    assert refused(path).startswith(f"{path.parent / 'blocks.csv'}: is no table")
+    (path.parent / "blocks.csv").unlink()
+    assert refused(path) == f"{path.parent / 'blocks.csv'}: cannot be read: No such file or directory"
+    plan_folder("name,x,y,z,tonnes,cu,rock,region\n")
+    assert refused(path) == f"{path.parent / 'blocks.csv'}: has no blocks"
+
+
+def test_a_line_with_too_many_fields_is_refused(plan_folder):
+    text = rows(2, 2, 2).to_csv(index=False).replace("b1-0-0", "b1,0,0")
+    assert "Expected 8 fields in line 3, saw 10" in refused(plan_folder(text))
+
+
+def test_empty_fields_are_taken_as_0_where_the_project_says_so(plan_folder):
+    table = rows(2, 2, 2).astype(object)
+    table.loc[[1, 2], "cu"] = ""
+    plan = pitplan.prepare(plan_folder(table, PROJECT, ('id = "name"', 'id = "name"\nempty = "zero"')))
+    assert "2 empty fields were taken as 0" in plan.notes
+    assert plan.table["cu"].tolist() == [0.0] * 8
+
+
+def test_a_compressed_table_with_another_separator_is_the_same(plan_folder):
+    table = rows(3, 2, 2, cu=lambda i, j, k: 0.1 * i)
+    plain = pitplan.prepare(plan_folder(table))
+    path = plan_folder(table, PROJECT, ('"blocks.csv"', '"blocks.csv.gz"\nseparator = ";"'))
+    with gzip.open(path.parent / "blocks.csv.gz", "wt") as file:
+        table.to_csv(file, sep=";", index=False)
+    pd.testing.assert_frame_equal(pitplan.prepare(path).blocks, plain.blocks)
+
+
+def test_a_spreadsheets_mark_at_the_beginning_is_passed_over(plan_folder):
+    path = plan_folder("\ufeff" + rows(2, 2, 2).to_csv(index=False))
+    assert (
+        pitplan.prepare(path).blocks["name"].tolist()
+        == pitplan.prepare(plan_folder(rows(2, 2, 2))).blocks["name"].tolist()
+    )
+
+
+def test_columns_with_names_of_the_plans_own_are_kept_beside_them(plan_folder):
+    table = rows(3, 2, 2).rename(columns={"name": "id", "cu": "revenue"})
+    path = plan_folder(table, PROJECT, ('id = "name"', 'id = "id"'), ('column = "cu"', 'column = "revenue"'))
+    blocks = pitplan.prepare(path).blocks
+    assert blocks["id"].tolist() == list(range(12)) and blocks["planner_id"][0] == "b0-0-1"
+    assert blocks["planner_revenue"].tolist() == [0] * 12 == blocks["revenue"].tolist()
+
+
+def test_codes_stay_texts(plan_folder):
+    table = rows(2, 2, 2, region=lambda i, j, k: "01", rock=lambda i, j, k: "NA")
+    project = pitplan.load(plan_folder(table))
+    assert set(read(project).frame["region"]) == {"01"} and set(read(project).frame["rock"]) == {"NA"}
+
+
+def test_a_table_of_pandas_is_taken_as_it_is(plan_folder):
+    table = rows(3, 3, 2, cu=lambda i, j, k: 0.7 if (i, j, k) == (1, 1, 0) else 0)
+    path = plan_folder(table)
+    given = pitplan.prepare(path, table=table)
+    pd.testing.assert_frame_equal(given.blocks, pitplan.prepare(path).blocks)
+    bad = table.assign(tonnes=np.where(table.index == 3, np.nan, 1.0))
+    with pytest.raises(PlanError, match="table row 5 column tonnes: is empty"):
+        pitplan.prepare(path, table=bad)

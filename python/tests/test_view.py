@@ -1,0 +1,83 @@
+"""The 3D page in a real headless Chromium: what it draws, counted and looked at."""
+
+import re
+import shutil
+import subprocess
+
+import numpy as np
+import pandas as pd
+import pytest
+
+from pitplan import commands
+from pitplan.progress import silent
+
+CHROMIUM = shutil.which("chromium")
+FLAGS = [
+    "--headless",
+    "--no-sandbox",
+    "--use-gl=angle",
+    "--use-angle=swiftshader",
+    "--enable-unsafe-swiftshader",
+    "--window-size=900,600",
+]
+needs_chromium = pytest.mark.skipif(CHROMIUM is None, reason="Chromium is not installed")
+
+
+@pytest.fixture(scope="module")
+def page(solved_once, tmp_path_factory):
+    """A page of the solved hill, and the blocks that it shows."""
+    folder = shutil.copytree(solved_once.place / "plan", tmp_path_factory.mktemp("view") / "plan")
+    return commands.view(folder, silent), pd.read_csv(folder / "blocks.csv")
+
+
+def opened(page, state, *flags):
+    ran = subprocess.run(
+        [CHROMIUM, *FLAGS, *flags, f"file://{page}#{state}"], capture_output=True, text=True, timeout=60, check=True
+    )
+    return ran.stdout
+
+
+def exposed(seen):
+    """How many sides of the cells have no seen cell beyond them."""
+    padded = np.pad(seen, 1)
+    return sum(int((padded & ~np.roll(padded, step, axis)).sum()) for axis in range(3) for step in (1, -1))
+
+
+def demand_drawn(document, blocks, shown, at):
+    """The document's count of faces is that of the shown blocks, and its words are those of the factor and the bench."""
+    factor, cut = at
+    cube = np.zeros((5, 9, 10), dtype=bool)
+    seen = blocks[shown]
+    cube[(45 - seen["z"]).astype(int) // 10, seen["y"].astype(int) // 10, seen["x"].astype(int) // 10] = True
+    assert re.search(r'data-faces="(\d+)"', document)[1] == str(exposed(cube[cut:]))
+    assert f'<output id="factorText">{factor}</output>' in document
+    assert f'<output id="cutText">{50 - 10 * cut} m</output>' in document
+
+
+@needs_chromium
+def test_the_page_draws_the_blocks_of_a_pit_below_a_bench(page):
+    path, blocks = page
+    assert set(blocks["factor"]) == {0, 500, 1000, 1500}
+    document = opened(path, "show=pit&factor=1500&cut=1", "--dump-dom")
+    demand_drawn(document, blocks, blocks["factor"] > 0, (1500, 1))
+
+
+@needs_chromium
+def test_the_page_draws_the_ground_with_a_pit(page, tmp_path):
+    """By its faces, and by its picture: ground, shells and background are there, each on a fair share of the page."""
+    image = pytest.importorskip("matplotlib.image")
+    path, blocks = page
+    document = opened(path, "show=ground&factor=500", "--dump-dom", f"--screenshot={tmp_path / 'page.png'}")
+    demand_drawn(document, blocks, (blocks["factor"] == 0) | (blocks["factor"] > 500), (500, 0))
+    pixels = (image.imread(tmp_path / "page.png")[:, 300:, :3] * 255).round().astype(int)
+    background = (abs(pixels - [247, 246, 243]) <= 2).all(axis=2).mean()
+    red, green, blue = pixels[..., 0], pixels[..., 1], pixels[..., 2]
+    # The ground is a grey brown, the colours of the shells are far from grey.
+    ground = ((red >= green) & (green > blue) & (red - blue < 60) & (red < 240)).mean()
+    shells = (pixels.max(axis=2) - pixels.min(axis=2) > 70).mean()
+    assert 0.1 < background < 0.9 and ground > 0.1 and shells > 0.005
+
+
+def test_the_page_needs_no_other_file(page):
+    text = page[0].read_text()
+    assert not re.search(r'(src|href)\s*=\s*"', text) and text.count("<script>") == 3
