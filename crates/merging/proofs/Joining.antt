@@ -22,31 +22,6 @@ use Rattle.merging.specs.Parts.{graph_of, IsSolvedPart, AreSolved, named, AreMar
 pub none_marked : (blocks pit : List ℕ) (marks : List Bool) → AreMarked blocks pit 0 marks marks
 none_marked blocks pit marks = record { size = refl; grows = λ v e. e; only = λ v e. inl e; all = λ i l. absurd (omega arith) }
 
-pub mark_more : (blocks pit : List ℕ) (count : ℕ) (before marks : List Bool) → AreMarked blocks pit count before marks → named blocks pit count < length marks
-    → AreMarked blocks pit (count + 1) before (set marks (named blocks pit count) true)
-mark_more blocks pit count before marks was inside =
-    let at : ℕ = named blocks pit count in
-    let here : has (set marks at true) at ≡ true = get_or-set_same marks at true false inside in
-    let kept : (v : ℕ) → has marks v ≡ true → has (set marks at true) v ≡ true = λ v e. ⊎_elim
-    (λ (s : v ≡ at). ap (has (set marks at true)) s ∙ here)
-    (λ (ne : v ≡ at → ⊥). get_or-set_other marks at v true false ne ∙ e)
-    (cases_eq v at) in
-    record {
-      size = length-set marks at true ∙ was.size;
-      grows = λ v e. kept v (was.grows v e);
-      only = λ v e. ⊎_elim
-          (λ (s : v ≡ at). inr (count, omega arith, sym s))
-          (λ (ne : v ≡ at → ⊥). ⊎_elim
-          (λ (h : has before v ≡ true). inl h)
-          (λ (w : (i : ℕ) × (i < count) × (named blocks pit i ≡ v)). inr (w.0, omega (arith, w.1), w.2))
-          (was.only v (sym (get_or-set_other marks at v true false ne) ∙ e)))
-          (cases_eq v at);
-      all = λ i l. ⊎_elim
-          (λ (s : i ≡ count). ap (λ j. has (set marks at true) (named blocks pit j)) s ∙ here)
-          (λ (ne : i ≡ count → ⊥). kept (named blocks pit i) (was.all i (omega arith)))
-          (cases_eq i count);
-    }
-
 -- ---- flow
 -- pairs in order: no two are the same
 rising_once : (pairs : List (ℕ × ℕ)) → AreRising pairs → (k l : ℕ) → k < length pairs → l < length pairs → first_of pairs k ≡ first_of pairs l → second_of pairs k ≡ second_of pairs l → k ≡ l

@@ -17,9 +17,6 @@ behind_values read others = (read ++ others.0, others.1)
 abbrev pub AreLeft : List ℤ → ℕ → ℕ → ℕ → List Row → Result ValuesAndRows Fault → Type 0
 AreLeft read count i left rows whole = Continues (behind_values read) (values_from count i left rows) whole
 
-pub none_read : (count n : ℕ) (rows : List Row) → AreLeft [] count 0 n rows (values_from count 0 n rows)
-none_read count n rows = record { fails = λ fault h. h; gives = λ x h. h }
-
 -- the checks of block i and of those behind it
 abbrev onto : ℤ → ValuesAndRows → ValuesAndRows
 onto value others = (value ∷ others.0, others.1)

@@ -47,9 +47,6 @@ same_worker z cell ask s t w same me =
 pub desk_now : (s t : S) (d : Desk) (h : Option Rack) (c : List (ℕ × Unit {0})) → t.me ≡ (knows (Some d) h, c) → desk_in t ≡ d
 desk_now s t d h c me = ap (λ m. desk_or m.0.worker) me
 
-pub open_not_idle : (a : ℕ) (d : Desk) → OpenIs (Some a) d → IsIdle d → ⊥
-open_not_idle a d o e = longer (arcs d.collected) a (sym o.0 ∙ e)
-
 module _ (z : TableId) (n slots cell : ℕ) (s : S) where
   pub ask_as : (a : ℕ) → IsWorker z cell None s → a < 4294967296 → Allows (Boarded n) slots s.id s.me cell (λ _. 4294967296 + a) (λ _. Asked (step slots cell (4294967296 + a) 0 none) s.me (4294967296 + a))
   ask_as a w small = subst (λ (i : ℕ). Allows (Boarded n) slots s.id s.me i (λ _. 4294967296 + a) (λ _. Asked (step slots i (4294967296 + a) 0 none) s.me (4294967296 + a))) w.at (may_ask n slots s.id a s.me (desk_in s) w.is small w.ask)

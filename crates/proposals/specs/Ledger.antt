@@ -185,9 +185,6 @@ answered_to ss i = (get_or ss i nothing).answered
 abbrev pub claimed_from : List Served → ℕ → Option ℕ
 claimed_from ss i = (get_or ss i nothing).claimed
 
-abbrev pub serving : Rack → ℕ → Served → Rack
-serving q i x = rack q.dealt (set q.served i x)
-
 -- the arc a is claimed from a worker that had none claimed
 abbrev pub claiming : List Served → ℕ → ℕ → List Served
 claiming ss i a = set ss i (served (answered_to ss i) (Some a))

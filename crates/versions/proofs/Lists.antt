@@ -25,10 +25,6 @@ pub arcs_begin : (xs ys : List Link) → IsPrefix xs ys → IsPrefix (arcs_of xs
 arcs_begin [] ys p = (arcs_of ys, refl)
 arcs_begin (x ∷ xs) ys p = (map (λ (y : Link). y.arc) p.0, sym (arcs_both xs p.0) ∙ ap arcs_of p.1)
 
-pub arcs_count : (xs : List Link) (n : ℕ) → length xs ≡ n + 1 → length (arcs_of xs) ≡ n
-arcs_count [] n h = absurd (omega (arith, h))
-arcs_count (x ∷ xs) n h = length-map xs (λ (y : Link). y.arc) ∙ omega (arith, h)
-
 pub last_after-snoc : (x : Link) (xs : List Link) (r : Link) → last_after x (xs ++ r ∷ []) ≡ r
 last_after-snoc x [] r = refl
 last_after-snoc x (y ∷ ys) r = last_after-snoc y ys r
@@ -48,10 +44,6 @@ grown [] ys n p h k = absurd (omega (arith, h))
 grown (x ∷ xs) ys n p h k =
     let one : length p.0 ≡ 1 = omega (arith, h, k, ap length p.1, length-append (x ∷ xs) p.0) in
     subst (λ (l : List Link). arcs_of l ≡ arcs_of (x ∷ xs) ++ (last_of l).arc ∷ []) p.1 (grown_by x xs p.0 one)
-
-pub arcs_of-snoc : (xs : List Link) (n : ℕ) (r : Link) → length xs ≡ n + 1 → arcs_of (xs ++ r ∷ []) ≡ arcs_of xs ++ r.arc ∷ []
-arcs_of-snoc [] n r h = absurd (omega (arith, h))
-arcs_of-snoc (x ∷ xs) n r h = arcs_both xs (r ∷ [])
 
 -- what the word tells: the number of links and the last arc
 pub decoded :
