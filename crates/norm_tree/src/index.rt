@@ -6,8 +6,8 @@ ghost use Rattle.pit_model.specs.Graph.{first_of, second_of};
 ghost use Rattle.norm_tree.specs.Labelled.{is_open, label, labelled, AreCounted, AreMarked, IsIndexed};
 
 use crate::marks::Marks;
-use mine_graph::Graph;
 use faults::Fault;
+use mine_graph::Graph;
 use std::alloc::Global;
 
 /// The index of a graph's labels, which stand elsewhere.

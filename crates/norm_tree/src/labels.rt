@@ -4,8 +4,8 @@ ghost use Rattle.faults.specs.Refused.{no_memory};
 ghost use Rattle.norm_tree.specs.Labelled.{is_open, label, labelled};
 
 use crate::index::Index;
-use mine_graph::Graph;
 use faults::Fault;
+use mine_graph::Graph;
 use std::alloc::Global;
 use std::marker::Model;
 use std::sync::Arc;

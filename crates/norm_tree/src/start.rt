@@ -4,8 +4,8 @@ ghost use Rattle.std.specs.List.{range_with_len};
 ghost use Rattle.pit_model.specs.Mine.{value};
 ghost use Rattle.faults.specs.Refused.{no_memory};
 
-use mine_graph::Instance;
 use faults::Fault;
+use mine_graph::Instance;
 use std::alloc::Global;
 use std::sync::Arc;
 
