@@ -1,7 +1,6 @@
 //! The numbers that a field writes: whole numbers, and decimals as millionths.
 //! The lines of a file are read by them; the limits of each number are the caller's.
-ghost use Rattle.std.specs.Prelude.{◌≡◌, true, false, ◌≤◌, ◌<◌, ◌^◌, ◌*◌, ◌-◌, ◌+◌, ◌==◌, length, take, slice_index, IfSome, position};
-ghost use Rattle.std.specs.Char.{is_ascii_digit};
+ghost use Rattle.std.specs.Prelude.{◌≡◌, true, ◌≤◌, ◌<◌, ◌^◌, ◌*◌, ◌-◌, ◌+◌, ◌==◌, length, take, IfSome, position};
 ghost use Rattle.std.specs.Option.{option_map};
 ghost use Rattle.std.specs.Str.{all_ascii_digits};
 ghost use Rattle.std.specs.Str.Parse.{digits_value};
@@ -14,21 +13,20 @@ pub type Decimal = i128;
 pub(crate) const MOST_DIGITS: usize = 10;
 
 /// The number that the digits at the front write, and how many they are; of more than `most`, the first `most`.
-pub(crate) fn front_digits(text: &[u8], most: usize) -> (u128, usize)
-    requires { most ≤ 38 }
+pub(crate) fn front_digits(text: &[u8], most: usize) -> (u64, usize)
+    requires { most ≤ 19 }
     ensures inside { result.1 ≤ length text.now }
     ensures digits { all_ascii_digits (take result.1 text.now) ≡ true }
     ensures value { result.0 ≡ digits_value 10 (take result.1 text.now) }
     ensures small { result.0 < 10 ^ result.1 }
-    ensures whole { result.1 < most → result.1 < length text.now → is_ascii_digit (slice_index text.now result.1) ≡ false }
 {
     let end = text.len().min(most);
-    let mut value = 0u128;
+    let mut value = 0u64;
     for i in 0..end {
         if !text[i].is_ascii_digit() {
             return (value, i);
         }
-        value = value * 10 + u128::from(text[i] - b'0');
+        value = value * 10 + u64::from(text[i] - b'0');
     }
     (value, end)
 }
@@ -45,9 +43,12 @@ pub fn digits(text: &[u8], most: usize) -> Option<u128>
     if text.is_empty() || text.len() > most {
         return None;
     }
-    let (value, len) = front_digits(text, most);
-    if len < text.len() {
-        return None;
+    let mut value = 0u128;
+    for i in 0..text.len() {
+        if !text[i].is_ascii_digit() {
+            return None;
+        }
+        value = value * 10 + u128::from(text[i] - b'0');
     }
     Some(value)
 }

@@ -5,7 +5,7 @@ use Rattle.minelib_reader.proofs.Numbers.{room_for_digit, one_digit_more, all_di
 use Rattle.minelib_reader.proofs.number.front_digits.Goals as goal
 
 pub overflow_mul-value : goal.overflow_mul-value
-overflow_mul-value c = let h = room_for_digit c.loop-i.value c.loop-i.i c.loop-i.invariant.small (omega arith) in omega (arith, h)
+overflow_mul-value c = let h = room_for_digit 18 c.loop-i.value c.loop-i.i c.loop-i.invariant.small (omega arith) in omega (arith, h)
 
 pub loop-i-preserved : goal.loop-i-preserved
 loop-i-preserved c =
@@ -21,6 +21,6 @@ loop-i-preserved c =
 
 pub overflow_add-value : goal.overflow_add-value
 overflow_add-value c =
-    let h = room_for_digit c.loop-i.value c.loop-i.i c.loop-i.invariant.small (omega arith) in
+    let h = room_for_digit 18 c.loop-i.value c.loop-i.i c.loop-i.invariant.small (omega arith) in
     let f = c.from.ensures in
     omega (arith, h, f, c.type_inv.text c.loop-i.i)
