@@ -18,7 +18,7 @@ demo:
 test: setup
 	rt ci
 	mkdir -p build
-	cp crates/pitshell/out/pitshell build/pitshell
+	cp crates/pitshell/out/pitshell build/pitshell || $(MAKE) build
 	$(MAKE) test-plan
 
 # The tests of the planner's layer alone. Where there is no program yet it is proved and built first, for ten minutes or more.
