@@ -28,7 +28,7 @@ test: setup
 	tools/uncited.py
 	rt ci
 	mkdir -p build
-	cp crates/pitshell/out/pitshell build/pitshell
+	cp crates/pitshell/out/pitshell build/pitshell || $(MAKE) build
 	$(MAKE) test-plan
 
 # The tests of the planner's layer alone. Where there is no program yet it is proved and built first, for ten minutes or more.

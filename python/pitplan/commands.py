@@ -44,10 +44,9 @@ def shells(project: Project, folder: Path, progress: Progress) -> tuple[pd.DataF
             (stage / files.ANSWER).write_bytes(solution.answer)
             write_table(analyse.blocks(plan, solution), stage)
             shown(table).to_csv(stage / files.SHELLS, index=False)
-            plan.notes += analyse.edge_notes(plan, solution)
+            record["notes"] += analyse.edge_notes(plan, solution)
         chosen = analyse.chosen_factor(table, project.schedule)
         record["shells"] = {"factors": list(project.schedule.factors), "chosen": chosen, "program": identity}
-        record["notes"] = plan.notes
         with progress.step("drawing"):
             draw(plan, solution, table, chosen, stage)
         names = [*PREPARED, files.ANSWER, files.TABLE, files.SHELLS, *PICTURES.values()]

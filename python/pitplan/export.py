@@ -21,13 +21,13 @@ def name_of(kind: str, factor: int) -> str:
 
 
 def write_csv(path: Path, folder: Folder, factor: int) -> None:
-    """The planner's blocks of the pit's last shell and before, by id, with their factors."""
+    """The blocks of the greatest pit by id, with the least factor of each; `factor` is not looked at."""
     blocks = folder.blocks
     blocks[blocks["factor"] > 0].to_csv(path, index=False)
 
 
 def write_vti(path: Path, folder: Folder, factor: int) -> None:
-    """All cells as VTK image data: `factor`, `process_factor`, and the numbers of the planner's table."""
+    """All cells as VTK image data: `factor`, `process_factor`, and the numbers of the planner's table, for all factors."""
     vtk = load("vtk", "python3-vtk9", "export --to vti")
     numpy_support = load("vtk.util.numpy_support", "python3-vtk9", "export --to vti")
     grid = folder.grid

@@ -90,7 +90,7 @@ class Plan:
             "needs": self.record_of_needs(pairs),
             "factors": list(project.schedule.factors),
             "factor_1000_added": project.schedule.reference_added,
-            "notes": self.notes,
+            "notes": [*self.notes, *self.notes_of_needs(pairs)],
             "codes": codes_of(project),
             "tonnes": shown_name(project.table.tonnes),
             "metals": [{"name": m.name, "column": shown_name(m.column), "sign": m.sign} for m in project.metals],
@@ -107,6 +107,21 @@ class Plan:
             "of_these_below_a_block": cells_below_blocks(self.grid),
             "greatest_shift_of_a_centre": greatest_shift(self.table, self.grid, self.project),
         }
+
+    def notes_of_needs(self, pairs: Pairs) -> list[str]:
+        """What became of needs that lead off the model, and of those that nothing uses."""
+        left, last = self.grid.count - int(self.used.sum()), self.project.schedule.factors[-1]
+        notes = [f"{pairs.written:,} needs of {self.grid.count - left:,} blocks were written"]
+        if pairs.clipped:
+            notes.append(
+                f"{pairs.clipped:,} needs lead off the model's sides and were clipped: that ground is not known"
+            )
+        if left:
+            notes.append(
+                f"the needs of {left:,} blocks were left out, since no block that pays uses them; "
+                f"this holds for factors up to {last}"
+            )
+        return notes
 
     def record_of_needs(self, pairs: Pairs) -> dict[str, int]:
         used = int(self.used.sum())
@@ -156,6 +171,10 @@ def notes_of(plan: Plan) -> list[str]:
     below = cells_below_blocks(grid)
     if below:
         notes.append(f"WARNING: {below:,} of these cells lie below a block of the table: is rock missing from it?")
+    if plan.values.cutoff == "moving":
+        notes.append(f"{len(plan.values.ore):,} blocks have a node for processing: the cut-off moves with the price")
+    else:
+        notes.append("the cut-off is fixed at the price as given, whatever the factor")
     if plan.filled:
         notes.append(f"{plan.filled:,} empty fields were taken as 0")
     notes += [pattern.sentence() for pattern in plan.walls.patterns]

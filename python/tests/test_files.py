@@ -253,6 +253,10 @@ def test_the_command_line_tells_table_steps_and_warnings(solved_once):
     steps = ["reading", "laying the walls", "writing blocks and needs", "solving 3 factors", "drawing"]
     assert all(f"{step}" in solved_once.err for step in steps)
     assert "WARNING: the greatest pit touches the north side of the model" in solved_once.err
+    assert "3 blocks have a node for processing: the cut-off moves with the price" in solved_once.err
+    assert (
+        "blocks were left out, since no block that pays uses them; this holds for factors up to 1500" in solved_once.err
+    )
 
 
 def test_the_command_line_exports_in_silence(solved, capsys):

@@ -202,4 +202,6 @@ def test_needs_that_leave_the_grid_at_its_sides_are_counted(plan_folder, tmp_pat
     plan = pitplan.prepare(plan_folder(rows(3, 3, 2)))
     plan.used[:] = True
     # Of the nine lower blocks the four corners lack two neighbours each, and the four edges one.
-    assert plan.write(tmp_path)["needs"]["clipped_at_the_sides"] == 4 * 2 + 4 * 1
+    record = plan.write(tmp_path)
+    assert record["needs"]["clipped_at_the_sides"] == 4 * 2 + 4 * 1
+    assert "12 needs lead off the model's sides and were clipped: that ground is not known" in record["notes"]

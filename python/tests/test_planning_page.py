@@ -1,0 +1,50 @@
+"""What docs/PLANNING.md says of the example, against the example."""
+
+import re
+from dataclasses import replace
+
+import pytest
+from conftest import ROOT
+
+import pitplan
+
+PAGE = (ROOT / "docs" / "PLANNING.md").read_text(encoding="utf-8")
+EXAMPLE = ROOT / "examples" / "plan" / "project.toml"
+
+
+def test_the_lines_for_a_notebook_run(monkeypatch):
+    monkeypatch.chdir(EXAMPLE.parent)
+    names = {}
+    exec(re.search(r"```python\n(.*?)```", PAGE, re.DOTALL)[1], names)
+    assert len(names["plan"].blocks) == 7119 and names["solution"].worth.index.tolist()[-1] == 1200
+
+
+def test_the_table_of_cutoffs_is_that_of_the_example():
+    plan = pitplan.prepare(EXAMPLE)
+    fixed = pitplan.prepare(replace(plan.project, money=replace(plan.project.money, cutoff="fixed")))
+    solutions = [pitplan.solve(plan), pitplan.solve(fixed)]
+    tables = [pitplan.shells(it, solution).set_index("factor") for it, solution in zip((plan, fixed), solutions)]
+    rows = re.findall(r"^\| (\d+) \| (\d+) \| (\d+) \| (all|none|[\d.]+ %) \|$", PAGE, re.MULTILINE)
+    assert len(rows) == 6
+    for factor, moving, other, lost in rows:
+        assert [table["blocks"][int(factor)] for table in tables] == [int(moving), int(other)]
+        whole, less = (solution.worth[int(factor)] for solution in solutions)
+        share = {"all": 100.0, "none": 0.0}.get(lost) if lost in ("all", "none") else float(lost[:-2])
+        assert float(100 * (1 - less / whole)) == pytest.approx(share, abs=0.05)
+
+
+@pytest.mark.parametrize("levels, steeper, needs", [(2, 11.3, 9), (3, 3.4, 21), (8, 1.7, 25), (20, 0.3, 61)])
+def test_the_angles_of_the_west_walls_are_those_of_the_page(levels, steeper, needs):
+    project = pitplan.load(EXAMPLE)
+    plan = pitplan.prepare(replace(project, slopes=replace(project.slopes, levels=levels)))
+    west = plan.walls.patterns[0]
+    assert len(west.offsets) == needs and west.errors.max() == pytest.approx(steeper, abs=0.05)
+    assert re.search(rf"{steeper} (degrees )?with {levels} (levels )?\({needs}", PAGE)
+
+
+def test_the_pairs_of_the_page_are_those_of_the_example(tmp_path):
+    plan = pitplan.prepare(EXAMPLE)
+    written = plan.write(tmp_path)["needs"]["written"]
+    plan.used[:] = True
+    whole = plan.write(tmp_path)["needs"]["written"]
+    assert f"of the example's {whole:,} pairs {written:,} are written" in PAGE
