@@ -1,5 +1,5 @@
 # `make try` runs the program at once, unproved; `make` proves it, builds it and solves the small mine; `make test` runs the gate.
-.PHONY: all try build demo test test-plan setup
+.PHONY: all try build demo test test-program test-plan setup
 
 SMALL_MINE = examples/small_mine
 

@@ -138,11 +138,19 @@ fn not_understood(rt: &HostRuntime, line: &str) -> ExitCode {
     ExitCode::from(2)
 }
 
-/// The words of the command line.
-fn words_of(rt: &HostRuntime) -> Result<Vec<String>, Fault> {
+/// Why the command line gave no words.
+enum NoWords {
+    NoMemory,
+    /// An argument is no text in UTF-8.
+    NotText,
+}
+
+/// The words of the command line. The system tells an argument that is no text as invalid data.
+fn words_of(rt: &HostRuntime) -> Result<Vec<String>, NoWords> {
     match env::args(rt) {
-        Ok(words) => Ok(words.collect(rt.alloc())?),
-        Err(_) => Err(Fault::from(AllocError)),
+        Ok(words) => words.collect(rt.alloc()).map_err(|_| NoWords::NoMemory),
+        Err(error) if error.kind() == io::ErrorKind::InvalidData => Err(NoWords::NotText),
+        Err(_) => Err(NoWords::NoMemory),
     }
 }
 
@@ -165,11 +173,13 @@ fn run<R: Threads + Wait + Sync>(
 }
 
 fn main(rt: HostRuntime) -> ExitCode {
-    match words_of(&rt) {
+    let outcome = match words_of(&rt) {
+        Ok(words) => run(&rt, &rt, &words),
+        Err(NoWords::NotText) => Ok(not_understood(&rt, "pitshell: an argument is not UTF-8")),
+        Err(NoWords::NoMemory) => Err(Fault::from(AllocError)),
+    };
+    match outcome {
+        Ok(code) => code,
         Err(fault) => ended(&rt, Err(fault)),
-        Ok(words) => match run(&rt, &rt, &words) {
-            Err(fault) => ended(&rt, Err(fault)),
-            Ok(code) => code,
-        },
     }
 }

@@ -1,0 +1,78 @@
+"""What the command line takes, what it refuses with status 2, and the words of help."""
+
+import pytest
+
+from conftest import Mine
+
+SOLVE = ["solve", "--model", "mine.upit", "--prec", "mine.prec"]
+SHELLS = ["shells", "--blocks", "mine.blocks", "--prec", "mine.prec", "--revenue", "0", "--cost", "1", "--factors", "1000"]
+
+
+@pytest.mark.parametrize(
+    ("words", "line"),
+    [
+        ([*SOLVE, "--mode", "Single"], "pitshell: mode is single, parts or shared\n"),
+        ([*SHELLS, "--mode", ""], "pitshell: mode is single, parts or shared\n"),
+        ([*SOLVE, "--mode", "parts", "--budget", "1"], "pitshell: parts takes no budget\n"),
+        ([*SHELLS, "--mode", "parts", "--budget", "1"], "pitshell: parts takes no budget\n"),
+    ],
+)
+def test_words_that_do_not_go_together(mine: Mine, words: list[str], line: str) -> None:
+    assert mine.run(*words) == (2, "", line)
+
+
+@pytest.mark.parametrize(
+    "words",
+    [
+        [],
+        ["dig"],
+        ["solve"],
+        ["solve", "--model", "mine.upit"],
+        [*SOLVE, "--prec", "mine.prec"],
+        [*SOLVE, "--modle", "mine.upit"],
+        [*SOLVE, "--mode", "shared", "--workers", "0"],
+        [*SOLVE, "--mode", "shared", "--workers", "65"],
+        [*SOLVE, "--budget", "many"],
+        [*SOLVE, "--budget", "-1"],
+        [*SOLVE, "mine.upit"],
+        ["shells", "--blocks", "mine.blocks", "--prec", "mine.prec", "--revenue", "64", "--cost", "1", "--factors", "1"],
+        ["check", "--model", "mine.upit", "--prec", "mine.prec"],
+    ],
+)
+def test_mistakes_write_nothing_to_standard_output(mine: Mine, words: list[str]) -> None:
+    status, out, err = mine.run(*words)
+    assert (status, out) == (2, "")
+    assert err
+
+
+def test_an_argument_that_is_no_text(mine: Mine) -> None:
+    words = ["solve", "--model", b"mine\xff.upit", "--prec", "mine.prec"]
+    assert mine.run(*words) == (2, "", "pitshell: an argument is not UTF-8\n")
+
+
+@pytest.mark.parametrize("words", [["--help"], ["help"], ["solve", "--help"], ["shells", "--help"], ["check", "--help"]])
+def test_help_goes_to_standard_output_and_names_the_statuses(mine: Mine, words: list[str]) -> None:
+    status, out, err = mine.run(*words)
+    assert (status, err) == (0, "")
+    assert "Usage: pitshell" in out
+    for line in ("0  the answer was written", "2  the command line is not understood", "3  the budget is used up", "4  the answer is no"):
+        assert line in out
+
+
+@pytest.mark.parametrize(
+    ("subcommand", "options"),
+    [
+        ("solve", ["--model", "--prec", "--mode", "--workers", "--budget", "--certificate"]),
+        ("shells", ["--blocks", "--prec", "--revenue", "--cost", "--factors", "--mode", "--workers", "--budget"]),
+        ("check", ["--model", "--prec", "--certificate"]),
+    ],
+)
+def test_help_names_each_option(mine: Mine, subcommand: str, options: list[str]) -> None:
+    _, out, _ = mine.run(subcommand, "--help")
+    named = {word for word in out.split() if word.startswith("--")}
+    assert named >= set(options)
+    assert named <= {*options, "--help"}
+
+
+def test_version(mine: Mine) -> None:
+    assert mine.run("--version") == (0, "pitshell 0.1.0\n", "")
