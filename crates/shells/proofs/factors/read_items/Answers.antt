@@ -14,10 +14,10 @@ returns-in_err-factor-clause-refused c =
     let list = c.loop-rest.list.items in
     let count : c.len.result ≡ length list = c.len.ensures ∙ c.loop-rest.list.ok.0 in
     let here = item_here ns list _ (option_map (λ rest. rest.now) c.next_item.result.1) c.in-Some.left.now _ c.loop-rest.invariant.items (ap (option_map (λ r. r.now)) c.in-Some.is) c.next_item.ensures.items in
-    let fails = ap (λ n. fault_behind n c.loop-rest.before c.digits.result) (sym count) ∙ c.in_err-factor.ensures.fails in
+    let fails = ap (λ n. fault_behind n c.loop-rest.before c.whole_number.result) (sym count) ∙ c.in_err-factor.ensures.fails in
     let first = first_item_fault ns (length list) e here.1 c.loop-rest.invariant.none
-    (fault_here ns (length list) c.loop-rest.before c.digits.result c.loop-rest.invariant.before (c.digits.ensures.value ∙ sym here.0) ∙ fails) in
-    rw (p.1, p.2) (item_refused ns (length list) c.loop-rest.before c.digits.result e fails first)
+    (fault_here ns (length list) c.loop-rest.before c.whole_number.result c.loop-rest.invariant.before (c.whole_number.ensures.value ∙ sym here.0) ∙ fails) in
+    rw (p.1, p.2) (item_refused ns (length list) c.loop-rest.before c.whole_number.result e fails first)
 
 pub returns-clause-lawful : goal.returns-clause-lawful
 returns-clause-lawful c =
