@@ -1,5 +1,5 @@
 # `make try` runs the program at once, unproved; `make` proves it, builds it and solves the small mine; `make test` runs the gate.
-.PHONY: all try build demo test test-program test-plan setup
+.PHONY: all try build demo test test-program test-plan sweep setup
 
 SMALL_MINE = examples/small_mine
 
@@ -35,6 +35,11 @@ test: setup
 test-plan: setup
 	test -x build/pitshell || $(MAKE) build
 	/usr/bin/python3 -m pytest python/tests -q -p no:cacheprovider
+
+# Lets each request for memory, each read and each write of every row go wrong in turn; tests/test_sweeps.py does a part of it.
+sweep:
+	test -x build/pitshell || $(MAKE) build
+	tests/sweeps.py --results bench/results/sweeps.md
 
 # Installs what the planner's layer and its tests need of Debian's packages, where anything is missing.
 setup:

@@ -1,8 +1,9 @@
 /* Loaded before the C library (LD_PRELOAD), so that single calls of a run go wrong on purpose:
    FAIL_ALLOC=N   the Nth request for memory is refused          FAIL_READ=N  FAIL_WRITE=N   the Nth read or write fails
-   SHORT_READ=1   each read gives one byte at most               SHORT_WRITE=1               each write takes one byte at most
-   INTERRUPT=N    each read and write is interrupted N times before it is made (0: never; -1: always)
-   COUNT_CALLS=FILE tells how often memory was asked for, and how many reads and writes were made. */
+   SHORT_READ=N   the Nth read gives one byte at most            SHORT_WRITE=N               the Nth write takes one byte at most
+                  (-1: each of them)
+   INTERRUPT_READ=N  INTERRUPT_WRITE=N   each read or write is interrupted N times before it is made (-1: always)
+   COUNT_CALLS=FILE  tells how often memory was asked for, and how many reads and writes were made. */
 #define _GNU_SOURCE
 #include <dlfcn.h>
 #include <errno.h>
@@ -11,7 +12,7 @@
 #include <stdlib.h>
 #include <unistd.h>
 
-static long allocs, reads, writes, interrupted;
+static long allocs, reads, writes, interrupted_reads, interrupted_writes;
 
 static long wanted(const char *name) {
     const char *text = getenv(name);
@@ -63,35 +64,42 @@ void *aligned_alloc(size_t align, size_t size) {
 }
 
 /* 1 where this turn of a call is to be interrupted */
-static int interrupts(void) {
-    long times = wanted("INTERRUPT");
-    if (times < 0 || interrupted < times) {
-        interrupted++;
+static int interrupts(const char *name, long *so_far) {
+    long times = wanted(name);
+    if (times < 0 || *so_far < times) {
+        (*so_far)++;
         errno = EINTR;
         return 1;
     }
-    interrupted = 0;
+    *so_far = 0;
     return 0;
+}
+
+static size_t shortened(const char *name, long number, size_t size) {
+    long which = wanted(name);
+    return size > 1 && (which < 0 || which == number) ? 1 : size;
 }
 
 ssize_t read(int fd, void *buf, size_t size) {
     static ssize_t (*real)(int, void *, size_t);
     if (!real) real = (ssize_t (*)(int, void *, size_t))dlsym(RTLD_NEXT, "read");
-    if (interrupts()) return -1;
-    if (one_more(&reads) == wanted("FAIL_READ")) {
+    if (interrupts("INTERRUPT_READ", &interrupted_reads)) return -1;
+    long number = one_more(&reads);
+    if (number == wanted("FAIL_READ")) {
         errno = EIO;
         return -1;
     }
-    return real(fd, buf, wanted("SHORT_READ") && size > 1 ? 1 : size);
+    return real(fd, buf, shortened("SHORT_READ", number, size));
 }
 
 ssize_t write(int fd, const void *buf, size_t size) {
     static ssize_t (*real)(int, const void *, size_t);
     if (!real) real = (ssize_t (*)(int, const void *, size_t))dlsym(RTLD_NEXT, "write");
-    if (interrupts()) return -1;
-    if (one_more(&writes) == wanted("FAIL_WRITE")) {
+    if (interrupts("INTERRUPT_WRITE", &interrupted_writes)) return -1;
+    long number = one_more(&writes);
+    if (number == wanted("FAIL_WRITE")) {
         errno = EIO;
         return -1;
     }
-    return real(fd, buf, wanted("SHORT_WRITE") && size > 1 ? 1 : size);
+    return real(fd, buf, shortened("SHORT_WRITE", number, size));
 }

@@ -1,0 +1,149 @@
+"""Runs of the program whose outcome was worked out by hand: the words, the files, and what is written where."""
+
+from dataclasses import dataclass, field
+
+
+@dataclass(frozen=True)
+class Row:
+    """A run over small files. `sources` names its inputs in the order in which they are opened and read."""
+
+    name: str
+    words: tuple[str, ...]
+    files: dict[str, str]
+    sources: tuple[tuple[str, str], ...]
+    out: str = ""
+    err: str = ""
+    status: int = 0
+    made: dict[str, str] = field(default_factory=dict)
+
+    @property
+    def is_shared(self) -> bool:
+        return "shared" in self.words
+
+
+MODES = {
+    "single": (),
+    "parts": ("--mode", "parts"),
+    "shared 1": ("--mode", "shared", "--workers", "1"),
+    "shared 2": ("--mode", "shared", "--workers", "2"),
+    "shared 4": ("--mode", "shared", "--workers", "4"),
+}
+
+
+def model_of(values: list[str]) -> str:
+    lines = "".join(f"{block} {value}\n" for block, value in enumerate(values))
+    return f"NAME: t\nTYPE: UPIT\nNBLOCKS: {len(values)}\nOBJECTIVE_FUNCTION:\n{lines}"
+
+
+def pit_of(blocks: int, pit: list[int], worth: str) -> str:
+    return f"PIT\nBLOCKS: {blocks}\nIN: {len(pit)}\nWORTH: {worth}\n" + "".join(f"{block}\n" for block in pit)
+
+
+FOUR_PAIRS = "0 2 1 3\n2 1 1\n"
+
+# name, values, precedence, pit, worth
+SMALL_MINES: list[tuple[str, list[str], str, list[int], str]] = [
+    ("no block", [], "", [], "0.000000"),
+    ("a worthless block", ["0"], "", [], "0.000000"),
+    ("ore that pays for waste", ["-3", "5"], "1 1 0\n", [0, 1], "2.000000"),
+    ("a tie", ["-5", "5"], "1 1 0\n", [], "0.000000"),
+    ("shared waste", ["-8", "5", "4"], "1 1 0\n2 1 0\n", [0, 1, 2], "1.000000"),
+    ("two of three ores", ["4", "-2", "2", "-6", "5"], "0 2 1 3\n2 1 1\n4 1 1\n", [1, 2, 4], "5.000000"),
+    ("one of two ores", ["-3", "-4", "10", "2"], "2 1 0\n3 2 0 1\n", [0, 2], "7.000000"),
+    ("four blocks", ["1", "-2", "5", "-2"], FOUR_PAIRS, [1, 2], "3.000000"),
+    ("four blocks that pay", ["4", "-2", "5", "-2"], FOUR_PAIRS, [0, 1, 2, 3], "5.000000"),
+    ("an equal residual", ["4", "-2", "2", "-2"], FOUR_PAIRS, [0, 1, 2, 3], "2.000000"),
+]
+
+SOLVE = ("solve", "--model", "mine.upit", "--prec", "mine.prec")
+SOLVE_SOURCES = (("mine.upit", "model"), ("mine.prec", "precedence"))
+
+
+def solve_rows() -> list[Row]:
+    """Each small mine in each mode."""
+    return [
+        Row(f"solve {name}, {mode}", (*SOLVE, *more), {"mine.upit": model_of(values), "mine.prec": prec}, SOLVE_SOURCES, out=pit_of(len(values), pit, worth))
+        for name, values, prec, pit, worth in SMALL_MINES
+        for mode, more in MODES.items()
+    ]
+
+
+def certificate_rows() -> list[Row]:
+    """A mine with one flow that shows its pit, so that the certificate is one text."""
+    files = {"mine.upit": model_of(["-3", "5"]), "mine.prec": "1 1 0\n"}
+    text = "PITCERT 1\nBLOCKS: 2\nARCS: 1\nIN: 2\n0\n1\nFLOW: 1\n1 0 5000000\n"
+    return [
+        Row(
+            f"solve with a certificate, {mode}",
+            (*SOLVE, *more, "--certificate", "made.cert"),
+            files,
+            SOLVE_SOURCES,
+            out=pit_of(2, [0, 1], "2.000000"),
+            made={"made.cert": text},
+        )
+        for mode, more in MODES.items()
+    ]
+
+
+def refused_rows() -> list[Row]:
+    """The first fault of a model, of a precedence file, and a cycle; and a budget that is used up."""
+    two = model_of(["1", "1"])
+    faults = [
+        (model_of(["1", "1.0000001"]), "", "error 6: not a decimal in model line 6\n"),
+        ("NAME: t\n", "9\n", "error 12: ends early in model line 2\n"),
+        (two, "1 1 1\n", "error 9: block needs itself in precedence line 1\n"),
+        (two, "1 2 0 0\n", "error 10: predecessor named twice in precedence line 1\n"),
+        (model_of(["1", "1", "1"]), "0 1 1\n1 1 2\n2 1 0\n", "error 14: cycle 0 1 2 in precedence\n"),
+    ]
+    rows = [Row(f"solve refused: {err.strip()}", SOLVE, {"mine.upit": model, "mine.prec": prec}, SOLVE_SOURCES, err=err, status=1) for model, prec, err in faults]
+    files = {"mine.upit": model_of(["4", "-2", "5", "-2"]), "mine.prec": FOUR_PAIRS}
+    used_up = "error 20: exhausted after 2 mergers\n"
+    rows += [
+        Row(f"solve with a budget, {mode}", (*SOLVE, *MODES[mode], "--budget", "2"), files, SOLVE_SOURCES, err=used_up, status=3)
+        for mode in ("single", "shared 1")
+    ]
+    return rows
+
+
+SHELLS = ("shells", "--blocks", "mine.blocks", "--prec", "mine.prec", "--revenue", "0", "--cost", "1", "--factors")
+SHELLS_SOURCES = (("mine.blocks", "blocks"), ("mine.prec", "precedence"))
+
+
+def shells_rows() -> list[Row]:
+    """Two ores below one block, of which the second is worth nothing at 800; in each mode; and what is refused."""
+    files = {"mine.blocks": "0 0 0 0 0 3\n1 0 0 1 10 1\n2 0 0 1 10 8\n", "mine.prec": "1 1 0\n2 1 0\n"}
+    text = "SHELLS\nBLOCKS: 3\nFACTORS: 3\n500 2 1.000000000\n800 2 4.000000000\n900 3 6.000000000\n0 500\n1 500\n2 900\n"
+    rows = [Row(f"shells, {mode}", (*SHELLS, "500,800,900", *more), files, SHELLS_SOURCES, out=text) for mode, more in MODES.items()]
+    negative = {"mine.blocks": "0 0 0 0 0 -3\n1 0 0 1 10 1\n", "mine.prec": "1 1 0\n"}
+    rows.append(Row("shells of a negative cost", (*SHELLS, "5"), negative, SHELLS_SOURCES, err="error 15: negative value at block 0 in blocks\n", status=1))
+    rows.append(Row("shells of factors that fall", (*SHELLS, "5,4"), files, (), err="error 19: factors not rising in factors item 2\n", status=1))
+    return rows
+
+
+CHECK = ("check", "--model", "mine.upit", "--prec", "mine.prec", "--certificate", "some.cert")
+CHECK_SOURCES = (*SOLVE_SOURCES, ("some.cert", "certificate"))
+
+
+def check_rows() -> list[Row]:
+    """A certificate that shows the pit, one that does not, and one whose counts differ."""
+    mine = {"mine.upit": model_of(["1", "-2", "5", "-2"]), "mine.prec": FOUR_PAIRS}
+    head = "PITCERT 1\nBLOCKS: 4\nARCS: 3\nIN: 2\n1\n2\n"
+    good = head + "FLOW: 2\n0 3 1000000\n2 1 5000000\n"
+    bad = head + "FLOW: 2\n0 3 1000000\n2 1 6000000\n"
+    other = "PITCERT 1\nBLOCKS: 4\nARCS: 2\nIN: 2\n1\n2\nFLOW: 0\n"
+    return [
+        Row("check says yes", CHECK, {**mine, "some.cert": good}, CHECK_SOURCES, out="yes\n"),
+        Row("check says no", CHECK, {**mine, "some.cert": bad}, CHECK_SOURCES, out="no\n", status=4),
+        Row("check refuses", CHECK, {**mine, "some.cert": other}, CHECK_SOURCES, err="error 17: counts differ in certificate line 3\n", status=1),
+    ]
+
+
+def all_rows() -> list[Row]:
+    return [*solve_rows(), *certificate_rows(), *refused_rows(), *shells_rows(), *check_rows()]
+
+
+def few_rows() -> list[Row]:
+    """One row of each kind and mode, for the gate."""
+    wanted = {"four blocks", "an equal residual"}
+    solved = [row for row in solve_rows() if any(row.name.startswith(f"solve {name},") for name in wanted)]
+    return [*solved, *certificate_rows(), *refused_rows()[2:], *shells_rows(), *check_rows()]
