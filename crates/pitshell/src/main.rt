@@ -2,20 +2,21 @@
 //! The crate `runs` does the work over readers and writers; `main` opens files, calls it and gives the exit status.
 #![tactic(auto)]
 
-ghost use Rattle.std.specs.Prelude.{◌≡◌, ◌^◌, IfOk, IfErr};
-ghost use Rattle.faults.specs.Refused.{at_line, write_failed};
+ghost use Rattle.std.specs.Prelude.{◌≡◌, IfErr};
+ghost use Rattle.faults.specs.Refused.{at_line};
 ghost use Rattle.faults.specs.declared.refusal.Refusal.TheVariants.{ReadFailed};
-ghost use Rattle.minelib_reader.specs.Device.{unread};
 ghost use Rattle.runs.specs.Chosen.{progress_of, IsCountable};
 
 mod command_line;
 mod options;
+mod output;
 
 use clap::error::ErrorKind;
 use command_line::command;
 use faults::{Fault, Refusal, Source};
-use minelib_reader::{FileReader, InBytes, OutBytes, StreamWriter};
+use minelib_reader::{FileReader, OutBytes, StreamWriter};
 use options::{CheckOptions, Options, ShellsOptions, SolveOptions};
+use output::Output;
 use report::write_fault;
 use runs::{Status, exit_code, run_check, run_shells, run_solve};
 use shells::Factors;
@@ -27,30 +28,34 @@ use std::thread::Threads;
 use std::{env, io};
 
 /// Opens an input; one that cannot be opened is a read that failed.
-fn open(rt: &HostRuntime, path: &str, source: Source) -> Result<FileReader<File>, Fault>
-    ensures unread { IfOk result (λ r. ⟦<FileReader<File> as InBytes>⟧.progress r ≡ unread (2 ^ 40)) }
+fn open(rt: &HostRuntime, path: &str, source: Source) -> Result<File, Fault>
     ensures refused { IfErr result (λ e. e ≡ at_line source ReadFailed 0) }
 {
     match File::open(rt, path) {
-        Ok(file) => Ok(FileReader::new(file)),
+        Ok(file) => Ok(file),
         Err(_) => Err(Fault::at_line(source, Refusal::ReadFailed, 0)),
     }
 }
 
-/// Makes an output file, where one is wanted, in place of what stood there; one that cannot be made is a write that failed.
+/// Makes an output file, where one is wanted; it may be none of the inputs.
 fn create_if_wanted(
     rt: &HostRuntime,
     path: Option<&str>,
-) -> Result<Option<StreamWriter<File>>, Fault>
-    ensures unwritten { IfOk result (λ w. IsCountable (progress_of (⟦<StreamWriter<File> as OutBytes>⟧.progress) w)) }
-    ensures refused { IfErr result (λ e. e ≡ write_failed) }
-{
+    inputs: &[&File],
+) -> Result<Option<Output>, Fault> {
     match path {
         None => Ok(None),
-        Some(path) => match File::create(rt, path) {
-            Ok(file) => Ok(Some(StreamWriter::new(file))),
-            Err(_) => Err(Fault::write_failed()),
-        },
+        Some(path) => Ok(Some(Output::create(rt, path, inputs)?)),
+    }
+}
+
+/// What writes to a file, where there is one.
+fn writer_of<'a>(output: &'a mut Option<Output>) -> Option<StreamWriter<&'a mut File>>
+    ensures unwritten { IsCountable (progress_of (⟦<StreamWriter<&'a mut File> as OutBytes>⟧.progress) result) }
+{
+    match output {
+        None => None,
+        Some(output) => Some(StreamWriter::new(&mut output.file)),
     }
 }
 
@@ -61,19 +66,24 @@ fn solve_files<R: Threads + Wait + Sync>(
     threads: &R,
     options: &SolveOptions<'_>,
 ) -> Result<Status, Fault> {
-    let mut model = open(rt, options.model, Source::Model)?;
-    let mut prec = open(rt, options.prec, Source::Precedence)?;
-    let mut certificate = create_if_wanted(rt, options.certificate)?;
-    let mut out = StreamWriter::new(io::writer(rt));
-    run_solve(
+    let model = open(rt, options.model, Source::Model)?;
+    let prec = open(rt, options.prec, Source::Precedence)?;
+    let mut output = create_if_wanted(rt, options.certificate, &[&model, &prec])?;
+    let mut certificate = writer_of(&mut output);
+    let outcome = run_solve(
         threads,
         rt.alloc(),
-        &mut model,
-        &mut prec,
+        &mut FileReader::new(model),
+        &mut FileReader::new(prec),
         &mut certificate,
-        &mut out,
+        &mut StreamWriter::new(io::writer(rt)),
         options.mode,
-    )
+    );
+    drop(certificate);
+    match output {
+        None => outcome,
+        Some(output) => output.end(rt, outcome),
+    }
 }
 
 /// Writes the nested pits of the deposit of two files to standard output. The factors are read first, before a file is
@@ -84,15 +94,14 @@ fn shell_files<R: Threads + Wait + Sync>(
     options: &ShellsOptions<'_>,
 ) -> Result<Status, Fault> {
     let factors = Factors::read(rt.alloc(), options.factors)?;
-    let mut blocks = open(rt, options.blocks, Source::Blocks)?;
-    let mut prec = open(rt, options.prec, Source::Precedence)?;
-    let mut out = StreamWriter::new(io::writer(rt));
+    let blocks = open(rt, options.blocks, Source::Blocks)?;
+    let prec = open(rt, options.prec, Source::Precedence)?;
     run_shells(
         threads,
         rt.alloc(),
-        &mut blocks,
-        &mut prec,
-        &mut out,
+        &mut FileReader::new(blocks),
+        &mut FileReader::new(prec),
+        &mut StreamWriter::new(io::writer(rt)),
         options.revenue,
         options.cost,
         &factors,
@@ -102,16 +111,15 @@ fn shell_files<R: Threads + Wait + Sync>(
 
 /// Checks the certificate of a file for the mine of two others, and writes the answer to standard output.
 fn check_files(rt: &HostRuntime, options: &CheckOptions<'_>) -> Result<Status, Fault> {
-    let mut model = open(rt, options.model, Source::Model)?;
-    let mut prec = open(rt, options.prec, Source::Precedence)?;
-    let mut certificate = open(rt, options.certificate, Source::Certificate)?;
-    let mut out = StreamWriter::new(io::writer(rt));
+    let model = open(rt, options.model, Source::Model)?;
+    let prec = open(rt, options.prec, Source::Precedence)?;
+    let certificate = open(rt, options.certificate, Source::Certificate)?;
     run_check(
         rt.alloc(),
-        &mut model,
-        &mut prec,
-        &mut certificate,
-        &mut out,
+        &mut FileReader::new(model),
+        &mut FileReader::new(prec),
+        &mut FileReader::new(certificate),
+        &mut StreamWriter::new(io::writer(rt)),
     )
 }
 

@@ -1,0 +1,94 @@
+//! A file that is written takes its name only when it is whole and on disk: until then it stands beside its place, under a
+//! name of its own. So a run that is refused, interrupted or killed leaves what stood there. What is no regular file, as a
+//! pipe or a device, is written as it is.
+
+use faults::Fault;
+use std::fs::{File, Metadata, OpenOptions};
+use std::os::unix::fs::MetadataExt;
+use std::path::PathBuf;
+use std::{fs, io};
+
+/// How many names are tried for a file beside its place.
+const MOST_NAMES: u32 = 1000;
+
+/// The place that a file takes when it is whole, and where it stands until then.
+#[derive(Drop)]
+struct Place {
+    path: PathBuf,
+    partial: String,
+}
+
+/// A file that is being written.
+#[derive(Drop)]
+pub struct Output {
+    pub file: File,
+    place: Option<Place>,
+}
+
+/// A file beside this path, under a name that nothing has yet: the path with a number and `.part` behind it.
+fn create_beside(rt: &HostRuntime, path: PathBuf) -> Result<Output, Fault> {
+    for number in 0..MOST_NAMES {
+        let partial = format!(in rt.alloc(); "{}.{number}.part", path.display())?;
+        match OpenOptions::new()
+            .write(true)
+            .create_new(true)
+            .open(rt, partial.as_str())
+        {
+            Ok(file) => {
+                return Ok(Output {
+                    file,
+                    place: Some(Place { path, partial }),
+                });
+            }
+            Err(error) if error.kind() == io::ErrorKind::AlreadyExists => {}
+            Err(_) => return Err(Fault::write_failed()),
+        }
+    }
+    Err(Fault::write_failed())
+}
+
+/// Whether the file is one of the inputs, under whatever name. An input that cannot be looked at counts as the same.
+fn is_among(found: &Metadata, inputs: &[&File]) -> bool {
+    inputs.iter().any(|input| match input.metadata() {
+        Ok(other) => other.dev() == found.dev() && other.ino() == found.ino(),
+        Err(_) => true,
+    })
+}
+
+impl Output {
+    /// Makes a file, or what it is written to before it takes its name. Refused where it cannot be made or may not be written,
+    /// where it is one of the inputs, and for want of memory.
+    pub fn create(rt: &HostRuntime, path: &str, inputs: &[&File]) -> Result<Output, Fault> {
+        match fs::metadata(rt, path) {
+            Ok(found) if !found.is_file() => match File::create(rt, path) {
+                Ok(file) => Ok(Output { file, place: None }),
+                Err(_) => Err(Fault::write_failed()),
+            },
+            Ok(found) if found.permissions().readonly() || is_among(&found, inputs) => {
+                Err(Fault::write_failed())
+            }
+            Ok(_) => match fs::canonicalize(rt, path) {
+                Ok(path) => create_beside(rt, path),
+                Err(_) => Err(Fault::write_failed()),
+            },
+            Err(_) => create_beside(rt, PathBuf::from_str(rt.alloc(), path)?),
+        }
+    }
+
+    /// Ends the file after a run: where that was done, the file takes its name, once it is on disk; else it goes.
+    /// A file that cannot take its name is a write that failed.
+    pub fn end<T: Drop>(self, rt: &HostRuntime, outcome: Result<T, Fault>) -> Result<T, Fault> {
+        let Output { file, place } = self;
+        let Some(place) = place else {
+            return outcome;
+        };
+        if outcome.is_ok() {
+            let on_disk = file.sync_all().is_ok();
+            if on_disk && fs::rename(rt, place.partial.as_str(), place.path.as_path()).is_ok() {
+                return outcome;
+            }
+        }
+        let _ = fs::remove_file(rt, place.partial.as_str());
+        outcome.and(Err(Fault::write_failed()))
+    }
+}
