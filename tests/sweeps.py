@@ -6,7 +6,7 @@
 The Nth request for memory is refused, the Nth read or write fails or moves a single byte, for each N until a run meets none; and
 signals interrupt each read or each write, so many times that it is made again, and so many that it fails. What must come then is
 worked out of the row: its own outcome, or status 1 with one line on standard error that names the refusal and its source, and
-of what is written nothing, or what stood before. The shim is `fail_calls.c`, built by `cc`.
+no output and no file. The shim is `fail_calls.c`, built by `cc`.
 """
 
 import argparse
@@ -92,14 +92,14 @@ class Sweep:
     def right(self) -> Outcome:
         return Outcome(self.row.status, self.row.out, self.row.err, tuple(self.row.made.items()))
 
-    def refused(self, line: str, made: str | None) -> Outcome:
-        """Status 1 with this line and no output, and each file that is written stands so."""
-        return Outcome(1, "", line, tuple((name, made) for name in self.row.made))
+    def refused(self, line: str) -> Outcome:
+        """Status 1 with this line, no output, and no file: one takes its name only after a run that is done."""
+        return Outcome(1, "", line, tuple((name, None) for name in self.row.made))
 
     def without_memory(self) -> list[Outcome]:
-        """What may come where memory is refused: what is written may not be made yet, or be empty."""
+        """What may come where memory is refused: the run needed none any more, or it is refused."""
         lines = ["error 1: no memory\n"] + ["error 22: no seat\n"] * self.row.is_shared
-        return [self.right()] + [self.refused(line, made) for line in lines for made in (None, "")]
+        return [self.right()] + [self.refused(line) for line in lines]
 
     def read_sources(self) -> list[str]:
         """The source of each read, in order: a text, and the read that ends it."""
@@ -109,15 +109,13 @@ class Sweep:
         return found
 
     def unread(self, number: int) -> list[Outcome]:
-        return [self.refused(f"error 2: read failed in {source}\n", "") for source in self.read_sources()[number - 1 : number]]
+        return [self.refused(f"error 2: read failed in {source}\n") for source in self.read_sources()[number - 1 : number]]
 
     def unwritten(self, number: int) -> list[Outcome]:
         """The writes are that of each file, then that to standard output; or that of a refusal alone, which is lost."""
         if self.row.err:
             return [Outcome(self.row.status, "", "", ())]
-        texts = list(self.row.made.items())
-        made = tuple((name, text if place < number - 1 else "") for place, (name, text) in enumerate(texts))
-        return [Outcome(1, "", "error 18: write failed\n", made)]
+        return [self.refused("error 18: write failed\n")]
 
     def silenced(self) -> list[Outcome]:
         """No write is ever made, that of a refusal neither."""
