@@ -1,4 +1,4 @@
-"""The command line: `pitplan prepare | shells | view | export | audit | scenarios | scenario | gather`."""
+"""The command line: `pitplan prepare | shells | view | export | audit | scenarios | convert`, and others that these need."""
 
 from __future__ import annotations
 
@@ -6,6 +6,9 @@ import argparse
 import sys
 from pathlib import Path
 from typing import Any, Optional, Sequence
+
+import minelib
+from minelib.__main__ import add_arguments as add_minelib
 
 from . import commands, report, scenarios
 from .errors import PlanError
@@ -34,6 +37,10 @@ def parser() -> argparse.ArgumentParser:
             is_needed = name == "audit"
             sub.add_argument("--factor", type=int, required=is_needed, default=None if is_needed else REFERENCE_FACTOR)
     add_scenarios(subs)
+    text = "write other people's files as the program's"
+    kinds = subs.add_parser("convert", help=text, description=text).add_subparsers(dest="kind", required=True)
+    text = "MineLib's .upit, .cpit, .pcpsp, .prec and .blocks files, as published"
+    add_minelib(kinds.add_parser("minelib", help=text, description=text))
     return top
 
 
@@ -79,7 +86,7 @@ def main(arguments: Optional[Sequence[str]] = None) -> int:
     `scenario` ends with the status of its scenario.
     """
     options = parser().parse_args(arguments)
-    progress = silent if options.quiet else on_standard_error()
+    progress = silent if getattr(options, "quiet", False) else on_standard_error()
     try:
         if options.command == "scenario":
             outcome = scenarios.one(options.folder, options.number)
@@ -88,10 +95,13 @@ def main(arguments: Optional[Sequence[str]] = None) -> int:
             return outcome.status
         if options.command in ("scenarios", "gather"):
             run_scenarios(options, progress)
-            return 0
-        project = load(options.project)
-        run_command(options, project, options.out or project.folder, progress)
-    except PlanError as error:
+        elif options.command == "convert":
+            tell_notes(minelib.convert(options.files, options.out)["notes"])
+            print(options.out)
+        else:
+            project = load(options.project)
+            run_command(options, project, options.out or project.folder, progress)
+    except (PlanError, minelib.MinelibError) as error:
         print(f"pitplan: {error}", file=sys.stderr)
         return 1
     return 0
