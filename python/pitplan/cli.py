@@ -133,7 +133,7 @@ def run_scenarios(options: argparse.Namespace, progress: Progress) -> None:
     else:
         project = load(options.project)
         request = scenarios.Request(options.on, options.workers, options.factor, options.partial)
-        *notes, path = scenarios.scenarios(project, options.out or project.folder / "scenarios", request, progress)
+        *notes, path = scenarios.solve(project, options.out or project.folder / "scenarios", request, progress)
     tell_notes(notes)
     print(path)
 

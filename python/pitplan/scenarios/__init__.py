@@ -12,7 +12,7 @@ from .. import export, files
 from ..errors import MissingPackage, PlanError
 from ..progress import Progress
 from ..project import REFERENCE_FACTOR, Project
-from . import folder as folders, gather as gathering, job_lists, on_dask, pictures, prepare, work
+from . import answers, folder as folders, job_lists, on_dask, pictures, prepare, work
 from .folder import Shared
 
 PROBABILITY, IMAGE, TABLE, QUANTILES = "probability.csv", "probability.vti", "scenarios.csv", "quantiles.csv"
@@ -35,7 +35,7 @@ class Request:
     partial: bool = False
 
 
-def scenarios(project: Project, folder: Path, request: Request, progress: Progress) -> list[str]:
+def solve(project: Project, folder: Path, request: Request, progress: Progress) -> list[str]:
     """Solves the scenarios that have no answer yet, and gathers all; or writes the lists of jobs that do so.
 
     Gives the notes that a planner should read, and as the last one the path to look at next. Raises PlanError.
@@ -75,7 +75,7 @@ def gather(folder: Path, request: Request, progress: Progress) -> list[str]:
     shared = folders.read_shared(folder)
     factor = shown_factor(shared, request)
     with progress.step("gathering the answers"):
-        gathered = gathering.gather(shared, request.partial)
+        gathered = answers.gather(shared, request.partial)
         with files.staged(folder) as stage:
             write_tables(shared, gathered, stage)
             notes = write_image(shared, gathered, stage)
@@ -93,16 +93,16 @@ def shown_factor(shared: Shared, request: Request) -> int:
     return factor
 
 
-def write_tables(shared: Shared, gathered: gathering.Gathered, stage: Path) -> None:
+def write_tables(shared: Shared, gathered: answers.Gathered, stage: Path) -> None:
     from ..plan import codes_of
 
-    blocks = gathering.read_blocks(shared.folder, codes_of(shared.project))
-    gathering.by_block(shared, gathered, blocks).to_csv(stage / PROBABILITY, index=False, float_format="%.6g")
+    blocks = answers.read_blocks(shared.folder, codes_of(shared.project))
+    answers.by_block(shared, gathered, blocks).to_csv(stage / PROBABILITY, index=False, float_format="%.6g")
     gathered.table.to_csv(stage / TABLE, index=False, float_format="%.10g")
-    gathering.quantiles(gathered.table).to_csv(stage / QUANTILES, index=False, float_format="%.10g")
+    answers.quantiles(gathered.table).to_csv(stage / QUANTILES, index=False, float_format="%.10g")
 
 
-def write_image(shared: Shared, gathered: gathering.Gathered, stage: Path) -> list[str]:
+def write_image(shared: Shared, gathered: answers.Gathered, stage: Path) -> list[str]:
     """Probabilities of all factors as VTK image data; where VTK is missing, a note that says so."""
     grid = shared.grid
     arrays = {
@@ -117,7 +117,7 @@ def write_image(shared: Shared, gathered: gathering.Gathered, stage: Path) -> li
     return []
 
 
-def draw(shared: Shared, gathered: gathering.Gathered, factor: int, stage: Path) -> None:
+def draw(shared: Shared, gathered: answers.Gathered, factor: int, stage: Path) -> None:
     grid = shared.grid
     share = gathered.share[:, gathered.factors.index(factor)]
     solid = grid.spread(shared.frame[shared.project.table.tonnes].to_numpy() > 0)

@@ -61,8 +61,7 @@ def run(where: Where, folder: Path, scenarios: list[Scenario], progress: Progres
 
 
 def client_of(distributed: Any, where: Where) -> Any:
-    settings = {"distributed.scheduler.allowed-failures": DEATHS, "distributed.worker.daemon": False}
-    load("dask", "python3-dask", "scenarios over Dask").config.set(settings)
+    load("dask", "python3-dask", "scenarios over Dask").config.set({"distributed.scheduler.allowed-failures": DEATHS})
     if where.address == "local":
         # No dashboard: nothing is to be seen from outside, and a port may be taken.
         cluster = {"n_workers": where.processes, "threads_per_worker": 1, "dashboard_address": None}
