@@ -224,6 +224,18 @@ def test_a_changed_or_missing_folder_is_status_5(plan_folder):
     assert outcome.status == 5 and "mine.prec: has changed since scenarios.json was written" in outcome.why
 
 
+def test_what_went_wrong_is_told_by_status(plan_folder, monkeypatch):
+    ended = [work.Outcome(1, 0, "", 1.0), work.Outcome(2, 3, "sim_2: exhausted", 1.0), work.Outcome(3, 75, "gone", 1.0)]
+    monkeypatch.setattr(on_dask, "run", lambda *_: ended)
+    project = load(plan_folder(pillar(), COLUMNS))
+    with pytest.raises(PlanError) as said:
+        scenarios.solve(project, project.folder, Request(), silent)
+    assert str(said.value) == (
+        "1 solved (status 0); 1 out of budget (status 3): sim_2: exhausted; 1 killed again and again (status 75): gone: "
+        "run again, or gather the others by --partial"
+    )
+
+
 def test_some_answers_are_gathered_on_request_alone(plan_folder):
     shared = prepared(plan_folder(pillar(), COLUMNS, UPRIGHT))
     assert [work.solve(str(shared.folder), number).status for number in (1, 3)] == [0, 0]

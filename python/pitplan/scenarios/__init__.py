@@ -49,7 +49,11 @@ def solve(project: Project, folder: Path, request: Request, progress: Progress) 
         return [*notes, str(job_lists.write(request.where, folder, missing))]
     if missing:
         where = on_dask.Where(request.where, request.workers)
-        notes += notes_of_outcomes(on_dask.run(where, folder, missing, progress))
+        outcomes = on_dask.run(where, folder, missing, progress)
+        ended = notes_of_outcomes(outcomes)
+        if any(outcome.status for outcome in outcomes) and not request.partial:
+            raise PlanError(f"{'; '.join(ended)}: run again, or gather the others by --partial")
+        notes += ended
     return [*notes, *gather(folder, request, progress)]
 
 

@@ -21,30 +21,30 @@ class Gathered:
 
     share   for each block of the table, in its file's order, and each factor: the share of scenarios with it in the pit
     table   one row a scenario and factor: model, prices, and what the pit holds and is worth at the scenario's prices
-    missing the scenarios without an answer, each with why
+    missing the scenarios without an answer, by number, each with why
     """
 
     factors: list[int]
     share: np.ndarray
     table: pd.DataFrame
-    missing: dict[str, str]
+    missing: dict[int, str]
 
 
 def gather(shared: Shared, partial: bool = False) -> Gathered:
     """Raises PlanError where a scenario has no answer, unless `partial`, or where none has."""
     scenarios = shared.scenarios
-    missing = {scenario.label: folders.read_failure(shared, scenario) for scenario in shared.missing()}
+    missing = {scenario.number: folders.read_failure(shared, scenario) for scenario in shared.missing()}
     if missing and (not partial or len(missing) == len(scenarios)):
         first, why = next(iter(missing.items()))
         raise PlanError(
-            f"{len(missing):,} of {len(scenarios):,} scenarios have no answer, first {first}: {why}: "
+            f"{len(missing):,} of {len(scenarios):,} scenarios have no answer, first {scenarios[first - 1].label}: {why}: "
             "run them again, or gather the others by --partial"
         )
     factors = list(shared.record["factors"])
     counts = np.zeros((len(shared.frame), len(factors) + 1), dtype=np.int64)
     rows, tables = np.arange(len(shared.frame)), []
     for scenario in scenarios:
-        if scenario.label not in missing:
+        if scenario.number not in missing:
             places, table = read_answer(shared, scenario)
             # Blocks that come in at the k-th factor are counted there; sums over the factors then count each pit.
             counts[rows, places] += 1

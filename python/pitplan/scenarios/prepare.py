@@ -88,11 +88,13 @@ def list_of(base: Base, read: Models, program: dict[str, str]) -> list[Scenario]
         "blocks": folders.hash_of_arrays({**arrays_of(base), **walls}),
         "program": program["sha256"],
     }
+    sets = scenarios_of(project).prices
+    named = [metal for metal in project.metals if any(metal.name in prices for prices in sets)]
     given = {metal.name: str(metal.price) for metal in project.metals}
     scenarios: list[Scenario] = []
     for name, grades in read.names:
-        for prices in scenarios_of(project).prices:
-            asked = {metal: str(price) for metal, price in prices.items()}
+        for prices in sets:
+            asked = {metal.name: str(prices.get(metal.name, metal.price)) for metal in named}
             key = folders.key_of({**common, "grades": grades, "prices": {**given, **asked}})
             scenarios.append(Scenario(len(scenarios) + 1, name, grades, asked, key))
     return scenarios
