@@ -64,31 +64,51 @@ def test_prices_make_scenarios_and_quantiles_by_hand(plan_folder):
     assert table.loc[(8000, 1000), "worth_at_factor_greatest"] == 4400
 
 
+def test_a_block_that_pays_at_the_greatest_price_alone_keeps_its_needs(plan_folder):
+    poor = pillar().assign(sim_1=[0.15, 0, 0], sim_2=[0.15, 0, 0], sim_3=[0.15, 0, 0])
+    gathered = solved_in_turn(prepared(plan_folder(poor, PRICES.replace("12_000", "20_000"), UPRIGHT)))
+    # 0.075 t of metal: at 20,000 and factor 1500 it yields 2250, of which 1000 go to processing and 600 to mining three.
+    dear = gathered.table[(gathered.table["price_copper"] == 20000) & (gathered.table["factor"] == 1500)]
+    assert dear["blocks"].tolist() == [3, 3, 3] and dear["worth_at_factor"].map(Decimal).tolist() == [650] * 3
+    assert gathered.share.tolist() == [[0, 0, 0.5]] * 3
+
+
 cells = st.sampled_from([0, 0, 0, 0.1, 0.3, 0.5, 1, 2, 4])
 boxes = st.lists(cells, min_size=9, max_size=9)
+moneys = st.tuples(st.sampled_from([4000, 8000, 20000]), st.sampled_from([0, 3000]), st.booleans())
 
 
-@settings(max_examples=8)
-@given(boxes, boxes, st.sampled_from([4000, 8000, 20000]))
-def test_every_scenario_is_the_best_of_all_closed_sets(tmp_path_factory, one, other, price):
-    """The needs are written once for all; 100 t a block: mining 200, processing 1000, 5 t of metal for each 10 %."""
+def values_by_hand(grades, price, selling, factor, fixed):
+    """100 t a block: mining 200, processing 1000, and half a tonne of metal for each per cent."""
+    metal = [Decimal(str(grade)) / 2 for grade in grades]
+    gains = [tonnes * (price * factor / 1000 - selling) - 1000 for tonnes in metal]
+    is_ore = [tonnes * (price - selling) > 1000 if fixed else gain > 0 for tonnes, gain in zip(metal, gains)]
+    return [(gain if ore else Decimal(0)) - 200 for gain, ore in zip(gains, is_ore)]
+
+
+@settings(max_examples=10)
+@given(boxes, boxes, moneys)
+def test_every_scenario_is_the_best_of_all_closed_sets(tmp_path_factory, one, other, money):
+    """The needs are written once for all, whatever the grades, the prices, the selling cost and the cut-off."""
+    price, selling, fixed = money
     table = rows(*BOX).drop(columns=["cu"])
     for name, grades in (("sim_a", one), ("sim_b", other)):
         table[name] = [grades[(2 - k) * 3 + i] for k in range(3) for i in range(3)]
+    text = PRICES.replace("12_000", str(price)).replace("price = 8000", f"price = 8000\nselling_cost = {selling}")
+    text = text.replace("[[metals]]", 'cutoff = "fixed"\n[[metals]]') if fixed else text
     place = tmp_path_factory.mktemp("box")
-    (place / "project.toml").write_text(PRICES.replace("12_000", str(price)))
+    (place / "project.toml").write_text(text)
     table.to_csv(place / "blocks.csv", index=False)
     shared = prepared(place / "project.toml")
     solved_in_turn(shared)
     for scenario in shared.scenarios:
-        grades = {"sim_a": one, "sim_b": other}[scenario.model]
         places, answer = answers.read_answer(shared, scenario)
         entry = np.zeros(9, int)
         entry[shared.grid.rows] = places
+        grades = {"sim_a": one, "sim_b": other}[scenario.model]
         for number, factor in enumerate((500, 1000, 1500), 1):
-            metal = [Decimal(str(grade)) * Decimal(scenario.prices["copper"]) / 2 for grade in grades]
-            gains = [factor * worth / 1000 - 1000 for worth in metal]
-            worth, pit = best_by_trying(CLOSED, [max(gain, Decimal(0)) - 200 for gain in gains])
+            values = values_by_hand(grades, Decimal(scenario.prices["copper"]), selling, factor, fixed)
+            worth, pit = best_by_trying(CLOSED, values)
             assert set(np.flatnonzero((entry > 0) & (entry <= number))) == pit
             assert Decimal(answer["worth_at_factor"][number - 1]) == worth
 
@@ -169,8 +189,13 @@ def test_finished_scenarios_are_not_solved_again_and_new_models_are(plan_folder)
     assert [scenario.model for scenario in shared.missing()] == ["another"]
     solved_in_turn(shared)
     assert {answer: answer.stat().st_mtime_ns for answer in written} == written
-    # Another price or another wall is another answer.
-    for change in (("price = 8000", "price = 8001"), ('pattern = "1:5"', "angle = 60")):
+    # Another price, wall, factor or cost is another answer.
+    changes = [
+        ("price = 8000", "price = 8001"),
+        ('pattern = "1:5"', "angle = 60"),
+        ("mining_cost = 2", "mining_cost = 3"),
+    ]
+    for change in [*changes, ("[500, 1000, 1500]", "[500, 1000]")]:
         text = path.read_text()
         path.write_text(text.replace(*change))
         assert len(prepared(path).missing()) == 3
