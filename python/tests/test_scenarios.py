@@ -302,13 +302,15 @@ def test_lists_of_jobs_are_shell_and_name_what_is_missing(plan_folder, kind):
         subprocess.run(["sh", "-n", str(folder / name)], check=True)
 
 
-def test_a_job_solves_the_scenario_of_its_line(plan_folder):
+def test_a_task_of_slurm_solves_its_lines(plan_folder, monkeypatch):
+    monkeypatch.setattr(job_lists, "MOST_TASKS", 2)
     folder = prepared(plan_folder(pillar(), COLUMNS)).folder
-    job_lists.write("slurm", folder, folders.read_shared(folder).scenarios[1:])
-    # The second line of the list is scenario 3.
-    task = {**os.environ, "SLURM_ARRAY_TASK_ID": "2"}
-    subprocess.run(["sh", str(folder / "scenario.sh")], check=True, env=task)
-    assert [scenario.number for scenario in folders.read_shared(folder).missing()] == [1, 2]
+    job_lists.write("slurm", folder, folders.read_shared(folder).scenarios)
+    assert "#SBATCH --array=1-2\n" in (folder / "array.sbatch").read_text()
+    # Three lines for two tasks: the first takes the third line too.
+    task = {**os.environ, "SLURM_ARRAY_TASK_ID": "1"}
+    subprocess.run(["sh", str(folder / "array.sbatch")], check=True, env=task)
+    assert [scenario.number for scenario in folders.read_shared(folder).missing()] == [2]
 
 
 @pytest.mark.parametrize(

@@ -25,26 +25,31 @@ SCRIPT, ARRAY, GATHER, START, JOBS, LOG = (
     "joblog.txt",
 )
 TRIES = 3
+# Slurm's own limit, unless a site has set another (MaxArraySize 1001).
+MOST_TASKS = 1000
 
 ONE = """#!/bin/sh
-# Solves one scenario of this folder: its number, or line SLURM_ARRAY_TASK_ID of {jobs}.
+# Solves one scenario of this folder, by its number.
 # 0: its answer stands. 1 to 4: the program's own status. 5: pitplan refused. Others: killed, to be tried again.
-number=${{1:-$(sed -n "${{SLURM_ARRAY_TASK_ID}}p" {jobs})}}
-PITSHELL={program} exec {python} {pitplan} scenario {folder} "$number"
+PITSHELL={program} exec {python} {pitplan} scenario {folder} "$1"
 """
 
 SLURM = """#!/bin/sh
 #SBATCH --job-name=pitplan
-#SBATCH --array=1-{count}
+#SBATCH --array=1-{tasks}
 #SBATCH --ntasks=1
 #SBATCH --cpus-per-task=1
 #SBATCH --requeue
 #SBATCH --open-mode=append
 #SBATCH --output={folder_plain}/slurm-%a.log
-# One scenario a task: line %a of {jobs}. A node that dies gives its tasks back to Slurm (--requeue); a task whose
-# program was killed gives itself back, {tries} times at most.
-sh {script}
-status=$?
+# Of the {count} lines of {jobs} a task takes that of its own number and each {tasks}th after it. A node that dies gives its
+# tasks back to Slurm (--requeue); a task of which a program was killed gives itself back, {tries} times at most.
+status=0
+for line in $(seq "$SLURM_ARRAY_TASK_ID" {tasks} {count}); do
+    sh {script} "$(sed -n "${{line}}p" {jobs})"
+    ended=$?
+    [ "$ended" -le "$status" ] || status=$ended
+done
 if [ "$status" -gt 5 ] && [ "${{SLURM_RESTART_COUNT:-0}}" -lt {tries} ]; then
     echo "ended with status $status: tried again"
     scontrol requeue "${{SLURM_ARRAY_JOB_ID}}_${{SLURM_ARRAY_TASK_ID}}"
@@ -121,4 +126,4 @@ def words_of(folder: Path, count: int) -> dict[str, object]:
         "gather": folder / GATHER,
     }
     quoted: dict[str, object] = {name: shlex.quote(str(path)) for name, path in paths.items()}
-    return {**quoted, "count": count, "tries": TRIES, "folder_plain": str(folder)}
+    return {**quoted, "count": count, "tasks": min(count, MOST_TASKS), "tries": TRIES, "folder_plain": str(folder)}
