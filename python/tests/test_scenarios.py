@@ -3,6 +3,7 @@
 import json
 import os
 import subprocess
+import sys
 from decimal import Decimal
 
 import numpy as np
@@ -13,7 +14,7 @@ from hypothesis import given, settings
 from hypothesis import strategies as st
 from test_shells import BOX, CLOSED, best_by_trying
 
-from pitplan import PlanError, load, scenarios
+from pitplan import MissingPackage, PlanError, load, scenarios
 from pitplan.cli import main
 from pitplan.progress import silent
 from pitplan.scenarios import Request, answers, folder as folders, job_lists, on_dask, prepare, work
@@ -355,6 +356,15 @@ def test_dask_tries_a_killed_scenario_again(dask_threads, plan_folder, monkeypat
     assert {number: outcome.status for number, outcome in ended.items()} == {1: 0, 2: status, 3: 0}
     assert tries.count(2) == min(deaths + 1, 3) and tries.count(1) == 1
     assert ended[2].why == ("killed: tried 3 times" if status else "")
+
+
+def test_a_missing_dask_is_named_by_its_package(plan_folder, monkeypatch):
+    project = load(plan_folder(pillar(), COLUMNS))
+    monkeypatch.setitem(sys.modules, "distributed", None)
+    with pytest.raises(MissingPackage, match="needs the Debian package python3-distributed: apt-get install"):
+        scenarios.solve(project, project.folder, Request(), silent)
+    with pytest.raises(PlanError, match="factor 700 is not among the factors 500, 1000, 1500"):
+        scenarios.solve(project, project.folder, Request(factor=700), silent)
 
 
 def test_a_scheduler_that_is_not_there_is_named(plan_folder):

@@ -41,6 +41,8 @@ def solve(project: Project, folder: Path, request: Request, progress: Progress) 
     Gives the notes that a planner should read, and as the last one the path to look at next. Raises PlanError.
     """
     shared = prepare.prepare(project, folder, progress)
+    # Asked before hours of solving, not behind them.
+    shown_factor(shared, request)
     missing, count = shared.missing(), len(shared.scenarios)
     notes = [*shared.record["notes"], f"{count - len(missing):,} of {count:,} scenarios have their answer already"]
     if request.where in ("slurm", "parallel"):
