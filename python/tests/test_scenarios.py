@@ -308,10 +308,14 @@ def test_a_task_of_slurm_solves_its_lines(plan_folder, monkeypatch):
     folder = prepared(plan_folder(pillar(), COLUMNS)).folder
     job_lists.write("slurm", folder, folders.read_shared(folder).scenarios)
     assert "#SBATCH --array=1-2\n" in (folder / "array.sbatch").read_text()
+    script = folder / "array.sbatch"
+    subprocess.run(["sh", str(script)], check=True, env={**os.environ, "SLURM_ARRAY_TASK_ID": "2"})
+    assert [scenario.number for scenario in folders.read_shared(folder).missing()] == [1, 3]
     # Three lines for two tasks: the first takes the third line too.
+    (folder / "scenario.sh").write_text('echo "$1"\n')
     task = {**os.environ, "SLURM_ARRAY_TASK_ID": "1"}
-    subprocess.run(["sh", str(folder / "array.sbatch")], check=True, env=task)
-    assert [scenario.number for scenario in folders.read_shared(folder).missing()] == [2]
+    ran = subprocess.run(["sh", str(script)], check=True, env=task, capture_output=True, text=True)
+    assert ran.stdout == "1\n3\n"
 
 
 @pytest.mark.parametrize(
