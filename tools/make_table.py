@@ -5,11 +5,13 @@
 
 Blocks are 20 x 20 x 15 m. Columns: id, x, y, z (centres in metres), tonnes, cu_pct, au_gpt, rock (OX oxide, POR porphyry,
 AND andesite) and region (east and west of a fault, with different walls). Cells above the ground have no row. The same
-arguments give the same bytes with the same numpy. Needs python3-numpy.
+arguments give the same bytes with the same numpy. With --models it also writes simulated models of the same blocks, one
+table a model with id, cu_pct and au_gpt. Needs python3-numpy.
 """
 
 import argparse
 import gzip
+import os
 
 import numpy as np
 
@@ -62,6 +64,15 @@ def table_of(columns, rows, levels, seed):
                 yield f"{name},{x:g},{y:g},{z:g},{tonnes:g},{copper[here]:.3f},{gold[here]:.3f},{rock},{region}\n"
 
 
+def model_of(columns, rows, levels, seed):
+    """The header and one line a block of a model: the same ground, with grades of another seed."""
+    ground, copper, gold, _ = deposit(columns, rows, levels, seed)
+    yield "id,cu_pct,au_gpt\n"
+    for level, row, column in np.argwhere(ground):
+        here = (level, row, column)
+        yield f"B{column + 1:03d}-{row + 1:03d}-{level + 1:03d},{copper[here]:.3f},{gold[here]:.3f}\n"
+
+
 def main():
     parser = argparse.ArgumentParser(description="Makes a synthetic deposit as a table of blocks.")
     parser.add_argument("--columns", type=int, default=26, help="blocks from west to east (default 26)")
@@ -69,10 +80,17 @@ def main():
     parser.add_argument("--levels", type=int, default=15, help="blocks from the floor up (default 15)")
     parser.add_argument("--seed", type=int, default=4, help="default 4")
     parser.add_argument("--out", required=True, help="the file, .csv or .csv.gz")
+    parser.add_argument("--models", type=int, default=0, help="how many models to write too (default none)")
+    parser.add_argument("--folder", default="models", help="where models are written (default models)")
     options = parser.parse_args()
+    size = (options.columns, options.rows, options.levels)
     opened = gzip.open(options.out, "wt") if options.out.endswith(".gz") else open(options.out, "w", encoding="ascii")
     with opened as file:
-        file.writelines(table_of(options.columns, options.rows, options.levels, options.seed))
+        file.writelines(table_of(*size, options.seed))
+    for number in range(1, options.models + 1):
+        os.makedirs(options.folder, exist_ok=True)
+        with open(os.path.join(options.folder, f"model_{number:03d}.csv"), "w", encoding="ascii") as file:
+            file.writelines(model_of(*size, options.seed + number))
 
 
 if __name__ == "__main__":

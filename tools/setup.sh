@@ -3,11 +3,11 @@
 #
 #     tools/setup.sh [core|tests|all]
 #
-# core is what tools/pitplan needs; tests, the default, adds what its exports, its 3D page and its tests need; all adds
-# Chromium, in which the page is opened by the tests where it is there.
+# core is what tools/pitplan needs; tests, the default, adds what its exports, its 3D page, its scenarios over Dask and its
+# tests need; all adds Chromium, in which the page is opened by the tests where it is there.
 set -eu
 core="python3-numpy python3-pandas python3-matplotlib python3-jinja2"
-more="python3-vtk9 python3-ezdxf libjs-three python3-pytest python3-hypothesis"
+more="python3-vtk9 python3-ezdxf libjs-three python3-dask python3-distributed python3-pytest python3-hypothesis"
 case "${1:-tests}" in
 core) wanted=$core ;;
 tests) wanted="$core $more" ;;

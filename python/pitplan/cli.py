@@ -1,13 +1,16 @@
-"""The command line: `pitplan prepare | shells | view | export | audit`."""
+"""The command line: `pitplan prepare | shells | view | export | audit | scenarios | convert`, and others that these need."""
 
 from __future__ import annotations
 
 import argparse
 import sys
 from pathlib import Path
-from typing import Optional, Sequence
+from typing import Any, Optional, Sequence
 
-from . import commands, report
+import minelib
+from minelib.__main__ import add_arguments as add_minelib
+
+from . import commands, report, scenarios
 from .errors import PlanError
 from .progress import Progress, on_standard_error, silent
 from .project import REFERENCE_FACTOR, Project, load
@@ -33,17 +36,72 @@ def parser() -> argparse.ArgumentParser:
         if name in ("export", "audit"):
             is_needed = name == "audit"
             sub.add_argument("--factor", type=int, required=is_needed, default=None if is_needed else REFERENCE_FACTOR)
+    add_scenarios(subs)
+    text = "write other people's files as the program's"
+    kinds = subs.add_parser("convert", help=text, description=text).add_subparsers(dest="kind", required=True)
+    text = "MineLib's .upit, .cpit, .pcpsp, .prec and .blocks files, as published"
+    add_minelib(kinds.add_parser("minelib", help=text, description=text))
     return top
 
 
+def add_scenarios(subs: Any) -> None:
+    """`scenarios`, and the two commands that its lists of jobs call."""
+    words = {
+        "scenarios": "solve simulated models at several prices, and tell how often each block is in the pit",
+        "gather": "write probabilities, tables and pictures of a folder of scenarios that others have solved",
+        "scenario": "solve one scenario of a folder: ends with 0, the program's status 1 to 4, 5 where pitplan "
+        "refuses, or 75 where the program was killed and another try may help",
+    }
+    every, some, one = (subs.add_parser(name, help=text, description=text) for name, text in words.items())
+    every.add_argument("project", type=Path, help="project.toml, with [scenarios]")
+    every.add_argument("--out", type=Path, help="the folder (default: scenarios in the project's output folder)")
+    where = "local (processes, by Dask), tcp://host:port (a Dask scheduler), slurm or parallel (lists of jobs to start)"
+    every.add_argument("--on", default="local", type=where_of, metavar="WHERE", help=where)
+    every.add_argument("--workers", type=positive, help="processes of local (default: one for each processor)")
+    for sub in (some, one):
+        sub.add_argument("folder", type=Path, help="the folder that pitplan scenarios wrote")
+    for sub in (every, some):
+        sub.add_argument("--factor", type=int, help="the factor to draw (default: the project's chosen one, or 1000)")
+        sub.add_argument("--partial", action="store_true", help="gather although scenarios have no answer")
+    one.add_argument("number", type=positive, help="the scenario, from 1")
+    for sub in (every, some, one):
+        sub.add_argument("--quiet", action="store_true", help="tell no progress on standard error")
+
+
+def where_of(text: str) -> str:
+    if text in ("local", "slurm", "parallel") or "://" in text:
+        return text
+    raise argparse.ArgumentTypeError(f"{text} is none of local, tcp://host:port, slurm, parallel")
+
+
+def positive(text: str) -> int:
+    if not text.isdigit() or int(text) < 1:
+        raise argparse.ArgumentTypeError(f"{text} is no whole number from 1 on")
+    return int(text)
+
+
 def main(arguments: Optional[Sequence[str]] = None) -> int:
-    """Runs one subcommand: 0 where it is done, 1 where the input is refused, with a sentence on standard error."""
+    """Runs one subcommand: 0 where it is done, 1 where the input is refused, with a sentence on standard error.
+
+    `scenario` ends with the status of its scenario.
+    """
     options = parser().parse_args(arguments)
-    progress = silent if options.quiet else on_standard_error()
+    progress = silent if getattr(options, "quiet", False) else on_standard_error()
     try:
-        project = load(options.project)
-        run_command(options, project, options.out or project.folder, progress)
-    except PlanError as error:
+        if options.command == "scenario":
+            outcome = scenarios.one(options.folder, options.number)
+            if outcome.why:
+                print(f"pitplan: {outcome.why}", file=sys.stderr)
+            return outcome.status
+        if options.command in ("scenarios", "gather"):
+            run_scenarios(options, progress)
+        elif options.command == "convert":
+            tell_notes(minelib.convert(options.files, options.out)["notes"])
+            print(options.out)
+        else:
+            project = load(options.project)
+            run_command(options, project, options.out or project.folder, progress)
+    except (PlanError, minelib.MinelibError) as error:
         print(f"pitplan: {error}", file=sys.stderr)
         return 1
     return 0
@@ -66,6 +124,18 @@ def run_command(options: argparse.Namespace, project: Project, folder: Path, pro
         print(commands.export(folder, options.to, options.factor, progress))
     else:
         print(commands.audit(folder, options.factor, progress))
+
+
+def run_scenarios(options: argparse.Namespace, progress: Progress) -> None:
+    if options.command == "gather":
+        request = scenarios.Request(factor=options.factor, partial=options.partial)
+        *notes, path = scenarios.gather(options.folder, request, progress)
+    else:
+        project = load(options.project)
+        request = scenarios.Request(options.on, options.workers, options.factor, options.partial)
+        *notes, path = scenarios.solve(project, options.out or project.folder / "scenarios", request, progress)
+    tell_notes(notes)
+    print(path)
 
 
 def tell_notes(notes: list[str]) -> None:

@@ -9,6 +9,7 @@ import numpy as np
 
 from .files import Folder
 from .errors import PlanError
+from .grid import Grid
 from .outlines import rings
 from .packages import load
 
@@ -28,19 +29,23 @@ def write_csv(path: Path, folder: Folder, factor: int) -> None:
 
 def write_vti(path: Path, folder: Folder, factor: int) -> None:
     """All cells as VTK image data: `factor`, `process_factor`, and the numbers of the planner's table, for all factors."""
-    vtk = load("vtk", "python3-vtk9", "export --to vti")
-    numpy_support = load("vtk.util.numpy_support", "python3-vtk9", "export --to vti")
-    grid = folder.grid
+    numbers = folder.blocks.select_dtypes("number").columns
+    write_image(path, folder.grid, {name: folder.grid.spread(folder.blocks[name].to_numpy()) for name in numbers})
+
+
+def write_image(path: Path, grid: Grid, cells: dict[str, np.ndarray]) -> None:
+    """Named arrays of one value a cell as VTK image data (.vti). Raises MissingPackage without VTK."""
+    vtk = load("vtk", "python3-vtk9", "a .vti file")
+    numpy_support = load("vtk.util.numpy_support", "python3-vtk9", "a .vti file")
     levels, rows, columns = grid.shape
     west, _, south, _, floor, _ = grid.extent()
     image = vtk.vtkImageData()
     image.SetDimensions(columns + 1, rows + 1, levels + 1)
     image.SetSpacing(*grid.size)
     image.SetOrigin(west, south, floor)
-    for name in folder.blocks.select_dtypes("number").columns:
+    for name, values in cells.items():
         # VTK counts levels from the floor.
-        values = grid.cube(grid.spread(folder.blocks[name].to_numpy()))[::-1]
-        array = numpy_support.numpy_to_vtk(np.ascontiguousarray(values).ravel(), deep=True)
+        array = numpy_support.numpy_to_vtk(np.ascontiguousarray(grid.cube(values)[::-1]).ravel(), deep=True)
         array.SetName(name)
         image.GetCellData().AddArray(array)
     writer = vtk.vtkXMLImageDataWriter()

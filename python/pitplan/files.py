@@ -27,7 +27,7 @@ CHUNK = 200_000
 
 
 @contextmanager
-def staged(folder: Path) -> Iterator[Path]:
+def staged(folder: Path, last: str = RECORD) -> Iterator[Path]:
     """A new folder to write into; where no error comes, its files are moved to `folder`, each whole, the record last.
 
     Raises PlanError where the folder cannot be made or written.
@@ -37,7 +37,7 @@ def staged(folder: Path) -> Iterator[Path]:
         stage = Path(tempfile.mkdtemp(prefix=".pitplan-", dir=folder))
         try:
             yield stage
-            for path in sorted(stage.iterdir(), key=lambda it: it.name == RECORD):
+            for path in sorted(stage.iterdir(), key=lambda it: it.name == last):
                 os.replace(path, folder / path.name)
         finally:
             shutil.rmtree(stage, ignore_errors=True)
@@ -120,6 +120,12 @@ def write_json(path: Path, record: dict[str, Any]) -> None:
     path.write_text(json.dumps(record, indent=2, ensure_ascii=False) + "\n", encoding="utf-8")
 
 
+def grid_of(box: dict[str, Any], rows: np.ndarray) -> Grid:
+    """A grid from its record, with the cells of the table's rows."""
+    (levels, north, east), (x, y, z), (dx, dy, dz) = box["shape"], box["origin"], box["size"]
+    return Grid((levels, north, east), (x, y, z), (dx, dy, dz), rows)
+
+
 @dataclass(frozen=True)
 class Folder:
     """The files of a plan, read back.
@@ -134,9 +140,7 @@ class Folder:
 
     @property
     def grid(self) -> Grid:
-        box = self.record["grid"]
-        (levels, rows, columns), (x, y, z), (dx, dy, dz) = box["shape"], box["origin"], box["size"]
-        return Grid((levels, rows, columns), (x, y, z), (dx, dy, dz), self.blocks["id"].to_numpy())
+        return grid_of(self.record["grid"], self.blocks["id"].to_numpy())
 
     @property
     def factors(self) -> list[int]:

@@ -46,7 +46,7 @@ class Plan:
     walls: Walls
     used: np.ndarray
     source: str
-    filled: int
+    filled: int = 0
     notes: list[str] = field(default_factory=list)
 
     @property
@@ -148,17 +148,23 @@ def prepare(
     with progress.step(f"reading {source}"):
         checked = tables.read(project) if table is None else tables.checked(table, project)
         frame = checked.frame
-    with progress.step("laying the grid and weighing the blocks"):
+    with progress.step("laying the grid"):
         grid = grids.of_table(frame, project, source)
-        values = money.values_of(frame, grid, project, source)
     with progress.step("laying the walls"):
         region = slopes.regions_of(frame, grid, project.table.region)
         walls = slopes.walls_of(region, grid, project.slopes)
-        paying = np.array(values.greatest_value(project.schedule.factors[-1]) > 0, dtype=bool)
-        used = trim.used_blocks(grid, walls, paying)
-    plan = Plan(project, frame, grid, values, walls, used, source, checked.filled)
+    with progress.step("weighing the blocks"):
+        plan = plan_of(project, frame, grid, walls, source)
+    plan.filled = checked.filled
     plan.notes = notes_of(plan)
     return plan
+
+
+def plan_of(project: Project, frame: pd.DataFrame, grid: Grid, walls: Walls, source: str) -> Plan:
+    """A plan of a checked table, without notes. Raises PlanError where its blocks cannot be weighed."""
+    values = money.values_of(frame, grid, project, source)
+    paying = np.array(values.greatest_value(project.schedule.factors[-1]) > 0, dtype=bool)
+    return Plan(project, frame, grid, values, walls, trim.used_blocks(grid, walls, paying), source)
 
 
 def notes_of(plan: Plan) -> list[str]:

@@ -112,6 +112,20 @@ class Schedule:
 
 
 @dataclass(frozen=True)
+class Scenarios:
+    """Simulated models of the grades, and sets of prices to solve each of them with.
+
+    folder   the models' tables, or None where they are columns
+    columns  for each metal the columns of the table that hold its grades, one a model; or one name with a * in it
+    prices   for each set the prices of some metals; the others keep theirs
+    """
+
+    folder: Optional[Path]
+    columns: dict[str, tuple[str, ...]]
+    prices: tuple[dict[str, Decimal], ...]
+
+
+@dataclass(frozen=True)
 class Project:
     """All that `project.toml` says."""
 
@@ -124,6 +138,7 @@ class Project:
     slopes: Slopes
     schedule: Schedule
     folder: Path
+    scenarios: Optional[Scenarios] = None
 
 
 def load(path: Union[str, Path]) -> Project:
@@ -152,16 +167,28 @@ def of_data(data: dict, path: Path) -> Project:
         slopes=read_slopes(top.section("slopes")),
         schedule=read_schedule(top.section("shells")),
         folder=path.parent / output.text("folder", "plan"),
+        scenarios=read_scenarios(top.section("scenarios"), path.parent) if top.has("scenarios") else None,
     )
     output.finish()
     top.finish()
+    demand_agreement(project)
+    return project
+
+
+def demand_agreement(project: Project) -> None:
+    """Refuses sections that each are right and do not fit together."""
+    path = project.path
     priced = [project.money.mining_cost, project.money.processing_cost, *(metal.recovery for metal in project.metals)]
     if project.table.rock is None and any(isinstance(price, dict) for price in priced):
         raise PlanError(f"{path}: [table] rock: is missing, and prices or recoveries are given by rock")
     names = [metal.name for metal in project.metals]
     if len(set(names)) < len(names):
         raise PlanError(f"{path}: two [[metals]] have one name")
-    return project
+    if project.scenarios is not None:
+        named = [*project.scenarios.columns, *(name for prices in project.scenarios.prices for name in prices)]
+        for name in named:
+            if name not in names:
+                raise PlanError(f"{path}: [scenarios] names {name}, which is none of the [[metals]] {', '.join(names)}")
 
 
 def read_table(section: Section, folder: Path) -> TableColumns:
@@ -271,3 +298,23 @@ def read_schedule(section: Section) -> Schedule:
     )
     section.finish()
     return schedule
+
+
+def read_scenarios(section: Section, folder: Path) -> Scenarios:
+    given = [key for key in ("models", "columns") if section.has(key)]
+    if len(given) != 1:
+        raise section.wrong("models", "give exactly one of models, a folder, and columns, by metal")
+    columns: dict[str, tuple[str, ...]] = {}
+    if given == ["columns"]:
+        by_metal = section.section("columns")
+        columns = {metal: by_metal.names(metal) or () for metal in by_metal.data}
+        if not columns:
+            raise section.wrong("columns", "name the columns of at least one metal")
+    priced = section.sections("prices") if section.has("prices") else []
+    scenarios = Scenarios(
+        folder=folder / section.text("models") if given == ["models"] else None,
+        columns=columns,
+        prices=tuple({name: one.number(name, least=0) for name in one.data} for one in priced) or ({},),
+    )
+    section.finish()
+    return scenarios

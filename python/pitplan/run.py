@@ -58,8 +58,9 @@ def call(*arguments: Union[str, Path], fine: tuple[int, ...] = (0,)) -> bytes:
         return ran.stdout
     said = ran.stderr.decode(errors="replace").strip()
     if ran.returncode == 3:
-        raise BudgetUsedUp(f"pitshell {arguments[0]}: {said}")
-    raise ProgramError(f"pitshell {arguments[0]} ended with status {ran.returncode}: {said}")
+        raise BudgetUsedUp(f"pitshell {arguments[0]}: {said}", ran.returncode)
+    how = f"was ended by signal {-ran.returncode}" if ran.returncode < 0 else f"ended with status {ran.returncode}"
+    raise ProgramError(f"pitshell {arguments[0]} {how}" + (f": {said}" if said else ""), ran.returncode)
 
 
 def identity() -> dict[str, str]:

@@ -7,6 +7,7 @@ from __future__ import annotations
 
 import warnings
 from dataclasses import dataclass
+from pathlib import Path
 from typing import Optional
 
 import numpy as np
@@ -37,9 +38,32 @@ def read(project: Project) -> Table:
 
     Raises PlanError, with file, row and column, where a column is missing or a field is not usable.
     """
-    file = project.table.file
+    columns = project.table
+    codes = [name for name in (columns.id, columns.rock, columns.region) if name]
+    frame = read_columns(columns.file, columns.separator, codes, names_of(project))
+    return checked(frame, project, str(columns.file))
+
+
+def read_columns(file: Path, separator: str, codes: list[str], wanted: list[str]) -> pd.DataFrame:
+    """The file as it is: numbers where a column has no other field, codes as texts, and an empty number as nan.
+
+    Raises PlanError where it cannot be read or is no table; whether the wanted columns are there is not looked at.
+    """
     try:
-        frame = read_csv(project)
+        with warnings.catch_warnings():
+            # All columns are read, and a line with more fields than the header is an error: pandas would drop the rest.
+            warnings.simplefilter("error", pd.errors.ParserWarning)
+            return pd.read_csv(
+                file,
+                sep=separator,
+                index_col=False,
+                dtype=dict.fromkeys(codes, str),
+                keep_default_na=False,
+                na_values={name: [""] for name in wanted if name not in codes},
+                float_precision="round_trip",
+                encoding="utf-8-sig",
+                low_memory=False,
+            )
     except OSError as error:
         raise PlanError(f"{file}: cannot be read: {error.strerror or error}") from error
     except (
@@ -50,28 +74,14 @@ def read(project: Project) -> Table:
         EOFError,
     ) as error:
         raise PlanError(f"{file}: is no table: {' '.join(str(error).split())}") from error
-    return checked(frame, project, str(file))
 
 
-def read_csv(project: Project) -> pd.DataFrame:
-    """The file as it is: numbers where a column has no other field, codes as texts, and an empty number as nan."""
-    columns = project.table
-    wanted = names_of(project)
-    codes = {name: str for name in (columns.id, columns.rock, columns.region) if name}
-    with warnings.catch_warnings():
-        # All columns are read, and a line with more fields than the header is an error: pandas would drop the rest.
-        warnings.simplefilter("error", pd.errors.ParserWarning)
-        return pd.read_csv(
-            columns.file,
-            sep=columns.separator,
-            index_col=False,
-            dtype=codes,
-            keep_default_na=False,
-            na_values={name: [""] for name in wanted if name not in codes},
-            float_precision="round_trip",
-            encoding="utf-8-sig",
-            low_memory=False,
-        )
+def read_header(file: Path, separator: str) -> list[str]:
+    """The names of a table's columns. Raises PlanError where it cannot be read."""
+    try:
+        return list(pd.read_csv(file, sep=separator, nrows=0, encoding="utf-8-sig").columns)
+    except (OSError, ValueError) as error:
+        raise PlanError(f"{file}: cannot be read: {error}") from error
 
 
 def names_of(project: Project) -> list[str]:
@@ -104,16 +114,21 @@ def checked(frame: pd.DataFrame, project: Project, source: str = "table") -> Tab
         if name in codes:
             result[name] = frame[name].astype(str).str.strip().to_numpy()
             continue
-        numbers = numbers_of(frame[name], source, name)
-        empty = np.isnan(numbers)
         may_fill = columns.empty == "zero" and name not in (columns.x, columns.y, columns.z)
-        if empty.any() and not may_fill:
-            raise at_row(source, int(empty.argmax()), name, "is empty")
-        filled += int(empty.sum())
-        result[name] = np.where(empty, 0.0, numbers)
+        result[name], empty = filled_numbers(frame[name], source, name, may_fill)
+        filled += empty
     demand_not_negative(result, project, source)
     demand_codes(result, project, source)
     return Table(result, source, filled)
+
+
+def filled_numbers(column: pd.Series, source: str, name: str, may_fill: bool) -> tuple[np.ndarray, int]:
+    """A column's numbers, with 0 where it is empty, and how many fields were. Raises PlanError where it may not be."""
+    numbers = numbers_of(column, source, name)
+    empty = np.isnan(numbers)
+    if empty.any() and not may_fill:
+        raise at_row(source, int(empty.argmax()), name, "is empty")
+    return np.where(empty, 0.0, numbers), int(empty.sum())
 
 
 def demand_codes(frame: pd.DataFrame, project: Project, source: str) -> None:
@@ -144,10 +159,14 @@ def numbers_of(column: pd.Series, source: str, name: str) -> np.ndarray:
 
 def demand_not_negative(frame: pd.DataFrame, project: Project, source: str) -> None:
     for name in [project.table.tonnes, *(metal.column for metal in project.metals)]:
-        negative = (frame[name] < 0).to_numpy()
-        if negative.any():
-            row = int(negative.argmax())
-            raise at_row(source, row, name, f"{frame[name].iloc[row]:g} is negative")
+        demand_none_below_0(frame[name].to_numpy(), source, name)
+
+
+def demand_none_below_0(numbers: np.ndarray, source: str, name: str) -> None:
+    negative = numbers < 0
+    if negative.any():
+        row = int(negative.argmax())
+        raise at_row(source, row, name, f"{numbers[row]:g} is negative")
 
 
 def demand_ids(frame: pd.DataFrame, name: Optional[str], source: str) -> None:

@@ -1,0 +1,134 @@
+"""Many scenarios: simulated models of the grades, each solved at each set of prices, on one machine or on many."""
+
+from __future__ import annotations
+
+from dataclasses import dataclass
+from pathlib import Path
+from typing import Optional
+
+import numpy as np
+
+from .. import export, files
+from ..errors import MissingPackage, PlanError
+from ..progress import Progress
+from ..project import REFERENCE_FACTOR, Project
+from . import answers, folder as folders, job_lists, on_dask, pictures, prepare, work
+from .folder import Shared
+
+PROBABILITY, IMAGE, TABLE, QUANTILES = "probability.csv", "probability.vti", "scenarios.csv", "quantiles.csv"
+PICTURES = {"plans": "probability_plans.png", "sections": "probability_sections.png", "spread": "spread.png"}
+
+
+@dataclass(frozen=True)
+class Request:
+    """How to solve scenarios, and what to show of them.
+
+    where    `local`, the address of a Dask scheduler, `slurm` or `parallel`
+    workers  how many processes `local` has; None: one for each processor
+    factor   the factor whose probabilities are drawn; None: the project's chosen one, else 1000
+    partial  gather although scenarios have no answer
+    """
+
+    where: str = "local"
+    workers: Optional[int] = None
+    factor: Optional[int] = None
+    partial: bool = False
+
+
+def solve(project: Project, folder: Path, request: Request, progress: Progress) -> list[str]:
+    """Solves the scenarios that have no answer yet, and gathers all; or writes the lists of jobs that do so.
+
+    Gives the notes that a planner should read, and as the last one the path to look at next. Raises PlanError.
+    """
+    shared = prepare.prepare(project, folder, progress)
+    # Asked before hours of solving, not behind them.
+    shown_factor(shared, request)
+    missing, count = shared.missing(), len(shared.scenarios)
+    notes = [*shared.record["notes"], f"{count - len(missing):,} of {count:,} scenarios have their answer already"]
+    if request.where in ("slurm", "parallel"):
+        if not missing:
+            return [*notes, *gather(folder, request, progress)]
+        return [*notes, str(job_lists.write(request.where, folder, missing))]
+    if missing:
+        where = on_dask.Where(request.where, request.workers)
+        outcomes = on_dask.run(where, folder, missing, progress)
+        ended = notes_of_outcomes(outcomes)
+        if any(outcome.status for outcome in outcomes) and not request.partial:
+            raise PlanError(f"{'; '.join(ended)}: run again, or gather the others by --partial")
+        notes += ended
+    return [*notes, *gather(folder, request, progress)]
+
+
+def notes_of_outcomes(outcomes: list[work.Outcome]) -> list[str]:
+    """How the scenarios ended: how many by each status, and the first sentence of each that is not 0."""
+    words = {0: "solved", 1: "refused by the program", 2: "not understood by the program", 3: "out of budget"}
+    words |= {4: "answered no", work.REFUSED: "refused by pitplan", work.LOST: "killed again and again"}
+    notes = []
+    for status, said in words.items():
+        ended = [outcome for outcome in outcomes if outcome.status == status]
+        if ended:
+            notes.append(f"{len(ended):,} {said} (status {status})" + (f": {ended[0].why}" if status else ""))
+    return notes
+
+
+def one(folder: Path, number: int) -> work.Outcome:
+    """Solves one scenario of a folder that `scenarios` has written; never raises PlanError."""
+    return work.solve(str(folder), number)
+
+
+def gather(folder: Path, request: Request, progress: Progress) -> list[str]:
+    """Writes probabilities, tables and pictures of all answers. Raises PlanError where one is missing."""
+    shared = folders.read_shared(folder)
+    factor = shown_factor(shared, request)
+    with progress.step("gathering the answers"):
+        gathered = answers.gather(shared, request.partial)
+        with files.staged(folder) as stage:
+            write_tables(shared, gathered, stage)
+            notes = write_image(shared, gathered, stage)
+            draw(shared, gathered, factor, stage)
+    if gathered.missing:
+        notes.append(f"WARNING: {len(gathered.missing):,} scenarios have no answer and are left out of everything")
+    return [*notes, str(folder)]
+
+
+def shown_factor(shared: Shared, request: Request) -> int:
+    factors = list(shared.record["factors"])
+    factor = request.factor or shared.project.schedule.chosen or REFERENCE_FACTOR
+    if factor not in factors:
+        raise PlanError(f"factor {factor} is not among the factors {', '.join(map(str, factors))}")
+    return factor
+
+
+def write_tables(shared: Shared, gathered: answers.Gathered, stage: Path) -> None:
+    from ..plan import codes_of
+
+    blocks = answers.read_blocks(shared.folder, codes_of(shared.project))
+    answers.by_block(shared, gathered, blocks).to_csv(stage / PROBABILITY, index=False, float_format="%.6g")
+    gathered.table.to_csv(stage / TABLE, index=False, float_format="%.10g")
+    answers.quantiles(gathered.table).to_csv(stage / QUANTILES, index=False, float_format="%.10g")
+
+
+def write_image(shared: Shared, gathered: answers.Gathered, stage: Path) -> list[str]:
+    """Probabilities of all factors as VTK image data; where VTK is missing, a note that says so."""
+    grid = shared.grid
+    arrays = {
+        f"probability_{factor}": grid.spread(gathered.share[:, k].astype(np.float32))
+        for k, factor in enumerate(gathered.factors)
+    }
+    tonnes = shared.frame[shared.project.table.tonnes].to_numpy()
+    try:
+        export.write_image(stage / IMAGE, grid, {**arrays, "tonnes": grid.spread(tonnes)})
+    except MissingPackage as error:
+        return [f"{IMAGE} was not written: {error}"]
+    return []
+
+
+def draw(shared: Shared, gathered: answers.Gathered, factor: int, stage: Path) -> None:
+    grid = shared.grid
+    share = gathered.share[:, gathered.factors.index(factor)]
+    solid = grid.spread(shared.frame[shared.project.table.tonnes].to_numpy() > 0)
+    count = gathered.table["scenario"].nunique()
+    likely = pictures.Likely(grid, grid.cube(grid.spread(share)), grid.cube(solid), factor, count)
+    pictures.plans(likely, stage / PICTURES["plans"])
+    pictures.sections(likely, stage / PICTURES["sections"])
+    pictures.spread(gathered.table, shared.project.money.currency, stage / PICTURES["spread"])

@@ -1,0 +1,102 @@
+"""From the answers of all scenarios to probabilities by block, and to tables by scenario and of quantiles."""
+
+from __future__ import annotations
+
+from dataclasses import dataclass
+from pathlib import Path
+
+import numpy as np
+import pandas as pd
+
+from ..errors import PlanError
+from . import folder as folders
+from .folder import Scenario, Shared
+
+QUANTILES = (0.1, 0.5, 0.9)
+
+
+@dataclass(frozen=True)
+class Gathered:
+    """What all scenarios say together.
+
+    share   for each block of the table, in its file's order, and each factor: the share of scenarios with it in the pit
+    table   one row a scenario and factor: model, prices, and what the pit holds and is worth at the scenario's prices
+    missing the scenarios without an answer, by number, each with why
+    """
+
+    factors: list[int]
+    share: np.ndarray
+    table: pd.DataFrame
+    missing: dict[int, str]
+
+
+def gather(shared: Shared, partial: bool = False) -> Gathered:
+    """Raises PlanError where a scenario has no answer, unless `partial`, or where none has."""
+    scenarios = shared.scenarios
+    missing = {scenario.number: folders.read_failure(shared, scenario) for scenario in shared.missing()}
+    if missing and (not partial or len(missing) == len(scenarios)):
+        first, why = next(iter(missing.items()))
+        raise PlanError(
+            f"{len(missing):,} of {len(scenarios):,} scenarios have no answer, first {scenarios[first - 1].label}: {why}: "
+            "run them again, or gather the others by --partial"
+        )
+    factors = list(shared.record["factors"])
+    counts = np.zeros((len(shared.frame), len(factors) + 1), dtype=np.int64)
+    rows, tables = np.arange(len(shared.frame)), []
+    for scenario in scenarios:
+        if scenario.number not in missing:
+            places, table = read_answer(shared, scenario)
+            # Blocks that come in at the k-th factor are counted there; sums over the factors then count each pit.
+            counts[rows, places] += 1
+            tables.append(table)
+    share = np.cumsum(counts[:, 1:], axis=1) / len(tables)
+    return Gathered(factors, share, pd.concat(tables, ignore_index=True), missing)
+
+
+def read_answer(shared: Shared, scenario: Scenario) -> tuple[np.ndarray, pd.DataFrame]:
+    """The place of each block's least factor (0: in no pit), and the scenario's rows of the table."""
+    path = shared.answer(scenario)
+    try:
+        with np.load(path, allow_pickle=False) as answer:
+            table = pd.DataFrame(answer["table"], columns=answer["columns"])
+            worth, places = answer["worth_at_factor"], answer["places"].astype(np.int64)
+    except (OSError, ValueError, KeyError, EOFError) as error:
+        raise PlanError(f"{path}: is no answer: remove it, and run pitplan scenarios again: {error}") from error
+    heads: dict[str, object] = {"scenario": scenario.number, "model": scenario.model}
+    heads |= {f"price_{metal}": float(price) for metal, price in scenario.prices.items()}
+    heads["factor"] = shared.record["factors"]
+    for place, (name, values) in enumerate(heads.items()):
+        table.insert(place, name, values)
+    table["blocks"] = table["blocks"].astype(np.int64)
+    table["worth_at_factor"] = worth
+    return places, table
+
+
+def quantiles(table: pd.DataFrame) -> pd.DataFrame:
+    """One row a set of prices and factor, over the models: mean, least, greatest and quantiles of each amount.
+
+    Quantile 0.1 is the amount that a tenth of the models do not reach (linear between two).
+    """
+    by = [name for name in table.columns if name.startswith("price_")] + ["factor"]
+    amounts = [name for name in ("blocks", "tonnes", "ore_tonnes", "waste_tonnes") if name in table.columns]
+    amounts += [name for name in table.columns if name.startswith("metal_")] + ["worth", "worth_at_factor"]
+    groups = table.assign(worth_at_factor=table["worth_at_factor"].astype(float)).groupby(by, dropna=False)
+    result = groups.size().to_frame("models")
+    for name in amounts:
+        group = groups[name]
+        parts = {"mean": group.mean(), "least": group.min()}
+        parts |= {f"quantile_{q:g}": group.quantile(q) for q in QUANTILES}
+        parts["greatest"] = group.max()
+        result = result.join(pd.DataFrame({f"{name}_{what}": values for what, values in parts.items()}))
+    return result.reset_index()
+
+
+def by_block(shared: Shared, gathered: Gathered, blocks: pd.DataFrame) -> pd.DataFrame:
+    """The rows of blocks.csv, by the program's id, with `probability_F` for each factor F."""
+    order = np.argsort(shared.grid.rows)
+    columns = {f"probability_{factor}": gathered.share[order, k] for k, factor in enumerate(gathered.factors)}
+    return pd.concat([blocks, pd.DataFrame(columns)], axis=1)
+
+
+def read_blocks(folder: Path, codes: list[str]) -> pd.DataFrame:
+    return pd.read_csv(folder / "blocks.csv", dtype={name: str for name in codes}, keep_default_na=False, na_values={})

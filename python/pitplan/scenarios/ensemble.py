@@ -1,0 +1,201 @@
+"""The simulated models of a project, and what they share: the blocks, the walls, and the needs that any of them uses."""
+
+from __future__ import annotations
+
+import fnmatch
+from dataclasses import dataclass, replace
+from decimal import Decimal
+from pathlib import Path
+from typing import Iterator
+
+import numpy as np
+import pandas as pd
+
+from .. import grid as grids, slopes, table as tables
+from ..errors import PlanError
+from ..grid import Grid
+from ..plan import Plan, notes_of, plan_of
+from ..project import Metal, Project, Scenarios
+from ..slopes import Walls
+from ..table import HEADER_ROWS, at_row
+
+
+@dataclass(frozen=True)
+class Model:
+    """One simulated model: its name, and its grades, a row a block of the table and a column a metal."""
+
+    name: str
+    grades: np.ndarray
+
+
+@dataclass(frozen=True)
+class Base:
+    """What all models have in common.
+
+    frame   the table's rows; where the models are columns of the table, these too
+    lists   for each metal the columns of its models, where they are columns of the table
+    source  the table's file
+    filled  how many empty fields were taken as 0
+    """
+
+    project: Project
+    frame: pd.DataFrame
+    grid: Grid
+    walls: Walls
+    lists: dict[str, list[str]]
+    source: str
+    filled: int
+
+    def with_grades(self, grades: np.ndarray) -> pd.DataFrame:
+        """The table's rows with the grades of a model in the columns of the project's metals."""
+        columns = [metal.column for metal in self.project.metals]
+        frame = self.frame.drop(columns=[name for names in self.lists.values() for name in names])
+        return frame.assign(**{name: grades[:, number] for number, name in enumerate(columns)})
+
+
+def scenarios_of(project: Project) -> Scenarios:
+    """Raises PlanError where the project has no [scenarios]."""
+    if project.scenarios is None:
+        raise PlanError(f"{project.path}: [scenarios] is missing: it names the models, by a folder or by columns")
+    return project.scenarios
+
+
+def read_base(project: Project) -> Base:
+    """The table, its grid and its walls. Raises PlanError with file, row and column where they cannot be used."""
+    lists = column_lists(project)
+    by_name = {metal.name: metal for metal in project.metals}
+    simulated = [replace(by_name[name], column=column) for name, columns in lists.items() for column in columns]
+    in_table = [metal for metal in project.metals if scenarios_of(project).columns and metal.name not in lists]
+    checked = tables.read(replace(project, metals=(*simulated, *in_table)))
+    grid = grids.of_table(checked.frame, project, checked.source)
+    region = slopes.regions_of(checked.frame, grid, project.table.region)
+    walls = slopes.walls_of(region, grid, project.slopes)
+    return Base(project, checked.frame, grid, walls, lists, checked.source, checked.filled)
+
+
+def column_lists(project: Project) -> dict[str, list[str]]:
+    """For each metal the columns of its models. Raises PlanError where a * meets none, or lists differ in length."""
+    asked = scenarios_of(project).columns
+    if not asked:
+        return {}
+    columns = project.table
+    header = list(tables.read_header(columns.file, columns.separator))
+    lists = {}
+    for metal, names in asked.items():
+        lists[metal] = [found for name in names for found in (fnmatch.filter(header, name) if "*" in name else [name])]
+        if not lists[metal]:
+            raise PlanError(f"{columns.file} row 1: no column is called {', '.join(names)}")
+    counts = {metal: len(found) for metal, found in lists.items()}
+    if len(set(counts.values())) > 1:
+        said = ", ".join(f"{count} of {metal}" for metal, count in counts.items())
+        raise PlanError(f"{project.path}: [scenarios] columns: each metal needs as many columns as the others: {said}")
+    return lists
+
+
+def models(base: Base) -> Iterator[Model]:
+    """The models one after the other. Raises PlanError with file, row and column where one does not fit the table."""
+    if base.lists:
+        count = len(next(iter(base.lists.values())))
+        for number in range(count):
+            columns = {metal: names[number] for metal, names in base.lists.items()}
+            picked = [columns.get(metal.name, metal.column) for metal in base.project.metals]
+            yield Model(next(iter(columns.values())), base.frame[picked].to_numpy())
+        return
+    for path in model_files(base.project):
+        yield Model(path.name.split(".")[0], read_model(path, base))
+
+
+def model_files(project: Project) -> list[Path]:
+    """The tables in the folder of models, by name."""
+    folder = scenarios_of(project).folder
+    assert folder is not None
+    found = sorted([*folder.glob("*.csv"), *folder.glob("*.csv.gz")])
+    if not found:
+        raise PlanError(f"{folder}: holds no model, a .csv or .csv.gz file each")
+    return found
+
+
+def read_model(path: Path, base: Base) -> np.ndarray:
+    """The grades of one table, whose rows may stand in any order, by the rows of the project's table."""
+    columns, metals = base.project.table, base.project.metals
+    source, grades = str(path), [metal.column for metal in metals]
+    places = [columns.x, columns.y, columns.z]
+    codes = [columns.id] if columns.id else []
+    frame = tables.read_columns(path, columns.separator, codes, [*codes, *places, *grades])
+    by_id = columns.id is not None and columns.id in frame.columns
+    tables.demand_columns(frame, [*(codes if by_id else places), *grades], source)
+    at = rows_by_id(frame, base, source) if by_id else rows_by_place(frame, base, source)
+    demand_every_block(at, base, source)
+    result = np.empty((len(base.frame), len(metals)))
+    for number, name in enumerate(grades):
+        values, _ = tables.filled_numbers(frame[name], source, name, columns.empty == "zero")
+        tables.demand_none_below_0(values, source, name)
+        result[at, number] = values
+    return result
+
+
+def rows_by_id(frame: pd.DataFrame, base: Base, source: str) -> np.ndarray:
+    """For each row of a model the row of the table with the same id."""
+    name = base.project.table.id
+    ids = frame[name].str.strip()
+    at = pd.Index(base.frame[name]).get_indexer(ids)
+    if (at < 0).any():
+        row = int((at < 0).argmax())
+        raise at_row(source, row, str(name), f"{ids.iloc[row]} is no block of {base.source}")
+    return at
+
+
+def rows_by_place(frame: pd.DataFrame, base: Base, source: str) -> np.ndarray:
+    """For each row of a model the row of the table whose block has the same centre."""
+    grid, names = base.grid, base.project.table
+    steps, inside = [], np.ones(len(frame), dtype=bool)
+    for axis, name in enumerate((names.x, names.y, names.z)):
+        values, _ = tables.filled_numbers(frame[name], source, name, False)
+        step = (values - grid.origin[axis]) / grid.size[axis]
+        place = np.rint(step)
+        inside &= np.abs(step - place) * grid.size[axis] <= base.project.grid.tolerance
+        steps.append((-place if axis == 2 else place).astype(np.int64))
+    for place, count in zip(steps, grid.shape[::-1]):
+        inside &= (place >= 0) & (place < count)
+    column, row, level = steps
+    table_row = np.full(grid.count, -1, dtype=np.int64)
+    table_row[grid.rows] = np.arange(len(grid.rows))
+    at = np.where(inside, table_row[np.where(inside, (level * grid.shape[1] + row) * grid.shape[2] + column, 0)], -1)
+    if (at < 0).any():
+        where = ", ".join((names.x, names.y, names.z))
+        raise at_row(source, int((at < 0).argmax()), where, f"no block of {base.source} lies there")
+    return at
+
+
+def demand_every_block(at: np.ndarray, base: Base, source: str) -> None:
+    """Refuses a model that has a block twice, or lacks one."""
+    times = np.bincount(at, minlength=len(base.frame))
+    if times.max(initial=0) > 1:
+        row = int(pd.Series(at).duplicated().to_numpy().argmax())
+        raise PlanError(f"{source} row {row + HEADER_ROWS}: the block stands in another row too")
+    if times.min() == 0:
+        row = int((times == 0).argmax()) + HEADER_ROWS
+        raise PlanError(
+            f"{source}: {np.count_nonzero(times == 0):,} blocks are missing, first that of {base.source} row {row}"
+        )
+
+
+def priced(project: Project, prices: dict[str, Decimal]) -> Project:
+    """The project at a set of prices."""
+    metals = tuple(replace(metal, price=prices.get(metal.name, metal.price)) for metal in project.metals)
+    return replace(project, metals=metals)
+
+
+def envelope(base: Base, greatest: np.ndarray) -> Plan:
+    """A plan whose blocks pay wherever they do in any scenario: the greatest grades, the greatest prices, and no
+    selling cost. Its needs and its processing nodes serve every scenario."""
+    project = base.project
+
+    def dearest(metal: Metal) -> Decimal:
+        return max(prices.get(metal.name, metal.price) for prices in scenarios_of(project).prices)
+
+    metals = tuple(replace(metal, price=dearest(metal), selling_cost=Decimal(0)) for metal in project.metals)
+    plan = plan_of(replace(project, metals=metals), base.with_grades(greatest), base.grid, base.walls, base.source)
+    plan.filled = base.filled
+    plan.notes = notes_of(plan)
+    return plan

@@ -1,0 +1,156 @@
+"""The folder of a set of scenarios, which whoever solves one reads, and into which the answer is written.
+
+    scenarios.json      what there is to solve, and what it was made of
+    project.toml        the project as it was
+    base.npz            the blocks without grades: cell, tonnes, rock
+    mine.prec           the needs, written once for all scenarios
+    models/HASH.npy     the grades of a model, a row a block and a column a metal
+    done/KEY.npz        the answer of a scenario; its key names all that the answer depends on
+    failed/KEY.json     why a scenario has no answer
+"""
+
+from __future__ import annotations
+
+import hashlib
+import json
+import os
+from dataclasses import asdict, dataclass, replace
+from decimal import Decimal
+from pathlib import Path
+from typing import Any, Optional
+
+import numpy as np
+import pandas as pd
+
+from .. import files
+from ..errors import PlanError
+from ..files import staged_file
+from ..grid import Grid
+from ..project import Project, load
+
+RECORD, PROJECT, BASE = "scenarios.json", "project.toml", "base.npz"
+MODELS, DONE, FAILED = "models", "done", "failed"
+
+
+@dataclass(frozen=True)
+class Scenario:
+    """One model at one set of prices: its place in the list from 1, names, and the key of its answer."""
+
+    number: int
+    model: str
+    grades: str
+    prices: dict[str, str]
+    key: str
+
+    @property
+    def label(self) -> str:
+        """The model and the prices, as a person would call it."""
+        said = ", ".join(f"{metal} {price}" for metal, price in self.prices.items())
+        return f"{self.model} at {said}" if said else self.model
+
+    def priced(self) -> dict[str, Decimal]:
+        return {metal: Decimal(price) for metal, price in self.prices.items()}
+
+
+@dataclass(frozen=True)
+class Shared:
+    """What every scenario of a folder is solved with.
+
+    frame   tonnes and rock, a row a block of the table
+    ore     the blocks that have a node for processing in the shared needs
+    """
+
+    folder: Path
+    project: Project
+    frame: pd.DataFrame
+    grid: Grid
+    ore: np.ndarray
+    record: dict[str, Any]
+
+    @property
+    def scenarios(self) -> list[Scenario]:
+        return [Scenario(**entry) for entry in self.record["scenarios"]]
+
+    def answer(self, scenario: Scenario) -> Path:
+        return self.folder / DONE / f"{scenario.key}.npz"
+
+    def failure(self, scenario: Scenario) -> Path:
+        return self.folder / FAILED / f"{scenario.key}.json"
+
+    def missing(self) -> list[Scenario]:
+        """The scenarios that have no answer yet."""
+        return [scenario for scenario in self.scenarios if not self.answer(scenario).is_file()]
+
+    def grades(self, scenario: Scenario) -> np.ndarray:
+        return np.load(self.folder / MODELS / f"{scenario.grades}.npy", allow_pickle=False)
+
+
+def read_shared(folder: Path) -> Shared:
+    """Raises PlanError where `pitplan scenarios` has not written the folder, or a shared file has changed since."""
+    try:
+        record = json.loads((folder / RECORD).read_text(encoding="utf-8"))
+        for name, digest in record["files"].items():
+            if files.hash_of(folder / name) != digest:
+                raise PlanError(f"{folder / name}: has changed since {RECORD} was written: run pitplan scenarios again")
+        with np.load(folder / BASE, allow_pickle=False) as base:
+            arrays = {name: base[name] for name in base.files}
+    except OSError as error:
+        raise PlanError(f"{error.filename}: cannot be read: run pitplan scenarios first") from error
+    except (ValueError, KeyError) as error:
+        raise PlanError(f"{folder / RECORD}: is no record of scenarios: {error}") from error
+    grid = files.grid_of(record["grid"], arrays.pop("cells"))
+    ore = arrays.pop("ore")
+    project = load(folder / PROJECT)
+    return Shared(folder, project, pd.DataFrame(arrays), grid, ore, record)
+
+
+def key_of(parts: dict[str, Any]) -> str:
+    """A name for an answer, told by all that it depends on."""
+    return hashlib.sha256(json.dumps(parts, sort_keys=True, default=repr).encode()).hexdigest()[:20]
+
+
+def meaning(project: Project) -> dict[str, Any]:
+    """What of a project changes a scenario's answer; prices stand beside it, and the table has a hash of its own."""
+    without_prices = [asdict(replace(metal, price=Decimal(0))) for metal in project.metals]
+    parts = {"money": asdict(project.money), "metals": without_prices, "slopes": asdict(project.slopes)}
+    return {**parts, "factors": list(project.schedule.factors)}
+
+
+def hash_of_arrays(arrays: dict[str, np.ndarray]) -> str:
+    digest = hashlib.sha256()
+    for name, values in sorted(arrays.items()):
+        values = np.ascontiguousarray(values)
+        digest.update(f"{name} {values.dtype} {values.shape};".encode())
+        digest.update(values.tobytes())
+    return digest.hexdigest()
+
+
+def save_grades(folder: Path, grades: np.ndarray) -> str:
+    """Writes a model's grades where they do not stand yet; gives their hash, by which the file is named."""
+    name = hash_of_arrays({"grades": grades})
+    path = folder / MODELS / f"{name}.npy"
+    if not path.is_file():
+        with staged_file(path) as place:
+            np.save(place, grades)
+    return name
+
+
+def save_failure(shared: Shared, scenario: Scenario, status: Optional[int], sentence: str) -> None:
+    """Notes why a scenario has no answer; `status` is the program's, None where it did not get to run."""
+    path = shared.failure(scenario)
+    with staged_file(path) as place:
+        files.write_json(place, {"number": scenario.number, "label": scenario.label, "status": status, "why": sentence})
+
+
+def read_failure(shared: Shared, scenario: Scenario) -> str:
+    try:
+        return str(json.loads(shared.failure(scenario).read_text(encoding="utf-8"))["why"])
+    except (OSError, ValueError, KeyError):
+        return "was not solved"
+
+
+def forget_failure(shared: Shared, scenario: Scenario) -> None:
+    try:
+        os.remove(shared.failure(scenario))
+    except FileNotFoundError:
+        pass

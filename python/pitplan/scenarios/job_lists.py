@@ -1,0 +1,129 @@
+"""Scenarios as lists of jobs for schedulers of other people: a Slurm array, and a list for GNU parallel.
+
+Both run `scenario.sh NUMBER`. It ends with the status of `pitplan scenario`: 0 to 5 are final, and any other means that
+the program or its process was killed, so that the scenario is tried again.
+"""
+
+from __future__ import annotations
+
+import shlex
+import sys
+from pathlib import Path
+
+from ..errors import PlanError
+from ..files import staged_file
+from ..run import program
+from .folder import Scenario
+
+REPOSITORY = Path(__file__).resolve().parents[3]
+SCRIPT, ARRAY, GATHER, START, JOBS, LOG = (
+    "scenario.sh",
+    "array.sbatch",
+    "gather.sbatch",
+    "start.sh",
+    "jobs.txt",
+    "joblog.txt",
+)
+TRIES = 3
+# Slurm's own limit, unless a site has set another (MaxArraySize 1001).
+MOST_TASKS = 1000
+
+ONE = """#!/bin/sh
+# Solves one scenario of this folder, by its number.
+# 0: its answer stands. 1 to 4: the program's own status. 5: pitplan refused. Others: killed, to be tried again.
+PITSHELL={program} exec {python} {pitplan} scenario {folder} "$1"
+"""
+
+SLURM = """#!/bin/sh
+#SBATCH --job-name=pitplan
+#SBATCH --array=1-{tasks}
+#SBATCH --ntasks=1
+#SBATCH --cpus-per-task=1
+#SBATCH --requeue
+#SBATCH --open-mode=append
+#SBATCH --output={folder_plain}/slurm-%a.log
+# Of the {count} lines of {jobs} a task takes that of its own number and each {tasks}th after it. A node that dies gives its
+# tasks back to Slurm (--requeue); a task of which a program was killed gives itself back, {tries} times at most.
+status=0
+for line in $(seq "$SLURM_ARRAY_TASK_ID" {tasks} {count}); do
+    sh {script} "$(sed -n "${{line}}p" {jobs})"
+    ended=$?
+    [ "$ended" -le "$status" ] || status=$ended
+done
+if [ "$status" -gt 5 ] && [ "${{SLURM_RESTART_COUNT:-0}}" -lt {tries} ]; then
+    echo "ended with status $status: tried again"
+    scontrol requeue "${{SLURM_ARRAY_JOB_ID}}_${{SLURM_ARRAY_TASK_ID}}"
+    # Slurm ends this task now; were it to end by itself first, it would count as done.
+    sleep 60
+fi
+exit "$status"
+"""
+
+SLURM_GATHER = """#!/bin/sh
+#SBATCH --job-name=pitplan-gather
+#SBATCH --ntasks=1
+#SBATCH --output={folder_plain}/gather.log
+exec {python} {pitplan} gather {folder}
+"""
+
+SLURM_START = """#!/bin/sh
+# Puts the array into the queue, and the gathering behind it, which says what is missing where a scenario has no answer.
+set -eu
+array=$(sbatch --parsable "$@" {array})
+sbatch --dependency="afterany:$array" "$@" {gather}
+"""
+
+PARALLEL = """#!/bin/sh
+# Solves the scenarios of {jobs}, as many at once as there are processors; options of GNU parallel may follow, such as
+# --jobs 8 or --sshloginfile FILE. Run again, it does those alone that {log} does not name as done.
+set -u
+try() {{
+    parallel --joblog {log} --resume-failed "$@" sh {script} {{}} :::: {jobs}
+}}
+for round in $(seq {tries}); do
+    try "$@"
+    # Columns 7 and 8 are the exit status and the signal. Statuses 1 to 5 would come again.
+    awk 'NR > 1 {{ ends[$1] = $7 > 5 || $8 > 0 }} END {{ for (job in ends) killed += ends[job]; exit killed > 0 }}' {log} && break
+done
+exec {python} {pitplan} gather {folder}
+"""
+
+
+def write(kind: str, folder: Path, scenarios: list[Scenario]) -> Path:
+    """Writes the scripts of `slurm` or `parallel`; gives the one to start. Raises PlanError where there is nothing to do
+    or a name would not stand in a script."""
+    folder = folder.resolve()
+    if any(sign in str(folder) for sign in "\n%"):
+        raise PlanError(f"{folder}: a folder of jobs may not have a line's end or a % in its name")
+    words = words_of(folder, len(scenarios))
+    texts = {JOBS: "".join(f"{scenario.number}\n" for scenario in scenarios), SCRIPT: ONE.format(**words)}
+    if kind == "slurm":
+        texts |= {
+            ARRAY: SLURM.format(**words),
+            GATHER: SLURM_GATHER.format(**words),
+            START: SLURM_START.format(**words),
+        }
+    else:
+        texts[START] = PARALLEL.format(**words)
+    for name, text in texts.items():
+        with staged_file(folder / name) as path:
+            path.write_text(text, encoding="utf-8")
+            path.chmod(0o644 if name == JOBS else 0o755)
+    return folder / START
+
+
+def words_of(folder: Path, count: int) -> dict[str, object]:
+    """What the scripts are filled with: paths, quoted for the shell."""
+    paths = {
+        "python": Path(sys.executable),
+        "pitplan": REPOSITORY / "tools" / "pitplan",
+        "program": program().resolve(),
+        "folder": folder,
+        "jobs": folder / JOBS,
+        "log": folder / LOG,
+        "script": folder / SCRIPT,
+        "array": folder / ARRAY,
+        "gather": folder / GATHER,
+    }
+    quoted: dict[str, object] = {name: shlex.quote(str(path)) for name, path in paths.items()}
+    return {**quoted, "count": count, "tasks": min(count, MOST_TASKS), "tries": TRIES, "folder_plain": str(folder)}

@@ -1,0 +1,114 @@
+"""Writes the folder of a set of scenarios: what there is to solve, and all that the solvers share."""
+
+from __future__ import annotations
+
+import shutil
+from dataclasses import dataclass
+from pathlib import Path
+from typing import Any
+
+import numpy as np
+
+from .. import files, run
+from ..errors import PlanError
+from ..plan import MOST_PAIRS, Plan
+from ..progress import Progress
+from ..project import Project
+from . import folder as folders
+from .ensemble import Base, envelope, models, read_base, scenarios_of
+from .folder import Scenario
+
+BLOCKS = "blocks.csv"
+
+
+@dataclass(frozen=True)
+class Models:
+    """The models as they were written: name and hash of each, and the greatest grade of each block and metal."""
+
+    names: list[tuple[str, str]]
+    greatest: np.ndarray
+
+
+def prepare(project: Project, folder: Path, progress: Progress) -> folders.Shared:
+    """Reads and checks every model, and writes what solving needs. Raises PlanError with nothing to solve written."""
+    program = run.identity()
+    with progress.step(f"reading {project.table.file}"):
+        base = read_base(project)
+    with progress.step("reading the models"):
+        read = write_models(base, folder)
+    with progress.step("laying the needs that all scenarios share"):
+        plan = envelope(base, read.greatest)
+        with files.staged(folder, folders.RECORD) as stage:
+            write_shared(base, plan, stage)
+            scenarios = list_of(base, read, program)
+            write_record(plan, scenarios, program, stage)
+    return folders.read_shared(folder)
+
+
+def write_models(base: Base, folder: Path) -> Models:
+    names: list[tuple[str, str]] = []
+    greatest = np.zeros((len(base.frame), len(base.project.metals)))
+    for model in models(base):
+        names.append((model.name, folders.save_grades(folder, model.grades)))
+        greatest = np.maximum(greatest, model.grades)
+    return Models(names, greatest)
+
+
+def arrays_of(base: Base) -> dict[str, np.ndarray]:
+    """The blocks without grades, as a scenario needs them."""
+    table = base.project.table
+    arrays = {"cells": base.grid.rows, table.tonnes: base.frame[table.tonnes].to_numpy()}
+    if table.rock:
+        arrays[table.rock] = base.frame[table.rock].to_numpy().astype(str)
+    return arrays
+
+
+def write_shared(base: Base, plan: Plan, stage: Path) -> None:
+    """Base, needs, the project, and the planner's rows, for which probabilities are told."""
+    np.savez_compressed(stage / folders.BASE, ore=plan.values.processed, **arrays_of(base))
+    pairs = files.write_prec(stage / files.PREC, plan.grid, plan.walls, plan.used, plan.values.processed)
+    if pairs.written + pairs.processing > MOST_PAIRS:
+        raise PlanError(
+            f"{pairs.written + pairs.processing:,} needs, and the program takes at most {MOST_PAIRS:,}: "
+            "give fewer [slopes] levels, or a smaller model"
+        )
+    shutil.copyfile(base.project.path, stage / folders.PROJECT)
+    frame = plan.blocks
+    grades = [metal.column for metal in base.project.metals]
+    costs = ["mining_cost", "revenue", "processing_cost"]
+    frame.drop(columns=[*grades, *costs]).to_csv(stage / BLOCKS, index=False)
+
+
+def list_of(base: Base, read: Models, program: dict[str, str]) -> list[Scenario]:
+    """Every model at every set of prices, in this order, with the keys of their answers."""
+    project = base.project
+    walls = {"code": base.walls.code, **{str(k): np.array(p.offsets) for k, p in enumerate(base.walls.patterns)}}
+    common = {
+        "project": folders.meaning(project),
+        "blocks": folders.hash_of_arrays({**arrays_of(base), **walls}),
+        "program": program["sha256"],
+    }
+    sets = scenarios_of(project).prices
+    named = [metal for metal in project.metals if any(metal.name in prices for prices in sets)]
+    given = {metal.name: str(metal.price) for metal in project.metals}
+    scenarios: list[Scenario] = []
+    for name, grades in read.names:
+        for prices in sets:
+            asked = {metal.name: str(prices.get(metal.name, metal.price)) for metal in named}
+            key = folders.key_of({**common, "grades": grades, "prices": {**given, **asked}})
+            scenarios.append(Scenario(len(scenarios) + 1, name, grades, asked, key))
+    return scenarios
+
+
+def write_record(plan: Plan, scenarios: list[Scenario], program: dict[str, str], stage: Path) -> None:
+    written = [folders.BASE, files.PREC, folders.PROJECT, BLOCKS]
+    record: dict[str, Any] = {
+        "title": plan.project.title,
+        "factors": list(plan.project.schedule.factors),
+        "program": program,
+        "grid": {"shape": plan.grid.shape, "origin": plan.grid.origin, "size": plan.grid.size},
+        "notes": [note for note in plan.notes if "amounts were rounded" not in note],
+        "files": files.hashes(stage, written),
+        "scenarios": [vars(scenario) for scenario in scenarios],
+    }
+    files.write_json(stage / folders.RECORD, record)

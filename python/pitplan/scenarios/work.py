@@ -1,0 +1,121 @@
+"""One scenario, solved by one run of the program; whoever asks for it, in whatever process, on whatever machine."""
+
+from __future__ import annotations
+
+import tempfile
+import time
+from dataclasses import dataclass, replace
+from functools import lru_cache
+from pathlib import Path
+
+import numpy as np
+import pandas as pd
+
+from .. import analyse, files, money, run
+from ..errors import PlanError, ProgramError
+from ..files import staged_file
+from ..plan import Plan
+from ..slopes import Walls
+from . import folder as folders
+from .ensemble import priced
+from .folder import Scenario, Shared
+
+# Exit statuses of one scenario. 0 to 4 are the program's own: done, refused, not understood, budget used up, no.
+REFUSED, LOST = 5, 75
+FINAL = range(6)
+PROGRAM_STATUSES = range(1, 5)
+
+
+@dataclass(frozen=True)
+class Outcome:
+    """How a scenario ended: an exit status, a sentence where it is not 0, and the seconds that it took.
+
+    status  0: its answer stands; 1 to 4: the program's own; 5: pitplan refused; 75: the program was killed, try again
+    """
+
+    number: int
+    status: int
+    why: str
+    seconds: float
+
+    @property
+    def is_final(self) -> bool:
+        """Whether another try would end alike."""
+        return self.status in FINAL
+
+
+@lru_cache(maxsize=1)
+def shared_of(folder: str, digest: str) -> Shared:
+    """What the scenarios of a folder share, read once in each process; `digest` is that of its record."""
+    return folders.read_shared(Path(folder))
+
+
+def solve(folder: str, number: int) -> Outcome:
+    """Solves a scenario and writes its answer, unless it stands there already. Never raises PlanError."""
+    began = time.perf_counter()
+    try:
+        shared = shared_of(folder, files.hash_of(Path(folder) / folders.RECORD))
+        scenario = shared.scenarios[number - 1]
+    except OSError as error:
+        return Outcome(number, REFUSED, f"{error.filename}: cannot be read: run pitplan scenarios first", 0.0)
+    except PlanError as error:
+        return Outcome(number, REFUSED, str(error), 0.0)
+    except IndexError:
+        return Outcome(number, REFUSED, f"{folder}: has no scenario {number}", 0.0)
+    if shared.answer(scenario).is_file():
+        return Outcome(number, 0, "", 0.0)
+    try:
+        write_answer(shared, scenario)
+    except PlanError as error:
+        status = status_of(error)
+        folders.save_failure(shared, scenario, getattr(error, "status", None), str(error))
+        return Outcome(number, status, f"{scenario.label}: {error}", time.perf_counter() - began)
+    folders.forget_failure(shared, scenario)
+    return Outcome(number, 0, "", time.perf_counter() - began)
+
+
+def status_of(error: PlanError) -> int:
+    """The program's own status where it has one, 75 where it was killed, and else 5."""
+    status = error.status if isinstance(error, ProgramError) else None
+    if status is None:
+        return REFUSED
+    return status if status in PROGRAM_STATUSES else LOST
+
+
+def plan_of(shared: Shared, scenario: Scenario) -> Plan:
+    """A scenario as a plan whose needs stand in the shared file."""
+    project = priced(shared.project, scenario.priced())
+    grades = shared.grades(scenario)
+    columns = {metal.column: grades[:, number] for number, metal in enumerate(project.metals)}
+    frame = shared.frame.assign(**columns)
+    values = money.values_of(frame, shared.grid, project, scenario.label)
+    # The same nodes in every scenario, so that one file of needs serves: those without metal here are worth nothing.
+    values = replace(values, ore=shared.ore) if values.cutoff == "moving" else values
+    return Plan(project, frame, shared.grid, values, Walls((), np.zeros(0)), np.zeros(0, bool), scenario.label)
+
+
+def write_answer(shared: Shared, scenario: Scenario) -> None:
+    """Raises ProgramError where the program ends without an answer."""
+    plan = plan_of(shared, scenario)
+    with tempfile.TemporaryDirectory(prefix="pitplan-") as place:
+        blocks = Path(place) / files.BLOCKS
+        files.write_blocks(blocks, plan.grid, plan.values.processed, plan.values.nodes())
+        solution = run.solve_files(blocks, shared.folder / files.PREC, plan.project.schedule.factors)
+    cells = analyse.cells_of(plan, solution)
+    table = table_of(plan, cells, solution)
+    factors = np.array(plan.project.schedule.factors)
+    entry = cells.factor[plan.grid.rows]
+    texts = {"worth_at_factor": np.array([f"{worth:f}" for worth in solution.worth], dtype=str)}
+    with staged_file(shared.answer(scenario)) as path, open(path, "wb") as file:
+        # The place of a block's least factor in the list, from 1; 0: in no pit.
+        places = np.where(entry > 0, np.searchsorted(factors, entry) + 1, 0).astype(np.uint16)
+        np.savez_compressed(file, places=places, columns=table.columns.to_numpy().astype(str), table=table, **texts)
+
+
+def table_of(plan: Plan, cells: analyse.Cells, solution: run.Solution) -> pd.DataFrame:
+    """One row a factor: what the pit holds and is worth at the scenario's prices."""
+    rows = []
+    for factor in plan.project.schedule.factors:
+        inside = (cells.factor > 0) & (cells.factor <= factor)
+        rows.append(analyse.amounts(plan, cells, inside, factor))
+    return pd.DataFrame(rows, dtype=np.float64)

@@ -1,0 +1,380 @@
+"""Scenarios of small mines: probabilities by hand and by trying all sets, resuming, and how failures are kept apart."""
+
+import json
+import os
+import subprocess
+import sys
+from decimal import Decimal
+
+import numpy as np
+import pandas as pd
+import pytest
+from conftest import PROJECT, rows
+from hypothesis import given, settings
+from hypothesis import strategies as st
+from test_shells import BOX, CLOSED, best_by_trying
+
+from pitplan import MissingPackage, PlanError, load, scenarios
+from pitplan.cli import main
+from pitplan.progress import silent
+from pitplan.scenarios import Request, answers, folder as folders, job_lists, on_dask, prepare, work
+
+UPRIGHT = ('pattern = "1:5"', "angle = 90")
+COLUMNS = PROJECT + '[scenarios]\ncolumns = { copper = "sim_*" }\n'
+PRICES = COLUMNS + "[[scenarios.prices]]\ncopper = 8000\n[[scenarios.prices]]\ncopper = 12_000\n"
+MODELS = PROJECT + '[scenarios]\nmodels = "models"\n'
+
+
+def pillar():
+    """Three blocks above each other; at the floor three models of copper: 1.5 %, 0.4 % and none."""
+    table = rows(1, 1, 3).drop(columns="cu")
+    return table.assign(sim_1=[1.5, 0, 0], sim_2=[0.4, 0, 0], sim_3=[0.0, 0, 0])
+
+
+def prepared(path):
+    project = load(path)
+    return prepare.prepare(project, project.folder, silent)
+
+
+def solved_in_turn(shared):
+    outcomes = [work.solve(str(shared.folder), scenario.number) for scenario in shared.missing()]
+    assert [outcome.status for outcome in outcomes] == [0] * len(outcomes)
+    return answers.gather(shared)
+
+
+def test_probabilities_by_hand(plan_folder):
+    gathered = solved_in_turn(prepared(plan_folder(pillar(), COLUMNS, UPRIGHT)))
+    # Mining costs 200 a block, processing 1000. At factor 500 the first model's metal yields 3000, and the pit 1400; at
+    # 1000 the second yields 1600, and the pit nothing; at 1500 2400, and the pit 800.
+    assert gathered.share.tolist() == [[1 / 3, 1 / 3, 2 / 3]] * 3
+    table = gathered.table.set_index(["model", "factor"])
+    assert table["worth_at_factor"]["sim_1"].map(Decimal).tolist() == [1400, 4400, 7400]
+    assert table["worth_at_factor"]["sim_2"].map(Decimal).tolist() == [0, 0, 800]
+    assert table["tonnes"]["sim_2"].tolist() == [0, 0, 300] and table["blocks"]["sim_3"].tolist() == [0, 0, 0]
+
+
+def test_prices_make_scenarios_and_quantiles_by_hand(plan_folder):
+    gathered = solved_in_turn(prepared(plan_folder(pillar(), PRICES, UPRIGHT)))
+    # At 12,000 a tonne the second model's metal yields 2400 at factor 1000.
+    assert gathered.share[:, 1].tolist() == [3 / 6] * 3
+    table = answers.quantiles(gathered.table).set_index(["price_copper", "factor"])
+    tonnes = table.loc[(12000, 1000)]
+    assert tonnes["models"] == 3 and tonnes["tonnes_mean"] == 200 and tonnes["tonnes_quantile_0.5"] == 300
+    # Tonnes 0, 300, 300: a tenth lies a fifth of the way from the first to the second.
+    assert tonnes["tonnes_quantile_0.1"] == pytest.approx(60) and tonnes["tonnes_greatest"] == 300
+    assert table.loc[(8000, 1000), "worth_at_factor_greatest"] == 4400
+
+
+def test_a_block_that_pays_at_the_greatest_price_alone_keeps_its_needs(plan_folder):
+    poor = pillar().assign(sim_1=[0.15, 0, 0], sim_2=[0.15, 0, 0], sim_3=[0.15, 0, 0])
+    gathered = solved_in_turn(prepared(plan_folder(poor, PRICES.replace("12_000", "20_000"), UPRIGHT)))
+    # 0.075 t of metal: at 20,000 and factor 1500 it yields 2250, of which 1000 go to processing and 600 to mining three.
+    dear = gathered.table[(gathered.table["price_copper"] == 20000) & (gathered.table["factor"] == 1500)]
+    assert dear["blocks"].tolist() == [3, 3, 3] and dear["worth_at_factor"].map(Decimal).tolist() == [650] * 3
+    assert gathered.share.tolist() == [[0, 0, 0.5]] * 3
+
+
+cells = st.sampled_from([0, 0, 0, 0.1, 0.3, 0.5, 1, 2, 4])
+boxes = st.lists(cells, min_size=9, max_size=9)
+moneys = st.tuples(st.sampled_from([4000, 8000, 20000]), st.sampled_from([0, 3000]), st.booleans())
+
+
+def values_by_hand(grades, price, selling, factor, fixed):
+    """100 t a block: mining 200, processing 1000, and half a tonne of metal for each per cent."""
+    metal = [Decimal(str(grade)) / 2 for grade in grades]
+    gains = [tonnes * (price * factor / 1000 - selling) - 1000 for tonnes in metal]
+    is_ore = [tonnes * (price - selling) > 1000 if fixed else gain > 0 for tonnes, gain in zip(metal, gains)]
+    return [(gain if ore else Decimal(0)) - 200 for gain, ore in zip(gains, is_ore)]
+
+
+@settings(max_examples=10)
+@given(boxes, boxes, moneys)
+def test_every_scenario_is_the_best_of_all_closed_sets(tmp_path_factory, one, other, money):
+    """The needs are written once for all, whatever the grades, the prices, the selling cost and the cut-off."""
+    price, selling, fixed = money
+    table = rows(*BOX).drop(columns=["cu"])
+    for name, grades in (("sim_a", one), ("sim_b", other)):
+        table[name] = [grades[(2 - k) * 3 + i] for k in range(3) for i in range(3)]
+    text = PRICES.replace("12_000", str(price)).replace("price = 8000", f"price = 8000\nselling_cost = {selling}")
+    text = text.replace("[[metals]]", 'cutoff = "fixed"\n[[metals]]') if fixed else text
+    place = tmp_path_factory.mktemp("box")
+    (place / "project.toml").write_text(text)
+    table.to_csv(place / "blocks.csv", index=False)
+    shared = prepared(place / "project.toml")
+    solved_in_turn(shared)
+    for scenario in shared.scenarios:
+        places, answer = answers.read_answer(shared, scenario)
+        entry = np.zeros(9, int)
+        entry[shared.grid.rows] = places
+        grades = {"sim_a": one, "sim_b": other}[scenario.model]
+        for number, factor in enumerate((500, 1000, 1500), 1):
+            values = values_by_hand(grades, Decimal(scenario.prices["copper"]), selling, factor, fixed)
+            worth, pit = best_by_trying(CLOSED, values)
+            assert set(np.flatnonzero((entry > 0) & (entry <= number))) == pit
+            assert Decimal(answer["worth_at_factor"][number - 1]) == worth
+
+
+def write_models(path, **models):
+    (path.parent / "models").mkdir(exist_ok=True)
+    for name, frame in models.items():
+        frame.to_csv(path.parent / "models" / f"{name}.csv", index=False)
+
+
+def hill():
+    """A model of a hill of 3 x 2 x 2 blocks, a grade of its own at each."""
+    table = rows(3, 2, 2).drop(columns="cu")
+    return table, table[["name", "x", "y", "z"]].assign(cu=np.arange(12) / 10)
+
+
+def test_models_of_a_folder_may_have_their_rows_in_any_order(plan_folder):
+    table, model = hill()
+    path = plan_folder(table, MODELS)
+    write_models(path, by_id=model[["name", "cu"]].sample(frac=1, random_state=1))
+    write_models(path, by_place=model[["x", "y", "z", "cu"]].sample(frac=1, random_state=2))
+    shared = prepared(path)
+    assert [scenario.model for scenario in shared.scenarios] == ["by_id", "by_place"]
+    for scenario in shared.scenarios:
+        assert shared.grades(scenario)[:, 0].tolist() == (np.arange(12) / 10).tolist()
+
+
+@pytest.mark.parametrize(
+    "bend, words",
+    [
+        (lambda m: m.assign(name=["nobody", *m["name"][1:]]), "row 2 column name: nobody is no block of "),
+        (lambda m: m.drop(columns="name").assign(x=m["x"] + 1), "row 2 column x, y, z: no block of "),
+        (lambda m: m[m["name"] != "b1-0-0"], "1 blocks are missing, first that of "),
+        (lambda m: pd.concat([m, m[:1]]), "row 14: the block stands in another row too"),
+        (lambda m: m.assign(cu=[-0.5, *m["cu"][1:]]), "row 2 column cu: -0.5 is negative"),
+        (lambda m: m.assign(cu=["", *m["cu"][1:]]), "row 2 column cu: is empty"),
+        (lambda m: m.drop(columns="cu"), "row 1: there is no column cu; "),
+    ],
+)
+def test_a_model_that_does_not_fit_is_named_by_file_and_row(plan_folder, bend, words):
+    table, model = hill()
+    path = plan_folder(table, MODELS)
+    write_models(path, bent=bend(model))
+    with pytest.raises(PlanError) as said:
+        prepared(path)
+    assert str(said.value).startswith(f"{path.parent}/models/bent.csv") and words in str(said.value)
+    assert not (path.parent / "plan" / "scenarios.json").exists()
+
+
+@pytest.mark.parametrize(
+    "text, words",
+    [
+        (PROJECT, r"\[scenarios\] is missing: it names the models"),
+        (PROJECT + "[scenarios]\n", r"\[scenarios\] models: give exactly one of models, a folder, and columns"),
+        (MODELS, "models: holds no model, a .csv or .csv.gz file each"),
+        (COLUMNS.replace("sim_", "none_"), r"blocks.csv row 1: no column is called none_\*"),
+        (
+            COLUMNS.replace("copper = ", "gold = "),
+            r"\[scenarios\] names gold, which is none of the \[\[metals\]\] copper",
+        ),
+        (PRICES.replace("12_000", "-1"), r"\[scenarios.prices 2\] copper: -1 is below 0"),
+    ],
+)
+def test_scenarios_that_cannot_be_are_refused(plan_folder, text, words):
+    with pytest.raises(PlanError, match=words):
+        prepared(plan_folder(pillar(), text))
+
+
+def test_finished_scenarios_are_not_solved_again_and_new_models_are(plan_folder):
+    table, model = hill()
+    path = plan_folder(table, MODELS)
+    write_models(path, first=model, second=model.assign(cu=model["cu"] * 2))
+    shared = prepared(path)
+    solved_in_turn(shared)
+    written = {answer: answer.stat().st_mtime_ns for answer in (shared.folder / "done").iterdir()}
+    write_models(path, another=model.assign(cu=9.0))
+    shared = prepared(path)
+    assert [scenario.model for scenario in shared.missing()] == ["another"]
+    solved_in_turn(shared)
+    assert {answer: answer.stat().st_mtime_ns for answer in written} == written
+    # Another price, wall, factor or cost is another answer.
+    changes = [
+        ("price = 8000", "price = 8001"),
+        ('pattern = "1:5"', "angle = 60"),
+        ("mining_cost = 2", "mining_cost = 3"),
+    ]
+    for change in [*changes, ("[500, 1000, 1500]", "[500, 1000]")]:
+        text = path.read_text()
+        path.write_text(text.replace(*change))
+        assert len(prepared(path).missing()) == 3
+        path.write_text(text)
+    assert prepared(path).missing() == []
+
+
+@pytest.fixture
+def broken_program(tmp_path, monkeypatch):
+    """A program that says its version, and ends its shells as a test wants it to."""
+
+    def end(how):
+        script = tmp_path / "broken"
+        script.write_text(f'#!/bin/sh\n[ "$1" = --version ] && echo broken && exit 0\necho some words >&2\n{how}\n')
+        script.chmod(0o755)
+        monkeypatch.setenv("PITSHELL", str(script))
+
+    return end
+
+
+@pytest.mark.parametrize(
+    "how, status, noted",
+    [
+        ("exit 1", 1, 1),
+        ("exit 2", 2, 2),
+        ("exit 3", 3, 3),
+        ("exit 4", 4, 4),
+        ("kill -9 $$", 75, -9),
+        ("exit 137", 75, 137),
+    ],
+)
+def test_the_program_s_statuses_are_kept_apart(plan_folder, broken_program, capsys, how, status, noted):
+    broken_program(how)
+    shared = prepared(plan_folder(pillar(), COLUMNS))
+    assert main(["scenario", str(shared.folder), "2"]) == status
+    assert capsys.readouterr().err.startswith("pitplan: sim_2: pitshell shells")
+    record = json.loads(next((shared.folder / "failed").iterdir()).read_text())
+    assert record["status"] == noted and record["label"] == "sim_2" and "some words" in record["why"]
+    assert work.Outcome(2, status, "", 0).is_final == (status != 75)
+    with pytest.raises(PlanError, match="3 of 3 scenarios have no answer, first sim_1: was not solved"):
+        answers.gather(shared, partial=True)
+
+
+def test_a_changed_or_missing_folder_is_status_5(plan_folder):
+    shared = prepared(plan_folder(pillar(), COLUMNS))
+    assert work.solve(str(shared.folder), 4).why.endswith("has no scenario 4")
+    assert work.solve(str(shared.folder / "nowhere"), 1).status == 5
+    (shared.folder / "mine.prec").write_text("")
+    work.shared_of.cache_clear()
+    outcome = work.solve(str(shared.folder), 1)
+    assert outcome.status == 5 and "mine.prec: has changed since scenarios.json was written" in outcome.why
+
+
+def test_what_went_wrong_is_told_by_status(plan_folder, monkeypatch):
+    ended = [work.Outcome(1, 0, "", 1.0), work.Outcome(2, 3, "sim_2: exhausted", 1.0), work.Outcome(3, 75, "gone", 1.0)]
+    monkeypatch.setattr(on_dask, "run", lambda *_: ended)
+    project = load(plan_folder(pillar(), COLUMNS))
+    with pytest.raises(PlanError) as said:
+        scenarios.solve(project, project.folder, Request(), silent)
+    assert str(said.value) == (
+        "1 solved (status 0); 1 out of budget (status 3): sim_2: exhausted; 1 killed again and again (status 75): gone: "
+        "run again, or gather the others by --partial"
+    )
+
+
+def test_some_answers_are_gathered_on_request_alone(plan_folder):
+    shared = prepared(plan_folder(pillar(), COLUMNS, UPRIGHT))
+    assert [work.solve(str(shared.folder), number).status for number in (1, 3)] == [0, 0]
+    with pytest.raises(PlanError, match="1 of 3 scenarios have no answer, first sim_2: was not solved"):
+        scenarios.gather(shared.folder, Request(), silent)
+    notes = scenarios.gather(shared.folder, Request(partial=True, factor=1500), silent)
+    assert "WARNING: 1 scenarios have no answer and are left out of everything" in notes
+    blocks = pd.read_csv(shared.folder / "probability.csv")
+    assert (
+        blocks["name"].tolist() == ["b0-0-2", "b0-0-1", "b0-0-0"] and blocks["probability_1500"].tolist() == [0.5] * 3
+    )
+    for name in scenarios.PICTURES.values():
+        assert (shared.folder / name).read_bytes().startswith(b"\x89PNG")
+    with pytest.raises(PlanError, match="factor 700 is not among the factors 500, 1000, 1500"):
+        scenarios.gather(shared.folder, Request(factor=700), silent)
+
+
+def test_the_image_has_the_probabilities_of_all_cells(plan_folder):
+    vtk = pytest.importorskip("vtk", reason="needs the Debian package python3-vtk9")
+    shared = prepared(plan_folder(pillar(), COLUMNS, UPRIGHT))
+    gathered = solved_in_turn(shared)
+    assert scenarios.write_image(shared, gathered, shared.folder) == []
+    reader = vtk.vtkXMLImageDataReader()
+    reader.SetFileName(str(shared.folder / "probability.vti"))
+    reader.Update()
+    found = reader.GetOutput().GetCellData().GetArray("probability_1500")
+    assert [found.GetValue(k) for k in range(3)] == pytest.approx([2 / 3] * 3)
+
+
+@pytest.mark.parametrize("kind", ["slurm", "parallel"])
+def test_lists_of_jobs_are_shell_and_name_what_is_missing(plan_folder, kind):
+    path = plan_folder(pillar(), COLUMNS, UPRIGHT)
+    assert work.solve(str(prepared(path).folder), 1).status == 0
+    *_, start = scenarios.solve(load(path), load(path).folder, Request(where=kind), silent)
+    folder = load(path).folder
+    assert start == str(folder / "start.sh") and (folder / "jobs.txt").read_text() == "2\n3\n"
+    names = ["start.sh", "scenario.sh"] + (["array.sbatch", "gather.sbatch"] if kind == "slurm" else [])
+    for name in names:
+        subprocess.run(["sh", "-n", str(folder / name)], check=True)
+
+
+def test_a_task_of_slurm_solves_its_lines(plan_folder, monkeypatch):
+    monkeypatch.setattr(job_lists, "MOST_TASKS", 2)
+    folder = prepared(plan_folder(pillar(), COLUMNS)).folder
+    job_lists.write("slurm", folder, folders.read_shared(folder).scenarios)
+    assert "#SBATCH --array=1-2\n" in (folder / "array.sbatch").read_text()
+    script = folder / "array.sbatch"
+    subprocess.run(["sh", str(script)], check=True, env={**os.environ, "SLURM_ARRAY_TASK_ID": "2"})
+    assert [scenario.number for scenario in folders.read_shared(folder).missing()] == [1, 3]
+    # Three lines for two tasks: the first takes the third line too.
+    (folder / "scenario.sh").write_text('echo "$1"\n')
+    task = {**os.environ, "SLURM_ARRAY_TASK_ID": "1"}
+    ran = subprocess.run(["sh", str(script)], check=True, env=task, capture_output=True, text=True)
+    assert ran.stdout == "1\n3\n"
+
+
+@pytest.mark.parametrize(
+    "status, restarts, requeued", [(0, 0, 0), (1, 0, 0), (3, 0, 0), (75, 0, 1), (137, 2, 1), (137, 3, 0)]
+)
+def test_a_slurm_task_gives_itself_back_only_where_it_was_killed(plan_folder, tmp_path, status, restarts, requeued):
+    path = plan_folder(pillar(), COLUMNS)
+    folder = prepared(path).folder
+    job_lists.write("slurm", folder, folders.read_shared(folder).missing())
+    (folder / "scenario.sh").write_text(f"exit {status}\n")
+    for name, text in {"scontrol": f'echo "$@" >> {tmp_path}/asked', "sleep": ""}.items():
+        (tmp_path / name).write_text(f"#!/bin/sh\n{text}\n")
+        (tmp_path / name).chmod(0o755)
+    task = {"SLURM_ARRAY_JOB_ID": "7", "SLURM_ARRAY_TASK_ID": "2", "SLURM_RESTART_COUNT": str(restarts)}
+    environment = {**os.environ, **task, "PATH": f"{tmp_path}:{os.environ['PATH']}"}
+    ran = subprocess.run(["sh", str(folder / "array.sbatch")], env=environment, capture_output=True)
+    asked = (tmp_path / "asked").read_text() if (tmp_path / "asked").exists() else ""
+    assert ran.returncode == status and asked == "requeue 7_2\n" * requeued
+
+
+@pytest.fixture(scope="module")
+def dask_threads():
+    """A scheduler with one worker in this process, which a test may bend."""
+    distributed = pytest.importorskip("distributed", reason="needs the Debian package python3-distributed")
+    with distributed.Client(processes=False, n_workers=1, threads_per_worker=1, dashboard_address=None) as client:
+        yield distributed, client
+
+
+@pytest.mark.filterwarnings("ignore:make_current is deprecated:DeprecationWarning")
+@pytest.mark.parametrize("deaths, status", [(0, 0), (2, 0), (3, 75)])
+def test_dask_tries_a_killed_scenario_again(dask_threads, plan_folder, monkeypatch, deaths, status):
+    shared = prepared(plan_folder(pillar(), COLUMNS))
+    tries = []
+
+    def dying(folder, number):
+        tries.append(number)
+        killed = number == 2 and tries.count(2) <= deaths
+        return work.Outcome(number, work.LOST if killed else 0, "killed" if killed else "", 0.0)
+
+    monkeypatch.setattr(work, "solve", dying)
+    ended = {it.number: it for it in on_dask.outcomes_of(*dask_threads, shared.folder, shared.scenarios)}
+    assert {number: outcome.status for number, outcome in ended.items()} == {1: 0, 2: status, 3: 0}
+    assert tries.count(2) == min(deaths + 1, 3) and tries.count(1) == 1
+    assert ended[2].why == ("killed: tried 3 times" if status else "")
+
+
+def test_a_missing_dask_is_named_by_its_package(plan_folder, monkeypatch):
+    project = load(plan_folder(pillar(), COLUMNS))
+    monkeypatch.setitem(sys.modules, "distributed", None)
+    with pytest.raises(MissingPackage, match="needs the Debian package python3-distributed: apt-get install"):
+        scenarios.solve(project, project.folder, Request(), silent)
+    with pytest.raises(PlanError, match="factor 700 is not among the factors 500, 1000, 1500"):
+        scenarios.solve(project, project.folder, Request(factor=700), silent)
+
+
+def test_a_scheduler_that_is_not_there_is_named(plan_folder):
+    pytest.importorskip("distributed", reason="needs the Debian package python3-distributed")
+    project = load(plan_folder(pillar(), COLUMNS))
+    with pytest.raises(PlanError, match="nowhere://x: no Dask scheduler answers there"):
+        scenarios.solve(
+            *(lambda p: (p, p.folder))(load(plan_folder(pillar(), COLUMNS))), Request("nowhere://x"), silent
+        )
