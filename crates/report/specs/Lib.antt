@@ -1,4 +1,5 @@
 pub mod Puts
+pub mod ReplayText
 pub mod FaultText
 pub mod AnswerText
 pub mod FirstWith

@@ -12,6 +12,7 @@ mod journal_text;
 mod number;
 mod out;
 mod pit;
+mod replay;
 mod shells;
 
 pub use answer::write_answer;
@@ -23,4 +24,5 @@ pub use journal_text::JournalText;
 pub use number::put_number;
 pub use out::{Out, end_line, finish, put};
 pub use pit::{put_line, write_pit};
+pub use replay::{write_difference, write_open};
 pub use shells::write_shells;

@@ -62,7 +62,7 @@ fn solve_mine<C: OutBytes, R: Threads + Wait + Sync>(
 }
 
 /// Writes the text of a pit.
-fn put_pit<W: OutBytes>(out: &mut W, mine: &Instance, pit: &[u32]) -> Result<(), Fault>
+pub(crate) fn put_pit<W: OutBytes>(out: &mut W, mine: &Instance, pit: &[u32]) -> Result<(), Fault>
     requires countable { (W.progress out.old).failures < 2 ^ 63 }
     requires shown { ShowsPit mine.now pit.now }
     ensures written { WritesPit mine.now (W.progress out.old) (W.progress out.new) result }
