@@ -1,3 +1,4 @@
 pub mod PutLemmas
 pub mod Digits
 pub mod Firsts
+pub mod JournalOfText

@@ -39,7 +39,7 @@ pub record IsReplayed (mine : Instance) (reading : Reading) (end : Replayed) : T
 pub data AnswersJournal (mine : Instance) (journal : BudgetAndEntries) (text : List ℕ) (status : Status) : Type 0 where
   settled : IsSettled mine journal.budget journal.entries → IsPitText mine text → status ≡ Done → AnswersJournal mine journal text status
   differs : (k : ℕ) → DiffersAt mine journal.budget journal.entries k → text ≡ difference_text k → status ≡ No → AnswersJournal mine journal text status
-  open : (count : ℕ) → IsOpenAt mine journal.budget journal.entries count → text ≡ open_text count → status ≡ No → AnswersJournal mine journal text status
+  unfinished : (count : ℕ) → IsOpenAt mine journal.budget journal.entries count → text ≡ open_text count → status ≡ No → AnswersJournal mine journal text status
 
 -- three readers gave a mine and a journal of it, and this is the answer; where that is the text of a pit, it is the pit of
 -- the mine as the files spell it
