@@ -3,6 +3,7 @@
 use crate::mines::{cut_once, dug_whole, pairs_of_blocks};
 use crate::outcomes::{exhausted_at, leads_to, mergers_in, pit_in};
 use crew::{Gate, OpenGate, solve_shared};
+use solver::{Mode, solve};
 use std::sync::atomic::{AtomicBool, Ordering};
 use std::test::*;
 use std::thread;
@@ -57,7 +58,12 @@ impl Gate for Meeting {
 fn two_workers_work_at_once(rt: HostRuntime) -> Result<(), Fail> {
     let mine = pairs_of_blocks(rt.alloc(), 2)?;
     let gate = Meeting::new();
-    let (outcome, journal) = solve_shared(&rt, rt.alloc(), &mine, 2, None, 1, &gate)?;
+    let mode = Mode::Shared {
+        workers: 2,
+        budget: None,
+        chunk: 1,
+    };
+    let (outcome, journal) = solve(&rt, rt.alloc(), &mine, &mode, &gate)?;
     assert!(rt;
         !gate.is_over.load(Ordering::SeqCst),
         "both asked before either was served"
