@@ -6,3 +6,4 @@ pub mod Depositing
 pub mod ShellRuns
 pub mod Uniqueness
 pub mod OneFault
+pub mod Replaying

@@ -1,6 +1,5 @@
 -- Where one step of a run is refused, the run is refused so: by cases on the refusal.
 use Rattle.std.proofs.Common.{◌≡◌, ℕ, List, inl, inr, refl, sym, subst}
-use Rattle.std.specs.Prelude.{Err}
 use Rattle.faults.specs.Refused.{write_failed}
 use Rattle.minelib_reader.specs.Device.{Progress}
 use Rattle.minelib_reader.specs.Answer.{Refuses, ReadsText}
@@ -18,7 +17,6 @@ use Rattle.runs.specs.Mine.{HoldsMine}
 use Rattle.solver.specs.Modes.{RefusesSolve}
 use Rattle.runs.specs.Chosen.{Chosen, IsLeft}
 use Rattle.runs.specs.Run.{RefusesPit, RefusesRun, WasCutShort, in_certificate}
-use Rattle.runs.specs.Certified.{PutsCertificate}
 use Rattle.runs.proofs.Certifying.{certificate_cut}
 use Rattle.solver.specs.declared.mode.Mode.{Mode}
 use Rattle.pit_model.specs.Mine.{Instance}
