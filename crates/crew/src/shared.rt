@@ -1,7 +1,8 @@
 //! Many workers solve one instance at one tree: each asks for merger arcs on the board, and whoever holds the lock decides what
 //! stands there (flat combining: Hendler, Incze, Shavit and Tzafrir 2010). The driver makes what they left over.
-ghost use Rattle.std.specs.Prelude.{◌≡◌, IfOk, IfErr};
+ghost use Rattle.std.specs.Prelude.{◌≡◌, ◌≤◌, IfOk, IfErr};
 ghost use Rattle.faults.specs.Refused.{no_seat, IsNoRoom};
+ghost use Rattle.pit_model.specs.JournalText.{most_seat};
 ghost use Rattle.pit_model.specs.Tree.{opening};
 ghost use Rattle.crew.specs.Solved.{IsSolvedTogether};
 
@@ -20,6 +21,9 @@ use std::marker::Brand;
 use std::sync::Wait;
 use std::thread::Threads;
 use tree_lock::{Entry, Holder, SharedTree, Site, UnnamedList};
+
+// So many workers have a seat; the driver's is seat 0.
+const MOST_WORKERS: u32 = 64;
 
 // What a solve begins with: the opening tree and its budget, and the list of mergers and the board, which have no name yet.
 struct Beginning {
@@ -115,8 +119,8 @@ fn end_after<S: Site, R: Threads + Wait + Sync>(
 /// was decided: it is lawful for the instance and the budget, whatever the schedule. `Exhausted` comes where the budget is
 /// used up and a merger arc is left. The gate is told of the workers' steps.
 ///
-/// Refused for want of memory (1), and where a seat was refused or a worker could not be started (22); those that were have
-/// then ended.
+/// Refused for want of memory (1), and where more workers are asked for than there are seats, a seat was refused or a worker
+/// could not be started (22); those that were have then ended.
 pub fn solve_shared<G: Gate + Sync, R: Threads + Wait + Sync>(
     rt: &R,
     alloc: Global,
@@ -127,8 +131,12 @@ pub fn solve_shared<G: Gate + Sync, R: Threads + Wait + Sync>(
     gate: &G,
 ) -> Result<(Outcome, Vec<Entry>), Fault>
     ensures solved { IfOk result (λ r. IsSolvedTogether instance.now workers budget r.0 r.1.items) }
+    ensures few { IfOk result (λ _. workers ≤ most_seat) }
     ensures refused { IfErr result IsNoRoom }
 {
+    if workers > MOST_WORKERS {
+        return Err(Fault::no_seat());
+    }
     let begun = Beginning {
         tree: NormTree::start(alloc, instance)?,
         budget,

@@ -1,6 +1,7 @@
 pub mod Refusing
 pub mod Solving
 pub mod Certifying
+pub mod Journaling
 pub mod Checking
 pub mod Depositing
 pub mod ShellRuns

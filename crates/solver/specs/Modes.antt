@@ -1,11 +1,12 @@
 -- How a solve in a mode ends, and why one is refused.
-use Rattle.std.specs.Prelude.{◌≡◌, ℕ, List, [], Option, Some, None, Result, Ok, Err}
+use Rattle.std.specs.Prelude.{◌≡◌, ℕ, ◌≤◌, List, [], Option, Some, None, Result, Ok, Err}
 use Rattle.faults.specs.Refused.{no_memory, no_seat, exhausted}
 use Rattle.faults.specs.declared.fault.Fault.{Fault}
 use Rattle.faults.specs.declared.refusal.Refusal.{Refusal}
 use Rattle.faults.specs.declared.refusal.Refusal.TheVariants as refusals
 use Rattle.pit_model.specs.declared.journal.Entry.{Entry}
 use Rattle.pit_model.specs.Mine.{Instance}
+use Rattle.pit_model.specs.JournalText.{most_seat}
 use Rattle.pit_model.specs.Journal.{applied_count, AreSeated, IsLawful, replay}
 use Rattle.pit_model.specs.FirstRun.{HasMerger, HasNoMerger, first_run}
 use Rattle.certificate.specs.declared.pit_with_flow.Certificate.{Certificate}
@@ -40,7 +41,7 @@ RunsOut (Shared workers budget chunk) mine count =
 
 -- how a solve in a mode ends, with the journal of what was decided: of the workers at one tree; in the other modes it is empty
 abbrev pub EndsIn : Mode → Instance → Outcome → List Entry → Type 0
-EndsIn (Shared workers budget chunk) mine outcome journal = IsSolvedTogether mine workers budget outcome journal
+EndsIn (Shared workers budget chunk) mine outcome journal = IsSolvedTogether mine workers budget outcome journal × (workers ≤ most_seat)
 EndsIn mode mine (Pit certificate) journal = (journal ≡ []) × IsCertificateOf mine certificate × EndsWithin mode mine
 EndsIn mode mine (Exhausted count) journal = (journal ≡ []) × RunsOut mode mine count
 
