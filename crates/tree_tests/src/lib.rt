@@ -13,6 +13,8 @@ mod forest_tests;
 #[cfg(test)]
 mod graph_tests;
 #[cfg(test)]
+mod journal_tests;
+#[cfg(test)]
 mod label_tests;
 #[cfg(test)]
 mod line_tests;
