@@ -1,7 +1,7 @@
 -- What is written of a journal spells it: the text line by line, and each line field by field.
 use Rattle.std.proofs.Common.{◌≡◌, ℕ, suc, ◌+◌, ◌^◌, ◌<◌, ◌≤◌, List, [], ◌∷◌, ◌++◌, length, map, Option, Some, None, refl, sym, ap, subst, ◌∙◌, arith, append_assoc}
 use Rattle.std.specs.Prelude.{codes, decimal}
-use Rattle.std.specs.List.{All, flat_map}
+use Rattle.std.specs.List.{flat_map}
 use Rattle.std.proofs.lemmas.List.Elements.{All-append, All-cons}
 use Rattle.minelib_reader.specs.Text.{Row, row, rows_from, rows_of, count_of_lines, fields_of}
 use Rattle.minelib_reader.proofs.LineLemmas.{row_yes, no_rows}
@@ -11,10 +11,10 @@ use Rattle.pit_model.specs.declared.journal.Verdict.TheVariants.{Applied, Stale,
 use Rattle.pit_model.specs.Graph.{Graph}
 use Rattle.pit_model.specs.JournalText.{AreSeatedBelow, budget_text, entry_line, journal_head, journal_text, most_seat, verdict_number}
 use Rattle.report.specs.JournalGrammar.{IsBudget, JournalReadsBack, SpellsWide, SpellsBudget, SpellsEntry, SpellsEntries, SpellsJournal}
-use Rattle.report.specs.JournalLines.{BudgetAndEntries, budget_and_entries}
+use Rattle.report.specs.JournalLines.{budget_and_entries}
 use Rattle.minelib_reader.proofs.CheckLemmas.{same_value}
 use Rattle.report.proofs.JournalRead.{reads}
-use Rattle.report.proofs.PlainLines.{IsLine, IsWord, AreLines, word_line, text_of, lines_text, one_word, next_word, numeral, digits_read}
+use Rattle.report.proofs.PlainLines.{IsLine, IsWord, AreLines, word_line, text_of, lines_text, next_word, numeral, digits_read}
 use Rattle.report.proofs.HeadWritten.{whole_read, written, two_words, two_fields, two_plain, number_words, names, number_line_plain, tested, blocks_word, arcs_word, title_plain, title_fields}
 
 -- ---- numbers of 64 bits, and the budget

@@ -2,6 +2,7 @@
 //! and what is answered of wrong texts an independent reader gave.
 ghost use Rattle.std.specs.Prelude.{◌≤◌, ◌^◌, length};
 
+use crate::reader_tests::SlowReader;
 use faults::Fault;
 use mine_graph::Graph;
 use minelib_reader::{MemoryReader, MemoryWriter};
@@ -241,6 +242,28 @@ fn cut_journals(rt: HostRuntime) -> Result<(), Fail> {
     for length in 0..FREE.len() + 1 {
         assert!(rt; is_told_at(rt.alloc(), length)?, "cut at {length}");
     }
+    Ok(())
+}
+
+/// Whether a reader of single bytes that fails behind so many calls is told of as such.
+fn is_failure_behind(alloc: Global, calls: usize) -> Result<bool, Fault> {
+    let graph = three_arcs(alloc)?;
+    let mut written = MemoryWriter::new(alloc, 1000);
+    if let Err(fault) = read_journal(alloc, &mut SlowReader::new(FREE, calls), &graph) {
+        write_fault(&mut written, &fault)?;
+    }
+    Ok(written.text.as_slice() == b"error 2: read failed in journal\n".as_slice())
+}
+
+#[test]
+fn each_read_of_a_journal_fails_in_turn(rt: HostRuntime) -> Result<(), Fail> {
+    for calls in 0..FREE.len() + 1 {
+        assert!(rt; is_failure_behind(rt.alloc(), calls)?, "behind {calls}");
+    }
+    assert!(rt;
+        !is_failure_behind(rt.alloc(), FREE.len() + 1)?,
+        "read to its end"
+    );
     Ok(())
 }
 

@@ -1,5 +1,5 @@
-//! Tests of `faults`, `minelib_reader`, `mine_graph`, `forest`, `norm_tree` and `certificate` by their public calls. They stand apart,
-//! so that none of those crates is proved twice for its tests' sake.
+//! Tests of `faults`, `minelib_reader`, `mine_graph`, `forest`, `norm_tree`, `certificate` and of the journals of `report` by their
+//! public calls. They stand apart, so that none of those crates is proved twice for its tests' sake.
 #![tactic(auto)]
 
 #[cfg(test)]
