@@ -1,18 +1,20 @@
 -- What is written of a journal spells it: the text line by line, and each line field by field.
-use Rattle.std.proofs.Common.{◌≡◌, ℕ, suc, ◌+◌, ◌^◌, ◌<◌, ◌≤◌, List, [], ◌∷◌, ◌++◌, length, map, Option, Some, None, refl, sym, ap, ◌∙◌, arith, append_assoc}
+use Rattle.std.proofs.Common.{◌≡◌, ℕ, suc, ◌+◌, ◌^◌, ◌<◌, ◌≤◌, List, [], ◌∷◌, ◌++◌, length, map, Option, Some, None, refl, sym, ap, subst, ◌∙◌, arith, append_assoc}
 use Rattle.std.specs.Prelude.{codes, decimal}
-use Rattle.std.specs.List.{All, flat_map}
+use Rattle.std.specs.List.{flat_map}
 use Rattle.std.proofs.lemmas.List.Elements.{All-append, All-cons}
-use Rattle.minelib_reader.specs.Text.{Row, row, rows_from, rows_of, fields_of}
+use Rattle.minelib_reader.specs.Text.{Row, row, rows_from, rows_of, count_of_lines, fields_of}
 use Rattle.minelib_reader.proofs.LineLemmas.{row_yes, no_rows}
 use Rattle.pit_model.specs.declared.journal.Entry.{Entry}
 use Rattle.pit_model.specs.declared.journal.Verdict.{Verdict}
 use Rattle.pit_model.specs.declared.journal.Verdict.TheVariants.{Applied, Stale, Spent}
 use Rattle.pit_model.specs.Graph.{Graph}
 use Rattle.pit_model.specs.JournalText.{AreSeatedBelow, budget_text, entry_line, journal_head, journal_text, most_seat, verdict_number}
-use Rattle.report.specs.JournalGrammar.{SpellsWide, SpellsBudget, SpellsEntry, SpellsEntries, SpellsJournal}
+use Rattle.report.specs.JournalGrammar.{IsBudget, JournalReadsBack, SpellsWide, SpellsBudget, SpellsEntry, SpellsEntries, SpellsJournal}
 use Rattle.report.specs.JournalLines.{budget_and_entries}
-use Rattle.report.proofs.PlainLines.{IsLine, IsWord, AreLines, word_line, text_of, lines_text, one_word, next_word, numeral, digits_read}
+use Rattle.minelib_reader.proofs.CheckLemmas.{same_value}
+use Rattle.report.proofs.JournalRead.{reads}
+use Rattle.report.proofs.PlainLines.{IsLine, IsWord, AreLines, word_line, text_of, lines_text, next_word, numeral, digits_read}
 use Rattle.report.proofs.HeadWritten.{whole_read, written, two_words, two_fields, two_plain, number_words, names, number_line_plain, tested, blocks_word, arcs_word, title_plain, title_fields}
 
 -- ---- numbers of 64 bits, and the budget
@@ -20,20 +22,15 @@ use Rattle.report.proofs.HeadWritten.{whole_read, written, two_words, two_fields
 wide_read : (n : ℕ) → n < 2 ^ 64 → SpellsWide (decimal n) n
 wide_read n fits = (digits_read 20 n (omega arith) (omega arith) (omega arith), fits)
 
--- a budget that fits its field
-abbrev pub Fits : Option ℕ → Type 0
-Fits None = Unit {0}
-Fits (Some budget) = budget < 2 ^ 64
-
-budget_word : (budget : Option ℕ) → Fits budget → IsWord (budget_text budget)
+budget_word : (budget : Option ℕ) → IsBudget budget → IsWord (budget_text budget)
 budget_word None h = tested 48 (codes "none") refl
 budget_word (Some n) h = (numeral n (omega arith)).word
 
-budget_some : (budget : Option ℕ) → Fits budget → 0 < length (budget_text budget)
+budget_some : (budget : Option ℕ) → IsBudget budget → 0 < length (budget_text budget)
 budget_some None h = omega arith
 budget_some (Some n) h = (numeral n (omega arith)).some
 
-budget_read : (budget : Option ℕ) → Fits budget → SpellsBudget (budget_text budget) budget
+budget_read : (budget : Option ℕ) → IsBudget budget → SpellsBudget (budget_text budget) budget
 budget_read None h = refl
 budget_read (Some n) h = wide_read n h
 
@@ -133,7 +130,7 @@ head_text n m budget c rest = head_is (decimal n) (decimal m) (budget_text budge
 -- ---- the whole text
 
 module _ (graph : Graph) (budget : Option ℕ) (entries : List Entry) (few_blocks : graph.blocks ≤ 2 ^ 22) (few_arcs : length graph.pairs ≤ 2 ^ 26)
-    (fits : Fits budget) (many : length entries < 2 ^ 64) (seated : AreSeatedBelow (length graph.pairs) entries) where
+    (fits : IsBudget budget) (many : length entries < 2 ^ 64) (seated : AreSeatedBelow (length graph.pairs) entries) where
   abbrev line1 : List ℕ
   line1 = two_words (codes "PITJOURNAL") (codes "1")
 
@@ -206,3 +203,13 @@ module _ (graph : Graph) (budget : Option ℕ) (entries : List Entry) (few_block
         is_count = wide_read (length entries) many;
         entries = lines.2;
       }
+
+-- one text, one reading
+pub journal_reads_back : JournalReadsBack
+journal_reads_back graph budget entries j few_blocks few_arcs fits many seated =
+    let text : List ℕ = journal_text graph.blocks (length graph.pairs) budget entries in
+    let written = written_spells graph budget entries few_blocks few_arcs fits many seated in
+    let own = reads graph (count_of_lines text) (rows_of text) (budget_and_entries budget entries) written in (
+      λ s. sym (same_value (budget_and_entries budget entries) j (sym own ∙ reads graph (count_of_lines text) (rows_of text) j s)),
+      λ e. subst (SpellsJournal graph text) (sym e) written,
+    )

@@ -1,12 +1,12 @@
 -- The grammar of a journal's text, by its lines with fields.
-use Rattle.std.specs.Prelude.{◌≡◌, ℕ, ◌^◌, ◌<◌, ◌≤◌, List, [], ◌∷◌, length, Option, Some, None, codes}
+use Rattle.std.specs.Prelude.{◌≡◌, ◌↔◌, ℕ, ◌^◌, ◌<◌, ◌≤◌, List, [], ◌∷◌, length, Option, Some, None, codes}
 use Rattle.minelib_reader.specs.Text.{Row, rows_of}
 use Rattle.minelib_reader.specs.Number.{whole_of, digits_of}
 use Rattle.pit_model.specs.declared.journal.Entry.{Entry}
 use Rattle.pit_model.specs.Graph.{Graph}
-use Rattle.pit_model.specs.JournalText.{most_seat, verdict_number}
+use Rattle.pit_model.specs.JournalText.{AreSeatedBelow, journal_text, most_seat, verdict_number}
 use Rattle.report.specs.HeadLines.{SpellsNumber}
-use Rattle.report.specs.JournalLines.{BudgetAndEntries}
+use Rattle.report.specs.JournalLines.{BudgetAndEntries, budget_and_entries}
 
 -- a field of this number, which has 64 bits
 abbrev pub SpellsWide : List ℕ → ℕ → Type 0
@@ -59,3 +59,15 @@ pub record SpellsRows (graph : Graph) (rows : List Row) (j : BudgetAndEntries) :
 -- the text spells this journal of the graph
 abbrev pub SpellsJournal : Graph → List ℕ → BudgetAndEntries → Type 0
 SpellsJournal graph text j = SpellsRows graph (rows_of text) j
+
+-- a budget that has 64 bits, if there is one
+abbrev pub IsBudget : Option ℕ → Type 0
+IsBudget None = Unit {0}
+IsBudget (Some budget) = budget < 2 ^ 64
+
+-- the law: the text of a journal is read as that journal, and as no other
+abbrev pub JournalReadsBack : Type 0
+JournalReadsBack =
+    (graph : Graph) (budget : Option ℕ) (entries : List Entry) (j : BudgetAndEntries)
+    → graph.blocks ≤ 2 ^ 22 → length graph.pairs ≤ 2 ^ 26 → IsBudget budget → length entries < 2 ^ 64 → AreSeatedBelow (length graph.pairs) entries
+    → SpellsJournal graph (journal_text graph.blocks (length graph.pairs) budget entries) j ↔ (j ≡ budget_and_entries budget entries)

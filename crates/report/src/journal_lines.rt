@@ -1,9 +1,8 @@
 //! The lines of a journal's text behind its head, each checked by a function of its own, in the order of
 //! `specs/JournalLines.antt`. `journal_reader` says which line is due.
-ghost use Rattle.std.specs.Prelude.{◌≡◌, ◌<◌, ◌≤◌, length, IfOk};
+ghost use Rattle.std.specs.Prelude.{◌≡◌};
 ghost use Rattle.minelib_reader.specs.Answer.{Gives};
 ghost use Rattle.minelib_reader.specs.Text.{row, fields_of};
-ghost use Rattle.pit_model.specs.JournalText.{most_seat};
 ghost use Rattle.report.specs.JournalLines.{budget_field, budget_line, count_line, decision_line, in_journal, verdict_of, wide_field};
 
 use crate::head::{read_field, three_fields};

@@ -11,7 +11,7 @@ ghost use Rattle.pit_model.specs.Graph.{Graph as AnyGraph};
 ghost use Rattle.pit_model.specs.JournalText.{AreSeatedBelow};
 ghost use Rattle.report.specs.JournalLines.{budget_and_entries, end_at, entry_step, journal_of, state, step_at, BudgetAndEntries};
 ghost use Rattle.report.specs.JournalFault.{IsFirstJournalFault};
-ghost use Rattle.report.specs.JournalGrammar.{SpellsJournal};
+ghost use Rattle.report.specs.JournalGrammar.{JournalReadsBack, SpellsJournal};
 
 use crate::due::Due;
 use crate::head::{check_count, check_title};
@@ -107,6 +107,11 @@ fn parse_lines(alloc: Global, text: &[u8], graph: &Graph) -> Result<JournalText,
 pub fn journal_law()
     ensures spelled { (graph : AnyGraph) (text : List ℕ) (j : BudgetAndEntries) → (journal_of graph text ≡ Ok j) ↔ SpellsJournal graph text j }
     ensures faulty { (graph : AnyGraph) (text : List ℕ) (fault : AnyFault) → (journal_of graph text ≡ Err fault) ↔ IsFirstJournalFault graph text fault }
+{}
+
+/// The text that `write_journal` writes is read as that journal, and as no other.
+pub fn journal_reads_back()
+    ensures { JournalReadsBack }
 {}
 
 /// The budget and entries that a text spells for the graph, else the first fault of the text, or `NoMemory`.

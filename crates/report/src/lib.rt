@@ -17,9 +17,9 @@ mod shells;
 
 pub use answer::write_answer;
 pub use fault::write_fault;
-pub use head::{check_count, check_title, read_field, read_number, three_fields};
+pub use head::{check_count, check_title, read_number, three_fields};
 pub use journal::write_journal;
-pub use journal_reader::{journal_law, parse_journal, read_journal};
+pub use journal_reader::{journal_law, journal_reads_back, parse_journal, read_journal};
 pub use journal_text::JournalText;
 pub use number::put_number;
 pub use out::{Out, end_line, finish, put};

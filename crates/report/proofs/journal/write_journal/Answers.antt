@@ -1,5 +1,5 @@
 -- The head and the lines of the entries, and nothing waits behind them.
-use Rattle.std.proofs.Common.{◌≡◌, ◌∙◌, ◌++◌, ap, length, rules}
+use Rattle.std.proofs.Common.{◌++◌, length, rules}
 use Rattle.std.specs.List.{flat_map}
 use Rattle.std.proofs.lemmas.List.{append-nil}
 use Rattle.pit_model.specs.JournalText.{entry_line, journal_head}
