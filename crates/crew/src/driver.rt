@@ -1,5 +1,6 @@
 //! What the driver does between sweeps and at the end: it decides the first merger arc, and answers by the tree that is left.
-ghost use Rattle.std.specs.Prelude.{◌≡◌, filter, nat_lt, IfOk, IfErr};
+ghost use Rattle.std.specs.Prelude.{◌≡◌, filter, nat_lt, Some, IfOk, IfErr, MatchBool};
+ghost use Rattle.pit_model.specs.declared.journal.Verdict.TheVariants.{Applied};
 ghost use Rattle.faults.specs.Refused.{no_memory};
 ghost use Rattle.pit_model.specs.Tree.{is_merger};
 ghost use Rattle.pit_model.specs.FirstRun.{IsFirstMerger};
@@ -44,24 +45,19 @@ pub fn decide_first<S: Site, R: Threads + Wait + Sync>(
     }
 }
 
-/// Decides the first merger arc again and again, until none is left or the budget is used up.
-/// Refused for want of memory alone.
-pub fn finish<S: Site, R: Threads + Wait + Sync>(
+/// Decides the first merger arc, and answers whether the solve has ended: none was left, or the budget is used up. Else its
+/// merger was made. Refused for want of memory alone.
+pub fn is_ended<S: Site, R: Threads + Wait + Sync>(
     rt: &R,
     holder: &mut Holder<S>,
-) -> Result<(), Fault>
-    ensures ended { IfOk result (λ _. IsEnded holder.new) }
+) -> Result<bool, Fault>
+    ensures ended { IfOk result (λ is_ended. MatchBool is_ended (IsEnded holder.new) (DecidesFirst holder.old holder.new (Some Applied))) }
     ensures refused { IfErr result (λ e. e ≡ no_memory) }
 {
-    holder.law();
-    'mergers: while let Some(verdict) = decide_first(rt, holder)? {
-        match verdict {
-            Verdict::Spent => return Ok(()),
-            Verdict::Applied | Verdict::Stale => {}
-        }
-        holder.law();
+    match decide_first(rt, holder)? {
+        None | Some(Verdict::Spent) => Ok(true),
+        Some(Verdict::Applied | Verdict::Stale) => Ok(false),
     }
-    Ok(())
 }
 
 // The certificate of the holder's tree, or that the budget is used up.

@@ -5,7 +5,7 @@ ghost use Rattle.faults.specs.Refused.{no_seat, IsNoRoom};
 ghost use Rattle.pit_model.specs.Tree.{opening};
 ghost use Rattle.crew.specs.Solved.{IsSolvedTogether};
 
-use crate::driver::{end_of, finish};
+use crate::driver::end_of;
 use crate::gate::Gate;
 use crate::guide::Guide;
 use crate::sweeps::Crew;
@@ -19,7 +19,7 @@ use std::alloc::Global;
 use std::marker::Brand;
 use std::sync::Wait;
 use std::thread::Threads;
-use tree_lock::{Entry, Holder, SharedTree, Site, UnnamedList};
+use tree_lock::{Entry, SharedTree, Site, UnnamedList};
 
 // What a solve begins with: the opening tree and its budget, and the list of mergers and the board, which have no name yet.
 struct Beginning {
@@ -70,8 +70,10 @@ fn solve_at<S: Site + Send + Sync, G: Gate + Sync, R: Threads + Wait + Sync>(
     } = begun;
     let guide = Guide::new(alloc, &tree)?;
     let (board, seats, holder_seat) = Board::<S>::new(alloc, unnamed)?;
-    let mut shared = SharedTree::<S>::new(alloc, list, tree, budget, &board, holder_seat)?;
-    let swept = match workers_of(alloc, &shared, seats) {
+    let shared = SharedTree::<S>::new(alloc, list, tree, budget, &board, holder_seat)?;
+    let workers = workers_of(alloc, &shared, seats);
+    let holder = shared.into_holder();
+    match workers {
         Ok(workers) => {
             let mut crew = Crew {
                 board: &board,
@@ -80,30 +82,8 @@ fn solve_at<S: Site + Send + Sync, G: Gate + Sync, R: Threads + Wait + Sync>(
                 chunk,
                 gate,
             };
-            crew.run(rt, alloc, &mut shared)
+            end_of(rt, crew.run(rt, alloc, holder)?)
         }
-        Err(fault) => Err(fault),
-    };
-    end_after(rt, shared.into_holder(), swept)
-}
-
-// What the driver makes of the holder after the sweeps. The holder is given up where they were refused.
-fn end_after<S: Site, R: Threads + Wait + Sync>(
-    rt: &R,
-    holder: Holder<S>,
-    swept: Result<(), Fault>,
-) -> Result<(Outcome, Vec<Entry>), Fault>
-    requires { IfErr swept IsNoRoom }
-    ensures solved { IfOk result (λ r. IsSolvedTogether S.mine S.workers S.budget r.0 r.1.items) }
-    ensures refused { IfErr result IsNoRoom }
-{
-    if let Err(fault) = swept {
-        holder.into_parts(rt);
-        return Err(fault);
-    }
-    let mut holder = holder;
-    match finish(rt, &mut holder) {
-        Ok(()) => end_of(rt, holder),
         Err(fault) => {
             holder.into_parts(rt);
             Err(fault)

@@ -1,8 +1,8 @@
 //! Workers at one tree: that two of them work at once, that their asks make the mergers, and that the journal leads to the
 //! same tree when it is followed by one thread. Which worker does what differs from run to run.
-use crate::mines::{cut_once, dug_whole, pairs_of_blocks};
+use crate::mines::{cut_once, dug_whole, one_part, pairs_of_blocks};
 use crate::outcomes::{exhausted_at, leads_to, mergers_in, pit_in};
-use crew::{Gate, OpenGate, solve_shared};
+use crew::{Entry, Gate, OpenGate, solve_shared};
 use solver::{Mode, solve};
 use std::sync::atomic::{AtomicBool, Ordering};
 use std::test::*;
@@ -111,6 +111,30 @@ fn workers_find_the_pit(rt: HostRuntime) -> Result<(), Fail> {
             is_led,
             "one thread follows the journal of {workers} workers to the pit"
         );
+    }
+    Ok(())
+}
+
+// How many of the entries are the driver's.
+fn of_driver(journal: &[Entry]) -> usize {
+    journal.iter().filter(|entry| entry.seat == 0).count()
+}
+
+#[test]
+fn the_driver_decides_once_after_the_last_sweep(rt: HostRuntime) -> Result<(), Fail> {
+    let mine = one_part(rt.alloc())?;
+    for workers in 1..3 {
+        let (outcome, journal) = solve_shared(
+            &rt,
+            rt.alloc(),
+            &mine,
+            workers,
+            Some(0),
+            1,
+            &OpenGate,
+        )?;
+        assert_eq!(rt; exhausted_at(&outcome), Some(0), "with {workers} workers");
+        assert_eq!(rt; of_driver(&journal), 1, "with {workers} workers");
     }
     Ok(())
 }

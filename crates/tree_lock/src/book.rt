@@ -2,7 +2,7 @@
 //! `holder` says which budget it is of, and adds the seat at the board.
 ghost use Rattle.std.specs.Prelude.{◌≡◌, [], true, ◌<◌, ◌^◌, IfOk, IfErr, IsTrue};
 ghost use mathlib.Core.List.{IsPrefix};
-ghost use Rattle.faults.specs.Refused.{no_memory};
+ghost use Rattle.faults.specs.Refused.{no_memory, no_seat};
 ghost use Rattle.pit_model.specs.Tree.{is_merger};
 ghost use Rattle.pit_model.specs.Journal.{count_after, is_applied, IsLawful};
 ghost use Rattle.pit_model.specs.Version.{applied_arcs, arcs_after, version_tree};
@@ -15,7 +15,7 @@ use pit_model::{Entry, Verdict};
 use std::alloc::Global;
 use std::marker::Model;
 use std::sync::Wait;
-use versions::{LookSeat, Origin, Publisher};
+use versions::{LookSeat, LookSeats, Origin, Publisher};
 
 /// To a contract it is its journal, its budget and the arcs of its published mergers. End it by `into_parts`.
 pub struct Book<V: Origin> {
@@ -76,6 +76,14 @@ impl<V: Origin> Book<V> {
         ensures { result ≡ self.now.budget }
     {
         self.budget
+    }
+
+    /// What gives seats to look from. Errors: `NoSeat` where the count of its owners is full.
+    pub fn look_seats(&self) -> Result<LookSeats<V>, Fault>
+        ensures { IfErr result (λ fault. fault ≡ no_seat) }
+    {
+        let _ = &self.journal;
+        self.publisher.look_seats()
     }
 
     pub fn into_parts<R: Wait>(self, rt: &R) -> (NormTree, Vec<Entry>)
