@@ -1,2 +1,2 @@
 pub mod FirstFound
-pub mod Known
+pub mod Seats

@@ -2,6 +2,7 @@
 //! stands there (flat combining: Hendler, Incze, Shavit and Tzafrir 2010). The driver makes what they left over.
 ghost use Rattle.std.specs.Prelude.{◌≡◌, IfOk, IfErr};
 ghost use Rattle.faults.specs.Refused.{no_seat, IsNoRoom};
+ghost use Rattle.pit_model.specs.Mine.{arcs};
 ghost use Rattle.pit_model.specs.Tree.{opening};
 ghost use Rattle.crew.specs.Solved.{IsSolvedTogether};
 
@@ -59,6 +60,7 @@ fn solve_at<S: Site + Send + Sync, G: Gate + Sync, R: Threads + Wait + Sync>(
     requires budget { begun.budget ≡ S.budget }
     requires board { begun.unnamed ≡ S.board }
     requires workers { begun.unnamed.words ≡ S.workers }
+    requires arcs { S.arcs ≡ arcs S.mine }
     ensures solved { IfOk result (λ r. IsSolvedTogether S.mine S.workers S.budget r.0 r.1.items) }
     ensures refused { IfErr result IsNoRoom }
 {
@@ -69,7 +71,8 @@ fn solve_at<S: Site + Send + Sync, G: Gate + Sync, R: Threads + Wait + Sync>(
         unnamed,
     } = begun;
     let guide = Guide::new(alloc, &tree)?;
-    let (board, seats, holder_seat) = Board::<S>::new(alloc, unnamed)?;
+    let arcs = tree.instance().graph().arcs();
+    let (board, seats, holder_seat) = Board::<S>::new(alloc, unnamed, arcs)?;
     let shared = SharedTree::<S>::new(alloc, list, tree, budget, &board, holder_seat)?;
     let workers = workers_of(alloc, &shared, seats);
     let holder = shared.into_holder();

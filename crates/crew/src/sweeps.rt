@@ -2,6 +2,7 @@
 //! driver has the tree alone, and decides the first merger arc that they left.
 ghost use Rattle.std.specs.Prelude.{◌≡◌, true, IfOk, IfErr};
 ghost use Rattle.faults.specs.Refused.{no_seat, IsNoRoom};
+ghost use Rattle.pit_model.specs.Mine.{arcs};
 ghost use Rattle.crew.specs.Solved.{IsEnded};
 
 use crate::driver::is_ended;
@@ -84,7 +85,8 @@ impl<'a, S: Site + Send + Sync, G: Gate + Sync> Crew<'a, S, G> {
         shared: &SharedTree<S>,
         unnamed: UnnamedDraws,
     ) -> Result<(), Fault>
-        requires { unnamed.table ≡ L.draws }
+        requires draws { unnamed.table ≡ L.draws }
+        requires known { S.arcs ≡ arcs S.mine }
         ensures { IfErr result IsNoRoom }
     {
         let (draws, mut draw_seats) = Draws::<L>::new(alloc, unnamed)?;
@@ -110,6 +112,7 @@ impl<'a, S: Site + Send + Sync, G: Gate + Sync> Crew<'a, S, G> {
         alloc: Global,
         shared: &SharedTree<S>,
     ) -> Result<(), Fault>
+        requires { S.arcs ≡ arcs S.mine }
         ensures { IfErr result IsNoRoom }
     {
         let chunks = self.guide.count().div_ceil(self.chunk.max(1) as usize);
@@ -132,6 +135,7 @@ impl<'a, S: Site + Send + Sync, G: Gate + Sync> Crew<'a, S, G> {
         alloc: Global,
         holder: Holder<S>,
     ) -> Result<(Holder<S>, bool), Fault>
+        requires { S.arcs ≡ arcs S.mine }
         ensures ended { IfOk result (λ r. r.1 ≡ true → IsEnded r.0) }
         ensures refused { IfErr result IsNoRoom }
     {
@@ -165,6 +169,7 @@ impl<'a, S: Site + Send + Sync, G: Gate + Sync> Crew<'a, S, G> {
         alloc: Global,
         holder: Holder<S>,
     ) -> Result<Holder<S>, Fault>
+        requires { S.arcs ≡ arcs S.mine }
         ensures ended { IfOk result IsEnded }
         ensures refused { IfErr result IsNoRoom }
     {
