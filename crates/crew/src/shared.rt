@@ -3,10 +3,11 @@
 ghost use Rattle.std.specs.Prelude.{◌≡◌, ◌≤◌, IfOk, IfErr};
 ghost use Rattle.faults.specs.Refused.{no_seat, IsNoRoom};
 ghost use Rattle.pit_model.specs.JournalText.{most_seat};
+ghost use Rattle.pit_model.specs.Mine.{arcs};
 ghost use Rattle.pit_model.specs.Tree.{opening};
 ghost use Rattle.crew.specs.Solved.{IsSolvedTogether};
 
-use crate::driver::{end_of, finish};
+use crate::driver::end_of;
 use crate::gate::Gate;
 use crate::guide::Guide;
 use crate::sweeps::Crew;
@@ -20,7 +21,7 @@ use std::alloc::Global;
 use std::marker::Brand;
 use std::sync::Wait;
 use std::thread::Threads;
-use tree_lock::{Entry, Holder, SharedTree, Site, UnnamedList};
+use tree_lock::{Entry, SharedTree, Site, UnnamedList};
 
 // So many workers have a seat; the driver's is seat 0.
 const MOST_WORKERS: u32 = 64;
@@ -63,6 +64,7 @@ fn solve_at<S: Site + Send + Sync, G: Gate + Sync, R: Threads + Wait + Sync>(
     requires budget { begun.budget ≡ S.budget }
     requires board { begun.unnamed ≡ S.board }
     requires workers { begun.unnamed.words ≡ S.workers }
+    requires arcs { S.arcs ≡ arcs S.mine }
     ensures solved { IfOk result (λ r. IsSolvedTogether S.mine S.workers S.budget r.0 r.1.items) }
     ensures refused { IfErr result IsNoRoom }
 {
@@ -73,9 +75,12 @@ fn solve_at<S: Site + Send + Sync, G: Gate + Sync, R: Threads + Wait + Sync>(
         unnamed,
     } = begun;
     let guide = Guide::new(alloc, &tree)?;
-    let (board, seats, holder_seat) = Board::<S>::new(alloc, unnamed)?;
-    let mut shared = SharedTree::<S>::new(alloc, list, tree, budget, &board, holder_seat)?;
-    let swept = match workers_of(alloc, &shared, seats) {
+    let arcs = tree.instance().graph().arcs();
+    let (board, seats, holder_seat) = Board::<S>::new(alloc, unnamed, arcs)?;
+    let shared = SharedTree::<S>::new(alloc, list, tree, budget, &board, holder_seat)?;
+    let workers = workers_of(alloc, &shared, seats);
+    let holder = shared.into_holder();
+    match workers {
         Ok(workers) => {
             let mut crew = Crew {
                 board: &board,
@@ -84,30 +89,8 @@ fn solve_at<S: Site + Send + Sync, G: Gate + Sync, R: Threads + Wait + Sync>(
                 chunk,
                 gate,
             };
-            crew.run(rt, alloc, &mut shared)
+            end_of(rt, crew.run(rt, alloc, holder)?)
         }
-        Err(fault) => Err(fault),
-    };
-    end_after(rt, shared.into_holder(), swept)
-}
-
-// What the driver makes of the holder after the sweeps. The holder is given up where they were refused.
-fn end_after<S: Site, R: Threads + Wait + Sync>(
-    rt: &R,
-    holder: Holder<S>,
-    swept: Result<(), Fault>,
-) -> Result<(Outcome, Vec<Entry>), Fault>
-    requires { IfErr swept IsNoRoom }
-    ensures solved { IfOk result (λ r. IsSolvedTogether S.mine S.workers S.budget r.0 r.1.items) }
-    ensures refused { IfErr result IsNoRoom }
-{
-    if let Err(fault) = swept {
-        holder.into_parts(rt);
-        return Err(fault);
-    }
-    let mut holder = holder;
-    match finish(rt, &mut holder) {
-        Ok(()) => end_of(rt, holder),
         Err(fault) => {
             holder.into_parts(rt);
             Err(fault)
