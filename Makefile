@@ -23,13 +23,18 @@ demo:
 	head -n 8 build/pit.txt
 	cmp build/pit.txt $(SMALL_MINE)/pit.txt
 
-# The gate, and then the planner's layer over the program that the gate has just proved and built.
+# The gate, and then the tests over the program that the gate has just proved and built: the program's own, and the planner's layer.
 test: setup
 	tools/uncited.py
 	rt ci
 	mkdir -p build
 	cp crates/pitshell/out/pitshell build/pitshell || $(MAKE) build
-	$(MAKE) test-plan
+	$(MAKE) test-program test-plan
+
+# The tests of the built program and of the tools beside it alone.
+test-program: setup
+	test -x build/pitshell || $(MAKE) build
+	/usr/bin/python3 -m pytest tests -q -p no:cacheprovider
 
 # The tests of the planner's layer alone. Where there is no program yet it is proved and built first, for ten minutes or more.
 test-plan: setup
