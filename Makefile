@@ -41,10 +41,12 @@ test-plan: setup
 	test -x build/pitshell || $(MAKE) build
 	/usr/bin/python3 -m pytest python/tests -q -p no:cacheprovider
 
-# Lets each request for memory, each read and each write of every row go wrong in turn; tests/test_sweeps.py does a part of it.
+# Lets each request for memory, each thread, each read and each write of every row go wrong in turn, and changes each byte of a
+# certificate to each other byte; tests/test_sweeps.py and tests/test_hostile_files.py do a part of it.
 sweep:
 	test -x build/pitshell || $(MAKE) build
 	tests/sweeps.py --results bench/results/sweeps.md
+	tools/compare_checks.py
 
 # Installs what the planner's layer and its tests need of Debian's packages, where anything is missing.
 setup:
