@@ -1,7 +1,9 @@
 # `make try` runs the program at once, unproved; `make` proves it, builds it and solves the small mine; `make test` runs the gate.
-.PHONY: all try build demo test test-program test-plan sweep setup
+.PHONY: all try build demo install test test-program test-plan sweep setup
 
 SMALL_MINE = examples/small_mine
+PROGRAM = build/pitshell
+PREFIX = /usr/local
 
 all: build demo
 
@@ -22,6 +24,15 @@ demo:
 	build/pitshell solve --model $(SMALL_MINE)/mine.upit --prec $(SMALL_MINE)/mine.prec > build/pit.txt
 	head -n 8 build/pit.txt
 	cmp build/pit.txt $(SMALL_MINE)/pit.txt
+
+# The program, its manual page and the completions, below PREFIX. DESTDIR stands before it, for whoever makes a package.
+install:
+	test -x $(PROGRAM) || $(MAKE) build
+	install -D -m 755 $(PROGRAM) $(DESTDIR)$(PREFIX)/bin/pitshell
+	install -D -m 644 man/pitshell.1 $(DESTDIR)$(PREFIX)/share/man/man1/pitshell.1
+	install -D -m 644 completions/pitshell.bash $(DESTDIR)$(PREFIX)/share/bash-completion/completions/pitshell
+	install -D -m 644 completions/_pitshell $(DESTDIR)$(PREFIX)/share/zsh/site-functions/_pitshell
+	install -D -m 644 completions/pitshell.fish $(DESTDIR)$(PREFIX)/share/fish/vendor_completions.d/pitshell.fish
 
 # The gate, and then the tests over the program that the gate has just proved and built: the program's own, and the planner's layer.
 test: setup
