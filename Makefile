@@ -37,6 +37,7 @@ install:
 # The gate, and then the tests over the program that the gate has just proved and built: the program's own, and the planner's layer.
 test: setup
 	tools/uncited.py
+	tools/named.py
 	rt ci
 	mkdir -p build
 	cp crates/pitshell/out/pitshell build/pitshell || $(MAKE) build
