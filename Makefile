@@ -1,7 +1,9 @@
 # `make try` runs the program at once, unproved; `make` proves it, builds it and solves the small mine; `make test` runs the gate.
-.PHONY: all try build demo test test-program test-plan sweep setup
+.PHONY: all try build demo install test test-program test-plan sweep setup
 
 SMALL_MINE = examples/small_mine
+PROGRAM = build/pitshell
+PREFIX = /usr/local
 
 all: build demo
 
@@ -23,23 +25,40 @@ demo:
 	head -n 8 build/pit.txt
 	cmp build/pit.txt $(SMALL_MINE)/pit.txt
 
-# The gate, and then the planner's layer over the program that the gate has just proved and built.
+# The program, its manual page and the completions, below PREFIX. DESTDIR stands before it, for whoever makes a package.
+install:
+	test -x $(PROGRAM) || $(MAKE) build
+	install -D -m 755 $(PROGRAM) $(DESTDIR)$(PREFIX)/bin/pitshell
+	install -D -m 644 man/pitshell.1 $(DESTDIR)$(PREFIX)/share/man/man1/pitshell.1
+	install -D -m 644 completions/pitshell.bash $(DESTDIR)$(PREFIX)/share/bash-completion/completions/pitshell
+	install -D -m 644 completions/_pitshell $(DESTDIR)$(PREFIX)/share/zsh/site-functions/_pitshell
+	install -D -m 644 completions/pitshell.fish $(DESTDIR)$(PREFIX)/share/fish/vendor_completions.d/pitshell.fish
+
+# The gate, and then the tests over the program that the gate has just proved and built: the program's own, and the planner's layer.
 test: setup
 	tools/uncited.py
+	tools/named.py
 	rt ci
 	mkdir -p build
 	cp crates/pitshell/out/pitshell build/pitshell || $(MAKE) build
-	$(MAKE) test-plan
+	$(MAKE) test-program test-plan
+
+# The tests of the built program and of the tools beside it alone.
+test-program: setup
+	test -x build/pitshell || $(MAKE) build
+	/usr/bin/python3 -m pytest tests -q -p no:cacheprovider
 
 # The tests of the planner's layer alone. Where there is no program yet it is proved and built first, for ten minutes or more.
 test-plan: setup
 	test -x build/pitshell || $(MAKE) build
 	/usr/bin/python3 -m pytest python/tests -q -p no:cacheprovider
 
-# Lets each request for memory, each read and each write of every row go wrong in turn; tests/test_sweeps.py does a part of it.
+# Lets each request for memory, each thread, each read and each write of every row go wrong in turn, and changes each byte of a
+# certificate to each other byte; tests/test_sweeps.py and tests/test_hostile_files.py do a part of it.
 sweep:
 	test -x build/pitshell || $(MAKE) build
 	tests/sweeps.py --results bench/results/sweeps.md
+	tools/compare_checks.py
 
 # Installs what the planner's layer and its tests need of Debian's packages, where anything is missing.
 setup:

@@ -2,17 +2,19 @@
    FAIL_ALLOC=N   the Nth request for memory is refused          FAIL_READ=N  FAIL_WRITE=N   the Nth read or write fails
    SHORT_READ=N   the Nth read gives one byte at most            SHORT_WRITE=N               the Nth write takes one byte at most
                   (-1: each of them)
+   FAIL_THREAD=N  the Nth start of a thread is refused (-1: each of them)
    INTERRUPT_READ=N  INTERRUPT_WRITE=N   each read or write is interrupted N times before it is made (-1: always)
-   COUNT_CALLS=FILE  tells how often memory was asked for, and how many reads and writes were made. */
+   COUNT_CALLS=FILE  tells how often memory was asked for, how many reads and writes were made, and how many threads were to start. */
 #define _GNU_SOURCE
 #include <dlfcn.h>
 #include <errno.h>
 #include <fcntl.h>
+#include <pthread.h>
 #include <stdio.h>
 #include <stdlib.h>
 #include <unistd.h>
 
-static long allocs, reads, writes, interrupted_reads, interrupted_writes;
+static long allocs, reads, writes, threads, interrupted_reads, interrupted_writes;
 
 static long wanted(const char *name) {
     const char *text = getenv(name);
@@ -24,8 +26,8 @@ static long one_more(long *count) {
     long now = __atomic_add_fetch(count, 1, __ATOMIC_RELAXED);
     const char *name = getenv("COUNT_CALLS");
     if (name) {
-        char text[80];
-        int length = snprintf(text, sizeof text, "%020ld %020ld %020ld\n", allocs, reads, writes);
+        char text[100];
+        int length = snprintf(text, sizeof text, "%020ld %020ld %020ld %020ld\n", allocs, reads, writes, threads);
         int file = open(name, O_WRONLY | O_CREAT, 0600);
         if (file >= 0) {
             (void)!pwrite(file, text, (size_t)length, 0);
@@ -102,4 +104,11 @@ ssize_t write(int fd, const void *buf, size_t size) {
         return -1;
     }
     return real(fd, buf, shortened("SHORT_WRITE", number, size));
+}
+
+int pthread_create(pthread_t *thread, const pthread_attr_t *how, void *(*start)(void *), void *with) {
+    static int (*real)(pthread_t *, const pthread_attr_t *, void *(*)(void *), void *);
+    if (!real) real = (int (*)(pthread_t *, const pthread_attr_t *, void *(*)(void *), void *))dlsym(RTLD_NEXT, "pthread_create");
+    long number = one_more(&threads), which = wanted("FAIL_THREAD");
+    return which < 0 || which == number ? EAGAIN : real(thread, how, start, with);
 }

@@ -20,6 +20,10 @@ class Row:
     def is_shared(self) -> bool:
         return "shared" in self.words
 
+    @property
+    def workers(self) -> int:
+        return int(self.words[self.words.index("--workers") + 1]) if self.is_shared else 0
+
 
 MODES = {
     "single": (),

@@ -3,10 +3,10 @@
 
     tests/sweeps.py [--results FILE]      every row in every mode; `make sweep`
 
-The Nth request for memory is refused, the Nth read or write fails or moves a single byte, for each N until a run meets none; and
-signals interrupt each read or each write, so many times that it is made again, and so many that it fails. What must come then is
-worked out of the row: its own outcome, or status 1 with one line on standard error that names the refusal and its source, and
-no output and no file. The shim is `fail_calls.c`, built by `cc`.
+The Nth request for memory or the Nth start of a thread is refused, the Nth read or write fails or moves a single byte, for each N
+until a run meets none; and signals interrupt each read or each write, so many times that it is made again, and so many that it
+fails. What must come then is worked out of the row: its own outcome, or status 1 with one line on standard error that names the
+refusal and its source, and no output and no file. The shim is `fail_calls.c`, built by `cc`.
 """
 
 import argparse
@@ -48,6 +48,7 @@ class Counts:
     memory: int = 0
     reads: int = 0
     writes: int = 0
+    threads: int = 0
 
 
 def build_shim(folder: pathlib.Path) -> pathlib.Path:
@@ -101,6 +102,13 @@ class Sweep:
         lines = ["error 1: no memory\n"] + ["error 22: no seat\n"] * self.row.is_shared
         return [self.right()] + [self.refused(line) for line in lines]
 
+    def without_threads(self, number: int) -> list[Outcome]:
+        """The workers are started first: one that is not started is a refusal. All else goes on by the threads that there are."""
+        if not self.row.is_shared or self.row.status == 1:
+            return [self.right()]
+        no_seat = self.refused("error 22: no seat\n")
+        return [no_seat] if number <= self.row.workers else [no_seat, self.right()]
+
     def read_sources(self) -> list[str]:
         """The source of each read, in order: a text, and the read that ends it."""
         found = []
@@ -128,6 +136,7 @@ class Sweep:
             Kind("a write fails", "FAIL_WRITE", "writes", self.unwritten),
             Kind("a short read", "SHORT_READ", "reads", lambda _: [self.right()]),
             Kind("a short write", "SHORT_WRITE", "writes", lambda _: [self.right()]),
+            Kind("a thread refused", "FAIL_THREAD", "threads", self.without_threads),
         ]
 
     def interruptions(self) -> list[tuple[str, dict[str, int], list[Outcome]]]:
@@ -144,6 +153,7 @@ class Sweep:
         # after the thousandth interruption the next call is made: that which tells of the failure
         always += [("writes interrupted too often", {"INTERRUPT_WRITE": MOST_TRIES}, self.unwritten(1))]
         always += [("writes interrupted for ever", {"INTERRUPT_WRITE": -1}, self.silenced())]
+        always += [("no thread starts", {"FAIL_THREAD": -1}, self.without_threads(1))]
         return [("single bytes", {"SHORT_READ": -1, "SHORT_WRITE": -1}, right), *often, *always]
 
 

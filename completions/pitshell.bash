@@ -1,0 +1,29 @@
+# Completion of pitshell's subcommands, options and their words, for bash.
+_pitshell() {
+    local word=${COMP_WORDS[COMP_CWORD]} before=${COMP_WORDS[COMP_CWORD - 1]} options=""
+    COMPREPLY=()
+    if [ "$COMP_CWORD" -eq 1 ]; then
+        mapfile -t COMPREPLY < <(compgen -W "solve shells check help --help --version" -- "$word")
+        return
+    fi
+    case $before in
+    --model | --prec | --blocks | --certificate)
+        compopt -o filenames 2> /dev/null
+        mapfile -t COMPREPLY < <(compgen -f -- "$word")
+        return
+        ;;
+    --mode)
+        mapfile -t COMPREPLY < <(compgen -W "single parts shared" -- "$word")
+        return
+        ;;
+    --workers | --budget | --revenue | --cost | --factors) return ;;
+    esac
+    case ${COMP_WORDS[1]} in
+    solve) options="--model --prec --mode --workers --budget --certificate --help" ;;
+    shells) options="--blocks --prec --revenue --cost --factors --mode --workers --budget --help" ;;
+    check) options="--model --prec --certificate --help" ;;
+    help) options="solve shells check" ;;
+    esac
+    mapfile -t COMPREPLY < <(compgen -W "$options" -- "$word")
+}
+complete -F _pitshell pitshell

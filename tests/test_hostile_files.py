@@ -1,0 +1,99 @@
+"""Files that were cut at any byte, and certificates changed in a byte: what is due was worked out by hand, or is the answer of the
+short check. `make sweep` changes each byte to each other byte (tools/compare_checks.py)."""
+
+import pathlib
+import sys
+
+import pytest
+
+from conftest import PROGRAM, TOP, Mine
+from rows import pit_of
+
+sys.path.insert(0, str(TOP / "tools"))
+
+from compare_checks import ROWS, bent_bytes, bent_lines, compared  # noqa: E402
+
+SOLVE = ["solve", "--model", "mine.upit", "--prec", "mine.prec"]
+SHELLS = ["shells", "--blocks", "mine.blocks", "--prec", "mine.prec", "--revenue", "0", "--cost", "1", "--factors", "300,400,1000"]
+BOTH = (0, pit_of(2, [0, 1], "2.000000"), "")
+
+ENDS, HEADER, COUNT, DECIMAL = "12: ends early", "3: wrong header", "11: wrong number of fields", "6: not a decimal"
+
+# Each line of the two-block mine: up to how many of its bytes are there, and what a file that ends so is refused by.
+# `ends` is at the line behind: the cut line is whole, and the next one is due.
+MODEL_CUTS = [
+    ("NAME: two blocks", [(0, ENDS), (4, HEADER), (16, "ends")]),
+    ("TYPE: UPIT", [(0, ENDS), (9, HEADER), (10, "ends")]),
+    ("NBLOCKS: 2", [(0, ENDS), (9, HEADER), (10, "ends")]),
+    ("OBJECTIVE_FUNCTION:", [(0, ENDS), (18, HEADER), (19, "ends")]),
+    ("0 -3", [(0, ENDS), (2, COUNT), (3, DECIMAL), (4, "ends")]),
+    ("1 5", [(0, ENDS), (2, COUNT), (3, "whole")]),
+]
+
+
+def model_cuts() -> list[tuple[str, tuple[int, str, str]]]:
+    """Each beginning of the model's text, and what is due."""
+    found, before = [], ""
+    for line, (text, cuts) in enumerate(MODEL_CUTS, 1):
+        for length in range(len(text) + 1):
+            words = next(words for most, words in cuts if length <= most)
+            fault = f"error {ENDS} in model line {line + 1}\n" if words == "ends" else f"error {words} in model line {line}\n"
+            found.append((before + text[:length], BOTH if words == "whole" else (1, "", fault)))
+        before += text + "\n"
+    return [*found, (before, BOTH)]
+
+
+@pytest.fixture(params=["whole", "byte by byte"])
+def read(request: pytest.FixtureRequest, monkeypatch: pytest.MonkeyPatch, shim: pathlib.Path) -> None:
+    """Files are read as ever, or by one byte a call."""
+    if request.param == "byte by byte":
+        monkeypatch.setenv("LD_PRELOAD", str(shim))
+        monkeypatch.setenv("SHORT_READ", "-1")
+
+
+@pytest.mark.usefixtures("read")
+def test_a_model_cut_at_any_byte(mine: Mine) -> None:
+    cuts = model_cuts()
+    assert cuts[-1][0] == mine.read("mine.upit")
+    assert len(cuts) == len(mine.read("mine.upit")) + 1
+    for text, due in cuts:
+        mine.write("mine.upit", text)
+        assert mine.run(*SOLVE) == due, text
+
+
+@pytest.mark.usefixtures("read")
+def test_a_precedence_file_cut_at_any_byte(mine: Mine) -> None:
+    few = (1, "", "error 11: wrong number of fields in precedence line 1\n")
+    alone = (0, pit_of(2, [1], "5.000000"), "")
+    for length, due in enumerate([alone, few, few, few, few, BOTH, BOTH]):
+        mine.write("mine.prec", "1 1 0\n"[:length])
+        assert mine.run(*SOLVE) == due, length
+
+
+@pytest.mark.usefixtures("read")
+def test_a_block_model_cut_at_any_byte(mine: Mine) -> None:
+    """Where the cut leaves lawful lines, the second block of the precedence file is missing."""
+    text = mine.read("mine.blocks")
+    shells = "SHELLS\nBLOCKS: 2\nFACTORS: 3\n300 0 0.000000000\n400 0 0.000000000\n1000 2 6.000000000\n0 1000\n1 1000\n"
+    out_of_place, few = "error 7: id out of place in precedence line 1\n", "error 11: wrong number of fields in blocks line %d\n"
+    first = [out_of_place] + [few % 1] * 6 + [out_of_place] * 6
+    second = [few % 2] * 11 + [shells] * 2
+    assert (len(first), len(first + second)) == (len("0 0 0 0 0 3\n") + 1, len(text) + 1)
+    for length, due in enumerate(first + second):
+        mine.write("mine.blocks", text[:length])
+        assert mine.run(*SHELLS) == ((0, due, "") if due == shells else (1, "", due)), length
+
+
+# how many bent certificates lie between two that are tried here
+STRIDE = 7
+
+
+@pytest.mark.parametrize("row", ROWS, ids=["a pit of two blocks", "no block pays"])
+def test_a_certificate_changed_in_a_byte_or_a_line(row: tuple[bytes, bytes, bytes], tmp_path: pathlib.Path) -> None:
+    model, prec, text = row
+    (tmp_path / "m").write_bytes(model)
+    (tmp_path / "p").write_bytes(prec)
+    bent = [*bent_lines(text), *list(bent_bytes(text))[::STRIDE]]
+    answers = [compared((PROGRAM, tmp_path, number, model, prec, one)) for number, one in enumerate([text, *bent])]
+    assert [difference for _, difference in answers if difference] == []
+    assert {"yes", "no"} <= {words for words, _ in answers}

@@ -1,0 +1,111 @@
+"""The manual page and the completions name the subcommands and options of the help, and no others; and `make install` puts them in place."""
+
+import filecmp
+import pathlib
+import re
+import shutil
+import subprocess
+
+import pytest
+
+from conftest import PROGRAM, TOP, Mine
+
+MANUAL = TOP / "man" / "pitshell.1"
+COMPLETIONS = TOP / "completions"
+
+
+def commands_of(mine: Mine) -> list[str]:
+    """The subcommands that the help lists, but for help itself."""
+    found = re.findall(r"^  (\w+) +\S", mine.run("--help")[1].partition("Commands:")[2].partition("Options:")[0], re.MULTILINE)
+    return [name for name in found if name != "help"]
+
+
+def options_of(mine: Mine, command: str) -> dict[str, str]:
+    """The options of a subcommand with their words in the help."""
+    return dict(re.findall(r"^ +(?:-h, )?--(\w+)(?: <\w+>)? +(\S.*?)(?: \[default: \w+\])?$", mine.run(command, "--help")[1], re.MULTILINE))
+
+
+def manual_text() -> str:
+    return re.sub(r"\s+", " ", MANUAL.read_text().replace("\\-", "-"))
+
+
+def named(text: str) -> set[str]:
+    """The options that stand in a text."""
+    return set(re.findall(r"--([a-z]\w*)", text)) | set(re.findall(r" -l (\w+)", text))
+
+
+def test_the_manual_has_each_subcommand_and_option_in_the_words_of_the_help(mine: Mine) -> None:
+    text, known = manual_text(), {"help", "version"}
+    for command in commands_of(mine):
+        assert f".SS {command}" in MANUAL.read_text()
+        assert mine.run(command, "--help")[1].partition("\n")[0] in text
+        for option, words in options_of(mine, command).items():
+            assert words in text, option
+            known.add(option)
+    assert named(text) == known
+
+
+def test_the_manual_has_each_status_in_the_words_of_the_help(mine: Mine) -> None:
+    for status, words in re.findall(r"^  (\d)  (.+)$", mine.run("--help")[1], re.MULTILINE):
+        assert f".B {status} {words}" in manual_text()
+
+
+@pytest.mark.skipif(not shutil.which("man"), reason="this system has no man")
+def test_the_manual_is_shown_without_a_warning() -> None:
+    ran = subprocess.run(["man", "--warnings", "-l", MANUAL], capture_output=True, text=True, timeout=60)
+    if "has been minimized" in ran.stdout:
+        pytest.skip("this system's man shows nothing")
+    assert (ran.returncode, ran.stderr) == (0, "")
+    assert "PITSHELL(1)" in ran.stdout
+
+
+@pytest.mark.parametrize("name", ["pitshell.bash", "_pitshell", "pitshell.fish"])
+def test_completions_name_what_the_help_names(mine: Mine, name: str) -> None:
+    text = (COMPLETIONS / name).read_text()
+    commands = commands_of(mine)
+    assert named(text) == {"help", "version"}.union(*(options_of(mine, command) for command in commands))
+    assert all(re.search(rf"\b{command}\b", text) for command in commands)
+
+
+def completed(*words: str) -> set[str]:
+    """What bash offers for the last of these words."""
+    script = f'source "$0"; COMP_WORDS=("$@"); COMP_CWORD=$(($# - 1)); _pitshell; printf "%s\\n" "${{COMPREPLY[@]}}"'
+    ran = subprocess.run(["bash", "-c", script, COMPLETIONS / "pitshell.bash", "pitshell", *words], capture_output=True, text=True, check=True)
+    return set(ran.stdout.split())
+
+
+def test_bash_completes_each_subcommand(mine: Mine) -> None:
+    commands = commands_of(mine)
+    assert completed("") >= set(commands)
+    for command in commands:
+        assert completed(command, "--") == {f"--{option}" for option in options_of(mine, command)}
+    assert completed("solve", "--mode", "s") == {"single", "shared"}
+    assert completed("solve", "--workers", "") == set()
+
+
+@pytest.mark.skipif(not shutil.which("fish"), reason="fish is not installed")
+def test_fish_completes_each_subcommand(mine: Mine) -> None:
+    for command in commands_of(mine):
+        line = f"source {COMPLETIONS / 'pitshell.fish'}; complete -C 'pitshell {command} --'"
+        ran = subprocess.run(["fish", "--no-config", "-c", line], capture_output=True, text=True, check=True)
+        assert {word for word in ran.stdout.split() if word.startswith("--")} == {f"--{option}" for option in options_of(mine, command)}
+
+
+@pytest.mark.skipif(not shutil.which("zsh"), reason="zsh is not installed")
+def test_zsh_reads_its_completion() -> None:
+    subprocess.run(["zsh", "-n", COMPLETIONS / "_pitshell"], check=True, timeout=60)
+
+
+def test_install_puts_all_in_place(tmp_path: pathlib.Path) -> None:
+    subprocess.run(["make", "-s", "install", f"PROGRAM={PROGRAM}", f"DESTDIR={tmp_path}", "PREFIX=/opt/pitshell"], cwd=TOP, check=True, timeout=60)
+    below = tmp_path / "opt" / "pitshell"
+    places = {
+        "bin/pitshell": PROGRAM,
+        "share/man/man1/pitshell.1": MANUAL,
+        "share/bash-completion/completions/pitshell": COMPLETIONS / "pitshell.bash",
+        "share/zsh/site-functions/_pitshell": COMPLETIONS / "_pitshell",
+        "share/fish/vendor_completions.d/pitshell.fish": COMPLETIONS / "pitshell.fish",
+    }
+    assert {str(file.relative_to(below)) for file in below.rglob("*") if file.is_file()} == set(places)
+    assert all(filecmp.cmp(below / place, file, shallow=False) for place, file in places.items())
+    assert (below / "bin" / "pitshell").stat().st_mode & 0o111 == 0o111
