@@ -150,22 +150,18 @@ fn solve_command<'a>(alloc: Global) -> Result<Command<'a>, AllocError> {
             "Precedence (.prec): the blocks that each block needs",
         ))?;
     with_mode(alloc, solve)?
-        .arg(
-            file(
-                alloc,
-                "certificate",
-                "Where to write the certificate that shows the pit",
-            )
-            .required(false),
-        )?
-        .arg(
-            file(
-                alloc,
-                "journal",
-                "Where to write what the workers decided; in mode shared alone",
-            )
-            .required(false),
+        .arg(file(
+            alloc,
+            "certificate",
+            "Where to write the certificate that shows the pit",
         )
+        .required(false))?
+        .arg(file(
+            alloc,
+            "journal",
+            "Where to write what the workers decided; in mode shared alone",
+        )
+        .required(false))
 }
 
 /// `pitshell` with its subcommands.

@@ -6,6 +6,7 @@ ghost use Rattle.std.specs.Prelude.{◌≡◌, IfErr};
 ghost use Rattle.faults.specs.Refused.{at_line};
 ghost use Rattle.faults.specs.declared.refusal.Refusal.TheVariants.{ReadFailed};
 ghost use Rattle.runs.specs.Chosen.{progress_of, IsCountable};
+ghost use Rattle.runs.specs.Journaled.{MayJournal};
 
 mod command_line;
 mod options;
@@ -117,6 +118,20 @@ fn writer_of<'a>(output: &'a mut Option<Output>) -> Option<StreamWriter<&'a mut 
     }
 }
 
+/// What writes to the file of the journal, where there is one. Mode shared alone has a journal.
+fn journal_writer<'a>(
+    mode: &Mode,
+    output: &'a mut Option<Output>,
+) -> Option<StreamWriter<&'a mut File>>
+    ensures unwritten { IsCountable (progress_of (⟦<StreamWriter<&'a mut File> as OutBytes>⟧.progress) result) }
+    ensures may { MayJournal mode.now (progress_of (⟦<StreamWriter<&'a mut File> as OutBytes>⟧.progress) result) }
+{
+    match *mode {
+        Mode::Shared { .. } => writer_of(output),
+        Mode::Single { .. } | Mode::Parts => None,
+    }
+}
+
 /// Solves the mine of two files, and writes its pit to standard output, and its journal and certificate to files where these
 /// are wanted. `threads` starts the workers.
 fn solve_files<R: Threads + Wait + Sync>(
@@ -128,10 +143,7 @@ fn solve_files<R: Threads + Wait + Sync>(
     let prec = open(rt, options.prec, Source::Precedence)?;
     let mut outputs = Outputs::create(rt, options, &[&model, &prec])?;
     let mut certificate = writer_of(&mut outputs.certificate);
-    let mut journal = match options.mode {
-        Mode::Shared { .. } => writer_of(&mut outputs.journal),
-        Mode::Single { .. } | Mode::Parts => None,
-    };
+    let mut journal = journal_writer(&options.mode, &mut outputs.journal);
     let outcome = run_solve(
         threads,
         rt.alloc(),

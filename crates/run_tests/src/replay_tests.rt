@@ -22,8 +22,11 @@ struct Row {
 }
 
 const DONE: u8 = 0;
+
 const FAULT: u8 = 1;
+
 const USED_UP: u8 = 3;
+
 const NO: u8 = 4;
 
 /// Whether the replay of a journal of the mine writes what the row says.
@@ -185,7 +188,10 @@ fn a_used_up_budget_leaves_its_journal(rt: HostRuntime) -> Result<(), Fail> {
     let (journal, out, result) = solve_by_one_worker(&rt, PAYING_ORE, Some(0), 1000);
     let head = b"PITJOURNAL 1\nBLOCKS: 2\nARCS: 1\nBUDGET: 0\nENTRIES: ";
     assert!(&rt; journal.starts_with(head.as_slice()), "the head");
-    assert!(&rt; journal.ends_with(b"1 0 3\n0 0 3\n".as_slice()), "the driver's entry stands once");
+    assert!(&rt;
+        journal.ends_with(b"1 0 3\n0 0 3\n".as_slice()),
+        "the driver's entry stands once"
+    );
     assert!(&rt; out.is_empty(), "no pit");
     assert_eq!(&rt; exit_code(&result), USED_UP);
     Ok(())
@@ -195,7 +201,10 @@ fn a_used_up_budget_leaves_its_journal(rt: HostRuntime) -> Result<(), Fail> {
 fn a_journal_cut_short_is_all_that_is_written(rt: HostRuntime) -> Result<(), Fail> {
     for room in 0..ONE_MERGER.len() {
         let (journal, out, result) = solve_by_one_worker(&rt, PAYING_ORE, None, room);
-        assert!(&rt; journal.len() == room && ONE_MERGER.as_bytes().starts_with(journal.as_slice()), "a beginning");
+        assert!(&rt;
+            journal.len() == room && ONE_MERGER.as_bytes().starts_with(journal.as_slice()),
+            "a beginning"
+        );
         assert!(&rt; out.is_empty(), "no pit");
         assert_eq!(&rt; exit_code(&result), FAULT);
     }

@@ -52,9 +52,11 @@ says_any outcome (Single budget) mine text says = absurd says
 says_any outcome Parts mine text says = absurd says
 
 any_end : (outcome : Outcome) (mode : Mode) (mine : Instance) (c : Chosen) (e : Fault) → PutsJournal (EndOf outcome) mode mine c (Err e) → PutsJournal AtAnyEnd mode mine c (Err e)
-any_end outcome mode mine c e puts =
-    (of_states (WritesJournal {E = Fault} (EndOf outcome) mode mine (Err e)) (WritesJournal {E = Fault} AtAnyEnd mode mine (Err e))
-    (λ before after w. (w.0, says_any outcome mode mine w.0 w.1, w.2)) c.before c.after puts.0, puts.1)
+any_end outcome mode mine c e puts = (
+  of_states (WritesJournal {E = Fault} (EndOf outcome) mode mine (Err e)) (WritesJournal {E = Fault} AtAnyEnd mode mine (Err e))
+      (λ before after w. (w.0, says_any outcome mode mine w.0 w.1, w.2)) c.before c.after puts.0,
+  puts.1,
+)
 
 -- a journal that was not written whole is why there is no outcome
 pub journal_not_put : (outcome : Outcome) (mode : Mode) (mine : Instance) (c : Chosen) (e : Fault) → PutsJournal (EndOf outcome) mode mine c (Err e) → RefusesOutcome mode mine e.refusal e c

@@ -8,3 +8,4 @@ pub mod ShellRuns
 pub mod Uniqueness
 pub mod OneFault
 pub mod Replaying
+pub mod ReplayOnce

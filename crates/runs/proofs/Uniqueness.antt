@@ -35,7 +35,7 @@ use Rattle.runs.specs.ShellsRun.{IsShellsText}
 use Rattle.runs.specs.Uniqueness.{GaveAlike, SolvesOnce, NestsOnce, AnswerIsOne, ChecksOnce, PassesCheck}
 
 -- a reader gave one text
-given_once : (r : Reading) (a b : List ℕ) → Gave r a → Gave r b → a ≡ b
+pub given_once : (r : Reading) (a b : List ℕ) → Gave r a → Gave r b → a ≡ b
 given_once r a b x y = append_cancel_left r.before.bytes a b (sym x.bytes ∙ y.bytes)
 
 -- ---- what a text spells
@@ -85,7 +85,7 @@ same_mine : (m n : Instance) → m.blocks ≡ n.blocks → m.values ≡ n.values
 same_mine m n b v p = ap (λ k. instance_of k m.values m.pairs) b ∙ ap (λ vs. instance_of n.blocks vs m.pairs) v ∙ ap (instance_of n.blocks n.values) p
 
 -- the mine with its pairs in order is one
-mine_in_order : (model prec other_model other_prec : Reading) → GaveAlike model other_model → GaveAlike prec other_prec
+pub mine_in_order : (model prec other_model other_prec : Reading) → GaveAlike model other_model → GaveAlike prec other_prec
     → (m n : Instance) → GaveInOrder model prec m → GaveInOrder other_model other_prec n → m ≡ n
 mine_in_order model prec other_model other_prec same same_prec m n one other =
     let x = one.holds in

@@ -12,6 +12,10 @@ use Rattle.runs.specs.Solve.{Reading, Gave, IsDone, FirstFault, RefusesMine}
 use Rattle.runs.specs.ShellsRun.{IsShellsDone}
 use Rattle.runs.specs.Certified.{IsCertified}
 use Rattle.runs.specs.Check.{AnswersText, IsChecked}
+use Rattle.runs.specs.Journaled.{AtBudget, IsJournaled}
+use Rattle.runs.specs.Replay.{IsJournalSpent, IsToldReplay}
+use Rattle.pit_model.specs.Replay.{IsSettled}
+use Rattle.solver.specs.declared.mode.Mode.{Mode}
 use Rattle.runs.specs.declared.status.Status.{Status}
 use Rattle.runs.specs.declared.status.Status.TheVariants.{Done}
 
@@ -88,3 +92,25 @@ PassesCheck model prec other_model other_prec certificate =
     → IsCertified model prec before after
     → IsChecked other_model other_prec certificate other_before other_after status
     → (status ≡ Done) × (other_after.bytes ≡ other_before.bytes ++ answer_text true)
+
+-- where a run of `solve` is done that wrote its journal, and `replay` over the same texts and that journal ends without a fault,
+-- it wrote the same pit
+abbrev pub PassesReplay : (model prec other_model other_prec journal : Reading) → Type 0
+PassesReplay model prec other_model other_prec journal =
+    (mode : Mode) (before after pit_before pit_after other_before other_after : Progress) (status other_status : Status)
+    → GaveAlike model other_model → GaveAlike prec other_prec → GaveTaken journal before after
+    → IsJournaled IsSettled mode model prec before after → IsDone model prec pit_before pit_after status
+    → IsToldReplay other_model other_prec journal other_before other_after other_status
+    → TookSame pit_before pit_after other_before other_after × (other_status ≡ status)
+
+-- where a run of `solve` used up its budget, `replay` over the same texts and its journal writes nothing; and if it names a count
+-- of mergers, it is that budget
+pub record SpendsReplay (model prec other_model other_prec journal : Reading) : Type 0 where
+  pub not_told :
+      (mode : Mode) (count : ℕ) (before after other_before other_after : Progress) (other_status : Status)
+      → GaveAlike model other_model → GaveAlike prec other_prec → GaveTaken journal before after
+      → IsJournaled (AtBudget count) mode model prec before after → IsToldReplay other_model other_prec journal other_before other_after other_status → ⊥
+  pub same_count :
+      (mode : Mode) (count other : ℕ) (before after : Progress)
+      → GaveAlike model other_model → GaveAlike prec other_prec → GaveTaken journal before after
+      → IsJournaled (AtBudget count) mode model prec before after → IsJournalSpent other_model other_prec journal other → other ≡ count

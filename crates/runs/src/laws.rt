@@ -1,7 +1,7 @@
 //! Laws: two runs over the same texts end alike. Each is a function with an empty body whose contract is the law, over any
 //! readers: a run's reading is a reader's state before it and its state after.
 ghost use Rattle.runs.specs.Solve.{reading};
-ghost use Rattle.runs.specs.Uniqueness.{SolvesOnce, NeverFaulty, FaultsOnce, NestsOnce, AnswerIsOne, ChecksOnce, PassesCheck};
+ghost use Rattle.runs.specs.Uniqueness.{SolvesOnce, NeverFaulty, FaultsOnce, NestsOnce, AnswerIsOne, ChecksOnce, PassesCheck, PassesReplay, SpendsReplay};
 
 use minelib_reader::InBytes;
 
@@ -67,4 +67,21 @@ pub fn solve_passes_check<M: InBytes, P: InBytes, N: InBytes, Q: InBytes, C: InB
         (reading (N.progress other_model) (N.progress other_model_end) (N.IsAtEnd other_model_end))
         (reading (Q.progress other_prec) (Q.progress other_prec_end) (Q.IsAtEnd other_prec_end))
         (reading (C.progress certificate) (C.progress certificate_end) (C.IsAtEnd certificate_end)) }
+{}
+
+/// Where `replay` ends over the texts of a run of `solve` and the journal that it wrote: with the same pit and the same status
+/// where that run was done, and with no answer where it used up its budget.
+pub fn solve_passes_replay<M: InBytes, P: InBytes, N: InBytes, Q: InBytes, J: InBytes>()
+    ensures done { (model model_end : M) (prec prec_end : P) (other_model other_model_end : N) (other_prec other_prec_end : Q) (journal journal_end : J) → PassesReplay
+        (reading (M.progress model) (M.progress model_end) (M.IsAtEnd model_end))
+        (reading (P.progress prec) (P.progress prec_end) (P.IsAtEnd prec_end))
+        (reading (N.progress other_model) (N.progress other_model_end) (N.IsAtEnd other_model_end))
+        (reading (Q.progress other_prec) (Q.progress other_prec_end) (Q.IsAtEnd other_prec_end))
+        (reading (J.progress journal) (J.progress journal_end) (J.IsAtEnd journal_end)) }
+    ensures spent { (model model_end : M) (prec prec_end : P) (other_model other_model_end : N) (other_prec other_prec_end : Q) (journal journal_end : J) → SpendsReplay
+        (reading (M.progress model) (M.progress model_end) (M.IsAtEnd model_end))
+        (reading (P.progress prec) (P.progress prec_end) (P.IsAtEnd prec_end))
+        (reading (N.progress other_model) (N.progress other_model_end) (N.IsAtEnd other_model_end))
+        (reading (Q.progress other_prec) (Q.progress other_prec_end) (Q.IsAtEnd other_prec_end))
+        (reading (J.progress journal) (J.progress journal_end) (J.IsAtEnd journal_end)) }
 {}

@@ -15,7 +15,7 @@ mod status;
 pub use check::run_check;
 pub use laws::{
     answer_is_one, check_answers_once, done_texts_have_no_fault, shells_write_one_text,
-    solve_passes_check, solve_writes_one_text, texts_have_one_fault,
+    solve_passes_check, solve_passes_replay, solve_writes_one_text, texts_have_one_fault,
 };
 pub use mode_words::{mode_fault, mode_of};
 pub use nested::run_shells;

@@ -14,11 +14,7 @@ use report::{read_journal, write_difference, write_open};
 use std::alloc::Global;
 
 /// How the replay of the journal ends that a reader gives.
-fn replay_of<J: InBytes>(
-    alloc: Global,
-    mine: &Instance,
-    journal: &mut J,
-) -> Result<Replayed, Fault>
+fn replay_of<J: InBytes>(alloc: Global, mine: &Instance, journal: &mut J) -> Result<Replayed, Fault>
     requires countable { (J.progress journal.old).failures < 2 ^ 63 }
     requires bounded { (J.progress journal.old).allowance ≤ 2 ^ 40 }
     ensures replayed { IfOk result (IsReplayed mine.now (reading (J.progress journal.old) (J.progress journal.new) (J.IsAtEnd journal.new))) }
