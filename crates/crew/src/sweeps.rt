@@ -102,7 +102,15 @@ impl<'a, S: Site + Send + Sync, G: Gate + Sync> Crew<'a, S, G> {
         for worker in self.workers.iter_mut() {
             worker.take_back(self.board);
         }
+        draws.close(draw_seats);
         Ok(())
+    }
+
+    // Each worker's seats meet the holder's.
+    fn meet(&mut self, holder: &mut Holder<S>) {
+        for worker in self.workers.iter_mut() {
+            worker.meet(self.board, holder);
+        }
     }
 
     // One sweep over all arcs, with a counter of its own.
@@ -147,6 +155,7 @@ impl<'a, S: Site + Send + Sync, G: Gate + Sync> Crew<'a, S, G> {
             holder.into_parts(rt);
             return Err(fault);
         }
+        self.meet(&mut holder);
         match is_ended(rt, &mut holder) {
             Ok(true) => Ok((holder, true)),
             Ok(false) => {

@@ -2,12 +2,14 @@
 //! it sees there, serves the board under the lock, and collects its reply.
 ghost use Rattle.std.specs.Prelude.{◌≡◌, ◌≤◌, ◌<◌, IfSome};
 ghost use Rattle.pit_model.specs.Mine.{arcs};
+ghost use Rattle.pit_model.specs.Version.{applied_arcs};
+ghost use Rattle.tree_lock.specs.Served.{MeetsJournal};
 
 use crate::gate::Gate;
 use crate::guide::{Guide, Sighting};
 use proposals::{Board, DrawSeat, Draws, Lot, WorkerSeat};
 use std::sync::Wait;
-use tree_lock::{LookSeat, SharedTree, Site, Verdict};
+use tree_lock::{Holder, LookSeat, SharedTree, Site, Verdict};
 
 /// A worker's number, from 1, and its seats. The seat to look from is None while it is lent, and never between calls.
 #[derive(Drop)]
@@ -133,6 +135,22 @@ impl<S: Site> Worker<S> {
     pub fn take_back(&mut self, board: &Board<S>) {
         if !board.withdraw(&mut self.asks) {
             board.collect(&mut self.asks);
+        }
+    }
+
+    /// Lets its seats meet the holder's after a sweep. What it asked and collected then agrees with the entries under its seat,
+    /// and it is told of all mergers that were made.
+    pub fn meet(&mut self, board: &Board<S>, holder: &mut Holder<S>)
+        ensures same { holder.new ≡ holder.old }
+        ensures settled { (self.new.asks ≡ self.old.asks) × MeetsJournal self.old.asks holder.old.journal }
+        ensures told { IfSome self.new.looks (λ list. list ≡ applied_arcs holder.old.journal) }
+    {
+        holder.settle(board, &mut self.asks);
+        match &mut self.looks {
+            Some(seat) => {
+                holder.tell(seat);
+            }
+            None => {}
         }
     }
 }

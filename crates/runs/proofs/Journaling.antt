@@ -63,33 +63,6 @@ pub journal_not_put : (outcome : Outcome) (mode : Mode) (mine : Instance) (c : C
 journal_not_put outcome mode mine c e puts =
     subst (λ r. RefusesOutcome mode mine r e c) (λ i. (sym puts.1 i).refusal) (any_end outcome mode mine c e puts)
 
--- a solve that lacked room gave no outcome
-pub room_lacked : (mode : Mode) (mine : Instance) (r : Refusal) (e : Fault) (c : Chosen) → IsLeft c → LacksRoom mode r e → RefusesOutcome mode mine r e c
-room_lacked mode mine NoMemory e c left h = (h, left)
-room_lacked mode mine NoSeat e c left h = (h, left)
-room_lacked mode mine WriteFailed e c left h = absurd h
-room_lacked mode mine _ e c left h = absurd h
-
--- and where there is no outcome, there is no pit
-pub no_outcome : (mode : Mode) (mine : Instance) (r : Refusal) (e : Fault) (journal certificate : Chosen) → IsLeft certificate → RefusesOutcome mode mine r e journal → RefusesPit mode mine r e journal certificate
-no_outcome mode mine WriteFailed e journal certificate left h = inl (h, left)
-no_outcome mode mine NoMemory e journal certificate left h = (h.0, h.1, left)
-no_outcome mode mine NoSeat e journal certificate left h = (h.0, h.1, left)
-no_outcome mode mine _ e journal certificate left h = absurd h.0
-
--- nor is there where the pit alone was looked for in vain
-pub no_pit : (mode : Mode) (mine : Instance) (r : Refusal) (e : Fault) (journal certificate : Chosen) → journal.before ≡ None → IsLeft journal → IsLeft certificate → RefusesSolve mode mine r e → RefusesPit mode mine r e journal certificate
-no_pit mode mine WriteFailed e journal certificate none j c h = absurd h
-no_pit mode mine (Exhausted count) e journal certificate none j c h = (h, inl (none, j), c)
-no_pit mode mine NoMemory e journal certificate none j c h = (h, j, c)
-no_pit mode mine NoSeat e journal certificate none j c h = (h, j, c)
-no_pit mode mine _ e journal certificate none j c h = absurd h
-
--- a certificate that was not written whole
-pub certificate_not_put : (mode : Mode) (mine : Instance) (e : Fault) (journal certificate : Chosen) → PutsJournal IsSettled mode mine journal (Ok tt) → PutsCertificate mine certificate (Err e) → RefusesPit mode mine e.refusal e journal certificate
-certificate_not_put mode mine e journal certificate journaled puts =
-    subst (λ r. RefusesPit mode mine r e journal certificate) (λ i. (sym puts.1 i).refusal) (inr (journaled, puts))
-
 -- of the mine that the readers gave
 journaled_of : (Ends : JournalEnd) (mode : Mode) (model prec : Reading) (mine : Instance) → HoldsMine model prec mine → (before after : Progress) → WritesJournal {E = Fault} Ends mode mine (Ok tt) before after → IsJournaled Ends mode model prec before after
 journaled_of Ends mode model prec mine holds before after w = record {

@@ -43,13 +43,6 @@ pub is_replayed :
 is_replayed mine reading said text (Ok end) given spelled ended = record { journal = said; given = record { text = text; given = given; spelled = spelled }; ends = ended }
 is_replayed mine reading said text (Err e) given spelled ended = tt
 
--- the pit at the end of a replay is the mine's
-pub shows_end : (mine : Instance) (budget : _) (entries : _) (end : Replayed) → EndsReplay mine budget entries end → ShowsEnd mine end
-shows_end mine budget entries (ends.Pit pit) e = e.1
-shows_end mine budget entries (ends.Differs k) e = tt
-shows_end mine budget entries (ends.Exhausted count) e = tt
-shows_end mine budget entries (ends.Open count) e = tt
-
 answers : (mine : Instance) (said : BudgetAndEntries) (end : Replayed) (text : List ℕ) (status : Status) → EndsReplay mine said.budget said.entries end → TellsEnd mine end text status → AnswersJournal mine said text status
 answers mine said (ends.Pit pit) text status e t = settled e.0 t.0 t.1
 answers mine said (ends.Differs k) text status e t = differs k e t.0 t.1
