@@ -25,12 +25,25 @@ pub struct Output {
     place: Option<Place>,
 }
 
-/// Whether the file is one of these, under whatever name. One that cannot be looked at counts as the same.
+/// Whether both are of one file, under whatever names.
+fn is_same(one: &Metadata, other: &Metadata) -> bool {
+    one.dev() == other.dev() && one.ino() == other.ino()
+}
+
+/// Whether the file is one of these. One that cannot be looked at counts as the same.
 fn is_among(found: &Metadata, files: &[&File]) -> bool {
     files.iter().any(|file| match file.metadata() {
-        Ok(other) => other.dev() == found.dev() && other.ino() == found.ino(),
+        Ok(other) => is_same(found, &other),
         Err(_) => true,
     })
+}
+
+/// Whether the file is the one that standard output goes to.
+fn is_standard_output(rt: &HostRuntime, found: &Metadata) -> bool {
+    match fs::metadata(rt, "/dev/stdout") {
+        Ok(other) => is_same(found, &other),
+        Err(_) => false,
+    }
 }
 
 /// Whether the file of this name is one of these.
@@ -68,14 +81,19 @@ fn create_beside(rt: &HostRuntime, path: PathBuf, taken: &[&File]) -> Result<Out
 
 impl Output {
     /// Makes a file, or what it is written to before it takes its name. Refused where it cannot be made or may not be
-    /// written, where it is one of the inputs and outputs that are taken, and for want of memory.
+    /// written, where it is one of the inputs and outputs that are taken or the file of standard output, and for want of
+    /// memory.
     pub fn create(rt: &HostRuntime, path: &str, taken: &[&File]) -> Result<Output, Fault> {
         match fs::metadata(rt, path) {
             Ok(found) if !found.is_file() => match File::create(rt, path) {
                 Ok(file) => Ok(Output { file, place: None }),
                 Err(_) => Err(Fault::write_failed()),
             },
-            Ok(found) if found.permissions().readonly() || is_among(&found, taken) => {
+            Ok(found)
+                if found.permissions().readonly()
+                    || is_among(&found, taken)
+                    || is_standard_output(rt, &found) =>
+            {
                 Err(Fault::write_failed())
             }
             Ok(_) => match fs::canonicalize(rt, path) {
