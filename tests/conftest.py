@@ -6,6 +6,8 @@ import subprocess
 
 import pytest
 
+from sweeps import build_shim
+
 TOP = pathlib.Path(__file__).resolve().parent.parent
 PROGRAM = pathlib.Path(os.environ.get("PITSHELL", TOP / "build" / "pitshell")).resolve()
 
@@ -42,3 +44,9 @@ class Mine:
 @pytest.fixture
 def mine(tmp_path: pathlib.Path) -> Mine:
     return Mine(tmp_path)
+
+
+@pytest.fixture(scope="session")
+def shim(tmp_path_factory: pytest.TempPathFactory) -> pathlib.Path:
+    """The library that lets calls go wrong (fail_calls.c)."""
+    return build_shim(tmp_path_factory.mktemp("shim"))

@@ -43,6 +43,15 @@ def model_cuts() -> list[tuple[str, tuple[int, str, str]]]:
     return [*found, (before, BOTH)]
 
 
+@pytest.fixture(params=["whole", "byte by byte"])
+def read(request: pytest.FixtureRequest, monkeypatch: pytest.MonkeyPatch, shim: pathlib.Path) -> None:
+    """Files are read as ever, or by one byte a call."""
+    if request.param == "byte by byte":
+        monkeypatch.setenv("LD_PRELOAD", str(shim))
+        monkeypatch.setenv("SHORT_READ", "-1")
+
+
+@pytest.mark.usefixtures("read")
 def test_a_model_cut_at_any_byte(mine: Mine) -> None:
     cuts = model_cuts()
     assert cuts[-1][0] == mine.read("mine.upit")
@@ -52,6 +61,7 @@ def test_a_model_cut_at_any_byte(mine: Mine) -> None:
         assert mine.run(*SOLVE) == due, text
 
 
+@pytest.mark.usefixtures("read")
 def test_a_precedence_file_cut_at_any_byte(mine: Mine) -> None:
     few = (1, "", "error 11: wrong number of fields in precedence line 1\n")
     alone = (0, pit_of(2, [1], "5.000000"), "")
@@ -60,6 +70,7 @@ def test_a_precedence_file_cut_at_any_byte(mine: Mine) -> None:
         assert mine.run(*SOLVE) == due, length
 
 
+@pytest.mark.usefixtures("read")
 def test_a_block_model_cut_at_any_byte(mine: Mine) -> None:
     """Where the cut leaves lawful lines, the second block of the precedence file is missing."""
     text = mine.read("mine.blocks")

@@ -13,7 +13,6 @@ import pytest
 
 from conftest import PROGRAM, Mine
 from rows import MODES, model_of, pit_of
-from sweeps import build_shim
 
 SOLVE = ["solve", "--model", "mine.upit", "--prec", "mine.prec"]
 SHELLS = ["shells", "--blocks", "mine.blocks", "--prec", "mine.prec", "--revenue", "0", "--cost", "1", "--factors", "1000"]
@@ -25,6 +24,12 @@ OLD = "what stood there\n"
 
 def start(mine: Mine, *words: str, **more: object) -> subprocess.Popen:
     return subprocess.Popen([PROGRAM, *words], cwd=mine.folder, text=True, stdout=subprocess.PIPE, stderr=subprocess.PIPE, **more)
+
+
+def write_pairs(mine: Mine, blocks: int) -> None:
+    """A mine of so many blocks, in which each second one pays for the one before it."""
+    mine.write("mine.upit", model_of(["3" if block % 2 else "-2" for block in range(blocks)]))
+    mine.write("mine.prec", "".join(f"{block} 1 {block - 1}\n" for block in range(1, blocks, 2)))
 
 
 def wait_for(file: pathlib.Path) -> bool:
@@ -45,6 +50,23 @@ def test_a_signal_ends_the_run_and_leaves_what_stood_there(mine: Mine, sent: sig
         ran.wait(timeout=60)
         assert (ran.returncode, ran.stdout.read(), ran.stderr.read()) == (-sent, "", "")
     assert mine.read("made.cert") == OLD
+
+
+def test_an_output_is_whole_or_untouched_whenever_the_run_ends(mine: Mine) -> None:
+    """A run is ended at twelve moments, from its start to the time that a whole one takes."""
+    write_pairs(mine, 60_000)
+    words = [*SOLVE, "--certificate", "made.cert"]
+    begun = time.monotonic()
+    assert mine.run(*words)[0] == 0
+    took, whole = time.monotonic() - begun, mine.read("made.cert")
+    for turn in range(12):
+        mine.write("made.cert", OLD)
+        with start(mine, *words) as ran:
+            time.sleep(took * turn / 12)
+            ran.terminate()
+            ran.communicate(timeout=60)
+        assert ran.returncode in (0, -signal.SIGTERM)
+        assert mine.read("made.cert") in ((whole,) if ran.returncode == 0 else (whole, OLD))
 
 
 def test_a_stalled_pipe_is_waited_for(mine: Mine) -> None:
@@ -105,15 +127,14 @@ def test_a_name_of_no_file(mine: Mine, name: str) -> None:
 
 # Below this many bytes of address space the system does not load the program, or gives it no stack.
 LEAST_SPACE = 6 << 20
-MANY = [f"{3 if block % 2 else -2}" for block in range(60_000)]
+MANY = 60_000
 
 
 @pytest.mark.parametrize("mode", MODES)
 def test_less_and_less_memory(mine: Mine, mode: str) -> None:
     """A mine of 30,000 parts within ever less address space: its pit or a refusal, and refusals below some limit."""
-    mine.write("mine.upit", model_of(MANY))
-    mine.write("mine.prec", "".join(f"{block} 1 {block - 1}\n" for block in range(1, len(MANY), 2)))
-    pit = (0, pit_of(len(MANY), list(range(len(MANY))), "30000.000000"), "")
+    write_pairs(mine, MANY)
+    pit = (0, pit_of(MANY, list(range(MANY)), "30000.000000"), "")
     refused = {(1, "", NO_MEMORY)} | ({(1, "", NO_SEAT)} if mode.startswith("shared") else set())
     seen = set()
     for space in (LEAST_SPACE, 7 << 20, 8 << 20, 10 << 20, 12 << 20, 16 << 20, 24 << 20, 32 << 20, 64 << 20, 4 << 30):
@@ -126,11 +147,6 @@ def test_less_and_less_memory(mine: Mine, mode: str) -> None:
         seen.add(told)
     assert pit in seen
     assert seen & refused
-
-
-@pytest.fixture(scope="session")
-def shim(tmp_path_factory: pytest.TempPathFactory) -> pathlib.Path:
-    return build_shim(tmp_path_factory.mktemp("shim"))
 
 
 @pytest.mark.parametrize("mode", MODES)

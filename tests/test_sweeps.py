@@ -5,12 +5,7 @@ import pathlib
 import pytest
 
 from rows import Row, few_rows
-from sweeps import build_shim, sweep
-
-
-@pytest.fixture(scope="session")
-def shim(tmp_path_factory: pytest.TempPathFactory) -> pathlib.Path:
-    return build_shim(tmp_path_factory.mktemp("shim"))
+from sweeps import sweep
 
 
 @pytest.mark.parametrize("row", few_rows(), ids=lambda row: row.name)
