@@ -87,6 +87,35 @@ def test_answers_that_were_worked_out_by_hand(values: list[str], journal: str, w
     assert replayed(values, FOUR_PAIRS, journal) == wanted
 
 
+HEAD = "PITJOURNAL 1\nBLOCKS: 4\nARCS: 3\n"
+
+# the limits of a journal's numbers, each with what a journal that has it ends in
+LIMITS = [
+    (HEAD + "BUDGET: 18446744073709551615\nENTRIES: 0\n", ("open after 0 mergers\n", "", 4)),
+    (HEAD + "BUDGET: 18446744073709551616\nENTRIES: 0\n", ("", "error 4: over the limit in journal line 4\n", 1)),
+    (HEAD + "BUDGET: 99999999999999999999\nENTRIES: 0\n", ("", "error 4: over the limit in journal line 4\n", 1)),
+    (HEAD + "BUDGET: 000000000000000000000\nENTRIES: 0\n", ("", "error 5: not a whole number in journal line 4\n", 1)),
+    (HEAD + "BUDGET: 00000000000000000000\nENTRIES: 0\n", ("", "error 20: exhausted after 0 mergers\n", 3)),
+    (HEAD + "BUDGET: None\nENTRIES: 0\n", ("", "error 5: not a whole number in journal line 4\n", 1)),
+    (HEAD + "BUDGET: none\nENTRIES: 18446744073709551615\n", ("", "error 12: ends early in journal line 6\n", 1)),
+    (HEAD + "BUDGET: none\nENTRIES: 18446744073709551616\n", ("", "error 4: over the limit in journal line 5\n", 1)),
+    (HEAD + "BUDGET: none\nENTRIES: none\n", ("", "error 5: not a whole number in journal line 5\n", 1)),
+    (HEAD + "BUDGET: none\nENTRIES: 1\n64 0 1\n", ("open after 1 mergers\n", "", 4)),
+    (HEAD + "BUDGET: none\nENTRIES: 1\n65 3 4\n", ("", "error 4: over the limit in journal line 6\n", 1)),
+    (HEAD + "BUDGET: none\nENTRIES: 1\n64 2 1\n", ("open after 1 mergers\n", "", 4)),
+    (HEAD + "BUDGET: none\nENTRIES: 1\n64 3 4\n", ("", "error 7: id out of place in journal line 6\n", 1)),
+    (HEAD + "BUDGET: none\nENTRIES: 1\n64 4294967296 1\n", ("", "error 7: id out of place in journal line 6\n", 1)),
+    (HEAD + "BUDGET: none\nENTRIES: 1\n64 2 0\n", ("", "error 4: over the limit in journal line 6\n", 1)),
+    (HEAD + "BUDGET: none\nENTRIES: 1\n64 2 4\n", ("", "error 4: over the limit in journal line 6\n", 1)),
+    (HEAD + "BUDGET: none\nENTRIES: 0\n64 2 4\n", ("", "error 13: line after the end in journal line 6\n", 1)),
+]
+
+
+@pytest.mark.parametrize(("journal", "wanted"), LIMITS)
+def test_the_limits_of_numbers(journal: str, wanted: tuple[str, str, int]) -> None:
+    assert replayed(NINE, FOUR_PAIRS, journal) == wanted
+
+
 def test_a_mine_that_is_not_lawful_is_refused() -> None:
     no_mine = ("", "the model or the precedence file is not lawful\n", 1)
     empty = journal_of(2, 2, "none")
