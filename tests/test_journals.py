@@ -10,7 +10,7 @@ import pytest
 
 from conftest import PROGRAM, TOP, TWO_BLOCKS, Mine
 from rows import FOUR_PAIRS, SMALL_MINES, journal_of, model_of, pit_of
-from test_replay_journal import NINE, SIX, STORED, TEN
+from test_replay_journal import LIMITS, NINE, SIX, STORED, TEN
 
 sys.path.insert(0, str(TOP / "tools"))
 
@@ -51,6 +51,12 @@ def replay(mine: Mine, values: list[str], prec: str, journal: str) -> tuple[int,
 )
 def test_replay_answers_what_was_worked_out_by_hand(mine: Mine, values: list[str], journal: str, due: tuple[int, str, str]) -> None:
     assert replay(mine, values, FOUR_PAIRS, journal) == due
+
+
+@pytest.mark.parametrize(("journal", "wanted"), LIMITS)
+def test_replay_at_the_limits_of_numbers(mine: Mine, journal: str, wanted: tuple[str, str, int]) -> None:
+    out, err, status = wanted
+    assert replay(mine, NINE, FOUR_PAIRS, journal) == (status, out, err)
 
 
 def test_replay_of_bent_journals(mine: Mine) -> None:
