@@ -1,0 +1,34 @@
+"""The examples of README and of the manual page, run as they stand there."""
+
+import pathlib
+import re
+import subprocess
+
+from conftest import PROGRAM, TOP
+
+
+def told_by_shell(command: str, folder: pathlib.Path) -> str:
+    ran = subprocess.run(["sh", "-c", command], cwd=folder, capture_output=True, text=True, check=True, timeout=60)
+    return ran.stdout + ran.stderr
+
+
+def runs_in(block: str) -> list[tuple[str, str]]:
+    """The commands of a block, behind `$ `, and what each shows."""
+    return [(piece.partition("\n")[0], piece.partition("\n")[2]) for piece in re.split(r"^\$ ", block, flags=re.MULTILINE)[1:]]
+
+
+def test_the_first_example_of_readme() -> None:
+    block = re.findall(r"^```\n(.*?)^```", (TOP / "README.md").read_text(), re.MULTILINE | re.DOTALL)[0]
+    command, shown = runs_in(block)[-1]
+    assert told_by_shell(command.replace("build/pitshell", str(PROGRAM)), TOP) == shown
+    both = (TOP / "examples" / "first_pit" / "mine.upit").read_text() + (TOP / "examples" / "first_pit" / "mine.prec").read_text()
+    assert all(line in block for line in both.splitlines())
+
+
+def test_the_example_of_the_manual(tmp_path: pathlib.Path) -> None:
+    text = (TOP / "man" / "pitshell.1").read_text()
+    block = text.partition(".SH EXAMPLES")[2].partition(".nf\n.RS\n")[2].partition(".RE")[0]
+    runs = runs_in(block.replace("\\-", "-").replace("\\e", "\\"))
+    assert len(runs) == 4
+    for command, shown in runs:
+        assert told_by_shell(re.sub(r"^pitshell", str(PROGRAM), command), tmp_path) == shown
