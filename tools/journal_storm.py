@@ -5,8 +5,9 @@ tools/replay_journal.py, which shares nothing with the program.
     tools/journal_storm.py [--bin build/pitshell] [--runs 100] [--seed 1] [--results FILE]      by hand; `make storm`
 
 Mines have 2,000 to 20,000 blocks, with slopes or with pairs at random; there are 1 to 64 workers, and a budget in some runs. All
-three must give the same standard output, standard error and status; and without a budget the pit is that of mode single. Whatever
-differs is kept below --keep with its files, and the status is 1.
+three must give the same standard output, standard error and status; and without a budget the pit is that of mode single. Each
+journal is then bent, in a verdict, an arc, a seat, a dropped, doubled or moved line, or cut, and the two replays must agree again.
+Whatever differs is kept below --keep with its files, and the status is 1.
 """
 
 import argparse
@@ -15,6 +16,7 @@ import dataclasses
 import itertools
 import pathlib
 import random
+import re
 import subprocess
 import sys
 import tempfile
@@ -25,6 +27,7 @@ from replay_journal import answer
 
 TOP = pathlib.Path(__file__).resolve().parent.parent
 WORKERS = (1, 2, 3, 4, 8, 16, 33, 64)
+BENDS = 4
 SHAPES = ("1:5", "1:9", "cone", "random", "layers")
 
 
@@ -67,6 +70,28 @@ def write_pairs(prefix: pathlib.Path, run: Run) -> None:
     prefix.with_suffix(".prec").write_text("".join(lines))
 
 
+def bent(text: bytes, rng: random.Random) -> bytes:
+    """A journal with one entry changed, or cut at a byte."""
+    head, entries = text.splitlines(keepends=True)[:5], text.splitlines(keepends=True)[5:]
+    kind = rng.choice(["verdict", "arc", "seat", "drop", "double", "move", "beginning", "cut"])
+    if kind == "cut" or not entries:
+        return text[: rng.randrange(len(text) + 1)]
+    at = rng.randrange(len(entries))
+    seat, arc, verdict = entries[at].split()
+    if kind in ("verdict", "arc", "seat"):
+        changed = {"verdict": rng.choice([b"1", b"2", b"3"]), "arc": b"%d" % rng.randrange(int(head[2].split()[1])), "seat": b"%d" % rng.randrange(66)}
+        entries[at] = b" ".join([changed.get(kind) if kind == name else old for name, old in (("seat", seat), ("arc", arc), ("verdict", verdict))]) + b"\n"
+    elif kind == "beginning":
+        entries = entries[:at]
+    elif kind == "double":
+        entries.insert(at, entries[at])
+    else:
+        line = entries.pop(at)
+        if kind == "move":
+            entries.insert(rng.randrange(len(entries) + 1), line)
+    return b"".join([*head[:4], b"ENTRIES: %d\n" % len(entries), *entries])
+
+
 class Storm:
     """Runs in a folder, what they added up to, and what went wrong."""
 
@@ -76,6 +101,7 @@ class Storm:
         self.verdicts: collections.Counter[bytes] = collections.Counter()
         self.drivers = 0
         self.most_bytes = 0
+        self.bends: collections.Counter[str] = collections.Counter()
         self.wrong: list[str] = []
 
     def told(self, *words: str) -> tuple[str, str, int]:
@@ -105,6 +131,21 @@ class Storm:
             self.wrong.append(f"{run} {budget}: alone, solved, replayed, beside: {heads}")
             self.keep_files()
 
+        self.bend(run)
+
+    def bend(self, run: Run) -> None:
+        """Both replays of journals that are bent from the one that was written."""
+        rng, text = random.Random(f"{run}"), self.journal()
+        model, prec = ((self.folder / name).read_bytes() for name in ("mine.upit", "mine.prec"))
+        for _ in range(BENDS):
+            (self.folder / "bent.journal").write_bytes(other := bent(text, rng))
+            replayed, beside = self.told("replay", "--model", "mine.upit", "--prec", "mine.prec", "--journal", "bent.journal"), answer(model, prec, other)
+            self.bends[re.match(r"PIT|entry|open|error \d+", replayed[0] + replayed[1])[0] if replayed[0] + replayed[1] else "nothing"] += 1
+            if replayed != beside:
+                heads = [(out[:60], err, status) for out, err, status in (replayed, beside)]
+                self.wrong.append(f"{run} bent: replayed, beside: {heads}")
+                self.keep_files()
+
     def journal(self) -> bytes:
         file = self.folder / "run.journal"
         return file.read_bytes() if file.exists() else b""
@@ -123,7 +164,7 @@ class Storm:
         if self.keep:
             place = self.keep / str(len(self.wrong))
             place.mkdir(parents=True, exist_ok=True)
-            for name in ("mine.upit", "mine.prec", "run.journal"):
+            for name in ("mine.upit", "mine.prec", "run.journal", "bent.journal"):
                 if (self.folder / name).exists():
                     (place / name).write_bytes((self.folder / name).read_bytes())
 
@@ -131,7 +172,8 @@ class Storm:
         rows = [
             ("runs", self.runs), ("of which the budget was used up", self.used_up), ("entries", self.entries),
             ("applied", self.verdicts[b"1"]), ("stale", self.verdicts[b"2"]), ("spent", self.verdicts[b"3"]),
-            ("of the driver", self.drivers), ("bytes of the longest journal", self.most_bytes), ("differences", len(self.wrong)),
+            ("of the driver", self.drivers), ("bytes of the longest journal", self.most_bytes),
+            *((f"bent, answered `{words}`", count) for words, count in sorted(self.bends.items())), ("differences", len(self.wrong)),
         ]  # fmt: skip
         head = f"# A storm of journals\n\n`tools/journal_storm.py`, {time.strftime('%Y-%m-%d')}, {seconds:.0f} s in all.\n\n| what | how many |\n|---|---|\n"
         return head + "".join(f"| {what} | {count:,} |\n" for what, count in rows)
