@@ -1,4 +1,4 @@
-"""The examples of README and of the manual page, run as they stand there."""
+"""The examples of README, of the guide and of the manual page, run as they stand there."""
 
 import pathlib
 import re
@@ -23,6 +23,11 @@ def test_the_first_example_of_readme() -> None:
     assert told_by_shell(command.replace("build/pitshell", str(PROGRAM)), TOP) == shown
     both = (TOP / "examples" / "first_pit" / "mine.upit").read_text() + (TOP / "examples" / "first_pit" / "mine.prec").read_text()
     assert all(line in block for line in both.splitlines())
+
+
+def test_the_shells_of_the_guide() -> None:
+    command, shown = re.findall(r"^```\n(.*?)^```", (TOP / "docs" / "GUIDE.md").read_text(), re.MULTILINE | re.DOTALL)[:2]
+    assert told_by_shell(command.replace("build/pitshell", str(PROGRAM)), TOP).startswith(shown)
 
 
 def test_the_example_of_the_manual(tmp_path: pathlib.Path) -> None:
