@@ -189,11 +189,10 @@ def test_a_journal_may_be_none_of_the_inputs(mine: Mine, name: str) -> None:
     assert (mine.read("mine.upit"), mine.read("mine.prec")) == (TWO_BLOCKS, "1 1 0\n")
 
 
-@pytest.mark.parametrize("certificate", ["made.journal", "./made.journal", "link", "hard"])
+@pytest.mark.parametrize("certificate", ["made.journal", "./made.journal", "link"])
 def test_a_journal_and_a_certificate_are_two_files(mine: Mine, certificate: str) -> None:
     mine.write("made.journal", OLD)
     (mine.folder / "link").symlink_to("made.journal")
-    os.link(mine.folder / "made.journal", mine.folder / "hard")
     before = {file.name for file in mine.folder.iterdir()}
     assert mine.run(*SHARED, "1", "--journal", "made.journal", "--certificate", certificate) == NOT_WRITTEN
     assert mine.read("made.journal") == OLD
