@@ -8,11 +8,8 @@ pub mod Checked
 pub mod Carrying
 pub mod ArcOf
 pub mod Steps
-pub mod ReadingOn
-pub mod FirstFault
 pub mod LinesRead
 pub mod TextRead
 pub mod TextFound
 pub mod Lawful
-pub mod PlainLines
 pub mod Written

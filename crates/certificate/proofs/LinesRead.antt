@@ -1,39 +1,27 @@
 -- A line that is spelled passes its checks, and a line that passes them is spelled.
-use Rattle.std.proofs.Common.{◌≡◌, ℕ, ◌≤◌, ◌^◌, true, eqb, leb, ltb, ◌&&◌, List, [], ◌∷◌, Option, Some, None, Ok, refl, sym, ap, subst, ◌∙◌, eq-eqb}
-use Rattle.std.specs.Prelude.{ℤ, pos, codes}
-use Rattle.std.specs.Str.{bytes_eq}
-use Rattle.std.proofs.lemmas.Bool.{eqb-true, leb-true, ltb-true, le-leb, lt-ltb, and_parts, and_from}
-use Rattle.std.proofs.lemmas.Slice.Eq.{bytes_eq-Decides}
-use Rattle.faults.specs.declared.refusal.Refusal.TheVariants.{WrongHeader, OverLimit, NotWhole, IdOutOfPlace, WrongFieldCount, CountsDiffer}
+use Rattle.std.proofs.Common.{◌≡◌, ℕ, ◌≤◌, ◌^◌, true, leb, ltb, ◌&&◌, List, [], ◌∷◌, Some, Ok, refl, sym, ap, subst, ◌∙◌}
+use Rattle.std.specs.Prelude.{ℤ, pos}
+use Rattle.std.proofs.lemmas.Bool.{leb-true, ltb-true, le-leb, lt-ltb, and_parts, and_from}
+use Rattle.faults.specs.declared.refusal.Refusal.TheVariants.{OverLimit, NotWhole, IdOutOfPlace, WrongFieldCount}
 use Rattle.minelib_reader.specs.Checks.{◌>>=◌, ok_if}
 use Rattle.std.specs.Option.{ok_or}
-use Rattle.minelib_reader.specs.Text.{Row, two_of}
+use Rattle.minelib_reader.specs.Text.{Row}
 use Rattle.minelib_reader.specs.Number.{whole_of, digits_of}
-use Rattle.minelib_reader.specs.Upit.{is_pair}
-use Rattle.minelib_reader.proofs.CheckLemmas.{passed, passing, same_value, value_there, test_holds, both_fields}
+use Rattle.minelib_reader.proofs.CheckLemmas.{passed, passing, same_value, value_there, test_holds}
 use Rattle.std.proofs.lemmas.Option.{same_Some}
 use Rattle.pit_model.specs.Graph.{AreRising}
-use Rattle.certificate.specs.CertificateLines.{in_certificate, one_of, three_of, arc_of, title_line, number_line, same_line, count_line, id_line, arc_line}
-use Rattle.certificate.specs.CertificateGrammar.{SpellsNumber, SpellsBlock, SpellsArc}
+use Rattle.faults.specs.declared.source.Source.TheVariants.{Certificate}
+use Rattle.report.specs.HeadLines.{three_of, number_line, SpellsNumber}
+use Rattle.report.proofs.HeadRead.{three_fields, reads_number, number_found}
+use Rattle.certificate.specs.CertificateLines.{in_certificate, one_of, arc_of, count_line, id_line, arc_line}
+use Rattle.certificate.specs.CertificateGrammar.{SpellsBlock, SpellsArc}
 use Rattle.certificate.proofs.ArcOf.{arc_found, arc_is}
 
 -- ---- what is spelled is read
 
-reads_number : (word : List ℕ) (n : ℕ) (r : Row) → SpellsNumber word n r → number_line word r ≡ Ok n
-unfolding number_line
-reads_number word n r s = let same : bytes_eq word word ≡ true = (bytes_eq-Decides word word).1 refl in rw (s.fields, same, s.is_number) refl
-
-pub reads_same : (word : List ℕ) (n : ℕ) (r : Row) → SpellsNumber word n r → same_line word n r ≡ Ok tt
-unfolding same_line
-reads_same word n r s = rw (reads_number word n r s, eq-eqb n n refl) refl
-
 pub reads_count : (word : List ℕ) (n most : ℕ) (r : Row) → SpellsNumber word n r → n ≤ most → count_line word most r ≡ Ok n
 unfolding count_line
-reads_count word n most r s few = rw (reads_number word n r s, le-leb n most few) refl
-
-pub reads_title : (r : Row) → r.fields ≡ codes "PITCERT" ∷ codes "1" ∷ [] → title_line r ≡ Ok tt
-unfolding title_line
-reads_title r is = rw is refl
+reads_count word n most r s few = rw (reads_number Certificate word n r s, le-leb n most few) refl
 
 pub reads_id : (n from : ℕ) (r : Row) (id : ℕ) → SpellsBlock n from r id → id_line n from r ≡ Ok id
 unfolding id_line
@@ -49,46 +37,15 @@ reads_arc pairs from r arc x rising s =
 
 -- ---- what is read is spelled
 
-number_found : (word : List ℕ) (r : Row) (n : ℕ) → number_line word r ≡ Ok n → SpellsNumber word n r
-unfolding number_line
-number_found word r n e =
-    let last = λ (pair : List ℕ × List ℕ) (u : Unit {0}). ok_or (whole_of pair.1) (in_certificate NotWhole r.line) in
-    let a = passed (ok_or (two_of r.fields) (in_certificate WrongHeader r.line)) (λ pair. ok_if (bytes_eq pair.0 word) (in_certificate WrongHeader r.line) >>= last pair) n e in
-    let b = passed (ok_if (bytes_eq a.value.0 word) (in_certificate WrongHeader r.line)) (last a.value) n a.behind in
-    let header = (bytes_eq-Decides a.value.0 word).0 (test_holds (bytes_eq a.value.0 word) (in_certificate WrongHeader r.line) b.value b.here) in
-    record {
-      field = a.value.1;
-      fields = both_fields r.fields a.value (value_there (two_of r.fields) (in_certificate WrongHeader r.line) a.value a.here) ∙ ap (λ (x : List ℕ). x ∷ a.value.1 ∷ []) header;
-      is_number = value_there (whole_of a.value.1) (in_certificate NotWhole r.line) n b.behind;
-    }
-
-pub same_found : (word : List ℕ) (count : ℕ) (r : Row) (u : Unit {0}) → same_line word count r ≡ Ok u → SpellsNumber word count r
-unfolding same_line
-same_found word count r u e =
-    let a = passed (number_line word r) (λ n. ok_if (eqb n count) (in_certificate CountsDiffer r.line)) u e in
-    let is = eqb-true a.value count (test_holds (eqb a.value count) (in_certificate CountsDiffer r.line) u a.behind) in
-    subst (λ (n : ℕ). SpellsNumber word n r) is (number_found word r a.value a.here)
-
 pub count_found : (word : List ℕ) (most : ℕ) (r : Row) (n : ℕ) → count_line word most r ≡ Ok n → SpellsNumber word n r × (n ≤ most)
 unfolding count_line
 count_found word most r n e =
-    let a = passed (number_line word r) (λ m. ok_if (leb m most) (in_certificate OverLimit r.line) >>= λ few. passing m) n e in
+    let a = passed (number_line Certificate word r) (λ m. ok_if (leb m most) (in_certificate OverLimit r.line) >>= λ few. passing m) n e in
     let b = passed (ok_if (leb a.value most) (in_certificate OverLimit r.line)) (λ few. passing a.value) n a.behind in
     let is = same_value a.value n b.behind in (
-      subst (λ (m : ℕ). SpellsNumber word m r) is (number_found word r a.value a.here),
+      subst (λ (m : ℕ). SpellsNumber word m r) is (number_found Certificate word r a.value a.here),
       subst (λ (m : ℕ). m ≤ most) is (leb-true a.value most (test_holds (leb a.value most) (in_certificate OverLimit r.line) b.value b.here)),
     )
-
-pair_found : (x y : List ℕ) (o : Option (List ℕ × List ℕ)) → is_pair x y o ≡ true → o ≡ Some (x, y)
-pair_found x y None e = absurd cc
-pair_found x y (Some p) e =
-    let parts = and_parts (bytes_eq p.0 x) (bytes_eq p.1 y) e in
-    ap (λ (a : List ℕ). Some (a, p.1)) ((bytes_eq-Decides p.0 x).0 parts.0) ∙ ap (λ (b : List ℕ). Some (x, b)) ((bytes_eq-Decides p.1 y).0 parts.1)
-
-pub title_found : (r : Row) (u : Unit {0}) → title_line r ≡ Ok u → r.fields ≡ codes "PITCERT" ∷ codes "1" ∷ []
-unfolding title_line
-title_found r u e = both_fields r.fields (codes "PITCERT", codes "1")
-    (pair_found (codes "PITCERT") (codes "1") (two_of r.fields) (test_holds (is_pair (codes "PITCERT") (codes "1") (two_of r.fields)) (in_certificate WrongHeader r.line) u e))
 
 one : (fs : List (List ℕ)) (f : List ℕ) → one_of fs ≡ Some f → fs ≡ f ∷ []
 one [] f e = absurd cc
@@ -116,13 +73,6 @@ id_found n from r id e =
 abbrev Three : Type 0
 Three = List ℕ × List ℕ × List ℕ
 
-three : (fs : List (List ℕ)) (p : Three) → three_of fs ≡ Some p → fs ≡ p.0 ∷ p.1 ∷ p.2 ∷ []
-three [] p e = absurd cc
-three (a ∷ []) p e = absurd cc
-three (a ∷ b ∷ []) p e = absurd cc
-three (a ∷ b ∷ c ∷ []) p e = ap (λ (x : Three). x.0 ∷ x.1 ∷ x.2 ∷ []) (same_Some (a, b, c) p e)
-three (a ∷ b ∷ c ∷ d ∷ fs) p e = absurd cc
-
 pub arc_line_found : (pairs : List (ℕ × ℕ)) (from : ℕ) (r : Row) (arc : ℕ × ℕ) → arc_line pairs from r ≡ Ok arc → SpellsArc pairs from r arc.0 (pos arc.1)
 unfolding arc_line
 arc_line_found pairs from r arc e =
@@ -144,7 +94,7 @@ arc_line_found pairs from r arc e =
       needs = a.value.0;
       needed = a.value.1;
       number = a.value.2;
-      fields = three r.fields a.value (value_there (three_of r.fields) (in_certificate WrongFieldCount r.line) a.value a.here);
+      fields = three_fields r.fields a.value (value_there (three_of r.fields) (in_certificate WrongFieldCount r.line) a.value a.here);
       known = is.0;
       needs_is = value_there (whole_of a.value.0) (in_certificate NotWhole r.line) b.value b.here ∙ ap (λ (n : ℕ). Some n) (sym is.1);
       needed_is = value_there (whole_of a.value.1) (in_certificate NotWhole r.line) c.value c.here ∙ ap (λ (n : ℕ). Some n) (sym is.2);

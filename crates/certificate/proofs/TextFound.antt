@@ -8,9 +8,13 @@ use Rattle.minelib_reader.proofs.CheckLemmas.{passed, passing, same_value}
 use Rattle.pit_model.specs.Graph.{Graph}
 use Rattle.certificate.specs.declared.due.Due.TheVariants.{Title, Blocks, Arcs, Count, Block, Arc}
 use Rattle.certificate.specs.Check.{amount}
-use Rattle.certificate.specs.CertificateLines.{State, PitAndFlow, pit_and_flow, state, first_state, block_step, arc_step, step_at, end_at, certificate_from, title_line, same_line, count_line, id_line, arc_line}
-use Rattle.certificate.specs.CertificateGrammar.{SpellsBlock, SpellsBlocks, SpellsArc, SpellsFlow, SpellsNumber, SpellsRows}
-use Rattle.certificate.proofs.LinesRead.{same_found, count_found, title_found, id_found, arc_line_found}
+use Rattle.certificate.specs.CertificateLines.{State, PitAndFlow, pit_and_flow, state, first_state, block_step, arc_step, step_at, end_at, certificate_from, count_line, id_line, arc_line}
+use Rattle.certificate.specs.CertificateGrammar.{SpellsBlock, SpellsBlocks, SpellsArc, SpellsFlow, SpellsRows}
+use Rattle.faults.specs.declared.source.Source.TheVariants.{Certificate}
+use Rattle.report.specs.HeadLines.{title_line, same_line, SpellsNumber}
+use Rattle.report.specs.LineByLine.{read_from}
+use Rattle.report.proofs.HeadRead.{title_found, same_found}
+use Rattle.certificate.proofs.LinesRead.{count_found, id_found, arc_line_found}
 use Rattle.certificate.proofs.TextRead.{none_carried}
 
 -- what the lines of the arcs tell, where the flow before them is now
@@ -40,19 +44,19 @@ module _ (graph : Graph) (count : ℕ) where
   -- one line
   step_back : (s : State) (r : Row) (rows : List Row) (c : PitAndFlow) → certificate_from graph count s (r ∷ rows) ≡ Ok c
       → (t : State) × (step_at graph s.due s.pit s.flow r ≡ Ok t) × (certificate_from graph count t rows ≡ Ok c)
-  unfolding certificate_from
+  unfolding read_from
   step_back s r rows c e = let line = passed (step_at graph s.due s.pit s.flow r) (λ t. certificate_from graph count t rows) c e in (line.value, line.here, line.behind)
 
   end_back : (from : ℕ) (pit : List ℕ) (now : List ℤ) (c : PitAndFlow) → certificate_from graph count (state (Arc 0 from) pit now) [] ≡ Ok c → pit_and_flow pit now ≡ c
-  unfolding certificate_from end_at
+  unfolding read_from end_at
   end_back from pit now c e = same_value (pit_and_flow pit now) c e
 
   no_end : (left from : ℕ) (pit : List ℕ) (now : List ℤ) (c : PitAndFlow) → certificate_from graph count (state (Arc (suc left) from) pit now) [] ≡ Ok c → ⊥
-  unfolding certificate_from end_at
+  unfolding read_from end_at
   no_end left from pit now c e = cc
 
   no_end_of_blocks : (left from : ℕ) (pit : List ℕ) (now : List ℤ) (c : PitAndFlow) → certificate_from graph count (state (Block left from) pit now) [] ≡ Ok c → ⊥
-  unfolding certificate_from end_at
+  unfolding read_from end_at
   no_end_of_blocks left from pit now c e = cc
 
   no_more : (from : ℕ) (pit : List ℕ) (now : List ℤ) (r : Row) (t : State) → step_at graph (Arc 0 from) pit now r ≡ Ok t → ⊥
@@ -159,20 +163,20 @@ module _ (graph : Graph) (count : ℕ) where
   title_back : (pit : List ℕ) (now : List ℤ) (r : Row) (t : State) → step_at graph Title pit now r ≡ Ok t → (r.fields ≡ codes "PITCERT" ∷ codes "1" ∷ []) × (state Blocks pit now ≡ t)
   unfolding step_at
   title_back pit now r t e =
-      let a = passed (title_line r) (λ title. passing (state Blocks pit now)) t e in
-      (title_found r a.value a.here, same_value (state Blocks pit now) t a.behind)
+      let a = passed (title_line Certificate (codes "PITCERT") r) (λ title. passing (state Blocks pit now)) t e in
+      (title_found Certificate (codes "PITCERT") r a.value a.here, same_value (state Blocks pit now) t a.behind)
 
   blocks_back : (pit : List ℕ) (now : List ℤ) (r : Row) (t : State) → step_at graph Blocks pit now r ≡ Ok t → SpellsNumber (codes "BLOCKS:") graph.blocks r × (state Arcs pit now ≡ t)
   unfolding step_at
   blocks_back pit now r t e =
-      let a = passed (same_line (codes "BLOCKS:") graph.blocks r) (λ same. passing (state Arcs pit now)) t e in
-      (same_found (codes "BLOCKS:") graph.blocks r a.value a.here, same_value (state Arcs pit now) t a.behind)
+      let a = passed (same_line Certificate (codes "BLOCKS:") graph.blocks r) (λ same. passing (state Arcs pit now)) t e in
+      (same_found Certificate (codes "BLOCKS:") graph.blocks r a.value a.here, same_value (state Arcs pit now) t a.behind)
 
   arcs_back : (pit : List ℕ) (now : List ℤ) (r : Row) (t : State) → step_at graph Arcs pit now r ≡ Ok t → SpellsNumber (codes "ARCS:") (length graph.pairs) r × (state Count pit now ≡ t)
   unfolding step_at
   arcs_back pit now r t e =
-      let a = passed (same_line (codes "ARCS:") (length graph.pairs) r) (λ same. passing (state Count pit now)) t e in
-      (same_found (codes "ARCS:") (length graph.pairs) r a.value a.here, same_value (state Count pit now) t a.behind)
+      let a = passed (same_line Certificate (codes "ARCS:") (length graph.pairs) r) (λ same. passing (state Count pit now)) t e in
+      (same_found Certificate (codes "ARCS:") (length graph.pairs) r a.value a.here, same_value (state Count pit now) t a.behind)
 
   inside_back : (pit : List ℕ) (now : List ℤ) (r : Row) (t : State) → step_at graph Count pit now r ≡ Ok t
       → (n : ℕ) × SpellsNumber (codes "IN:") n r × (n ≤ graph.blocks) × (state (Block n 0) pit now ≡ t)
@@ -184,7 +188,7 @@ module _ (graph : Graph) (count : ℕ) where
 
   -- a text that ends in the head is not read
   no_head : (s : State) (c : PitAndFlow) → (end_at count s.due s.pit s.flow ≡ Ok c → ⊥) → certificate_from graph count s [] ≡ Ok c → ⊥
-  unfolding certificate_from
+  unfolding read_from
   no_head s c never e = never e
 
   title_due : (pit : List ℕ) (now : List ℤ) (c : PitAndFlow) → (end_at count Title pit now ≡ Ok c → ⊥) × (end_at count Blocks pit now ≡ Ok c → ⊥) × (end_at count Arcs pit now ≡ Ok c → ⊥) × (end_at count Count pit now ≡ Ok c → ⊥)

@@ -8,8 +8,12 @@ use Rattle.pit_model.specs.Graph.{Graph, AreRising}
 use Rattle.certificate.specs.declared.due.Due.TheVariants.{Block, Arc}
 use Rattle.certificate.specs.Check.{amount}
 use Rattle.certificate.specs.CertificateLines.{State, PitAndFlow, pit_and_flow, state, first_state, block_step, arc_step, step_at, end_at, certificate_from, count_line, arc_line}
-use Rattle.certificate.specs.CertificateGrammar.{SpellsBlock, SpellsBlocks, SpellsFlow, SpellsNumber, SpellsRows}
-use Rattle.certificate.proofs.LinesRead.{reads_same, reads_count, reads_title, reads_id, reads_arc}
+use Rattle.certificate.specs.CertificateGrammar.{SpellsBlock, SpellsBlocks, SpellsFlow, SpellsRows}
+use Rattle.faults.specs.declared.source.Source.TheVariants.{Certificate}
+use Rattle.report.specs.HeadLines.{SpellsNumber}
+use Rattle.report.specs.LineByLine.{read_from}
+use Rattle.report.proofs.HeadRead.{reads_title, reads_same}
+use Rattle.certificate.proofs.LinesRead.{reads_count, reads_id, reads_arc}
 
 -- at the start no arc carries anything
 pub none_carried : (m k : ℕ) → amount (replicate m (pos 0)) k ≡ pos 0
@@ -20,7 +24,7 @@ none_carried (suc m) (suc k) = none_carried m k
 module _ (graph : Graph) (count : ℕ) where
   -- one line
   step_on : (s t : State) (r : Row) (rows : List Row) → step_at graph s.due s.pit s.flow r ≡ Ok t → certificate_from graph count s (r ∷ rows) ≡ certificate_from graph count t rows
-  unfolding certificate_from
+  unfolding read_from
   step_on s t r rows h = rw h refl
 
   -- where the next block starts behind these
@@ -54,7 +58,7 @@ module _ (graph : Graph) (count : ℕ) where
   arc_read left from pit flow r arc h = rw h refl
 
   ended : (from : ℕ) (pit : List ℕ) (flow : List ℤ) → certificate_from graph count (state (Arc 0 from) pit flow) [] ≡ Ok (pit_and_flow pit flow)
-  unfolding certificate_from end_at
+  unfolding read_from end_at
   ended from pit flow = refl
 
   -- the flow so far is that of the certificate below the next arc, and 0 from there on
@@ -86,9 +90,9 @@ module _ (graph : Graph) (count : ℕ) where
   head_read : (title blocks arcs inside : Row) (rows : List Row) (n : ℕ) → title.fields ≡ codes "PITCERT" ∷ codes "1" ∷ []
       → SpellsNumber (codes "BLOCKS:") graph.blocks blocks → SpellsNumber (codes "ARCS:") (length graph.pairs) arcs → SpellsNumber (codes "IN:") n inside → n ≤ graph.blocks
       → certificate_from graph count (first_state graph) (title ∷ blocks ∷ arcs ∷ inside ∷ rows) ≡ certificate_from graph count (state (Block n 0) [] (replicate (length graph.pairs) (pos 0))) rows
-  unfolding certificate_from step_at
+  unfolding read_from step_at
   head_read title blocks arcs inside rows n t b a i few =
-      rw (reads_title title t, reads_same (codes "BLOCKS:") graph.blocks blocks b, reads_same (codes "ARCS:") (length graph.pairs) arcs a, reads_count (codes "IN:") n graph.blocks inside i few) refl
+      rw (reads_title Certificate (codes "PITCERT") title t, reads_same Certificate (codes "BLOCKS:") graph.blocks blocks b, reads_same Certificate (codes "ARCS:") (length graph.pairs) arcs a, reads_count (codes "IN:") n graph.blocks inside i few) refl
 
   pub reads : (rows : List Row) (c : PitAndFlow) → AreRising graph.pairs → SpellsRows graph rows c → certificate_from graph count (first_state graph) rows ≡ Ok c
   reads rows c rising s =

@@ -1,12 +1,11 @@
 -- What is written of a certificate spells it: the text line by line, and each line field by field.
-use Rattle.std.proofs.Common.{◌≡◌, ℕ, zero, suc, ◌+◌, ◌^◌, ◌<◌, ◌≤◌, ◌&&◌, leb, Bool, true, false, cond, List, [], ◌∷◌, ◌++◌, length, get_or, map, filter, Some, refl, sym, ap, subst, ◌∙◌, arith, ⊎_elim, append_assoc}
+use Rattle.std.proofs.Common.{◌≡◌, ℕ, zero, suc, ◌+◌, ◌^◌, ◌<◌, ◌≤◌, Bool, true, false, cond, List, [], ◌∷◌, ◌++◌, length, get_or, map, filter, refl, sym, ap, subst, ◌∙◌, arith, ⊎_elim, append_assoc}
 use Rattle.std.specs.Prelude.{ℤ, pos, negsuc, int_lt, unsigned_abs, ◌≤ℤ◌, codes, decimal}
 use Rattle.std.specs.List.{All, flat_map, range_with_len}
 use Rattle.std.proofs.lemmas.Int.{ints}
-use Rattle.std.proofs.lemmas.Bool.{and_parts, cases_Bool, cases_eq, leb-true}
+use Rattle.std.proofs.lemmas.Bool.{cases_Bool, cases_eq}
 use Rattle.std.proofs.lemmas.List.{get_or_past}
-use Rattle.std.proofs.lemmas.List.Elements.{All-append, All-cons, All-nil}
-use Rattle.minelib_reader.specs.Number.{whole_of}
+use Rattle.std.proofs.lemmas.List.Elements.{All-append, All-cons}
 use Rattle.minelib_reader.specs.Text.{Row, row, rows_from, rows_of, fields_of}
 use Rattle.minelib_reader.proofs.LineLemmas.{row_yes, no_rows}
 use Rattle.pit_model.specs.Graph.{Graph, IsGraph, first_of, second_of}
@@ -17,29 +16,10 @@ use Rattle.pit_model.proofs.Members.{members_few, members_below}
 use Rattle.certificate.specs.Check.{amount, AreRising, IsCandidate}
 use Rattle.certificate.specs.CertificateText.{carrying, certificate_head, certificate_text, flow_head, flow_line}
 use Rattle.certificate.specs.CertificateLines.{pit_and_flow}
-use Rattle.certificate.specs.CertificateGrammar.{SpellsNumber, SpellsBlock, SpellsBlocks, SpellsArc, SpellsFlow, SpellsCertificate}
-use Rattle.certificate.proofs.PlainLines.{IsLine, IsWord, AreLines, IsNumeral, word_line, text_of, lines_text, one_word, next_word, numeral, digits_read}
-
-whole_read : (n : ℕ) → n ≤ 2 ^ 26 → whole_of (decimal n) ≡ Some n
-whole_read n small = digits_read 10 n (omega arith) (omega arith) (omega arith)
-
-written : (n : ℕ) → n ≤ 10 ^ 30 → IsNumeral n (decimal n)
-written n small = numeral n (omega arith)
-
--- ---- a line of a word and a number
-
-abbrev number_words : List ℕ → ℕ → List ℕ
-number_words word n = word ++ 32 ∷ decimal n
-
-names : (k : ℕ) (word : List ℕ) (n : ℕ) → IsWord word → 0 < length word → n ≤ 2 ^ 26 → SpellsNumber word n (row k (fields_of (number_words word n)))
-names k word n is some small =
-    let d = written n (omega arith) in
-    record { field = decimal n; fields = next_word word (decimal n) is some ∙ ap (λ (fs : List (List ℕ)). word ∷ fs) (one_word (decimal n) d.word d.some); is_number = whole_read n small }
-
-number_line_plain : (word : List ℕ) (n : ℕ) → IsWord word → n ≤ 2 ^ 26 → IsLine (number_words word n)
-number_line_plain word n is small =
-    let d = written n (omega arith) in
-    All-append (λ b. 32 ≤ b) word (32 ∷ decimal n) (word_line word is) (All-cons (λ b. 32 ≤ b) 32 (decimal n) (omega arith) (word_line (decimal n) d.word))
+use Rattle.certificate.specs.CertificateGrammar.{SpellsBlock, SpellsBlocks, SpellsArc, SpellsFlow, SpellsCertificate}
+use Rattle.report.specs.HeadLines.{SpellsNumber}
+use Rattle.report.proofs.HeadWritten.{whole_read, written, number_words, names, number_line_plain, tested, blocks_word, arcs_word, title_plain, title_fields}
+use Rattle.report.proofs.PlainLines.{IsLine, IsWord, AreLines, word_line, text_of, lines_text, one_word, next_word, digits_read}
 
 -- ---- the lines of blocks
 
@@ -99,40 +79,14 @@ small_of x n e h = omega (arith, ints)
 
 -- ---- the head
 
--- a test of each byte of a word that is given
-abbrev all_from : ℕ → List ℕ → Bool
-all_from low [] = true
-all_from low (b ∷ bs) = leb low b && all_from low bs
-
-tested : (low : ℕ) (bs : List ℕ) → all_from low bs ≡ true → All (λ b. low ≤ b) bs
-tested low [] e = All-nil (λ b. low ≤ b)
-tested low (b ∷ bs) e =
-    let parts = and_parts (leb low b) (all_from low bs) e in
-    All-cons (λ c. low ≤ c) b bs (leb-true low b parts.0) (tested low bs parts.1)
-
 title_word : IsWord (codes "PITCERT")
 title_word = tested 48 (codes "PITCERT") refl
-
-blocks_word : IsWord (codes "BLOCKS:")
-blocks_word = tested 48 (codes "BLOCKS:") refl
-
-arcs_word : IsWord (codes "ARCS:")
-arcs_word = tested 48 (codes "ARCS:") refl
 
 in_word : IsWord (codes "IN:")
 in_word = tested 48 (codes "IN:") refl
 
 flow_word : IsWord (codes "FLOW:")
 flow_word = tested 48 (codes "FLOW:") refl
-
-one_byte : IsWord (codes "1")
-one_byte = tested 48 (codes "1") refl
-
-plain_title : IsLine (codes "PITCERT" ++ 32 ∷ codes "1")
-plain_title = tested 32 (codes "PITCERT 1") refl
-
-title_fields : fields_of (codes "PITCERT" ++ 32 ∷ codes "1") ≡ codes "PITCERT" ∷ codes "1" ∷ []
-title_fields = next_word (codes "PITCERT") (codes "1") title_word (omega arith) ∙ ap (λ (fs : List (List ℕ)). codes "PITCERT" ∷ fs) (one_word (codes "1") one_byte (omega arith))
 
 abbrev head_before : List ℕ → List ℕ → List ℕ → List ℕ → List ℕ
 head_before n m c rest =
@@ -292,7 +246,7 @@ module _ (graph : Graph) (flow : List ℤ) (is : IsGraph graph.blocks graph.pair
         let last : AreLines behind = (number_line_plain (codes "FLOW:") (length arcs) flow_word (let l = few_arcs in omega arith), arcs_plain arcs (members_below (length graph.pairs) carries)) in
         let fourth : AreLines (number_words (codes "IN:") (length pit) ∷ (map decimal pit ++ behind)) = (number_line_plain (codes "IN:") (length pit) in_word (omega arith), blocks_plain graph.blocks pit behind few below last) in
         let third : AreLines (number_words (codes "ARCS:") (length graph.pairs) ∷ number_words (codes "IN:") (length pit) ∷ (map decimal pit ++ behind)) = (number_line_plain (codes "ARCS:") (length graph.pairs) arcs_word few_pairs, fourth) in
-        (plain_title, (number_line_plain (codes "BLOCKS:") graph.blocks blocks_word (omega arith), third))
+        (title_plain (codes "PITCERT") title_word, (number_line_plain (codes "BLOCKS:") graph.blocks blocks_word (omega arith), third))
 
     pub spells : SpellsCertificate graph (certificate_text graph pit flow) (pit_and_flow pit flow)
     spells =
@@ -311,7 +265,7 @@ module _ (graph : Graph) (flow : List ℤ) (is : IsGraph graph.blocks graph.pair
         let line5 = number_words (codes "FLOW:") (length arcs) in
         let arc_lines = map (arc_words graph.pairs flow) arcs in
         let rest : List (List ℕ) = map decimal pit ++ behind in
-        let one = row_yes 1 line1 (codes "PITCERT") (codes "1" ∷ []) (line2 ∷ line3 ∷ line4 ∷ rest) title_fields in
+        let one = row_yes 1 line1 (codes "PITCERT") (codes "1" ∷ []) (line2 ∷ line3 ∷ line4 ∷ rest) (title_fields (codes "PITCERT") title_word (omega arith)) in
         let two = row_yes 2 line2 (codes "BLOCKS:") (n1.field ∷ []) (line3 ∷ line4 ∷ rest) n1.fields in
         let three = row_yes 3 line3 (codes "ARCS:") (n2.field ∷ []) (line4 ∷ rest) n2.fields in
         let four = row_yes 4 line4 (codes "IN:") (n3.field ∷ []) rest n3.fields in
@@ -329,7 +283,7 @@ module _ (graph : Graph) (flow : List ℤ) (is : IsGraph graph.blocks graph.pair
               ∙ ap (λ (rs : List Row). row 2 (fields_of line2) ∷ rs) (three
               ∙ ap (λ (rs : List Row). row 3 (fields_of line3) ∷ rs) (four
               ∙ ap (λ (rs : List Row). row 4 (fields_of line4) ∷ rs) (ids.1 ∙ ap (λ (rs : List Row). ids.0 ++ rs) last))));
-          is_title = title_fields;
+          is_title = title_fields (codes "PITCERT") title_word (omega arith);
           names_blocks = n1;
           names_arcs = n2;
           names_inside = n3;

@@ -3,14 +3,9 @@ use Rattle.std.specs.Prelude.{◌≡◌, ℕ, ℤ, pos, ◌+◌, ◌^◌, ◌<�
 use Rattle.minelib_reader.specs.Text.{Row, rows_of}
 use Rattle.minelib_reader.specs.Number.{whole_of, digits_of}
 use Rattle.pit_model.specs.Graph.{Graph, first_of, second_of}
+use Rattle.report.specs.HeadLines.{SpellsNumber}
 use Rattle.certificate.specs.Check.{amount}
 use Rattle.certificate.specs.CertificateLines.{PitAndFlow}
-
--- a line of this word and this number
-pub record SpellsNumber (word : List ℕ) (number : ℕ) (r : Row) : Type 0 where
-  pub field : List ℕ
-  pub fields : r.fields ≡ word ∷ field ∷ []
-  pub is_number : whole_of field ≡ Some number
 
 -- the line of a block of n, which is at least from
 pub record SpellsBlock (n from : ℕ) (r : Row) (id : ℕ) : Type 0 where

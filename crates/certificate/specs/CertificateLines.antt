@@ -1,31 +1,27 @@
 -- The text of a certificate: the checks of each line in their order, and the reading of all lines by them.
 use Rattle.std.specs.Prelude.{ℕ, zero, suc, ℤ, pos, ◌+◌, ◌^◌, nat_lt, nat_le, ◌==◌, ◌&&◌, List, [], ◌∷◌, ◌++◌, length, set, Option, Some, None, Result, Ok, Err, codes, replicate, if◌then◌else◌}
-use Rattle.std.specs.Str.{bytes_eq}
 use Rattle.faults.specs.declared.fault.Fault.{Fault}
 use Rattle.faults.specs.declared.refusal.Refusal.{Refusal}
-use Rattle.faults.specs.declared.refusal.Refusal.TheVariants.{WrongHeader, OverLimit, NotWhole, IdOutOfPlace, WrongFieldCount, EndsEarly, AfterEnd, CountsDiffer}
+use Rattle.faults.specs.declared.refusal.Refusal.TheVariants.{OverLimit, NotWhole, IdOutOfPlace, WrongFieldCount, EndsEarly, AfterEnd}
 use Rattle.faults.specs.declared.source.Source.TheVariants.{Certificate}
 use Rattle.minelib_reader.specs.Checks.{◌>>=◌, ok_if}
 use Rattle.std.specs.Option.{ok_or}
 use Rattle.faults.specs.Refused.{at_line}
-use Rattle.minelib_reader.specs.Text.{Row, rows_of, count_of_lines, two_of}
+use Rattle.minelib_reader.specs.Text.{Row, rows_of, count_of_lines}
 use Rattle.minelib_reader.specs.Number.{whole_of, digits_of}
-use Rattle.minelib_reader.specs.Upit.{is_pair}
 use Rattle.pit_model.specs.Graph.{Graph}
 use Rattle.certificate.specs.declared.due.Due.{Due}
 use Rattle.certificate.specs.declared.due.Due.TheVariants.{Title, Blocks, Arcs, Count, Block, Arc}
+use Rattle.report.specs.HeadLines.{three_of, title_line, number_line, same_line}
+use Rattle.report.specs.LineByLine.{read_from}
 
 abbrev pub in_certificate : Refusal → ℕ → Fault
 in_certificate refusal line = at_line Certificate refusal line
 
--- the one field of a line that has one, and the three of a line that has three
+-- the one field of a line that has one
 abbrev pub one_of : List (List ℕ) → Option (List ℕ)
 one_of (a ∷ []) = Some a
 one_of fs = None
-
-abbrev pub three_of : List (List ℕ) → Option (List ℕ × List ℕ × List ℕ)
-three_of (a ∷ b ∷ c ∷ []) = Some (a, b, c)
-three_of fs = None
 
 -- the number, counted from k on, of the first of the pairs that is (u, p)
 unfoldable pub arc_from : ℕ → List (ℕ × ℕ) → ℕ → ℕ → Option ℕ
@@ -35,26 +31,10 @@ arc_from k (q ∷ qs) u p = if (q.0 == u) && (q.1 == p) then Some k else arc_fro
 abbrev pub arc_of : List (ℕ × ℕ) → ℕ → ℕ → Option ℕ
 arc_of pairs u p = arc_from 0 pairs u p
 
-unfoldable pub title_line : Row → Result (Unit {0}) Fault
-title_line r = ok_if (is_pair (codes "PITCERT") (codes "1") (two_of r.fields)) (in_certificate WrongHeader r.line)
-
--- this word, and a whole number
-unfoldable pub number_line : List ℕ → Row → Result ℕ Fault
-number_line word r = do
-  pair ← ok_or (two_of r.fields) (in_certificate WrongHeader r.line)
-  header ← ok_if (bytes_eq pair.0 word) (in_certificate WrongHeader r.line)
-  ok_or (whole_of pair.1) (in_certificate NotWhole r.line)
-
--- a count that is the graph's
-unfoldable pub same_line : List ℕ → ℕ → Row → Result (Unit {0}) Fault
-same_line word count r = do
-  n ← number_line word r
-  ok_if (n == count) (in_certificate CountsDiffer r.line)
-
 -- how many lines of a kind follow
 unfoldable pub count_line : List ℕ → ℕ → Row → Result ℕ Fault
 count_line word most r = do
-  n ← number_line word r
+  n ← number_line Certificate word r
   few ← ok_if (nat_le n most) (in_certificate OverLimit r.line)
   Ok n
 
@@ -107,13 +87,13 @@ arc_step graph (suc left) from pit flow r = do
 -- what a line gives where it is the one that is due
 unfoldable pub step_at : Graph → Due → List ℕ → List ℤ → Row → Result State Fault
 step_at graph Title pit flow r = do
-  title ← title_line r
+  title ← title_line Certificate (codes "PITCERT") r
   Ok (state Blocks pit flow)
 step_at graph Blocks pit flow r = do
-  same ← same_line (codes "BLOCKS:") graph.blocks r
+  same ← same_line Certificate (codes "BLOCKS:") graph.blocks r
   Ok (state Arcs pit flow)
 step_at graph Arcs pit flow r = do
-  same ← same_line (codes "ARCS:") (length graph.pairs) r
+  same ← same_line Certificate (codes "ARCS:") (length graph.pairs) r
   Ok (state Count pit flow)
 step_at graph Count pit flow r = do
   count ← count_line (codes "IN:") graph.blocks r
@@ -134,12 +114,15 @@ unfoldable pub end_at : ℕ → Due → List ℕ → List ℤ → Result PitAndF
 end_at count (Arc zero from) pit flow = Ok (pit_and_flow pit flow)
 end_at count _ pit flow = Err (in_certificate EndsEarly (count + 1))
 
+abbrev pub step : Graph → State → Row → Result State Fault
+step graph s r = step_at graph s.due s.pit s.flow r
+
+abbrev pub end : ℕ → State → Result PitAndFlow Fault
+end count s = end_at count s.due s.pit s.flow
+
 -- all lines, one after the other
-unfoldable pub certificate_from : Graph → ℕ → State → List Row → Result PitAndFlow Fault
-certificate_from graph count s [] = end_at count s.due s.pit s.flow
-certificate_from graph count s (r ∷ rows) = do
-  t ← step_at graph s.due s.pit s.flow r
-  certificate_from graph count t rows
+abbrev pub certificate_from : Graph → ℕ → State → List Row → Result PitAndFlow Fault
+certificate_from graph count s rows = read_from (step graph) (end count) s rows
 
 -- at the start no block is listed, and no arc carries anything
 abbrev pub first_state : Graph → State

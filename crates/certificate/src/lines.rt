@@ -1,14 +1,15 @@
-//! The lines of a certificate's text, each checked by a function of its own, in the order of
-//! `specs/CertificateLines.antt`. `reader` says which line is due.
+//! The lines of a certificate's text behind the graph's counts, each checked by a function of its own, in the order of
+//! `specs/CertificateLines.antt`. `reader` says which line is due, and `report` checks the title and the graph's counts.
 ghost use Rattle.std.specs.Prelude.{◌≡◌, ◌+◌, ◌<◌, ◌≤◌, ◌^◌, [], ◌∷◌, length, IfOk, IfSome};
 ghost use Rattle.std.specs.Option.{option_map};
 ghost use Rattle.minelib_reader.specs.Answer.{Gives};
 ghost use Rattle.minelib_reader.specs.Text.{row, fields_of};
-ghost use Rattle.certificate.specs.CertificateLines.{in_certificate, one_of, three_of, arc_of, title_line, number_line, same_line, count_line, id_line, arc_line};
+ghost use Rattle.certificate.specs.CertificateLines.{in_certificate, one_of, arc_of, count_line, id_line, arc_line};
 
 use faults::{Fault, Refusal, Source};
 use mine_graph::Graph;
-use minelib_reader::{Row, digits, next_field, two_fields, whole_number};
+use minelib_reader::{Row, digits, next_field, whole_number};
+use report::{read_number, three_fields};
 
 const MOST_AMOUNT: u128 = 1_000_000_000_000_000_000_000_000_000_000;
 
@@ -29,66 +30,12 @@ fn one_field(text: &[u8]) -> Option<&[u8]>
     }
 }
 
-/// The fields of a line of three.
-fn three_fields(text: &[u8]) -> Option<(&[u8], &[u8], &[u8])>
-    ensures { option_map (λ p. (p.0.now, p.1.now, p.2.now)) result ≡ three_of (fields_of text.now) }
-{
-    let (first, rest) = next_field(text)?;
-    let (second, rest) = next_field(rest)?;
-    let (third, rest) = next_field(rest)?;
-    match next_field(rest) {
-        None => Some((first, second, third)),
-        Some(_) => None,
-    }
-}
-
-#[tactic(auto, unfolding(crate::specs::CertificateLines::title_line))]
-pub fn check_title(r: Row) -> Result<(), Fault>
-    ensures { Gives (λ _. tt) result (title_line (row r.entry.line (fields_of r.entry.text.now))) }
-{
-    match two_fields(r.text) {
-        Some((word, version)) if word == b"PITCERT".as_slice() && version == b"1".as_slice() => {
-            Ok(())
-        }
-        _ => Err(in_certificate(Refusal::WrongHeader, r.line)),
-    }
-}
-
-/// The number behind a word.
-#[tactic(auto, unfolding(crate::specs::CertificateLines::number_line))]
-fn read_number(word: &[u8], r: Row) -> Result<u64, Fault>
-    ensures { Gives (λ n. n) result (number_line word.now (row r.entry.line (fields_of r.entry.text.now))) }
-{
-    let Some((first, second)) = two_fields(r.text) else {
-        return Err(in_certificate(Refusal::WrongHeader, r.line));
-    };
-    if first != word {
-        return Err(in_certificate(Refusal::WrongHeader, r.line));
-    }
-    match whole_number(second) {
-        Some(number) => Ok(number),
-        None => Err(in_certificate(Refusal::NotWhole, r.line)),
-    }
-}
-
-/// A count, which must be this one.
-#[tactic(auto, unfolding(crate::specs::CertificateLines::same_line))]
-pub fn check_count(word: &[u8], count: u32, r: Row) -> Result<(), Fault>
-    ensures { Gives (λ _. tt) result (same_line word.now count (row r.entry.line (fields_of r.entry.text.now))) }
-{
-    let number = read_number(word, r)?;
-    if number != u64::from(count) {
-        return Err(in_certificate(Refusal::CountsDiffer, r.line));
-    }
-    Ok(())
-}
-
 /// How many lines follow, of which there are at most so many.
 #[tactic(auto, unfolding(crate::specs::CertificateLines::count_line))]
 pub fn read_count(word: &[u8], most: u32, r: Row) -> Result<u32, Fault>
     ensures gives { Gives (λ n. n) result (count_line word.now most (row r.entry.line (fields_of r.entry.text.now))) }
 {
-    let number = read_number(word, r)?;
+    let number = read_number(Source::Certificate, word, r)?;
     if number > u64::from(most) {
         return Err(in_certificate(Refusal::OverLimit, r.line));
     }

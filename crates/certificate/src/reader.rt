@@ -13,11 +13,12 @@ ghost use Rattle.certificate.specs.CertificateFault.{IsFirstCertificateFault};
 ghost use Rattle.certificate.specs.CertificateGrammar.{SpellsCertificate};
 
 use crate::due::Due;
-use crate::lines::{check_count, check_title, in_certificate, read_arc, read_count, read_id};
+use crate::lines::{in_certificate, read_arc, read_count, read_id};
 use crate::pit_with_flow::Certificate;
 use faults::{Fault, Refusal, Source};
 use mine_graph::Graph;
 use minelib_reader::{InBytes, Row, Rows, read_all};
+use report::{check_count, check_title};
 use std::alloc::Global;
 
 /// The line of a block, while some are left; then how many arcs follow.
@@ -76,15 +77,15 @@ fn take_line(
 {
     match due {
         Due::Title => {
-            check_title(r)?;
+            check_title(Source::Certificate, b"PITCERT", r)?;
             Ok(Due::Blocks)
         }
         Due::Blocks => {
-            check_count(b"BLOCKS:", graph.n(), r)?;
+            check_count(Source::Certificate, b"BLOCKS:", graph.n(), r)?;
             Ok(Due::Arcs)
         }
         Due::Arcs => {
-            check_count(b"ARCS:", graph.arcs(), r)?;
+            check_count(Source::Certificate, b"ARCS:", graph.arcs(), r)?;
             Ok(Due::Count)
         }
         Due::Count => {

@@ -1,3 +1,2 @@
 pub mod FirstFound
-pub mod Known
-pub mod Sharing
+pub mod Seats

@@ -1,6 +1,8 @@
 //! What the driver does between sweeps and at the end: it decides the first merger arc, and answers by the tree that is left.
-ghost use Rattle.std.specs.Prelude.{◌≡◌, filter, nat_lt, IfOk, IfErr};
+ghost use Rattle.std.specs.Prelude.{◌≡◌, Some, IfOk, IfErr, MatchBool};
+ghost use Rattle.pit_model.specs.declared.journal.Verdict.TheVariants.{Applied};
 ghost use Rattle.faults.specs.Refused.{no_memory};
+ghost use Rattle.pit_model.specs.Mine.{arcs};
 ghost use Rattle.pit_model.specs.Tree.{is_merger};
 ghost use Rattle.pit_model.specs.FirstRun.{IsFirstMerger};
 ghost use Rattle.crew.specs.Solved.{EndsBy, DecidesFirst, IsEnded, IsSolvedTogether};
@@ -44,24 +46,19 @@ pub fn decide_first<S: Site, R: Threads + Wait + Sync>(
     }
 }
 
-/// Decides the first merger arc again and again, until none is left or the budget is used up.
-/// Refused for want of memory alone.
-pub fn finish<S: Site, R: Threads + Wait + Sync>(
+/// Decides the first merger arc, and answers whether the solve has ended: none was left, or the budget is used up. Else its
+/// merger was made. Refused for want of memory alone.
+pub fn is_ended<S: Site, R: Threads + Wait + Sync>(
     rt: &R,
     holder: &mut Holder<S>,
-) -> Result<(), Fault>
-    ensures ended { IfOk result (λ _. IsEnded holder.new) }
+) -> Result<bool, Fault>
+    ensures ended { IfOk result (λ is_ended. MatchBool is_ended (IsEnded holder.new) (DecidesFirst holder.old holder.new (Some Applied))) }
     ensures refused { IfErr result (λ e. e ≡ no_memory) }
 {
-    holder.law();
-    'mergers: while let Some(verdict) = decide_first(rt, holder)? {
-        match verdict {
-            Verdict::Spent => return Ok(()),
-            Verdict::Applied | Verdict::Stale => {}
-        }
-        holder.law();
+    match decide_first(rt, holder)? {
+        None | Some(Verdict::Spent) => Ok(true),
+        Some(Verdict::Applied | Verdict::Stale) => Ok(false),
     }
-    Ok(())
 }
 
 // The certificate of the holder's tree, or that the budget is used up.
@@ -80,32 +77,16 @@ fn outcome_of<S: Site>(holder: &Holder<S>) -> Result<Outcome, Fault>
     }
 }
 
-// Leaves out the entries of arcs that the mine does not have. Workers ask for none, and each would be stale; but a seat's
-// type does not say so.
-fn keep_known(journal: &mut Vec<Entry>, arcs: u32)
-    ensures { journal.new.items ≡ filter (λ entry. nat_lt entry.arc arcs) journal.old.items }
-{
-    let mut kept = 0;
-    for i in 0..journal.len() {
-        if journal[i].arc < arcs {
-            journal.swap(kept, i);
-            kept += 1;
-        }
-    }
-    journal.truncate(kept);
-}
-
 /// The outcome of the holder's tree, and its journal. Refused for want of memory alone.
 pub fn end_of<S: Site, R: Wait>(rt: &R, holder: Holder<S>) -> Result<(Outcome, Vec<Entry>), Fault>
-    requires { IsEnded holder }
+    requires ended { IsEnded holder }
+    requires known { S.arcs ≡ arcs S.mine }
     ensures solved { IfOk result (λ r. IsSolvedTogether S.mine S.workers S.budget r.0 r.1.items) }
+    ensures journal { IfOk result (λ r. r.1.items ≡ holder.journal) }
     ensures refused { IfErr result (λ e. e ≡ no_memory) }
 {
     holder.law();
     let outcome = outcome_of(&holder);
-    let arcs = holder.tree().instance().graph().arcs();
-    let (_, mut journal) = holder.into_parts(rt);
-    let outcome = outcome?;
-    keep_known(&mut journal, arcs);
-    Ok((outcome, journal))
+    let (_, journal) = holder.into_parts(rt);
+    Ok((outcome?, journal))
 }

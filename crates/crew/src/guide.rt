@@ -1,7 +1,9 @@
 //! What guides the workers: the order of the arcs, and a distance for each block, by which a sweep passes over most merger
 //! arcs (the labels of Hochbaum's lowest-label order). It is only read in a sweep. No answer depends on it: it says what is
 //! looked at, and what is asked for is decided under the lock.
-ghost use Rattle.std.specs.Prelude.{◌≡◌, ◌<◌, ◌≤◌, length, IfOk, IfErr, IfSome};
+ghost use Rattle.std.specs.Prelude.{◌≡◌, ◌<◌, ◌≤◌, length, IfOk, IfErr, IfSome, IsTrue};
+ghost use Rattle.pit_model.specs.Tree.{is_merger};
+ghost use Rattle.pit_model.specs.Version.{version_tree};
 ghost use Rattle.faults.specs.Refused.{no_memory};
 
 use crate::deepest_first::arcs_deepest_first;
@@ -124,7 +126,8 @@ impl Guide {
         place: usize,
         end: usize,
     ) -> Option<Sighting>
-        ensures { IfSome result (λ found. (place ≤ found.place) × (found.place < end)) }
+        ensures within { IfSome result (λ found. (place ≤ found.place) × (found.place < end)) }
+        ensures merger { IfSome result (λ found. IsTrue (is_merger S.mine (version_tree S.mine version.now) found.arc)) }
     {
         for at in place..end {
             let Some(&arc) = self.arcs.get(at) else {

@@ -1,11 +1,13 @@
 //! Many workers solve one instance at one tree: each asks for merger arcs on the board, and whoever holds the lock decides what
 //! stands there (flat combining: Hendler, Incze, Shavit and Tzafrir 2010). The driver makes what they left over.
-ghost use Rattle.std.specs.Prelude.{◌≡◌, IfOk, IfErr};
+ghost use Rattle.std.specs.Prelude.{◌≡◌, ◌≤◌, IfOk, IfErr};
 ghost use Rattle.faults.specs.Refused.{no_seat, IsNoRoom};
+ghost use Rattle.pit_model.specs.JournalText.{most_seat};
+ghost use Rattle.pit_model.specs.Mine.{arcs};
 ghost use Rattle.pit_model.specs.Tree.{opening};
 ghost use Rattle.crew.specs.Solved.{IsSolvedTogether};
 
-use crate::driver::{end_of, finish};
+use crate::driver::end_of;
 use crate::gate::Gate;
 use crate::guide::Guide;
 use crate::sweeps::Crew;
@@ -19,7 +21,10 @@ use std::alloc::Global;
 use std::marker::Brand;
 use std::sync::Wait;
 use std::thread::Threads;
-use tree_lock::{Entry, Holder, SharedTree, Site, UnnamedList};
+use tree_lock::{Entry, SharedTree, Site, UnnamedList};
+
+// So many workers have a seat; the driver's is seat 0.
+const MOST_WORKERS: u32 = 64;
 
 // What a solve begins with: the opening tree and its budget, and the list of mergers and the board, which have no name yet.
 struct Beginning {
@@ -59,6 +64,7 @@ fn solve_at<S: Site + Send + Sync, G: Gate + Sync, R: Threads + Wait + Sync>(
     requires budget { begun.budget ≡ S.budget }
     requires board { begun.unnamed ≡ S.board }
     requires workers { begun.unnamed.words ≡ S.workers }
+    requires arcs { S.arcs ≡ arcs S.mine }
     ensures solved { IfOk result (λ r. IsSolvedTogether S.mine S.workers S.budget r.0 r.1.items) }
     ensures refused { IfErr result IsNoRoom }
 {
@@ -69,9 +75,12 @@ fn solve_at<S: Site + Send + Sync, G: Gate + Sync, R: Threads + Wait + Sync>(
         unnamed,
     } = begun;
     let guide = Guide::new(alloc, &tree)?;
-    let (board, seats, holder_seat) = Board::<S>::new(alloc, unnamed)?;
-    let mut shared = SharedTree::<S>::new(alloc, list, tree, budget, &board, holder_seat)?;
-    let swept = match workers_of(alloc, &shared, seats) {
+    let arcs = tree.instance().graph().arcs();
+    let (board, seats, holder_seat) = Board::<S>::new(alloc, unnamed, arcs)?;
+    let shared = SharedTree::<S>::new(alloc, list, tree, budget, &board, holder_seat)?;
+    let workers = workers_of(alloc, &shared, seats);
+    let holder = shared.into_holder();
+    match workers {
         Ok(workers) => {
             let mut crew = Crew {
                 board: &board,
@@ -80,30 +89,8 @@ fn solve_at<S: Site + Send + Sync, G: Gate + Sync, R: Threads + Wait + Sync>(
                 chunk,
                 gate,
             };
-            crew.run(rt, alloc, &mut shared)
+            end_of(rt, crew.run(rt, alloc, holder)?)
         }
-        Err(fault) => Err(fault),
-    };
-    end_after(rt, shared.into_holder(), swept)
-}
-
-// What the driver makes of the holder after the sweeps. The holder is given up where they were refused.
-fn end_after<S: Site, R: Threads + Wait + Sync>(
-    rt: &R,
-    holder: Holder<S>,
-    swept: Result<(), Fault>,
-) -> Result<(Outcome, Vec<Entry>), Fault>
-    requires { IfErr swept IsNoRoom }
-    ensures solved { IfOk result (λ r. IsSolvedTogether S.mine S.workers S.budget r.0 r.1.items) }
-    ensures refused { IfErr result IsNoRoom }
-{
-    if let Err(fault) = swept {
-        holder.into_parts(rt);
-        return Err(fault);
-    }
-    let mut holder = holder;
-    match finish(rt, &mut holder) {
-        Ok(()) => end_of(rt, holder),
         Err(fault) => {
             holder.into_parts(rt);
             Err(fault)
@@ -115,8 +102,8 @@ fn end_after<S: Site, R: Threads + Wait + Sync>(
 /// was decided: it is lawful for the instance and the budget, whatever the schedule. `Exhausted` comes where the budget is
 /// used up and a merger arc is left. The gate is told of the workers' steps.
 ///
-/// Refused for want of memory (1), and where a seat was refused or a worker could not be started (22); those that were have
-/// then ended.
+/// Refused for want of memory (1), and where more workers are asked for than there are seats, a seat was refused or a worker
+/// could not be started (22); those that were have then ended.
 pub fn solve_shared<G: Gate + Sync, R: Threads + Wait + Sync>(
     rt: &R,
     alloc: Global,
@@ -127,8 +114,12 @@ pub fn solve_shared<G: Gate + Sync, R: Threads + Wait + Sync>(
     gate: &G,
 ) -> Result<(Outcome, Vec<Entry>), Fault>
     ensures solved { IfOk result (λ r. IsSolvedTogether instance.now workers budget r.0 r.1.items) }
+    ensures few { IfOk result (λ _. workers ≤ most_seat) }
     ensures refused { IfErr result IsNoRoom }
 {
+    if workers > MOST_WORKERS {
+        return Err(Fault::no_seat());
+    }
     let begun = Beginning {
         tree: NormTree::start(alloc, instance)?,
         budget,

@@ -1,9 +1,11 @@
 //! The sweeps of mode shared: in each, the workers go over all arcs, each in a thread of its own; between two of them the
 //! driver has the tree alone, and decides the first merger arc that they left.
-ghost use Rattle.std.specs.Prelude.{◌≡◌, IfOk, IfErr};
+ghost use Rattle.std.specs.Prelude.{◌≡◌, true, IfOk, IfErr};
 ghost use Rattle.faults.specs.Refused.{no_seat, IsNoRoom};
+ghost use Rattle.pit_model.specs.Mine.{arcs};
+ghost use Rattle.crew.specs.Solved.{IsEnded};
 
-use crate::driver::decide_first;
+use crate::driver::is_ended;
 use crate::gate::Gate;
 use crate::guide::Guide;
 use crate::worker::{Sweep, Worker};
@@ -14,7 +16,7 @@ use std::marker::Brand;
 use std::sync::Wait;
 use std::thread;
 use std::thread::Threads;
-use tree_lock::{Entry, SharedTree, Site, Verdict};
+use tree_lock::{Entry, Holder, SharedTree, Site, Verdict};
 
 /// The workers with what they share beside the tree.
 #[derive(Drop)]
@@ -75,15 +77,16 @@ fn count_applied(entries: &[Entry]) -> usize {
 }
 
 impl<'a, S: Site + Send + Sync, G: Gate + Sync> Crew<'a, S, G> {
-    // One sweep over all arcs, with a counter of its own.
-    fn sweep<L: Lot + Send + Sync, R: Threads + Wait + Sync>(
+    // One sweep over all arcs, by this counter.
+    fn sweep_by<L: Lot + Send + Sync, R: Threads + Wait + Sync>(
         &mut self,
         rt: &R,
         alloc: Global,
         shared: &SharedTree<S>,
         unnamed: UnnamedDraws,
     ) -> Result<(), Fault>
-        requires { unnamed.table ≡ L.draws }
+        requires draws { unnamed.table ≡ L.draws }
+        requires known { S.arcs ≡ arcs S.mine }
         ensures { IfErr result IsNoRoom }
     {
         let (draws, mut draw_seats) = Draws::<L>::new(alloc, unnamed)?;
@@ -102,38 +105,82 @@ impl<'a, S: Site + Send + Sync, G: Gate + Sync> Crew<'a, S, G> {
         Ok(())
     }
 
-    // A counter for a sweep.
-    fn draws(&self, alloc: Global) -> Result<UnnamedDraws, Fault>
+    // One sweep over all arcs, with a counter of its own.
+    fn sweep<R: Threads + Wait + Sync>(
+        &mut self,
+        rt: &R,
+        alloc: Global,
+        shared: &SharedTree<S>,
+    ) -> Result<(), Fault>
+        requires { S.arcs ≡ arcs S.mine }
         ensures { IfErr result IsNoRoom }
     {
         let chunks = self.guide.count().div_ceil(self.chunk.max(1) as usize);
-        UnnamedDraws::new(alloc, as_count(chunks), as_count(self.workers.len()))
+        let unnamed = UnnamedDraws::new(alloc, as_count(chunks), as_count(self.workers.len()))?;
+        self.sweep_by::<Brand, R>(rt, alloc, shared, unnamed)
     }
 
-    /// Sweeps again and again, until the driver finds no merger arc between two sweeps, or the budget is used up.
-    /// Refused for want of memory (1), and where a worker could not be started (22).
+    // Takes the entries from this number on into account for the next sweep.
+    fn renew<R: Threads + Sync>(&mut self, rt: &R, holder: &Holder<S>, known: usize) {
+        let entries = holder.journal();
+        let mergers = count_applied(&entries[known.min(entries.len())..]);
+        self.guide.renew(rt, holder.tree(), mergers);
+    }
+
+    // A sweep under the lock, and the driver's decision after it, when it has the holder for itself. It answers the holder, and
+    // whether the solve has ended. Where it was refused the holder is given up.
+    fn round<R: Threads + Wait + Sync>(
+        &mut self,
+        rt: &R,
+        alloc: Global,
+        holder: Holder<S>,
+    ) -> Result<(Holder<S>, bool), Fault>
+        requires { S.arcs ≡ arcs S.mine }
+        ensures ended { IfOk result (λ r. r.1 ≡ true → IsEnded r.0) }
+        ensures refused { IfErr result IsNoRoom }
+    {
+        let known = holder.journal().len();
+        let shared = SharedTree::of_holder(holder);
+        let swept = self.sweep(rt, alloc, &shared);
+        let mut holder = shared.into_holder();
+        if let Err(fault) = swept {
+            holder.into_parts(rt);
+            return Err(fault);
+        }
+        match is_ended(rt, &mut holder) {
+            Ok(true) => Ok((holder, true)),
+            Ok(false) => {
+                self.renew(rt, &holder, known);
+                Ok((holder, false))
+            }
+            Err(fault) => {
+                holder.into_parts(rt);
+                Err(fault)
+            }
+        }
+    }
+
+    /// Sweeps again and again, until the driver finds no merger arc after a sweep, or the budget is used up: after each sweep
+    /// it decides one arc at most. Refused for want of memory (1), and where a worker could not be started (22); the holder is
+    /// then given up.
     pub fn run<R: Threads + Wait + Sync>(
         &mut self,
         rt: &R,
         alloc: Global,
-        shared: &mut SharedTree<S>,
-    ) -> Result<(), Fault>
-        ensures { IfErr result IsNoRoom }
+        holder: Holder<S>,
+    ) -> Result<Holder<S>, Fault>
+        requires { S.arcs ≡ arcs S.mine }
+        ensures ended { IfOk result IsEnded }
+        ensures refused { IfErr result IsNoRoom }
     {
-        let mut known = 0;
-        for _sweep in 0..u64::MAX {
-            let draws = self.draws(alloc)?;
-            self.sweep::<Brand, R>(rt, alloc, shared, draws)?;
-            let holder = shared.holder();
-            match decide_first(rt, holder)? {
-                Some(Verdict::Applied) => {}
-                _ => return Ok(()),
+        let mut holder = holder;
+        for _sweep in rt.forever() {
+            let (after, is_ended) = self.round(rt, alloc, holder)?;
+            if is_ended {
+                return Ok(after);
             }
-            let entries = holder.journal();
-            let mergers = count_applied(&entries[known.min(entries.len())..]);
-            known = entries.len();
-            self.guide.renew(rt, holder.tree(), mergers);
+            holder = after;
         }
-        Ok(())
+        unreachable!()
     }
 }

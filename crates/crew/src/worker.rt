@@ -1,6 +1,7 @@
 //! One worker of mode shared: in a sweep it draws chunks of arcs, looks at the published version, asks for a merger arc that
 //! it sees there, serves the board under the lock, and collects its reply.
 ghost use Rattle.std.specs.Prelude.{◌≡◌, ◌≤◌, ◌<◌, IfSome};
+ghost use Rattle.pit_model.specs.Mine.{arcs};
 
 use crate::gate::Gate;
 use crate::guide::{Guide, Sighting};
@@ -25,6 +26,7 @@ pub struct Sweep<'a, S: Site, G: Gate, L: Lot> {
     pub guide: &'a Guide,
     pub chunk: u32,
     pub gate: &'a G,
+    ghost known: { S.arcs ≡ arcs S.mine },
 }
 
 impl<S: Site> Worker<S> {
@@ -36,10 +38,11 @@ impl<S: Site> Worker<S> {
         }
     }
 
-    // The first place whose arc is worth an ask by the version that is published now. None also where there is no version.
-    // It does not look where nothing is wanted.
+    // The first place whose arc is worth an ask by the version that is published now, which shows a merger arc there. None also
+    // where there is no version. It does not look where nothing is wanted.
     fn look(&mut self, guide: &Guide, place: usize, end: usize) -> Option<Sighting>
-        ensures { IfSome result (λ found. (place ≤ found.place) × (found.place < end)) }
+        ensures within { IfSome result (λ found. (place ≤ found.place) × (found.place < end)) }
+        ensures known { IfSome result (λ found. found.arc < arcs S.mine) }
     {
         let Some(first) = guide.first_wanted(place, end) else {
             return None;
@@ -67,7 +70,9 @@ impl<S: Site> Worker<S> {
         rt: &R,
         sweep: &Sweep<S, G, L>,
         arc: u32,
-    ) -> bool {
+    ) -> bool
+        requires { arc < S.arcs }
+    {
         sweep.board.ask(&mut self.asks, arc);
         sweep.gate.asked(self.number);
         let served = sweep.shared.serve(rt, sweep.board);

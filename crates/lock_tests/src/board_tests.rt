@@ -2,7 +2,7 @@
 //! these runs compare what the calls answer.
 ghost use Rattle.std.specs.Prelude.{◌≡◌, ◌≤◌, length};
 
-use crate::board_calls::{answer_one, return_one};
+use crate::board_calls::{answer_one, ask_for, return_one};
 use crate::failures::first_failure;
 use faults::Fault;
 use proposals::{Board, HolderSeat, Reply, Room, UnnamedBoard, Verdict, WorkerSeat};
@@ -16,16 +16,17 @@ fn asks_go_back<B: Room>(
     unnamed: UnnamedBoard,
 ) -> Result<Option<&'static str>, Fault>
     requires named { unnamed ≡ B.board }
+    requires arcs { B.arcs ≡ 4294967295 }
     requires one { unnamed.words ≡ 1 }
 {
-    let (board, mut seats, mut holder) = Board::<B>::new(alloc, unnamed)?;
+    let (board, mut seats, mut holder) = Board::<B>::new(alloc, unnamed, u32::MAX)?;
     let Some(mut seat) = seats.pop() else {
         return Ok(Some("there is a seat"));
     };
-    let asked = board.ask(&mut seat, 0) && !board.ask(&mut seat, 1);
+    let asked = ask_for(&board, &mut seat, 0) && !ask_for(&board, &mut seat, 1);
     let withdrew = board.withdraw(&mut seat);
     let none_stood = answer_one(&board, &mut holder, 1, Verdict::Stale).is_none();
-    let again = board.ask(&mut seat, 1);
+    let again = ask_for(&board, &mut seat, 1);
     let Some(arc) = board.claim_ask(&mut holder, 1) else {
         return Ok(Some("the second ask is claimed"));
     };
@@ -61,7 +62,7 @@ fn reply_comes_back<B: Room>(
     requires { 2 ≤ length holder.old }
     ensures { length holder.new ≡ length holder.old }
 {
-    let asked = board.ask(second, reply.arc) && board.collect(second).is_none();
+    let asked = ask_for(board, second, reply.arc) && board.collect(second).is_none();
     let other = answer_one(board, holder, 1, reply.verdict).is_none();
     let returned = return_one(board, holder, 2) == Some(reply.arc);
     let answered = answer_one(board, holder, 2, reply.verdict) == Some(reply.arc);
@@ -90,9 +91,10 @@ fn replies_come_back<B: Room>(
     unnamed: UnnamedBoard,
 ) -> Result<Option<&'static str>, Fault>
     requires named { unnamed ≡ B.board }
+    requires arcs { B.arcs ≡ 4294967295 }
     requires two { unnamed.words ≡ 2 }
 {
-    let (board, mut seats, mut holder) = Board::<B>::new(alloc, unnamed)?;
+    let (board, mut seats, mut holder) = Board::<B>::new(alloc, unnamed, u32::MAX)?;
     let (Some(mut second), Some(mut first)) = (seats.pop(), seats.pop()) else {
         return Ok(Some("there are two seats"));
     };
@@ -109,7 +111,7 @@ fn replies_come_back<B: Room>(
             verdict: Verdict::Stale,
         },
         Reply {
-            arc: u32::MAX,
+            arc: u32::MAX - 1,
             verdict: Verdict::Spent,
         },
     ];

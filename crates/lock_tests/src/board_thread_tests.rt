@@ -1,7 +1,7 @@
 //! Two threads at one board: a worker asks and withdraws, and collects where the withdrawal came too late, while the holder answers.
 ghost use Rattle.std.specs.Prelude.{◌≡◌};
 
-use crate::board_calls::answer_one;
+use crate::board_calls::{answer_one, ask_for};
 use crate::failures::first_failure;
 use faults::Fault;
 use proposals::{Board, HolderSeat, Reply, Room, UnnamedBoard, Verdict, WorkerSeat};
@@ -28,18 +28,52 @@ fn wait_for_reply<B: Room, R: Wait>(
     None
 }
 
+// How a worker and the holder tell each other: the worker that the holder is to rest, the holder that it does, and the worker
+// that it is done.
+#[derive(Drop)]
+struct Signs {
+    rest: AtomicBool,
+    rests: AtomicBool,
+    done: AtomicBool,
+}
+
+// An ask that is not withdrawn is answered, and one that is asked for while the holder rests is withdrawn: what fails of that.
+fn meet<B: Room, R: Wait>(
+    rt: &R,
+    board: &Board<B>,
+    seat: &mut WorkerSeat<B>,
+    signs: &Signs,
+) -> Option<&'static str> {
+    let asked = ask_for(board, seat, 0);
+    let replied = wait_for_reply(rt, board, seat).is_some();
+    signs.rest.store(true, Ordering::SeqCst);
+    for _ in rt.forever() {
+        if signs.rests.load(Ordering::SeqCst) {
+            break;
+        }
+    }
+    let withdrew = ask_for(board, seat, 1) && board.withdraw(seat);
+    signs.rest.store(false, Ordering::SeqCst);
+    first_failure(&[
+        ("the first arc is asked for", asked),
+        ("an ask that stays is answered", replied),
+        ("an ask beside a holder that rests is withdrawn", withdrew),
+    ])
+}
+
 // Asks for each arc, and withdraws it or collects what it was answered: what fails of that.
 fn ask_for_all<B: Room, R: Wait>(
     rt: &R,
     board: &Board<B>,
     seat: &mut WorkerSeat<B>,
     arcs: u32,
-    done: &AtomicBool,
+    signs: &Signs,
 ) -> Option<&'static str> {
+    let met = meet(rt, board, seat, signs);
     let mut asked = true;
     let mut collected = true;
     for arc in 0..arcs {
-        asked = board.ask(seat, arc) && asked;
+        asked = ask_for(board, seat, arc) && asked;
         if !board.withdraw(seat) {
             let stale = Reply {
                 arc,
@@ -48,7 +82,10 @@ fn ask_for_all<B: Room, R: Wait>(
             collected = wait_for_reply(rt, board, seat) == Some(stale) && collected;
         }
     }
-    done.store(true, Ordering::SeqCst);
+    signs.done.store(true, Ordering::SeqCst);
+    if met.is_some() {
+        return met;
+    }
     first_failure(&[
         ("each arc is asked for", asked),
         (
@@ -58,16 +95,20 @@ fn ask_for_all<B: Room, R: Wait>(
     ])
 }
 
-// Answers each ask that it claims, until the worker is done.
+// Answers each ask that it claims, where it is not to rest, until the worker is done.
 fn answer_until<B: Room, R: Wait>(
     rt: &R,
     board: &Board<B>,
     holder: &mut HolderSeat<B>,
-    done: &AtomicBool,
+    signs: &Signs,
 ) {
     for _ in rt.forever() {
-        if done.load(Ordering::SeqCst) || board.workers(holder) == 0 {
+        if signs.done.load(Ordering::SeqCst) || board.workers(holder) == 0 {
             return;
+        }
+        if signs.rest.load(Ordering::SeqCst) {
+            signs.rests.store(true, Ordering::SeqCst);
+            continue;
         }
         answer_one(board, holder, 1, Verdict::Stale);
     }
@@ -79,17 +120,22 @@ fn two_threads<B: Room + Send + Sync, R: Threads + Wait + Sync>(
     unnamed: UnnamedBoard,
     arcs: u32,
 ) -> Result<Option<&'static str>, Fault>
-    requires { unnamed ≡ B.board }
+    requires named { unnamed ≡ B.board }
+    requires arcs { B.arcs ≡ 4294967295 }
 {
-    let (board, mut seats, mut holder) = Board::<B>::new(alloc, unnamed)?;
+    let (board, mut seats, mut holder) = Board::<B>::new(alloc, unnamed, u32::MAX)?;
     let Some(mut seat) = seats.pop() else {
         return Ok(Some("there is a seat"));
     };
-    let done = AtomicBool::new(false);
+    let signs = Signs {
+        rest: AtomicBool::new(false),
+        rests: AtomicBool::new(false),
+        done: AtomicBool::new(false),
+    };
     let (failed, _) = thread::join(
         rt,
-        || ask_for_all(rt, &board, &mut seat, arcs, &done),
-        || answer_until(rt, &board, &mut holder, &done),
+        || ask_for_all(rt, &board, &mut seat, arcs, &signs),
+        || answer_until(rt, &board, &mut holder, &signs),
     );
     board.settle(&mut seat, &mut holder);
     if failed.is_some() {

@@ -1,7 +1,7 @@
 //! A random walk over a board of three, by one thread from a fixed seed, beside a plain account of what each call must answer.
 ghost use Rattle.std.specs.Prelude.{◌≡◌, ◌<◌};
 
-use crate::board_calls::{answer_one, return_one};
+use crate::board_calls::{answer_one, ask_for, return_one};
 use faults::Fault;
 use proposals::{Board, HolderSeat, Reply, Room, UnnamedBoard, Verdict, WorkerSeat};
 use std::alloc::Global;
@@ -100,7 +100,7 @@ fn calls_agree<B: Room>(
     }
     let number = dice.roll();
     match dice.roll() % 6 {
-        0 => board.ask(seat, number) == account.ask(number),
+        0 => ask_for(board, seat, number) == account.ask(number),
         1 => board.collect(seat) == account.collect(),
         2 => board.withdraw(seat) == account.withdraw(),
         3 => return_one(board, holder, worker) == account.unanswered(),
@@ -121,9 +121,10 @@ fn first_difference<B: Room>(
     unnamed: UnnamedBoard,
     calls: u32,
 ) -> Result<Option<u32>, Fault>
-    requires { unnamed ≡ B.board }
+    requires named { unnamed ≡ B.board }
+    requires arcs { B.arcs ≡ 4294967295 }
 {
-    let (board, mut seats, mut holder) = Board::<B>::new(alloc, unnamed)?;
+    let (board, mut seats, mut holder) = Board::<B>::new(alloc, unnamed, u32::MAX)?;
     let fresh = Account {
         open: None,
         answered: None,

@@ -1,9 +1,10 @@
 //! Workers at one tree: that two of them work at once, that their asks make the mergers, and that the journal leads to the
 //! same tree when it is followed by one thread. Which worker does what differs from run to run.
-use crate::mines::{cut_once, dug_whole, pairs_of_blocks};
+use crate::mines::{cut_once, dug_whole, eight_over_one, one_part, pairs_of_blocks};
 use crate::outcomes::{exhausted_at, leads_to, mergers_in, pit_in};
-use crew::{Gate, OpenGate, solve_shared};
-use std::sync::atomic::{AtomicBool, Ordering};
+use crew::{Entry, Gate, OpenGate, Verdict, solve_shared};
+use solver::{Mode, solve};
+use std::sync::atomic::{AtomicBool, AtomicU32, Ordering};
 use std::test::*;
 use std::thread;
 
@@ -57,7 +58,12 @@ impl Gate for Meeting {
 fn two_workers_work_at_once(rt: HostRuntime) -> Result<(), Fail> {
     let mine = pairs_of_blocks(rt.alloc(), 2)?;
     let gate = Meeting::new();
-    let (outcome, journal) = solve_shared(&rt, rt.alloc(), &mine, 2, None, 1, &gate)?;
+    let mode = Mode::Shared {
+        workers: 2,
+        budget: None,
+        chunk: 1,
+    };
+    let (outcome, journal) = solve(&rt, rt.alloc(), &mine, &mode, &gate)?;
     assert!(rt;
         !gate.is_over.load(Ordering::SeqCst),
         "both asked before either was served"
@@ -67,8 +73,82 @@ fn two_workers_work_at_once(rt: HostRuntime) -> Result<(), Fail> {
     for number in 0..2 {
         let is_asked = journal.iter().any(|entry| entry.arc == number);
         assert!(rt; is_asked, "arc {number} was asked for");
-        let has_asked = journal.iter().any(|entry| entry.seat == number + 1);
-        assert!(rt; has_asked, "a merger is of worker {number} from 0");
+    }
+    let seats = journal.first().map(|entry| entry.seat) == Some(1)
+        && journal.last().map(|entry| entry.seat) == Some(2);
+    assert!(rt;
+        seats,
+        "the second worker's pass answered both, in their order"
+    );
+    Ok(())
+}
+
+// Holds each of eight workers back at its ask until all eight have asked.
+#[derive(Drop)]
+struct AllAsked {
+    count: AtomicU32,
+    is_over: AtomicBool,
+}
+
+impl Gate for AllAsked {
+    fn asked(&self, _worker: u32) {
+        self.count.fetch_add(1, Ordering::SeqCst);
+        for _turn in 0..1_000_000 {
+            if self.count.load(Ordering::SeqCst) >= 8 {
+                return;
+            }
+            thread::yield_now();
+        }
+        self.is_over.store(true, Ordering::SeqCst);
+    }
+
+    fn served(&self, _worker: u32) {}
+}
+
+#[test]
+fn one_of_eight_asks_at_once_is_applied(rt: HostRuntime) -> Result<(), Fail> {
+    let mine = eight_over_one(rt.alloc())?;
+    let gate = AllAsked {
+        count: AtomicU32::new(0),
+        is_over: AtomicBool::new(false),
+    };
+    let (outcome, journal) = solve_shared(&rt, rt.alloc(), &mine, 8, None, 1, &gate)?;
+    assert!(rt;
+        !gate.is_over.load(Ordering::SeqCst),
+        "all asked before any was served"
+    );
+    assert_eq!(rt; pit_in(&outcome).map(|pit| pit.len()), Some(9));
+    assert_eq!(rt; (journal.len(), mergers_in(&journal)), (8, 1));
+    let stale = journal
+        .iter()
+        .filter(|entry| entry.verdict == Verdict::Stale);
+    assert_eq!(rt; stale.count(), 7, "the other asks are stale");
+    assert_eq!(rt; of_driver(&journal), 0, "the driver decides nothing");
+    Ok(())
+}
+
+#[test]
+fn chunks_cover_all_arcs(rt: HostRuntime) -> Result<(), Fail> {
+    let mine = pairs_of_blocks(rt.alloc(), 1000)?;
+    for chunk in [7, 600, 5000] {
+        let (_, journal) = solve_shared(&rt, rt.alloc(), &mine, 3, None, chunk, &OpenGate)?;
+        assert_eq!(rt; mergers_in(&journal), 1000, "with chunks of {chunk}");
+        assert_eq!(rt; of_driver(&journal), 0, "with chunks of {chunk}");
+    }
+    Ok(())
+}
+
+#[test]
+fn chunks_are_gone_over_again(rt: HostRuntime) -> Result<(), Fail> {
+    let mine = dug_whole(rt.alloc())?;
+    for chunk in 2..4 {
+        let (outcome, journal) = solve_shared(&rt, rt.alloc(), &mine, 2, None, chunk, &OpenGate)?;
+        let is_led = leads_to(rt.alloc(), &mine, &journal, &[0, 1, 2, 3])?;
+        assert!(rt;
+            is_led,
+            "one thread follows the journal at chunks of {chunk}"
+        );
+        assert_eq!(rt; pit_in(&outcome), Some([0, 1, 2, 3].as_slice()));
     }
     Ok(())
 }
@@ -105,6 +185,30 @@ fn workers_find_the_pit(rt: HostRuntime) -> Result<(), Fail> {
             is_led,
             "one thread follows the journal of {workers} workers to the pit"
         );
+    }
+    Ok(())
+}
+
+// How many of the entries are the driver's.
+fn of_driver(journal: &[Entry]) -> usize {
+    journal.iter().filter(|entry| entry.seat == 0).count()
+}
+
+#[test]
+fn the_driver_decides_once_after_the_last_sweep(rt: HostRuntime) -> Result<(), Fail> {
+    let mine = one_part(rt.alloc())?;
+    for workers in 1..3 {
+        let (outcome, journal) = solve_shared(
+            &rt,
+            rt.alloc(),
+            &mine,
+            workers,
+            Some(0),
+            1,
+            &OpenGate,
+        )?;
+        assert_eq!(rt; exhausted_at(&outcome), Some(0), "with {workers} workers");
+        assert_eq!(rt; of_driver(&journal), 1, "with {workers} workers");
     }
     Ok(())
 }

@@ -1,4 +1,5 @@
 //! Looks beside the decisions under the lock: what each look shows was worked out by hand.
+use crate::board_calls::ask_for;
 use crate::failures::first_failure;
 use crate::looks::{FIRST, LAST, OPENING, look_shows};
 use crate::mines::cut_once;
@@ -18,7 +19,7 @@ fn answer<S: Site, R: Wait>(
     worker: &mut WorkerSeat<S>,
     arc: u32,
 ) -> Result<Option<Verdict>, Fault> {
-    let asked = board.ask(worker, arc);
+    let asked = ask_for(board, worker, arc);
     let served = shared.serve(rt, board)?;
     match board.collect(worker) {
         Some(reply) if asked && served == 1 && reply.arc == arc => Ok(Some(reply.verdict)),

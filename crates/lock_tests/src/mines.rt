@@ -48,6 +48,24 @@ pub fn one_part(alloc: Global) -> Result<Instance, Fault> {
     Ok(Instance::new(two_blocks(alloc)?, values))
 }
 
+/// A block of waste, which costs 1, and eight of ore that need it, each worth 5: each arc is a merger arc until one was merged
+/// over, and none is afterwards.
+pub fn eight_over_one(alloc: Global) -> Result<Instance, Fault> {
+    let pairs = vec![in alloc;
+        (1, 0),
+        (2, 0),
+        (3, 0),
+        (4, 0),
+        (5, 0),
+        (6, 0),
+        (7, 0),
+        (8, 0),
+    ]?;
+    let graph = Arc::new(alloc, Graph::new(alloc, 9, pairs)?)?;
+    let values = vec![in alloc; -1, 5, 5, 5, 5, 5, 5, 5, 5]?;
+    Ok(Instance::new(graph, values))
+}
+
 /// Two mines of four blocks, numbered by turns, and a block by itself: of each mine its second and third block are dug.
 pub fn three_parts(alloc: Global) -> Result<Instance, Fault> {
     let pairs = vec![in alloc; (0, 2), (0, 6), (4, 2), (1, 3), (1, 7), (5, 3)]?;

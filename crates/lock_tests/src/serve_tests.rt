@@ -1,4 +1,5 @@
 //! Workers at a board ask for the arcs of four blocks. What is answered and what stands in the journal was worked out by hand.
+use crate::board_calls::ask_for;
 use crate::failures::first_failure;
 use crate::mines::dug_whole;
 use crate::trial::{Trial, try_with};
@@ -28,7 +29,7 @@ fn failure_in_round<S: Site, R: Wait>(
     }
     let mut asked = true;
     for i in 0..3 {
-        asked = board.ask(&mut seats[i], expected.arcs[i]) && asked;
+        asked = ask_for(board, &mut seats[i], expected.arcs[i]) && asked;
     }
     let served = holder.serve(rt, board)?;
     let mut answered = true;

@@ -52,6 +52,7 @@ fn try_at<S: Site, T: Trial, R: Wait>(
     requires book { begun.list ≡ S.book }
     requires budget { begun.budget ≡ S.budget }
     requires board { begun.unnamed ≡ S.board }
+    requires arcs { S.arcs ≡ 4294967295 }
     requires workers { begun.unnamed.words ≡ S.workers }
 {
     let Beginning {
@@ -60,7 +61,7 @@ fn try_at<S: Site, T: Trial, R: Wait>(
         unnamed,
         budget,
     } = begun;
-    let (board, mut workers, seat) = Board::<S>::new(alloc, unnamed)?;
+    let (board, mut workers, seat) = Board::<S>::new(alloc, unnamed, u32::MAX)?;
     let mut shared = SharedTree::<S>::new(alloc, list, tree, budget, &board, seat)?;
     let seen = trial.at(rt, &board, &mut workers, &mut shared);
     let (tree, journal) = shared.into_holder().into_parts(rt);

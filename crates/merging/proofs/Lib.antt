@@ -1,4 +1,5 @@
 pub mod Falling
+pub mod Following
 pub mod FirstMergers
 pub mod Gathered
 pub mod Joining

@@ -1,3 +1,4 @@
 pub mod Solved
+pub mod Replayed
 pub mod Order
 pub mod Parts

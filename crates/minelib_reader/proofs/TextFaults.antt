@@ -24,28 +24,28 @@ IsOfText NoSeat = ⊥
 IsOfText (Exhausted count) = ⊥
 IsOfText _ = Unit {0}
 
-abbrev FailsOfText : {X : Type 0} → Result X Fault → Type 0
+abbrev pub FailsOfText : {X : Type 0} → Result X Fault → Type 0
 FailsOfText (Ok x) = Unit {0}
 FailsOfText (Err e) = IsOfText e.refusal
 
-abbrev MaybeOfText : Option Fault → Type 0
+abbrev pub MaybeOfText : Option Fault → Type 0
 MaybeOfText None = Unit {0}
 MaybeOfText (Some e) = IsOfText e.refusal
 
 -- by cases on a step
-by_option : {X P : Type 0} (o : Option X) → (o ≡ None → P) → ((x : X) → o ≡ Some x → P) → P
+pub by_option : {X P : Type 0} (o : Option X) → (o ≡ None → P) → ((x : X) → o ≡ Some x → P) → P
 by_option None none some = none refl
 by_option (Some x) none some = some x refl
 
-by_test : {P : Type 0} (b : Bool) → (b ≡ false → P) → (b ≡ true → P) → P
+pub by_test : {P : Type 0} (b : Bool) → (b ≡ false → P) → (b ≡ true → P) → P
 by_test false fails passes = fails refl
 by_test true fails passes = passes refl
 
-check_of_text : (e : Fault) (b : Bool) → IsOfText e.refusal → FailsOfText (ok_if b e)
+pub check_of_text : (e : Fault) (b : Bool) → IsOfText e.refusal → FailsOfText (ok_if b e)
 check_of_text e true is = tt
 check_of_text e false is = is
 
-maybe_of_text : {X : Type 0} (m : Result X Fault) → FailsOfText m → MaybeOfText (result_err m)
+pub maybe_of_text : {X : Type 0} (m : Result X Fault) → FailsOfText m → MaybeOfText (result_err m)
 maybe_of_text (Ok x) is = tt
 maybe_of_text (Err e) is = is
 
@@ -86,7 +86,7 @@ need_of_text n id line seen field =
     (by_test (not (is_among seen p)) (λ e4. rw e4 tt) (λ e4. rw e4 tt)))))))
 
 -- of two steps
-then_of_text : {A B : Type 0} (m : Result A Fault) (f : A → Result B Fault) → FailsOfText m → ((x : A) → FailsOfText (f x)) → FailsOfText (m >>= f)
+pub then_of_text : {A B : Type 0} (m : Result A Fault) (f : A → Result B Fault) → FailsOfText m → ((x : A) → FailsOfText (f x)) → FailsOfText (m >>= f)
 then_of_text (Ok x) f m all = all x
 then_of_text (Err e) f m all = m
 

@@ -13,7 +13,9 @@ mod rank;
 mod renew;
 mod start;
 mod tree;
+mod verdict;
 mod walk;
 
 pub use bare::BareTree;
 pub use tree::NormTree;
+pub use verdict::lawful_verdict;

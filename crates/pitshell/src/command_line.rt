@@ -42,6 +42,28 @@ fn check_command<'a>(alloc: Global) -> Result<Command<'a>, AllocError> {
         ))
 }
 
+/// `replay` with its files.
+fn replay_command<'a>(alloc: Global) -> Result<Command<'a>, AllocError> {
+    Command::new(alloc, "replay")
+        .about("Writes the ultimate pit that a journal of mode shared leads to, by one thread")
+        .after_help(STATUSES)
+        .arg(file(
+            alloc,
+            "model",
+            "Optimisation model (.upit): the value of each block",
+        ))?
+        .arg(file(
+            alloc,
+            "prec",
+            "Precedence (.prec): the blocks that each block needs",
+        ))?
+        .arg(file(
+            alloc,
+            "journal",
+            "Journal: what the workers of a solve decided",
+        ))
+}
+
 /// An option that must be given and takes the number of an attribute column.
 fn attribute<'a>(alloc: Global, name: &'a str, help: &'a str) -> Arg<'a> {
     Arg::new(alloc, name)
@@ -127,12 +149,23 @@ fn solve_command<'a>(alloc: Global) -> Result<Command<'a>, AllocError> {
             "prec",
             "Precedence (.prec): the blocks that each block needs",
         ))?;
-    with_mode(alloc, solve)?.arg(file(
-        alloc,
-        "certificate",
-        "Where to write the certificate that shows the pit",
-    )
-    .required(false))
+    with_mode(alloc, solve)?
+        .arg(
+            file(
+                alloc,
+                "certificate",
+                "Where to write the certificate that shows the pit",
+            )
+            .required(false),
+        )?
+        .arg(
+            file(
+                alloc,
+                "journal",
+                "Where to write what the workers decided; in mode shared alone",
+            )
+            .required(false),
+        )
 }
 
 /// `pitshell` with its subcommands.
@@ -145,5 +178,6 @@ pub fn command<'a>(alloc: Global) -> Result<Command<'a>, AllocError> {
         .arg_required_else_help(false)
         .subcommand(solve_command(alloc)?)?
         .subcommand(shells_command(alloc)?)?
-        .subcommand(check_command(alloc)?)
+        .subcommand(check_command(alloc)?)?
+        .subcommand(replay_command(alloc)?)
 }

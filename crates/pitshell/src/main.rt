@@ -15,11 +15,12 @@ use clap::error::ErrorKind;
 use command_line::command;
 use faults::{Fault, Refusal, Source};
 use minelib_reader::{FileReader, OutBytes, StreamWriter};
-use options::{CheckOptions, Options, ShellsOptions, SolveOptions};
-use output::Output;
+use options::{CheckOptions, Options, ReplayOptions, ShellsOptions, SolveOptions};
+use output::{Output, end};
 use report::write_fault;
-use runs::{Status, exit_code, run_check, run_shells, run_solve};
+use runs::{Status, exit_code, run_check, run_replay, run_shells, run_solve};
 use shells::Factors;
+use solver::Mode;
 use std::alloc::AllocError;
 use std::fs::File;
 use std::process::ExitCode;
@@ -37,15 +38,72 @@ fn open(rt: &HostRuntime, path: &str, source: Source) -> Result<File, Fault>
     }
 }
 
-/// Makes an output file, where one is wanted; it may be none of the inputs.
+/// Makes an output file, where one is wanted; it may be none of the files that are taken.
 fn create_if_wanted(
     rt: &HostRuntime,
     path: Option<&str>,
-    inputs: &[&File],
+    taken: &[&File],
 ) -> Result<Option<Output>, Fault> {
     match path {
         None => Ok(None),
-        Some(path) => Ok(Some(Output::create(rt, path, inputs)?)),
+        Some(path) => Ok(Some(Output::create(rt, path, taken)?)),
+    }
+}
+
+/// The outputs of `solve` beside the pit, in the order in which they are written.
+#[derive(Drop)]
+struct Outputs {
+    journal: Option<Output>,
+    certificate: Option<Output>,
+}
+
+impl Outputs {
+    /// Makes those that are wanted. Where one is refused, none is left.
+    fn create(
+        rt: &HostRuntime,
+        options: &SolveOptions<'_>,
+        inputs: &[&File; 2],
+    ) -> Result<Outputs, Fault> {
+        let journal = create_if_wanted(rt, options.journal, inputs)?;
+        let certificate = match &journal {
+            None => create_if_wanted(rt, options.certificate, inputs),
+            Some(output) => {
+                let taken = [inputs[0], inputs[1], &output.file];
+                create_if_wanted(rt, options.certificate, &taken)
+            }
+        };
+        match certificate {
+            Ok(certificate) => Ok(Outputs {
+                journal,
+                certificate,
+            }),
+            Err(fault) => {
+                let _ = end(rt, journal, false);
+                Err(fault)
+            }
+        }
+    }
+
+    /// Ends them after a run: they are kept where it was done, and the journal also where the budget was used up.
+    fn end(self, rt: &HostRuntime, outcome: Result<Status, Fault>) -> Result<Status, Fault> {
+        let Outputs {
+            journal,
+            certificate,
+        } = self;
+        let is_done = outcome.is_ok();
+        let journal = end(rt, journal, is_done || is_exhausted(&outcome));
+        let certificate = end(rt, certificate, is_done && journal.is_ok());
+        journal?;
+        certificate?;
+        outcome
+    }
+}
+
+/// Whether the run ended at its budget.
+fn is_exhausted(outcome: &Result<Status, Fault>) -> bool {
+    match outcome {
+        Ok(_) => false,
+        Err(fault) => matches!(fault.refusal, Refusal::Exhausted(_)),
     }
 }
 
@@ -59,8 +117,8 @@ fn writer_of<'a>(output: &'a mut Option<Output>) -> Option<StreamWriter<&'a mut 
     }
 }
 
-/// Solves the mine of two files, and writes its pit to standard output, and its certificate to a file where that is wanted.
-/// `threads` starts the workers.
+/// Solves the mine of two files, and writes its pit to standard output, and its journal and certificate to files where these
+/// are wanted. `threads` starts the workers.
 fn solve_files<R: Threads + Wait + Sync>(
     rt: &HostRuntime,
     threads: &R,
@@ -68,22 +126,25 @@ fn solve_files<R: Threads + Wait + Sync>(
 ) -> Result<Status, Fault> {
     let model = open(rt, options.model, Source::Model)?;
     let prec = open(rt, options.prec, Source::Precedence)?;
-    let mut output = create_if_wanted(rt, options.certificate, &[&model, &prec])?;
-    let mut certificate = writer_of(&mut output);
+    let mut outputs = Outputs::create(rt, options, &[&model, &prec])?;
+    let mut certificate = writer_of(&mut outputs.certificate);
+    let mut journal = match options.mode {
+        Mode::Shared { .. } => writer_of(&mut outputs.journal),
+        Mode::Single { .. } | Mode::Parts => None,
+    };
     let outcome = run_solve(
         threads,
         rt.alloc(),
         &mut FileReader::new(model),
         &mut FileReader::new(prec),
+        &mut journal,
         &mut certificate,
         &mut StreamWriter::new(io::writer(rt)),
         options.mode,
     );
     drop(certificate);
-    match output {
-        None => outcome,
-        Some(output) => output.end(rt, outcome),
-    }
+    drop(journal);
+    outputs.end(rt, outcome)
 }
 
 /// Writes the nested pits of the deposit of two files to standard output. The factors are read first, before a file is
@@ -119,6 +180,20 @@ fn check_files(rt: &HostRuntime, options: &CheckOptions<'_>) -> Result<Status, F
         &mut FileReader::new(model),
         &mut FileReader::new(prec),
         &mut FileReader::new(certificate),
+        &mut StreamWriter::new(io::writer(rt)),
+    )
+}
+
+/// Replays the journal of a file for the mine of two others, and writes what it comes to to standard output.
+fn replay_files(rt: &HostRuntime, options: &ReplayOptions<'_>) -> Result<Status, Fault> {
+    let model = open(rt, options.model, Source::Model)?;
+    let prec = open(rt, options.prec, Source::Precedence)?;
+    let journal = open(rt, options.journal, Source::Journal)?;
+    run_replay(
+        rt.alloc(),
+        &mut FileReader::new(model),
+        &mut FileReader::new(prec),
+        &mut FileReader::new(journal),
         &mut StreamWriter::new(io::writer(rt)),
     )
 }
@@ -176,6 +251,7 @@ fn run<R: Threads + Wait + Sync>(
             Some(Options::Solve(options)) => Ok(ended(rt, solve_files(rt, threads, &options))),
             Some(Options::Shells(options)) => Ok(ended(rt, shell_files(rt, threads, &options))),
             Some(Options::Check(options)) => Ok(ended(rt, check_files(rt, &options))),
+            Some(Options::Replay(options)) => Ok(ended(rt, replay_files(rt, &options))),
         },
     }
 }

@@ -25,8 +25,25 @@ pub struct Output {
     place: Option<Place>,
 }
 
-/// A file beside this path, under a name that nothing has yet: the path with a number and `.part` behind it.
-fn create_beside(rt: &HostRuntime, path: PathBuf) -> Result<Output, Fault> {
+/// Whether the file is one of these, under whatever name. One that cannot be looked at counts as the same.
+fn is_among(found: &Metadata, files: &[&File]) -> bool {
+    files.iter().any(|file| match file.metadata() {
+        Ok(other) => other.dev() == found.dev() && other.ino() == found.ino(),
+        Err(_) => true,
+    })
+}
+
+/// Whether the file of this name is one of these.
+fn is_taken(rt: &HostRuntime, path: &str, files: &[&File]) -> bool {
+    match fs::metadata(rt, path) {
+        Ok(found) => is_among(&found, files),
+        Err(_) => false,
+    }
+}
+
+/// A file beside this path, under a name that nothing has yet: the path with a number and `.part` behind it. Refused where
+/// one of these files stands there, which then waits for the same place.
+fn create_beside(rt: &HostRuntime, path: PathBuf, taken: &[&File]) -> Result<Output, Fault> {
     for number in 0..MOST_NAMES {
         let partial = format!(in rt.alloc(); "{}.{number}.part", path.display())?;
         match OpenOptions::new()
@@ -40,55 +57,66 @@ fn create_beside(rt: &HostRuntime, path: PathBuf) -> Result<Output, Fault> {
                     place: Some(Place { path, partial }),
                 });
             }
-            Err(error) if error.kind() == io::ErrorKind::AlreadyExists => {}
+            Err(error)
+                if error.kind() == io::ErrorKind::AlreadyExists
+                    && !is_taken(rt, partial.as_str(), taken) => {}
             Err(_) => return Err(Fault::write_failed()),
         }
     }
     Err(Fault::write_failed())
 }
 
-/// Whether the file is one of the inputs, under whatever name. An input that cannot be looked at counts as the same.
-fn is_among(found: &Metadata, inputs: &[&File]) -> bool {
-    inputs.iter().any(|input| match input.metadata() {
-        Ok(other) => other.dev() == found.dev() && other.ino() == found.ino(),
-        Err(_) => true,
-    })
-}
-
 impl Output {
-    /// Makes a file, or what it is written to before it takes its name. Refused where it cannot be made or may not be written,
-    /// where it is one of the inputs, and for want of memory.
-    pub fn create(rt: &HostRuntime, path: &str, inputs: &[&File]) -> Result<Output, Fault> {
+    /// Makes a file, or what it is written to before it takes its name. Refused where it cannot be made or may not be
+    /// written, where it is one of the inputs and outputs that are taken, and for want of memory.
+    pub fn create(rt: &HostRuntime, path: &str, taken: &[&File]) -> Result<Output, Fault> {
         match fs::metadata(rt, path) {
             Ok(found) if !found.is_file() => match File::create(rt, path) {
                 Ok(file) => Ok(Output { file, place: None }),
                 Err(_) => Err(Fault::write_failed()),
             },
-            Ok(found) if found.permissions().readonly() || is_among(&found, inputs) => {
+            Ok(found) if found.permissions().readonly() || is_among(&found, taken) => {
                 Err(Fault::write_failed())
             }
             Ok(_) => match fs::canonicalize(rt, path) {
-                Ok(path) => create_beside(rt, path),
+                Ok(path) => create_beside(rt, path, taken),
                 Err(_) => Err(Fault::write_failed()),
             },
-            Err(_) => create_beside(rt, PathBuf::from_str(rt.alloc(), path)?),
+            Err(_) => create_beside(rt, PathBuf::from_str(rt.alloc(), path)?, taken),
         }
     }
 
-    /// Ends the file after a run: where that was done, the file takes its name, once it is on disk; else it goes.
-    /// A file that cannot take its name is a write that failed.
-    pub fn end<T: Drop>(self, rt: &HostRuntime, outcome: Result<T, Fault>) -> Result<T, Fault> {
+    /// The file takes its name, once it is on disk. One that cannot goes, which is a write that failed.
+    pub fn keep(self, rt: &HostRuntime) -> Result<(), Fault> {
         let Output { file, place } = self;
         let Some(place) = place else {
-            return outcome;
+            return Ok(());
         };
-        if outcome.is_ok() {
-            let on_disk = file.sync_all().is_ok();
-            if on_disk && fs::rename(rt, place.partial.as_str(), place.path.as_path()).is_ok() {
-                return outcome;
-            }
+        let on_disk = file.sync_all().is_ok();
+        if on_disk && fs::rename(rt, place.partial.as_str(), place.path.as_path()).is_ok() {
+            return Ok(());
         }
         let _ = fs::remove_file(rt, place.partial.as_str());
-        outcome.and(Err(Fault::write_failed()))
+        Err(Fault::write_failed())
+    }
+
+    /// The file goes, and what stood at its place stays.
+    pub fn discard(self, rt: &HostRuntime) {
+        let Output { file: _, place } = self;
+        if let Some(place) = place {
+            let _ = fs::remove_file(rt, place.partial.as_str());
+        }
+    }
+}
+
+/// Ends a file, where there is one: it is kept or goes.
+pub fn end(rt: &HostRuntime, output: Option<Output>, is_kept: bool) -> Result<(), Fault> {
+    match output {
+        None => Ok(()),
+        Some(output) if is_kept => output.keep(rt),
+        Some(output) => {
+            output.discard(rt);
+            Ok(())
+        }
     }
 }

@@ -22,7 +22,9 @@ pub(crate) const ASKED: u64 = 1 << 32;
 #[derive(Drop)]
 pub struct Board<B: Room> {
     pub(crate) cells: Cells,
+    pub(crate) arcs: u32,
     room: PhantomData<B>,
+    ghost known: { arcs ≡ B.arcs },
     ghost named: { cells.shared.table_id ≡ B.board },
     ghost counted: { cells.shared.key ≡ cells.shared.table_id.words },
     ghost few: { cells.shared.table_id.words < 4294967296 },
@@ -71,14 +73,16 @@ impl UnnamedBoard {
 }
 
 impl<B: Room> Board<B> {
-    /// The board under the name `B`, with a seat for each worker, in order, and the holder's.
-    /// Nothing was asked, answered or collected, and nothing is claimed.
+    /// The board under the name `B`, with a seat for each worker, in order, and the holder's, on which so many arcs may be
+    /// asked for. Nothing was asked, answered or collected, and nothing is claimed.
     /// Errors: `NoMemory` where memory for the seats was refused.
     pub fn new(
         alloc: Global,
         unnamed: UnnamedBoard,
+        arcs: u32,
     ) -> Result<(Board<B>, Vec<WorkerSeat<B>>, HolderSeat<B>), Fault>
-        requires { unnamed ≡ B.board }
+        requires board { unnamed ≡ B.board }
+        requires arcs { arcs ≡ B.arcs }
         ensures workers { IfOk result (λ made. made.1.items ≡ desks unnamed.words) }
         ensures holder { IfOk result (λ made. made.2 ≡ replicate unnamed.words nothing) }
         ensures refused { IfErr result (λ fault. fault ≡ no_memory) }
@@ -102,6 +106,7 @@ impl<B: Room> Board<B> {
         }
         let board = Board {
             cells,
+            arcs,
             room: PhantomData,
         };
         let holder = HolderSeat {
@@ -109,6 +114,13 @@ impl<B: Room> Board<B> {
             room: PhantomData,
         };
         Ok((board, seats, holder))
+    }
+
+    /// How many arcs there are to ask for.
+    pub fn arcs(&self) -> u32
+        ensures { result ≡ B.arcs }
+    {
+        self.arcs
     }
 
     /// The number of workers.

@@ -1,15 +1,21 @@
 //! Which board and seats belong together: a type without bytes names them, so no call compares anything.
 use std::marker::Brand;
 
-/// Names one board. A caller that has an unnamed board picks it, as its `ghosts-F-B-Room`.
+/// Names one board, and how many arcs there are to ask for: only lesser numbers are. A caller that has an unnamed board picks
+/// them, as its `ghosts-F-B-Room`.
 pub trait Room {
+    ghost use Rattle.std.specs.Prelude.{ℕ};
     ghost use Rattle.atomic_table.specs.Seated.{TableId};
 
     ghost board: { TableId };
+
+    ghost arcs: { ℕ };
 }
 
 impl Room for Brand {
     ghost use Rattle.proposals.specs.Rooms.{no_table};
 
     ghost board = { no_table };
+
+    ghost arcs = { 0 };
 }

@@ -11,15 +11,16 @@ use crate::verdict::word_of;
 use pit_model::Verdict;
 
 impl<B: Room> Board<B> {
-    /// Claims the ask of a worker and answers its arc. None where no ask stood, or where it was withdrawn between the two steps.
+    /// Claims the ask of a worker and answers its arc, which is one that may be asked for. None where no ask stood, or where it
+    /// was withdrawn between the two steps.
     pub fn claim_ask(&self, holder: &mut HolderSeat<B>, worker: u32) -> Option<u32>
         requires { (0 < worker) × (worker ≤ length holder.old) }
-        ensures { MatchOption result (holder.new ≡ holder.old) (λ a. (claimed_from holder.old (worker - 1) ≡ None) × (holder.new ≡ claiming holder.old (worker - 1) a)) }
+        ensures { MatchOption result (holder.new ≡ holder.old) (λ a. (a < B.arcs) × (claimed_from holder.old (worker - 1) ≡ None) × (holder.new ≡ claiming holder.old (worker - 1) a)) }
     {
         let _ = &holder.seat;
         let cell = worker as usize - 1;
         let word = self.cells.shared.peek(cell);
-        if word < ASKED || word >= 2 * ASKED {
+        if word < ASKED || word >= ASKED + u64::from(self.arcs) {
             return None;
         }
         let found = self

@@ -1,3 +1,13 @@
 pub mod PutLemmas
 pub mod Digits
 pub mod Firsts
+pub mod PlainLines
+pub mod FirstFaults
+pub mod ReadingOn
+pub mod HeadRead
+pub mod JournalLinesRead
+pub mod JournalRead
+pub mod JournalFound
+pub mod HeadWritten
+pub mod JournalWritten
+pub mod JournalOfText

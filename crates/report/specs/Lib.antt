@@ -1,4 +1,10 @@
 pub mod Puts
+pub mod ReplayText
 pub mod FaultText
 pub mod AnswerText
 pub mod FirstWith
+pub mod HeadLines
+pub mod LineByLine
+pub mod JournalLines
+pub mod JournalFault
+pub mod JournalGrammar

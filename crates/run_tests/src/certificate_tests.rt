@@ -31,6 +31,7 @@ fn solve_into<R: AllocGlobal + Threads + Wait + Sync>(
     mine: SmallMine,
     room: usize,
 ) -> (Vec<u8>, Vec<u8>, Result<Status, Fault>) {
+    let mut no_journal: Option<MemoryWriter> = None;
     let mut certificate = Some(MemoryWriter::new(rt.alloc(), room));
     let mut out = MemoryWriter::new(rt.alloc(), 1000);
     if mine.model.len() > 1000 || mine.prec.len() > 1000 {
@@ -41,6 +42,7 @@ fn solve_into<R: AllocGlobal + Threads + Wait + Sync>(
         rt.alloc(),
         &mut MemoryReader::new(mine.model.as_bytes()),
         &mut MemoryReader::new(mine.prec.as_bytes()),
+        &mut no_journal,
         &mut certificate,
         &mut out,
         mode,

@@ -60,13 +60,15 @@ fn finds_the_pit<R: AllocGlobal + Threads + Wait + Sync>(rt: &R, mode: Mode) -> 
     let mut model = MemoryReader::new(model.as_bytes());
     let mut prec = MemoryReader::new(prec.as_bytes());
     let mut out = MemoryWriter::new(rt.alloc(), 1_000_000);
-    let mut unwanted: Option<MemoryWriter> = None;
+    let mut no_journal: Option<MemoryWriter> = None;
+    let mut no_certificate: Option<MemoryWriter> = None;
     let result = run_solve(
         rt,
         rt.alloc(),
         &mut model,
         &mut prec,
-        &mut unwanted,
+        &mut no_journal,
+        &mut no_certificate,
         &mut out,
         mode,
     );

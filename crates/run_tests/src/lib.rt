@@ -13,6 +13,8 @@ mod modes;
 #[cfg(test)]
 mod nested_tests;
 #[cfg(test)]
+mod replay_tests;
+#[cfg(test)]
 mod shells_tests;
 #[cfg(test)]
 mod shells_text_tests;

@@ -59,13 +59,15 @@ fn holds<R: AllocGlobal + Threads + Wait + Sync>(
     let mut prec = MemoryReader::new(row.prec.as_bytes());
     let mut out = MemoryWriter::new(rt.alloc(), 1000);
     let mut err = MemoryWriter::new(rt.alloc(), 1000);
-    let mut unwanted: Option<MemoryWriter> = None;
+    let mut no_journal: Option<MemoryWriter> = None;
+    let mut no_certificate: Option<MemoryWriter> = None;
     let result = run_solve(
         rt,
         rt.alloc(),
         &mut model,
         &mut prec,
-        &mut unwanted,
+        &mut no_journal,
+        &mut no_certificate,
         &mut out,
         mode,
     );
@@ -225,13 +227,15 @@ fn is_cut<R: AllocGlobal + Threads + Wait + Sync>(
     let mut model = MemoryReader::new(PAYING_ORE.model.as_bytes());
     let mut prec = MemoryReader::new(PAYING_ORE.prec.as_bytes());
     let mut out = MemoryWriter::new(rt.alloc(), room);
-    let mut unwanted: Option<MemoryWriter> = None;
+    let mut no_journal: Option<MemoryWriter> = None;
+    let mut no_certificate: Option<MemoryWriter> = None;
     let result = run_solve(
         rt,
         rt.alloc(),
         &mut model,
         &mut prec,
-        &mut unwanted,
+        &mut no_journal,
+        &mut no_certificate,
         &mut out,
         mode,
     );

@@ -41,7 +41,7 @@ cut model prec mine e holds before after w = record {
   failure = w.2.1;
 }
 
-of_states : (P Q : Progress → Progress → Type 0) → ((before after : Progress) → P before after → Q before after) → (before after : Option Progress) → OfStates before after P → OfStates before after Q
+pub of_states : (P Q : Progress → Progress → Type 0) → ((before after : Progress) → P before after → Q before after) → (before after : Option Progress) → OfStates before after P → OfStates before after Q
 of_states P Q weaker (Some before) (Some after) holds = weaker before after holds
 of_states P Q weaker (Some before) None holds = absurd holds
 of_states P Q weaker None after holds = absurd holds

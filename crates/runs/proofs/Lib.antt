@@ -1,8 +1,10 @@
 pub mod Refusing
 pub mod Solving
 pub mod Certifying
+pub mod Journaling
 pub mod Checking
 pub mod Depositing
 pub mod ShellRuns
 pub mod Uniqueness
 pub mod OneFault
+pub mod Replaying

@@ -1,6 +1,5 @@
 -- Where one step of a run is refused, the run is refused so: by cases on the refusal.
-use Rattle.std.proofs.Common.{◌≡◌, ℕ, List, inl, inr, refl, sym, subst}
-use Rattle.std.specs.Prelude.{Err}
+use Rattle.std.proofs.Common.{◌≡◌, ℕ, List, inl, inr, ⊎_elim, refl, sym, subst}
 use Rattle.faults.specs.Refused.{write_failed}
 use Rattle.minelib_reader.specs.Device.{Progress}
 use Rattle.minelib_reader.specs.Answer.{Refuses, ReadsText}
@@ -15,11 +14,12 @@ use Rattle.faults.specs.declared.source.Source.TheVariants as sources
 use Rattle.mine_graph.specs.Faults.{RefusesPairs, IsGraphFault}
 use Rattle.runs.specs.Solve.{Reading, Gave, NeverFailed, GaveMine, in_model, in_prec, in_pairs, RefusesMine}
 use Rattle.runs.specs.Mine.{HoldsMine}
-use Rattle.solver.specs.Modes.{RefusesSolve}
+use Rattle.pit_model.specs.Replay.{IsSettled}
 use Rattle.runs.specs.Chosen.{Chosen, IsLeft}
-use Rattle.runs.specs.Run.{RefusesPit, RefusesRun, WasCutShort, in_certificate}
-use Rattle.runs.specs.Certified.{PutsCertificate}
+use Rattle.runs.specs.Journaled.{AtBudget}
+use Rattle.runs.specs.Run.{RefusesPit, RefusesRun, WasCutShort, in_journal, in_certificate}
 use Rattle.runs.proofs.Certifying.{certificate_cut}
+use Rattle.runs.proofs.Journaling.{journaled, journal_cut}
 use Rattle.solver.specs.declared.mode.Mode.{Mode}
 use Rattle.pit_model.specs.Mine.{Instance}
 use Rattle.minelib_reader.proofs.TextFaults.{IsOfText, upit_fault_of_text, prec_fault_of_text}
@@ -57,30 +57,27 @@ pairs_refused (Exhausted count) e model prec upit pairs given is h = h
 pairs_refused _ e model prec upit pairs given is h = in_pairs upit pairs given is
 
 -- a refusal of the files is one of the run
-pub read_refused : (mode : Mode) (r : Refusal) (e : Fault) (model prec : Reading) (left : Chosen) (out : Progress) → IsLeft left → RefusesMine r e model prec → RefusesRun mode r e model prec left out out
-read_refused mode WriteFailed e model prec left out is h = absurd h
-read_refused mode NoSeat e model prec left out is h = absurd h
-read_refused mode (Exhausted count) e model prec left out is h = absurd h
-read_refused mode _ e model prec left out is h = (h, (is, refl))
-
--- and so is a refusal of the solve
-pub solve_refused :
-    (mode : Mode) (r : Refusal) (e : Fault) (model prec : Reading) (mine : Instance) (left : Chosen) (out : Progress) → IsLeft left → HoldsMine model prec mine
-    → RefusesSolve mode mine r e → RefusesRun mode r e model prec left out out
-solve_refused mode NoMemory e model prec mine left out is holds h = ((h, holds.given.model_given.failures, holds.given.prec_given.failures), (is, refl))
-solve_refused mode NoSeat e model prec mine left out is holds h = ((mine, holds, h), (is, refl))
-solve_refused mode (Exhausted count) e model prec mine left out is holds h = ((mine, holds, h), (is, refl))
-solve_refused mode _ e model prec mine left out is holds h = absurd h
+pub read_refused : (mode : Mode) (r : Refusal) (e : Fault) (model prec : Reading) (journal certificate : Chosen) (out : Progress) → IsLeft journal → IsLeft certificate → RefusesMine r e model prec → RefusesRun mode r e model prec journal certificate out out
+read_refused mode WriteFailed e model prec journal certificate out j c h = absurd h
+read_refused mode NoSeat e model prec journal certificate out j c h = absurd h
+read_refused mode (Exhausted count) e model prec journal certificate out j c h = absurd h
+read_refused mode _ e model prec journal certificate out j c h = (h, record { no_journal = j; no_certificate = c; no_pit = refl })
 
 -- and so is a refusal to find the pit
 pub pit_refused :
-    (mode : Mode) (r : Refusal) (e : Fault) (model prec : Reading) (mine : Instance) (c : Chosen) (out : Progress) → HoldsMine model prec mine
-    → RefusesPit mode mine r e c → RefusesRun mode r e model prec c out out
-pit_refused mode WriteFailed e model prec mine c out holds h = (h.1, in_certificate (certificate_cut model prec mine e c holds h.0) refl)
-pit_refused mode r e model prec mine c out holds h = solve_refused mode r e model prec mine c out h.1 holds h.0
+    (mode : Mode) (r : Refusal) (e : Fault) (model prec : Reading) (mine : Instance) (journal certificate : Chosen) (out : Progress) → HoldsMine model prec mine
+    → RefusesPit mode mine r e journal certificate → RefusesRun mode r e model prec journal certificate out out
+pit_refused mode WriteFailed e model prec mine journal certificate out holds h = ⊎_elim
+    (λ of_journal. (of_journal.0.1, in_journal (journal_cut mode model prec mine e journal holds of_journal.0.0) of_journal.1 refl))
+    (λ behind. (behind.1.1, in_certificate (journaled IsSettled mode model prec mine journal holds behind.0) (certificate_cut model prec mine e certificate holds behind.1.0) refl))
+    h
+pit_refused mode NoMemory e model prec mine journal certificate out holds h = ((h.0, holds.given.model_given.failures, holds.given.prec_given.failures), record { no_journal = h.1; no_certificate = h.2; no_pit = refl })
+pit_refused mode NoSeat e model prec mine journal certificate out holds h = ((mine, holds, h.0), record { no_journal = h.1; no_certificate = h.2; no_pit = refl })
+pit_refused mode (Exhausted count) e model prec mine journal certificate out holds h = ((mine, holds, h.0), journaled (AtBudget count) mode model prec mine journal holds h.1, h.2, refl)
+pit_refused mode _ e model prec mine journal certificate out holds h = absurd h.0
 
 pub write_refused :
-    (mode : Mode) (e : Fault) (model prec : Reading) (certificate : Chosen) (before after : Progress) → e ≡ write_failed → WasCutShort model prec certificate before after
-    → RefusesRun mode e.refusal e model prec certificate before after
-write_refused mode e model prec certificate before after is cut =
-    subst (λ f. RefusesRun mode f.refusal f model prec certificate before after) (sym is) (refl, cut)
+    (mode : Mode) (e : Fault) (model prec : Reading) (journal certificate : Chosen) (before after : Progress) → e ≡ write_failed → WasCutShort mode model prec journal certificate before after
+    → RefusesRun mode e.refusal e model prec journal certificate before after
+write_refused mode e model prec journal certificate before after is cut =
+    subst (λ f. RefusesRun mode f.refusal f model prec journal certificate before after) (sym is) (refl, cut)

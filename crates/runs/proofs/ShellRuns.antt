@@ -74,7 +74,7 @@ module _ (prices : Prices) (n : ℕ) (ps qs : List (ℕ × ℕ)) (same : AreSame
   within_moves (Single (Some budget)) factors each k l = let h = each k l in (h.0, rest_moves factors k h.0 h.1, h.2)
   within_moves (Single None) factors each k l = tt
   within_moves Parts factors each k l = tt
-  within_moves (Shared workers budget chunk) factors each k l = tt
+  within_moves (Shared workers budget chunk) factors each k l = let h = each k l in (h.0, rest_moves factors k h.0 h.1, h.2)
 
   pub refused_moves : (mode : Mode) (factors : List ℕ) (r : Refusal) (e : Fault) → RefusesShells mode (deposit_of prices (graph_with n ps)) factors r e → RefusesShells mode (deposit_of prices (graph_with n qs)) factors r e
   refused_moves mode factors NoMemory e h = h

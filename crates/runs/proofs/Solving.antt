@@ -44,7 +44,7 @@ text_moves blocks n values vs ps qs text same_n same_v same t =
     (subst (λ v. IsPitText (instance_of blocks v qs) text) same_v
     (record { pit = t.pit; is_pit = pit_knows_no_order blocks values ps qs t.pit same t.is_pit; is_text = t.is_text }))
 
-solves : (model prec : Reading) (mine : Instance) (text : List ℕ) → HoldsMine model prec mine → IsPitText mine text → Solves model prec text
+pub solves : (model prec : Reading) (mine : Instance) (text : List ℕ) → HoldsMine model prec mine → IsPitText mine text → Solves model prec text
 solves model prec mine text holds t = record {
   upit = holds.upit;
   pairs = holds.pairs;

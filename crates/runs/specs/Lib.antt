@@ -2,6 +2,8 @@ pub mod Exit
 pub mod Solve
 pub mod Mine
 pub mod Check
+pub mod Replay
+pub mod Journaled
 pub mod Chosen
 pub mod Certified
 pub mod Modes

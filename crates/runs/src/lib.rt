@@ -8,6 +8,7 @@ mod laws;
 mod mine;
 mod mode_words;
 mod nested;
+mod replay;
 mod solve;
 mod status;
 
@@ -18,5 +19,6 @@ pub use laws::{
 };
 pub use mode_words::{mode_fault, mode_of};
 pub use nested::run_shells;
+pub use replay::run_replay;
 pub use solve::run_solve;
 pub use status::{Status, exit_code};

@@ -13,4 +13,4 @@ pub rest_ends : (mode : Mode) (deposit : Deposit) (factors : List ℕ) (k : ℕ)
 rest_ends (Single (Some budget)) deposit factors k rest is ends = (rest, is, ends)
 rest_ends (Single None) deposit factors k rest is ends = tt
 rest_ends Parts deposit factors k rest is ends = tt
-rest_ends (Shared workers budget chunk) deposit factors k rest is ends = tt
+rest_ends (Shared workers budget chunk) deposit factors k rest is ends = (rest, is, ends)

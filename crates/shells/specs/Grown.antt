@@ -1,5 +1,5 @@
 -- Shells that grow from factor to factor: which blocks are taken so far, and what is left.
-use Rattle.std.specs.Prelude.{◌≡◌, ◌<◌, ℕ, false, Bool, List, length, get_or, Some, None}
+use Rattle.std.specs.Prelude.{◌≡◌, ◌<◌, ℕ, false, Bool, List, length, get_or, None}
 use Rattle.faults.specs.declared.fault.Fault.{Fault}
 use Rattle.faults.specs.declared.refusal.Refusal.{Refusal}
 use Rattle.faults.specs.declared.refusal.Refusal.TheVariants.{NoMemory}
@@ -27,11 +27,12 @@ pub record IsGrown (deposit : Deposit) (factors : List ℕ) (k : ℕ) (marks : L
 abbrev pub rest_at : Prices → ℕ → List ℕ → Graph → Instance
 rest_at prices factor blocks part = mine_on (deposit_of prices part) factor blocks part
 
--- the budget, where there is one, does not end the solve of the rest of the factor with number k
+-- the budget does not end the solve of the rest of the factor with number k. One thread without a budget, and the parts, may
+-- solve a factor on less than its rest, and nothing is said of them
 abbrev pub RestEndsWithin : Mode → Deposit → List ℕ → ℕ → Type 0
-RestEndsWithin (Single (Some budget)) deposit factors k =
-    (rest : Instance) × IsRest deposit factors k rest × EndsWithin (Single (Some budget)) rest
-RestEndsWithin _ deposit factors k = Unit {0}
+RestEndsWithin (Single None) deposit factors k = Unit {0}
+RestEndsWithin Parts deposit factors k = Unit {0}
+RestEndsWithin mode deposit factors k = (rest : Instance) × IsRest deposit factors k rest × EndsWithin mode rest
 
 -- nor that of any factor
 abbrev pub EachEndsWithin : Mode → Deposit → List ℕ → Type 0

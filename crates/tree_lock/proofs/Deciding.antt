@@ -36,14 +36,3 @@ book_after mine published journal budget applied entry book is =
       followed = ap (λ l. arcs_after l entry) book.followed ∙ sym (applied_arcs-snoc journal entry);
       counted = ap (λ n. count_after n entry) book.counted ∙ sym (applied_count-snoc journal entry);
     }
-
-count_most : (made : ℕ) (entry : Entry) → count_after made entry ≤ made + 1
-count_most made entry =
-    ⊎_elim (λ (t : is_applied entry.verdict ≡ true). rw t (omega arith)) (λ (f : is_applied entry.verdict ≡ false). rw f (omega arith)) (cases_Bool (is_applied entry.verdict))
-
-count_from : (journal : List Entry) (made : ℕ) → fold count_after made journal ≤ made + length journal
-count_from [] made = omega arith
-count_from (x ∷ xs) made = let one = count_most made x in let rest = count_from xs (count_after made x) in omega arith
-
-pub applied_count_most : (journal : List Entry) → applied_count journal ≤ length journal
-applied_count_most journal = let h = count_from journal 0 in omega arith

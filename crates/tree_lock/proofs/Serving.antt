@@ -40,12 +40,12 @@ replies_else : (s t : ℕ) (es : List Entry) (a : ℕ) (v : Verdict) → s ≢ t
 replies_else s t es a v ne = replies-snoc s es (entry_of t a v) ∙ ap (λ (b : Bool). cond b (replies_under s es ++ reply a v ∷ []) (replies_under s es)) (ne_eqb s t ne)
 
 -- an entry of the driver is nobody's reply
-pub driven : (mine : Instance) (journal : List Entry) (workers : ℕ) (seat : List Served) (a : ℕ) (v : Verdict) → IsServed mine journal workers seat → a < arcs mine → IsServed mine (journal ++ entry_of 0 a v ∷ []) workers seat
-driven mine journal workers seat a v is below = record {
+pub driven : (mine : Instance) (journal : List Entry) (workers asked : ℕ) (seat : List Served) (a : ℕ) (v : Verdict) → IsServed mine journal workers asked seat → a < arcs mine → IsServed mine (journal ++ entry_of 0 a v ∷ []) workers asked seat
+driven mine journal workers asked seat a v is below = record {
   wide = is.wide;
   answers = λ i. replies_else (i + 1) 0 journal a v (λ e. omega arith) ∙ is.answers i;
   unclaimed = is.unclaimed;
-  seated = All-push (IsUnderSeat mine workers) journal (entry_of 0 a v) is.seated (omega arith, λ e. below);
+  seated = All-push (IsUnderSeat mine workers asked) journal (entry_of 0 a v) is.seated (omega arith, (λ e. below), λ l. absurd (omega arith));
 }
 
 at_same : (ss : List Served) (i : ℕ) (x : Served) → i < length ss → get_or (set ss i x) i nothing ≡ x
@@ -55,9 +55,9 @@ at_other : (ss : List Served) (i j : ℕ) (x : Served) → j ≢ i → get_or (s
 at_other ss i j x ne = get_or-set_other ss i j x nothing ne
 
 -- the entry of a worker is the reply to it
-answered : (mine : Instance) (journal : List Entry) (workers : ℕ) (ss : List Served) (i a : ℕ) (v : Verdict) → IsServed mine journal workers ss → i < length ss
-    → IsServed mine (journal ++ entry_of (i + 1) a v ∷ []) workers (answering ss i (reply a v))
-answered mine journal workers ss i a v is lt = record {
+answered : (mine : Instance) (journal : List Entry) (workers asked : ℕ) (ss : List Served) (i a : ℕ) (v : Verdict) → IsServed mine journal workers asked ss → i < length ss → a < asked
+    → IsServed mine (journal ++ entry_of (i + 1) a v ∷ []) workers asked (answering ss i (reply a v))
+answered mine journal workers asked ss i a v is lt known = record {
   wide = length-set ss i last ∙ is.wide;
   answers = λ j. ⊎_elim
       (λ (e : j ≡ i). subst (λ (k : ℕ). replies_under (k + 1) (journal ++ entry_of (i + 1) a v ∷ []) ≡ answered_to two k) (sym e)
@@ -68,7 +68,7 @@ answered mine journal workers ss i a v is lt = record {
       (λ (e : j ≡ i). ap (λ (k : ℕ). claimed_from two k) e ∙ ap (λ (x : Served). x.claimed) (at_same ss i last lt))
       (λ (ne : j ≡ i → ⊥). ap (λ (x : Served). x.claimed) (at_other ss i j last ne) ∙ is.unclaimed j)
       (cases_eq j i);
-  seated = let all = is.wide in All-push (IsUnderSeat mine workers) journal (entry_of (i + 1) a v) is.seated (omega arith, λ e. absurd (omega arith));
+  seated = let all = is.wide in All-push (IsUnderSeat mine workers asked) journal (entry_of (i + 1) a v) is.seated (omega arith, (λ e. absurd (omega arith)), λ l. known);
 }
   where
     last : Served
@@ -120,13 +120,13 @@ decided mine k k' ss ss' s a v keeps seats =
 
 -- the holder after a decision of the driver
 pub after_apply :
-    (mine : Instance) (k k' : Kept) (workers : ℕ) (ss : List Served) (a : ℕ) (r : Result Verdict Fault) → IfOk r (Keeps mine 0 a k k')
-    → IfErr r (λ e. (e ≡ no_memory) × (k' ≡ k)) → IsServed mine k.journal workers ss → a < arcs mine
-    → IsServed mine k'.journal workers ss × (k'.budget ≡ k.budget)
-after_apply mine k k' workers ss a (Ok v) ok err is below =
-    (subst (λ (x : Kept). IsServed mine x.journal workers ss) (sym ok.1) (driven mine k.journal workers ss a v is below), ap (λ (x : Kept). x.budget) ok.1)
-after_apply mine k k' workers ss a (Err e) ok err is below =
-    (subst (λ (x : Kept). IsServed mine x.journal workers ss) (sym err.1) is, ap (λ (x : Kept). x.budget) err.1)
+    (mine : Instance) (k k' : Kept) (workers asked : ℕ) (ss : List Served) (a : ℕ) (r : Result Verdict Fault) → IfOk r (Keeps mine 0 a k k')
+    → IfErr r (λ e. (e ≡ no_memory) × (k' ≡ k)) → IsServed mine k.journal workers asked ss → a < arcs mine
+    → IsServed mine k'.journal workers asked ss × (k'.budget ≡ k.budget)
+after_apply mine k k' workers asked ss a (Ok v) ok err is below =
+    (subst (λ (x : Kept). IsServed mine x.journal workers asked ss) (sym ok.1) (driven mine k.journal workers asked ss a v is below), ap (λ (x : Kept). x.budget) ok.1)
+after_apply mine k k' workers asked ss a (Err e) ok err is below =
+    (subst (λ (x : Kept). IsServed mine x.journal workers asked ss) (sym err.1) is, ap (λ (x : Kept). x.budget) err.1)
 
 pub applied : (mine : Instance) (k k' : Kept) (ss : List Served) (a : ℕ) (r : Result Verdict Fault) → IfOk r (Keeps mine 0 a k k') → IfOk r (Decides a (held_by mine k ss) (held_by mine k' ss))
 applied mine k k' ss a (Ok v) ok = decided mine k k' ss ss 0 a v ok refl
@@ -146,14 +146,14 @@ seats_answered ss xs ys w a v low high claim answer =
 
 -- the holder after an ask was decided and answered
 pub after_answer :
-    (mine : Instance) (k k' : Kept) (workers : ℕ) (ss ys : List Served) (w a : ℕ) (v : Verdict) → IsServed mine k.journal workers ss → 0 < w → w ≤ length ss
-    → Keeps mine w a k k' v → ys ≡ seats_after ss (entry_of w a v) → IsServed mine k'.journal workers ys × (k'.budget ≡ k.budget)
-after_answer mine k k' workers ss ys w a v is low high keeps seats =
+    (mine : Instance) (k k' : Kept) (workers asked : ℕ) (ss ys : List Served) (w a : ℕ) (v : Verdict) → IsServed mine k.journal workers asked ss → 0 < w → w ≤ length ss → a < asked
+    → Keeps mine w a k k' v → ys ≡ seats_after ss (entry_of w a v) → IsServed mine k'.journal workers asked ys × (k'.budget ≡ k.budget)
+after_answer mine k k' workers asked ss ys w a v is low high known keeps seats =
     let lt : w - 1 < length ss = omega arith in
     let back : (w - 1) + 1 ≡ w = omega arith in
     let now : ys ≡ answering ss (w - 1) (reply a v) = seats ∙ ap (λ (b : Bool). cond b ss (answering ss (w - 1) (reply a v))) (ne_eqb w 0 (λ e. omega arith)) in
     let journal : k'.journal ≡ k.journal ++ entry_of ((w - 1) + 1) a v ∷ [] = ap (λ (x : Kept). x.journal) keeps.1 ∙ ap (λ n. k.journal ++ entry_of n a v ∷ []) (sym back) in
-    (subst (λ (p : List Entry × List Served). IsServed mine p.0 workers p.1) (λ i. (sym journal i, sym now i)) (answered mine k.journal workers ss (w - 1) a v is lt), ap (λ (x : Kept). x.budget) keeps.1)
+    (subst (λ (p : List Entry × List Served). IsServed mine p.0 workers asked p.1) (λ i. (sym journal i, sym now i)) (answered mine k.journal workers asked ss (w - 1) a v is lt known), ap (λ (x : Kept). x.budget) keeps.1)
 
 -- the seat after an ask was claimed and given back
 pub seats_returned : (ss xs ys : List Served) (w a : ℕ) → 0 < w → w ≤ length ss → claimed_from ss (w - 1) ≡ None → xs ≡ claiming ss (w - 1) a → ys ≡ unclaiming xs (w - 1) → ys ≡ ss

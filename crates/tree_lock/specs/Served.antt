@@ -15,12 +15,12 @@ replies_under seat [] = []
 replies_under seat (entry ∷ others) =
     if seat == entry.seat then reply entry.arc entry.verdict ∷ replies_under seat others else replies_under seat others
 
--- under the seat of a worker, or of an arc of the mine under the driver's, which is 0
-abbrev pub IsUnderSeat : Instance → ℕ → Entry → Type 0
-IsUnderSeat mine workers entry = (entry.seat ≤ workers) × (entry.seat ≡ 0 → entry.arc < arcs mine)
+-- under the seat of a worker, of an arc that may be asked for; or under the driver's, which is 0, of an arc of the mine
+abbrev pub IsUnderSeat : Instance → ℕ → ℕ → Entry → Type 0
+IsUnderSeat mine workers asked entry = (entry.seat ≤ workers) × (entry.seat ≡ 0 → entry.arc < arcs mine) × (0 < entry.seat → entry.arc < asked)
 
-abbrev pub AreUnderSeats : Instance → ℕ → List Entry → Type 0
-AreUnderSeats mine workers journal = All (IsUnderSeat mine workers) journal
+abbrev pub AreUnderSeats : Instance → ℕ → ℕ → List Entry → Type 0
+AreUnderSeats mine workers asked journal = All (IsUnderSeat mine workers asked) journal
 
 -- nothing was answered yet to any of so many workers, and nothing is claimed
 pub record IsFresh (workers : ℕ) (seat : List Served) : Type 0 where
@@ -29,11 +29,11 @@ pub record IsFresh (workers : ℕ) (seat : List Served) : Type 0 where
   pub unclaimed : (i : ℕ) → claimed_from seat i ≡ None
 
 -- the entries under each worker's seat are what was answered to it, all others are the driver's, and nothing is claimed
-pub record IsServed (mine : Instance) (journal : List Entry) (workers : ℕ) (seat : List Served) : Type 0 where
+pub record IsServed (mine : Instance) (journal : List Entry) (workers asked : ℕ) (seat : List Served) : Type 0 where
   pub wide : length seat ≡ workers
   pub answers : (i : ℕ) → replies_under (i + 1) journal ≡ answered_to seat i
   pub unclaimed : (i : ℕ) → claimed_from seat i ≡ None
-  pub seated : AreUnderSeats mine workers journal
+  pub seated : AreUnderSeats mine workers asked journal
 
 -- one ask of the worker was decided, or none
 abbrev pub ServesOne : ℕ → Held → Held → Bool → Type 0

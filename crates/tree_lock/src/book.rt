@@ -2,7 +2,7 @@
 //! `holder` says which budget it is of, and adds the seat at the board.
 ghost use Rattle.std.specs.Prelude.{◌≡◌, [], true, ◌<◌, ◌^◌, IfOk, IfErr, IsTrue};
 ghost use mathlib.Core.List.{IsPrefix};
-ghost use Rattle.faults.specs.Refused.{no_memory};
+ghost use Rattle.faults.specs.Refused.{no_memory, no_seat};
 ghost use Rattle.pit_model.specs.Tree.{is_merger};
 ghost use Rattle.pit_model.specs.Journal.{count_after, is_applied, IsLawful};
 ghost use Rattle.pit_model.specs.Version.{applied_arcs, arcs_after, version_tree};
@@ -10,12 +10,12 @@ ghost use Rattle.versions.specs.Published.{tree_over};
 ghost use Rattle.tree_lock.specs.Kept.{kept, verdict_for, Keeps};
 
 use faults::Fault;
-use norm_tree::NormTree;
+use norm_tree::{NormTree, lawful_verdict};
 use pit_model::{Entry, Verdict};
 use std::alloc::Global;
 use std::marker::Model;
 use std::sync::Wait;
-use versions::{LookSeat, Origin, Publisher};
+use versions::{LookSeat, LookSeats, Origin, Publisher};
 
 /// To a contract it is its journal, its budget and the arcs of its published mergers. End it by `into_parts`.
 pub struct Book<V: Origin> {
@@ -78,6 +78,14 @@ impl<V: Origin> Book<V> {
         self.budget
     }
 
+    /// What gives seats to look from. Errors: `NoSeat` where the count of its owners is full.
+    pub fn look_seats(&self) -> Result<LookSeats<V>, Fault>
+        ensures { IfErr result (λ fault. fault ≡ no_seat) }
+    {
+        let _ = &self.journal;
+        self.publisher.look_seats()
+    }
+
     pub fn into_parts<R: Wait>(self, rt: &R) -> (NormTree, Vec<Entry>)
         ensures tree { result.0 ≡ tree_over V.mine self.published }
         ensures journal { result.1.items ≡ self.journal }
@@ -105,13 +113,7 @@ impl<V: Origin> Book<V> {
     fn verdict_on(&self, arc: u32) -> Verdict
         ensures { result ≡ verdict_for V.mine self.now arc }
     {
-        if !self.tree().is_merger(arc) {
-            return Verdict::Stale;
-        }
-        match self.budget {
-            Some(budget) if self.applied == budget => Verdict::Spent,
-            _ => Verdict::Applied,
-        }
+        lawful_verdict(self.tree(), self.budget, self.applied, arc)
     }
 
     /// Decides one proposal for a seat, with an entry; an applied merger is published. Where memory for that was refused,

@@ -45,7 +45,7 @@ impl<S: Site> Model for Holder<S> {
 
     ghost view = { λ h. held_by S.mine h.book h.seat };
 
-    ghost invariant = { λ h. IsServed S.mine h.book.journal S.workers h.seat × (h.book.budget ≡ S.budget) };
+    ghost invariant = { λ h. IsServed S.mine h.book.journal S.workers S.arcs h.seat × (h.book.budget ≡ S.budget) };
 }
 
 impl<S: Site> Holder<S> {
@@ -68,15 +68,15 @@ impl<S: Site> Holder<S> {
     }
 
     /// What is true of each holder, the law of the lock. It is of the site's instance and budget. The journal is lawful, under
-    /// the seats of the workers and of the driver, whose arcs are the instance's; the tree is its replay by one thread, and
-    /// normalised; the mergers are at most the budget's, and at most P * (n + 1) + n, P the sum of the positive values.
-    /// The entries under each worker's seat are what was answered to it, and nothing is claimed. The published arcs are those
+    /// the seats of the workers, of arcs that may be asked for, and of the driver, of arcs of the instance; the tree is its
+    /// replay by one thread, and normalised; the mergers are at most the budget's, and at most P * (n + 1) + n, P the sum of
+    /// the positive values. The entries under each worker's seat are what was answered to it, and nothing is claimed. The published arcs are those
     /// of the applied entries, and what readers see of them is the tree.
     pub fn law(&self)
         ensures mine { self.now.mine ≡ S.mine }
         ensures budget { self.now.budget ≡ S.budget }
         ensures lawful { IsLawful self.now.mine self.now.budget self.now.journal }
-        ensures seated { AreUnderSeats self.now.mine S.workers self.now.journal }
+        ensures seated { AreUnderSeats self.now.mine S.workers S.arcs self.now.journal }
         ensures replayed { self.now.tree ≡ replay self.now.mine self.now.journal }
         ensures instance { IsInstance self.now.mine }
         ensures normalised { IsNormalised self.now.mine self.now.tree }

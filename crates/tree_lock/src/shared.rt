@@ -42,11 +42,16 @@ impl<S: Site> SharedTree<S> {
     {
         let places = board.workers(&seat).saturating_add(1);
         let publisher = Publisher::<S>::new(alloc, list, tree, places)?;
-        let look_seats = publisher.look_seats().ok();
-        Ok(SharedTree {
-            lock: Mutex::new(Holder::new(alloc, publisher, budget, seat)),
+        Ok(SharedTree::of_holder(Holder::new(alloc, publisher, budget, seat)))
+    }
+
+    /// Puts a holder that a thread had for itself under a lock. It takes no memory.
+    pub fn of_holder(holder: Holder<S>) -> SharedTree<S> {
+        let look_seats = holder.book.look_seats().ok();
+        SharedTree {
+            lock: Mutex::new(holder),
             look_seats,
-        })
+        }
     }
 
     /// A new seat to look from. It takes no lock. Errors: `NoSeat` where each place is taken.

@@ -1,5 +1,5 @@
-//! Tests of `faults`, `minelib_reader`, `mine_graph`, `forest`, `norm_tree` and `certificate` by their public calls. They stand apart,
-//! so that none of those crates is proved twice for its tests' sake.
+//! Tests of `faults`, `minelib_reader`, `mine_graph`, `forest`, `norm_tree`, `certificate` and of the journals of `report` by their
+//! public calls. They stand apart, so that none of those crates is proved twice for its tests' sake.
 #![tactic(auto)]
 
 #[cfg(test)]
@@ -12,6 +12,8 @@ mod fault_tests;
 mod forest_tests;
 #[cfg(test)]
 mod graph_tests;
+#[cfg(test)]
+mod journal_tests;
 #[cfg(test)]
 mod label_tests;
 #[cfg(test)]

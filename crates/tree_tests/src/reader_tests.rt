@@ -15,7 +15,7 @@ use std::test::*;
 
 /// Gives one byte a call, and fails once it was called so many times.
 #[derive(Drop)]
-struct SlowReader<'a> {
+pub(crate) struct SlowReader<'a> {
     text: &'a [u8],
     at: usize,
     calls: usize,
@@ -24,7 +24,7 @@ struct SlowReader<'a> {
 }
 
 impl<'a> SlowReader<'a> {
-    fn new(text: &'a [u8], calls: usize) -> SlowReader<'a>
+    pub(crate) fn new(text: &'a [u8], calls: usize) -> SlowReader<'a>
         ensures failures { result.failures ≡ 0 }
         ensures length { result.text.now ≡ text.entry.now }
     {

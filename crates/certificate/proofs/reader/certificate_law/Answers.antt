@@ -2,11 +2,11 @@
 use Rattle.std.proofs.Common.{refl}
 use Rattle.minelib_reader.specs.Text.{rows_of, count_of_lines}
 use Rattle.minelib_reader.proofs.FirstFaultLemmas.{fails_by_first}
-use Rattle.certificate.specs.CertificateLines.{certificate_of, first_state}
+use Rattle.certificate.specs.CertificateLines.{certificate_of, first_state, step, end}
 use Rattle.certificate.specs.CertificateFault.{certificate_fault_at}
 use Rattle.certificate.proofs.TextRead.{reads}
 use Rattle.certificate.proofs.TextFound.{spelled}
-use Rattle.certificate.proofs.FirstFault.{fails_first, clear_where_read}
+use Rattle.report.proofs.FirstFaults.{fails_first, clear_where_read}
 use Rattle.certificate.proofs.reader.certificate_law.Goals as goal
 
 pub returns-clause-spelled : goal.returns-clause-spelled
@@ -14,7 +14,7 @@ returns-clause-spelled c = λ graph text m rising. (spelled graph (count_of_line
 
 pub returns-clause-faulty : goal.returns-clause-faulty
 returns-clause-faulty c = λ graph text e. (
-  fails_first graph (count_of_lines text) (first_state graph) (rows_of text) e,
+  fails_first (step graph) (end (count_of_lines text)) (first_state graph) (rows_of text) e,
   fails_by_first (certificate_of graph text) (certificate_of graph text) (certificate_fault_at graph text) e refl
-      (clear_where_read graph (count_of_lines text) (first_state graph) (rows_of text)) (fails_first graph (count_of_lines text) (first_state graph) (rows_of text)),
+      (clear_where_read (step graph) (end (count_of_lines text)) (first_state graph) (rows_of text)) (fails_first (step graph) (end (count_of_lines text)) (first_state graph) (rows_of text)),
 )

@@ -3,14 +3,14 @@ use Rattle.std.proofs.Common.{subst, length}
 use Rattle.minelib_reader.specs.Answer.{Gives}
 use Rattle.minelib_reader.specs.Text.{rows_of, count_of_lines}
 use Rattle.minelib_reader.proofs.AnswerLemmas.{value_told, fault_told}
-use Rattle.certificate.specs.CertificateLines.{certificate_of, first_state, pit_and_flow}
+use Rattle.certificate.specs.CertificateLines.{certificate_of, first_state, pit_and_flow, step, end}
 use Rattle.certificate.specs.CertificateFault.{IsFirstCertificateFault}
 use Rattle.certificate.specs.Check.{IsCandidate}
 use Rattle.certificate.specs.CertificateGrammar.{SpellsCertificate}
 use Rattle.certificate.proofs.Lawful.{lawful}
 use Rattle.certificate.proofs.TextRead.{reads}
 use Rattle.certificate.proofs.TextFound.{spelled}
-use Rattle.certificate.proofs.FirstFault.{fails_first}
+use Rattle.report.proofs.FirstFaults.{fails_first}
 use Rattle.certificate.proofs.reader.parse_certificate.Goals as goal
 
 pub returns-clause-spelled : goal.returns-clause-spelled
@@ -31,7 +31,7 @@ returns-clause-first_fault c =
     let g = c.args.graph.now in
     let text = c.args.text.now in
     fault_told (λ m. pit_and_flow m.pit.items m.flow.items) c.parse_lines.result (certificate_of g text) (IsFirstCertificateFault g text)
-    (fails_first g (count_of_lines text) (first_state g) (rows_of text)) c.parse_lines.ensures.exact
+    (fails_first (step g) (end (count_of_lines text)) (first_state g) (rows_of text)) c.parse_lines.ensures.exact
 
 pub returns-clause-candidate : goal.returns-clause-candidate
 returns-clause-candidate c =

@@ -1,10 +1,10 @@
--- Each way through the loop is one step of `certificate_from`.
+-- Each way through the loop is one step of the reading line by line.
 use Rattle.std.proofs.Common.{◌≡◌, [], sym, ap, ◌∙◌}
 use Rattle.std.proofs.lemmas.Result.{err_from_is_err_and}
 use Rattle.minelib_reader.specs.Text.{row, rows_at, fields_of, count_of_lines}
 use Rattle.minelib_reader.proofs.AnswerLemmas.{fails_map}
-use Rattle.certificate.specs.CertificateLines.{certificate_of, end_at, step_at, state}
-use Rattle.certificate.proofs.ReadingOn.{go_on, stop, end}
+use Rattle.certificate.specs.CertificateLines.{certificate_of, end_at, step_at, state, step, end}
+use Rattle.report.proofs.ReadingOn.{go_on, stop, finish}
 use Rattle.certificate.proofs.reader.parse_lines.Goals as goal
 
 pub returns-in_err-due : goal.returns-in_err-due
@@ -18,7 +18,7 @@ returns-in_err-due c =
     let t = c.next_row.new.self in
     rw (p.1, p.2) (record {
       exact = fails_map e.refusal e (step_at g c.loop-row.due c.loop-row.pit.items c.loop-row.flow.items r) all
-          (λ h. stop g (count_of_lines c.args.text.now) s (rows_at c.loop-row.rows.number c.loop-row.rows.rest.now) (rows_at t.number t.rest.now) all c.loop-row.invariant.read r e c.in-Some.ensures.row h) c.in_err-due.ensures.err;
+          (λ h. stop (step g) (end (count_of_lines c.args.text.now)) s (rows_at c.loop-row.rows.number c.loop-row.rows.rest.now) (rows_at t.number t.rest.now) all c.loop-row.invariant.read r e c.in-Some.ensures.row h) c.in_err-due.ensures.err;
     })
 
 pub loop-row-preserved : goal.loop-row-preserved
@@ -27,7 +27,7 @@ loop-row-preserved c =
     let r = row c.in-Some.row.line (fields_of c.in-Some.row.text.now) in
     let t = c.next_row.new.self in
     record {
-      read = go_on c.args.graph.now (count_of_lines c.args.text.now) s (rows_at c.loop-row.rows.number c.loop-row.rows.rest.now) (rows_at t.number t.rest.now) (certificate_of c.args.graph.now c.args.text.now) c.loop-row.invariant.read
+      read = go_on (step c.args.graph.now) (end (count_of_lines c.args.text.now)) s (rows_at c.loop-row.rows.number c.loop-row.rows.rest.now) (rows_at t.number t.rest.now) (certificate_of c.args.graph.now c.args.text.now) c.loop-row.invariant.read
           r (state c.in_ok-due.due c.take_line.new.pit.items c.take_line.new.flow.items) c.in-Some.ensures.row c.in_ok-due.ensures.ok;
       count = c.next_row.ensures.count ∙ c.loop-row.invariant.count;
       counted = c.in_ok-due.ensures.counted;
@@ -41,7 +41,7 @@ returns-in_err-check_end c =
     let pit = c.loop-row.pit.items in
     let flow = c.loop-row.flow.items in
     let number : c.next_row.new.self.number ≡ count_of_lines c.args.text.now = c.in_default.ensures.end ∙ c.next_row.ensures.count ∙ c.loop-row.invariant.count in
-    let ended = end c.args.graph.now (count_of_lines c.args.text.now) s (rows_at c.loop-row.rows.number c.loop-row.rows.rest.now) [] (certificate_of c.args.graph.now c.args.text.now) c.loop-row.invariant.read c.in_default.ensures.row in
+    let ended = finish (step c.args.graph.now) (end (count_of_lines c.args.text.now)) s (rows_at c.loop-row.rows.number c.loop-row.rows.rest.now) [] (certificate_of c.args.graph.now c.args.text.now) c.loop-row.invariant.read c.in_default.ensures.row in
     let is = ended ∙ ap (λ k. end_at k c.loop-row.due c.loop-row.pit.items c.loop-row.flow.items) (sym number) in
     rw (p.1, p.2) (record { exact = fails_map e.refusal e (end_at c.next_row.new.self.number c.loop-row.due pit flow) (certificate_of c.args.graph.now c.args.text.now) (λ h. is ∙ h) (c.in_err-check_end.ensures pit flow) })
 
@@ -50,5 +50,5 @@ returns c =
     let s = state c.loop-row.due c.loop-row.pit.items c.loop-row.flow.items in
     let all = certificate_of c.args.graph.now c.args.text.now in
     let number : c.next_row.new.self.number ≡ count_of_lines c.args.text.now = c.in_default.ensures.end ∙ c.next_row.ensures.count ∙ c.loop-row.invariant.count in
-    let ended = end c.args.graph.now (count_of_lines c.args.text.now) s (rows_at c.loop-row.rows.number c.loop-row.rows.rest.now) [] (certificate_of c.args.graph.now c.args.text.now) c.loop-row.invariant.read c.in_default.ensures.row in
+    let ended = finish (step c.args.graph.now) (end (count_of_lines c.args.text.now)) s (rows_at c.loop-row.rows.number c.loop-row.rows.rest.now) [] (certificate_of c.args.graph.now c.args.text.now) c.loop-row.invariant.read c.in_default.ensures.row in
     record { exact = ended ∙ ap (λ k. end_at k c.loop-row.due c.loop-row.pit.items c.loop-row.flow.items) (sym number) ∙ c.in_ok-check_end.ensures c.loop-row.pit.items c.loop-row.flow.items }

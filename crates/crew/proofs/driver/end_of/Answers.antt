@@ -1,17 +1,23 @@
-use Rattle.std.proofs.Common.{ℕ, ◌≡◌, subst, ap, ◌∙◌, ltb, rules}
-use Rattle.std.specs.Prelude.{filter}
+-- The law of the lock is of the holder's journal, which is the one that is answered.
+use Rattle.std.proofs.Common.{◌≡◌, ◌∙◌, ℕ, List, Option, ap, subst, sym}
 use Rattle.pit_model.specs.declared.journal.Entry.{Entry}
 use Rattle.pit_model.specs.Mine.{Instance, arcs}
+use Rattle.tree_lock.specs.Served.{AreUnderSeats}
 use Rattle.crew.specs.Solved.{IsSolvedTogether}
-use Rattle.crew.proofs.Known.{known, solved_by_known}
+use Rattle.crew.proofs.Seats.{are_seated}
 use Rattle.crew.proofs.driver.end_of.Goals as goal
 
 pub returns-clause-solved : goal.returns-clause-solved
 returns-clause-solved g c =
     let h = c.args.holder in
-    let count : c.arcs-arcs.result ≡ arcs h.mine = search rules in
-    let kept : c.keep_known.new.journal.items ≡ known h.mine h.journal =
-    c.keep_known.ensures ∙ ap (λ (n : ℕ). filter (λ (e : Entry). ltb e.arc n) c.into_parts-journal.result.1.items) count ∙ ap (known h.mine) c.into_parts-journal.ensures.journal in
-    let ended = solved_by_known h.mine g.S.Site.workers h.budget h.journal c.keep_known.new.journal.items c.in_ok-outcome.outcome c.law.ensures.lawful c.law.ensures.seated c.in_ok-outcome.ensures.ends kept in
-    subst (λ (b : _). IsSolvedTogether g.S.Origin.mine g.S.Site.workers b c.in_ok-outcome.outcome c.keep_known.new.journal.items) c.law.ensures.budget
-    (subst (λ (m : Instance). IsSolvedTogether m g.S.Site.workers h.budget c.in_ok-outcome.outcome c.keep_known.new.journal.items) c.law.ensures.mine ended)
+    let workers = g.S.Site.workers in
+    let outcome = c.in_ok-outcome.field-0 in
+    let count : g.S.Room.arcs ≡ arcs h.mine = c.requires.known ∙ ap arcs (sym c.law.ensures.mine) in
+    let solved : IsSolvedTogether h.mine workers h.budget outcome h.journal = record {
+      lawful = c.law.ensures.lawful;
+      seated = are_seated h.mine workers h.journal (subst (λ n. AreUnderSeats h.mine workers n h.journal) count c.law.ensures.seated);
+      ends = c.in_ok-outcome.ensures.ends;
+    } in
+    subst (λ (journal : List Entry). IsSolvedTogether g.S.Origin.mine workers g.S.Site.budget outcome journal) (sym c.into_parts-journal.ensures.journal)
+    (subst (λ (budget : Option ℕ). IsSolvedTogether g.S.Origin.mine workers budget outcome h.journal) c.law.ensures.budget
+    (subst (λ (mine : Instance). IsSolvedTogether mine workers h.budget outcome h.journal) c.law.ensures.mine solved))

@@ -2,4 +2,4 @@
 use Rattle.lock_tests.proofs.board_tests.a_board_of_one.Given as goal
 
 abbrev pub ghosts-asks_go_back : goal.ghosts-asks_go_back
-ghosts-asks_go_back g a = record { board = a.unnamed }
+ghosts-asks_go_back g a = record { board = a.unnamed; arcs = 4294967295 }

@@ -2,7 +2,7 @@
 use Rattle.lock_tests.proofs.trial.try_with.Given as goal
 
 abbrev pub ghosts-try_at-S-Room : goal.ghosts-try_at-S-Room
-ghosts-try_at-S-Room g a = record { board = a.begun.unnamed }
+ghosts-try_at-S-Room g a = record { board = a.begun.unnamed; arcs = 4294967295 }
 
 abbrev pub ghosts-try_at-S-Origin : goal.ghosts-try_at-S-Origin
 ghosts-try_at-S-Origin g a = record { book = a.begun.list; mine = a.begun.tree.mine }

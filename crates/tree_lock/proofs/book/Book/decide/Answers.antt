@@ -3,12 +3,13 @@ use Rattle.pit_model.specs.declared.journal.Entry.{Entry}
 use Rattle.pit_model.specs.Journal.{lawful_verdict, applied_count}
 use Rattle.pit_model.specs.Version.{version_tree}
 use Rattle.tree_lock.specs.Kept.{entry_of}
-use Rattle.tree_lock.proofs.Deciding.{book_after, applied_count_most}
+use Rattle.pit_model.proofs.Journals.{applied_count-most}
+use Rattle.tree_lock.proofs.Deciding.{book_after}
 use Rattle.tree_lock.proofs.book.Book.decide.Goals as goal
 
 pub carry_out-requires-clause-room : goal.carry_out-requires-clause-room
 carry_out-requires-clause-room g c =
-    let most = applied_count_most c.self.inside.journal.items in
+    let most = applied_count-most c.self.inside.journal.items in
     let counted = c.self.invariant.counted in
     let s = c.self.inside.journal.small in
     let k = c.self.inside.journal.ok in

@@ -1,0 +1,28 @@
+-- What failed to be written is a text of this end, or nothing.
+use Rattle.std.proofs.Common.{refl}
+use Rattle.std.proofs.lemmas.Result.{err_from_is_err_and}
+use Rattle.runs.specs.Replay.{cut, spent}
+use Rattle.runs.specs.declared.status.Status.TheVariants.{Done, No}
+use Rattle.runs.proofs.replay.put_end.Goals as goal
+
+pub returns-in_err-put_pit-in-Pit-clause-refused :
+    goal.returns-in_err-put_pit-in-Pit-clause-refused
+returns-in_err-put_pit-in-Pit-clause-refused g c =
+    let p = err_from_is_err_and c.from_residual.result c.from_residual.ensures.1 in
+    let w = c.in_err-put_pit-in-Pit.ensures.written in
+    rw (p.1, p.2, c.in-Pit.is) (cut w.0 Done (w.1, refl) w.2 c.in_err-put_pit-in-Pit.ensures.refused)
+
+pub returns-in_err-write_difference-in-Differs-clause-refused :
+    goal.returns-in_err-write_difference-in-Differs-clause-refused
+returns-in_err-write_difference-in-Differs-clause-refused g c =
+    let p = err_from_is_err_and c.from_residual-in_err-write_difference-in-Differs.result c.from_residual-in_err-write_difference-in-Differs.ensures.1 in
+    rw (p.1, p.2, c.in-Differs.is) (cut _ No (refl, refl) c.in_err-write_difference-in-Differs.ensures.text c.in_err-write_difference-in-Differs.ensures.refused)
+
+pub returns-in_err-write_open-in-Open-clause-refused :
+    goal.returns-in_err-write_open-in-Open-clause-refused
+returns-in_err-write_open-in-Open-clause-refused g c =
+    let p = err_from_is_err_and c.from_residual-in_err-write_open-in-Open.result c.from_residual-in_err-write_open-in-Open.ensures.1 in
+    rw (p.1, p.2, c.in-Open.is) (cut _ No (refl, refl) c.in_err-write_open-in-Open.ensures.text c.in_err-write_open-in-Open.ensures.refused)
+
+pub returns-in-Exhausted-clause-refused : goal.returns-in-Exhausted-clause-refused
+returns-in-Exhausted-clause-refused g c = spent c.in-Exhausted.budget c.in-Exhausted.is c.exhausted.ensures refl
