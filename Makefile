@@ -1,5 +1,5 @@
 # `make try` runs the program at once, unproved; `make` proves it, builds it and solves the small mine; `make test` runs the gate.
-.PHONY: all try build demo install test test-program test-plan sweep setup
+.PHONY: all try build demo install test test-program test-plan sweep storm setup
 
 SMALL_MINE = examples/small_mine
 PROGRAM = build/pitshell
@@ -59,6 +59,11 @@ sweep:
 	test -x build/pitshell || $(MAKE) build
 	tests/sweeps.py --results bench/results/sweeps.md
 	tools/compare_checks.py
+
+# A hundred runs with workers on random mines, each journal replayed by the program and by tools/replay_journal.py.
+storm:
+	test -x build/pitshell || $(MAKE) build
+	tools/journal_storm.py --results bench/results/journal-storm.md
 
 # Installs what the planner's layer and its tests need of Debian's packages, where anything is missing.
 setup:

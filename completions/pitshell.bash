@@ -3,11 +3,11 @@ _pitshell() {
     local word=${COMP_WORDS[COMP_CWORD]} before=${COMP_WORDS[COMP_CWORD - 1]} options=""
     COMPREPLY=()
     if [ "$COMP_CWORD" -eq 1 ]; then
-        mapfile -t COMPREPLY < <(compgen -W "solve shells check help --help --version" -- "$word")
+        mapfile -t COMPREPLY < <(compgen -W "solve shells check replay help --help --version" -- "$word")
         return
     fi
     case $before in
-    --model | --prec | --blocks | --certificate)
+    --model | --prec | --blocks | --certificate | --journal)
         compopt -o filenames 2> /dev/null
         mapfile -t COMPREPLY < <(compgen -f -- "$word")
         return
@@ -19,10 +19,11 @@ _pitshell() {
     --workers | --budget | --revenue | --cost | --factors) return ;;
     esac
     case ${COMP_WORDS[1]} in
-    solve) options="--model --prec --mode --workers --budget --certificate --help" ;;
+    solve) options="--model --prec --mode --workers --budget --journal --certificate --help" ;;
     shells) options="--blocks --prec --revenue --cost --factors --mode --workers --budget --help" ;;
     check) options="--model --prec --certificate --help" ;;
-    help) options="solve shells check" ;;
+    replay) options="--model --prec --journal --help" ;;
+    help) options="solve shells check replay" ;;
     esac
     mapfile -t COMPREPLY < <(compgen -W "$options" -- "$word")
 }

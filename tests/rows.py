@@ -5,7 +5,8 @@ from dataclasses import dataclass, field
 
 @dataclass(frozen=True)
 class Row:
-    """A run over small files. `sources` names its inputs in the order in which they are opened and read."""
+    """A run over small files. `sources` names its inputs in the order in which they are opened and
+    read, `made` the files that it writes, with None for one that must not be there."""
 
     name: str
     words: tuple[str, ...]
@@ -14,7 +15,7 @@ class Row:
     out: str = ""
     err: str = ""
     status: int = 0
-    made: dict[str, str] = field(default_factory=dict)
+    made: dict[str, str | None] = field(default_factory=dict)
 
     @property
     def is_shared(self) -> bool:
@@ -142,12 +143,77 @@ def check_rows() -> list[Row]:
     ]
 
 
+def journal_of(blocks: int, arcs: int, budget: str, *entries: str) -> str:
+    lines = "".join(f"{entry}\n" for entry in entries)
+    return f"PITJOURNAL 1\nBLOCKS: {blocks}\nARCS: {arcs}\nBUDGET: {budget}\nENTRIES: {len(entries)}\n{lines}"
+
+
+def journal_rows() -> list[Row]:
+    """One worker on a mine with one merger arc, so that the journal is one text; with a certificate too, and with a budget."""
+    files = {"mine.upit": model_of(["-3", "5"]), "mine.prec": "1 1 0\n"}
+    certificate = "PITCERT 1\nBLOCKS: 2\nARCS: 1\nIN: 2\n0\n1\nFLOW: 1\n1 0 5000000\n"
+    one = {"made.journal": journal_of(2, 1, "none", "1 0 1")}
+    pit = pit_of(2, [0, 1], "2.000000")
+    words = (*SOLVE, *MODES["shared 1"], "--journal", "made.journal")
+    wrong = {**files, "mine.prec": "1 1 1\n"}
+    return [
+        Row("solve with a journal", words, files, SOLVE_SOURCES, out=pit, made=one),
+        Row(
+            "solve with a journal and a certificate",
+            (*words, "--certificate", "made.cert"),
+            files,
+            SOLVE_SOURCES,
+            out=pit,
+            made={**one, "made.cert": certificate},
+        ),
+        Row(
+            "solve with a journal and a budget that suffices",
+            (*words, "--budget", "1"),
+            files,
+            SOLVE_SOURCES,
+            out=pit,
+            made={"made.journal": journal_of(2, 1, "1", "1 0 1")},
+        ),
+        Row(
+            "solve with a journal refused",
+            words,
+            wrong,
+            SOLVE_SOURCES,
+            err="error 9: block needs itself in precedence line 1\n",
+            status=1,
+            made={"made.journal": None},
+        ),
+    ]
+
+
+REPLAY = ("replay", "--model", "mine.upit", "--prec", "mine.prec", "--journal", "some.journal")
+REPLAY_SOURCES = (*SOLVE_SOURCES, ("some.journal", "journal"))
+
+
+def replay_rows() -> list[Row]:
+    """A journal that leads to the pit, one that says something else, one that stops, one that used its budget up, and one refused."""
+    nine = {"mine.upit": model_of(["1", "-2", "5", "-2"]), "mine.prec": FOUR_PAIRS}
+    ten = {"mine.upit": model_of(["4", "-2", "5", "-2"]), "mine.prec": FOUR_PAIRS}
+
+    def row(name: str, mine: dict[str, str], journal: str, out: str = "", err: str = "", status: int = 0) -> Row:
+        return Row(f"replay {name}", REPLAY, {**mine, "some.journal": journal}, REPLAY_SOURCES, out, err, status)
+
+    used_up = "error 20: exhausted after 2 mergers\n"
+    return [
+        row("to the pit", nine, journal_of(4, 3, "none", "1 0 1", "2 2 1", "1 1 1"), pit_of(4, [1, 2], "3.000000")),
+        row("differs", nine, journal_of(4, 3, "none", "1 0 1", "2 2 2", "1 1 1"), "entry 2 differs\n", status=4),
+        row("stops", ten, journal_of(4, 3, "none", "1 0 1", "2 2 2", "1 1 1"), "open after 2 mergers\n", status=4),
+        row("uses its budget up", nine, journal_of(4, 3, "2", "0 0 1", "0 2 1", "0 1 3"), err=used_up, status=3),
+        row("refused", nine, journal_of(4, 3, "none", "1 3 1"), err="error 7: id out of place in journal line 6\n", status=1),
+    ]
+
+
 def all_rows() -> list[Row]:
-    return [*solve_rows(), *certificate_rows(), *refused_rows(), *shells_rows(), *check_rows()]
+    return [*solve_rows(), *certificate_rows(), *journal_rows(), *refused_rows(), *shells_rows(), *check_rows(), *replay_rows()]
 
 
 def few_rows() -> list[Row]:
     """One row of each kind and mode, for the gate."""
     wanted = {"four blocks", "an equal residual"}
     solved = [row for row in solve_rows() if any(row.name.startswith(f"solve {name},") for name in wanted)]
-    return [*solved, *certificate_rows(), *refused_rows()[2:], *shells_rows(), *check_rows()]
+    return [*solved, *certificate_rows(), *refused_rows()[2:], *shells_rows(), *check_rows(), *journal_rows(), *replay_rows()]

@@ -122,7 +122,7 @@ class Sweep:
     def unwritten(self, number: int) -> list[Outcome]:
         """The writes are that of each file, then that to standard output; or that of a refusal alone, which is lost."""
         if self.row.err:
-            return [Outcome(self.row.status, "", "", ())]
+            return [dataclasses.replace(self.right(), err="")]
         return [self.refused("error 18: write failed\n")]
 
     def silenced(self) -> list[Outcome]:

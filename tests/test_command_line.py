@@ -50,7 +50,7 @@ def test_an_argument_that_is_no_text(mine: Mine) -> None:
     assert mine.run(*words) == (2, "", "pitshell: an argument is not UTF-8\n")
 
 
-@pytest.mark.parametrize("words", [["--help"], ["help"], ["solve", "--help"], ["shells", "--help"], ["check", "--help"]])
+@pytest.mark.parametrize("words", [["--help"], ["help"], ["solve", "--help"], ["shells", "--help"], ["check", "--help"], ["replay", "--help"]])
 def test_help_goes_to_standard_output_and_names_the_statuses(mine: Mine, words: list[str]) -> None:
     status, out, err = mine.run(*words)
     assert (status, err) == (0, "")
@@ -62,9 +62,10 @@ def test_help_goes_to_standard_output_and_names_the_statuses(mine: Mine, words: 
 @pytest.mark.parametrize(
     ("subcommand", "options"),
     [
-        ("solve", ["--model", "--prec", "--mode", "--workers", "--budget", "--certificate"]),
+        ("solve", ["--model", "--prec", "--mode", "--workers", "--budget", "--journal", "--certificate"]),
         ("shells", ["--blocks", "--prec", "--revenue", "--cost", "--factors", "--mode", "--workers", "--budget"]),
         ("check", ["--model", "--prec", "--certificate"]),
+        ("replay", ["--model", "--prec", "--journal"]),
     ],
 )
 def test_help_names_each_option(mine: Mine, subcommand: str, options: list[str]) -> None:

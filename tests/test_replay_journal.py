@@ -12,18 +12,13 @@ import sys
 import pytest
 
 from conftest import TOP
-from rows import FOUR_PAIRS, model_of, pit_of
+from rows import FOUR_PAIRS, journal_of, model_of, pit_of
 
 sys.path.insert(0, str(TOP / "tools"))
 
 from replay_journal import Tree, answer, read_mine  # noqa: E402
 
 STORED = json.loads((pathlib.Path(__file__).parent / "bent_journals.json").read_text())
-
-
-def journal_of(blocks: int, arcs: int, budget: str, *entries: str) -> str:
-    lines = "".join(f"{entry}\n" for entry in entries)
-    return f"PITJOURNAL 1\nBLOCKS: {blocks}\nARCS: {arcs}\nBUDGET: {budget}\nENTRIES: {len(entries)}\n{lines}"
 
 
 def replayed(values: list[str], prec: str, journal: str) -> tuple[str, str, int]:
