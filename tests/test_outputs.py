@@ -105,3 +105,13 @@ def test_names_that_are_taken_are_passed_over(mine: Mine) -> None:
 def test_an_input_may_be_the_certificate_that_is_checked(mine: Mine) -> None:
     assert mine.read("good.cert") == CERTIFICATE
     assert mine.run("check", *SOLVE[1:5], "--certificate", "good.cert") == (0, "yes\n", "")
+
+
+@pytest.mark.parametrize("name", ["both.txt", "/dev/stdout"])
+def test_a_certificate_takes_nothing_from_standard_output(mine: Mine, name: str) -> None:
+    """Standard output is a file, and the certificate's name leads there: refused, or both texts stand in it, one after the other."""
+    with open(mine.folder / "both.txt", "w") as out:
+        ran = subprocess.run([PROGRAM, *SOLVE, name], cwd=mine.folder, stdout=out, stderr=subprocess.PIPE, timeout=60)
+    text = mine.read("both.txt")
+    refused = (ran.returncode, text, ran.stderr) == (1, "", b"error 18: write failed\n")
+    assert refused or (ran.returncode == 0 and text.startswith("PITCERT 1\n") and text.endswith(PIT))
