@@ -92,10 +92,7 @@ impl Output {
             Ok(found)
                 if found.permissions().readonly()
                     || is_among(&found, taken)
-                    || is_standard_output(rt, &found) =>
-            {
-                Err(Fault::write_failed())
-            }
+                    || is_standard_output(rt, &found) => { Err(Fault::write_failed()) }
             Ok(_) => match fs::canonicalize(rt, path) {
                 Ok(path) => create_beside(rt, path, taken),
                 Err(_) => Err(Fault::write_failed()),
