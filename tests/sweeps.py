@@ -97,10 +97,15 @@ class Sweep:
         """Status 1 with this line, no output, and no file: one takes its name only after a run that is done."""
         return Outcome(1, "", line, tuple((name, None) for name in self.row.made))
 
+    def by_the_driver(self) -> Outcome:
+        """The same where the worker lacked memory, so that the driver, under seat 0, makes the one merger that it left."""
+        made = {name: text and text.replace("\n1 0 1\n", "\n0 0 1\n") for name, text in self.row.made.items()}
+        return dataclasses.replace(self.right(), made=tuple(made.items()))
+
     def without_memory(self) -> list[Outcome]:
         """What may come where memory is refused: the run needed none any more, or it is refused."""
         lines = ["error 1: no memory\n"] + ["error 22: no seat\n"] * self.row.is_shared
-        return [self.right()] + [self.refused(line) for line in lines]
+        return [self.right(), self.by_the_driver()] + [self.refused(line) for line in lines]
 
     def without_threads(self, number: int) -> list[Outcome]:
         """The workers are started first: one that is not started is a refusal. All else goes on by the threads that there are."""
