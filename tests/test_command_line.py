@@ -45,6 +45,16 @@ def test_mistakes_write_nothing_to_standard_output(mine: Mine, words: list[str])
     assert err
 
 
+def test_a_mistyped_option_is_told_the_closest_one(mine: Mine) -> None:
+    assert "  tip: a similar argument exists: '--model'\n" in mine.run("solve", "--modle", "mine.upit")[2]
+    assert "  tip: a similar argument exists: '--mode'\n" in mine.run(*SOLVE, "--mod", "single")[2]
+
+
+@pytest.mark.parametrize("words", [["--factors", "-1"], ["--factors=-1"]])
+def test_a_negative_factor_is_refused_however_it_is_given(mine: Mine, words: list[str]) -> None:
+    assert mine.run(*SHELLS[:-2], *words) == (1, "", "error 5: not a whole number in factors item 1\n")
+
+
 def test_an_argument_that_is_no_text(mine: Mine) -> None:
     words = ["solve", "--model", b"mine\xff.upit", "--prec", "mine.prec"]
     assert mine.run(*words) == (2, "", "pitshell: an argument is not UTF-8\n")

@@ -93,6 +93,13 @@ def test_a_folder_is_no_output(mine: Mine) -> None:
     assert mine.run(*SOLVE, "folder") == REFUSED
 
 
+@pytest.mark.parametrize("option", ["--certificate", "--journal"])
+def test_an_empty_name_is_no_output(mine: Mine, option: str) -> None:
+    before = names(mine)
+    assert mine.run(*SOLVE[:-1], "--mode", "shared", option, "") == REFUSED
+    assert names(mine) == before
+
+
 def test_names_that_are_taken_are_passed_over(mine: Mine) -> None:
     """A run that was killed leaves its file under the first of these names."""
     mine.write("made.cert.0.part", OLD)

@@ -82,6 +82,7 @@ fn shells_command<'a>(alloc: Global) -> Result<Command<'a>, AllocError> {
         .value_name("LIST")
         .help("Price factors in per mille, rising, with commas between: 500,1000")
         .required(true)
+        .allow_negative_numbers(true)
         .action(ArgAction::Set);
     let shells = Command::new(alloc, "shells")
         .about("Writes the nested pits: the ultimate pit at each price factor")
@@ -107,16 +108,22 @@ fn shells_command<'a>(alloc: Global) -> Result<Command<'a>, AllocError> {
             "Attribute column of the cost, the first being 0",
         ))?
         .arg(factors)?;
-    with_mode(alloc, shells)
+    with_mode(alloc, shells, 5)
 }
 
-/// How to solve: the mode's word, which `mode_words` checks, the number of workers and the budget of mergers.
-fn with_mode<'a>(alloc: Global, command: Command<'a>) -> Result<Command<'a>, AllocError> {
+/// How to solve: the mode's word, which `mode_words` checks, the number of workers and the budget of mergers. Help shows them
+/// in places from this one on.
+fn with_mode<'a>(
+    alloc: Global,
+    command: Command<'a>,
+    place: usize,
+) -> Result<Command<'a>, AllocError> {
     let mode = Arg::new(alloc, "mode")
         .long("mode")
         .value_name("MODE")
         .help("single, parts or shared; the answer is the same in each")
         .default_value("single")
+        .display_order(place)
         .action(ArgAction::Set);
     let workers = Arg::new(alloc, "workers")
         .long("workers")
@@ -124,32 +131,37 @@ fn with_mode<'a>(alloc: Global, command: Command<'a>) -> Result<Command<'a>, All
         .help("Workers in mode shared, 1 to 64")
         .value_parser(value_parser!(u64).range(1..=64))
         .default_value("4")
+        .display_order(place.saturating_add(1))
         .action(ArgAction::Set);
     let budget = Arg::new(alloc, "budget")
         .long("budget")
         .value_name("MERGERS")
         .help("The most mergers that may be made; not in mode parts")
         .value_parser(value_parser!(u64))
+        .display_order(place.saturating_add(2))
         .action(ArgAction::Set);
     command.arg(mode)?.arg(workers)?.arg(budget)
 }
 
-/// `solve` with its files and its mode.
+/// `solve` with its files and its mode. The model's option is added behind that of the mode: of two names that are as close
+/// to a mistyped one, the last is suggested.
 fn solve_command<'a>(alloc: Global) -> Result<Command<'a>, AllocError> {
     let solve = Command::new(alloc, "solve")
         .about("Writes the smallest closed set of greatest worth: the ultimate pit")
-        .after_help(STATUSES)
-        .arg(file(
-            alloc,
-            "model",
-            "Optimisation model (.upit): the value of each block",
-        ))?
-        .arg(file(
-            alloc,
-            "prec",
-            "Precedence (.prec): the blocks that each block needs",
-        ))?;
-    with_mode(alloc, solve)?
+        .after_help(STATUSES);
+    let model = file(
+        alloc,
+        "model",
+        "Optimisation model (.upit): the value of each block",
+    );
+    let prec = file(
+        alloc,
+        "prec",
+        "Precedence (.prec): the blocks that each block needs",
+    );
+    with_mode(alloc, solve, 2)?
+        .arg(model.display_order(0))?
+        .arg(prec.display_order(1))?
         .arg(file(
             alloc,
             "certificate",

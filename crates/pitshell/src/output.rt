@@ -97,6 +97,7 @@ impl Output {
                 Ok(path) => create_beside(rt, path, taken),
                 Err(_) => Err(Fault::write_failed()),
             },
+            Err(_) if path.is_empty() => Err(Fault::write_failed()),
             Err(_) => create_beside(rt, PathBuf::from_str(rt.alloc(), path)?, taken),
         }
     }
