@@ -1,5 +1,5 @@
 # `make try` runs the program at once, unproved; `make` proves it, builds it and solves the small mine; `make test` runs the gate.
-.PHONY: all try build demo install test test-program test-plan sweep storm setup
+.PHONY: all try build demo install test test-program test-plan sweep storm bench setup
 
 SMALL_MINE = examples/small_mine
 PROGRAM = build/pitshell
@@ -64,6 +64,12 @@ sweep:
 storm:
 	test -x build/pitshell || $(MAKE) build
 	tools/journal_storm.py --results bench/results/journal-storm.md
+
+# Processor seconds beside other people's maximum flows, at up to a million blocks; results go to bench/results/.
+bench:
+	tools/setup.sh bench
+	test -x build/pitshell || $(MAKE) build
+	python3 bench/peers.py --blocks 50000 100000 500000 1000000 --limit 30
 
 # Installs what the planner's layer and its tests need of Debian's packages, where anything is missing.
 setup:

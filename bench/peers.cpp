@@ -1,23 +1,35 @@
 // Solves the ultimate pit of a model and a precedence file by a maximum flow of another library, and writes the same text as pitshell.
 //
-//     peers boykov_kolmogorov|push_relabel|lemon_preflow MODEL PREC > PIT
+//     peers PEER MODEL PREC > PIT
+//
+// PEER is boykov_kolmogorov or push_relabel of Boost, lemon_preflow of LEMON, and, where their headers are there, kolmogorov,
+// the authors' own Boykov-Kolmogorov, and igraph, its push-relabel. Without words it lists those that it has.
 //
 // The flow network is Picard's (1976): an arc from the source to each block of positive value, from each other block to the
 // sink, with the value's size as its capacity, and an arc without limit along each pair. The pit is what the source reaches
-// over arcs with capacity left, so it is the smallest of the best. The seconds of reading and of solving (network and flow)
-// go to standard error. Files are trusted: this is a yardstick, and checks nothing.
+// over arcs with capacity left, so it is the smallest of the best. The processor seconds of reading and of solving (network and
+// flow) go to standard error. Files are trusted: this is a yardstick, and checks nothing.
 #include <boost/graph/adjacency_list.hpp>
 #include <boost/graph/boykov_kolmogorov_max_flow.hpp>
 #include <boost/graph/push_relabel_max_flow.hpp>
 #include <lemon/preflow.h>
 #include <lemon/static_graph.h>
+#if __has_include(<maxflow.h>)
+#define MAXFLOW_INCLUDE_TEMPLATE_IMPLEMENTATION
+#include <maxflow.h>
+#define HAS_KOLMOGOROV
+#endif
+#if __has_include(<igraph/igraph.h>)
+#include <igraph/igraph.h>
+#define HAS_IGRAPH
+#endif
 
 #include <algorithm>
-#include <chrono>
 #include <cstdint>
 #include <cstdio>
 #include <cstdlib>
 #include <cstring>
+#include <ctime>
 #include <fstream>
 #include <iostream>
 #include <iterator>
@@ -181,6 +193,53 @@ static std::vector<Amount> by_lemon(int nodes, const std::vector<Arc> &arcs) {
     return left;
 }
 
+// The authors' own code takes the arcs of source and sink with the nodes. Doubles hold these sums exactly: they are below 2^53.
+#ifdef HAS_KOLMOGOROV
+static std::vector<char> by_kolmogorov(const Mine &mine) {
+    using Graph = maxflow::Graph<double, double, double>;
+    int n = int(mine.values.size());
+    double limitless = 1;
+    for (Amount value : mine.values) limitless += double(std::max<Amount>(value, 0));
+    Graph graph(n, int(mine.pairs.size()));
+    if (n > 0) graph.add_node(n);
+    for (int block = 0; block < n; block++) {
+        double value = double(mine.values[block]);
+        graph.add_tweights(block, std::max(value, 0.0), std::max(-value, 0.0));
+    }
+    for (auto [block, needed] : mine.pairs) graph.add_edge(block, needed, limitless, 0);
+    graph.maxflow();
+    std::vector<char> inside(n);
+    for (int block = 0; block < n; block++) inside[block] = graph.what_segment(block, Graph::SINK) == Graph::SOURCE;
+    return inside;
+}
+#endif
+
+#ifdef HAS_IGRAPH
+static std::vector<Amount> by_igraph(int nodes, const std::vector<Arc> &arcs) {
+    igraph_vector_int_t ends;
+    igraph_vector_t capacity, flow;
+    igraph_vector_int_init(&ends, igraph_integer_t(2 * arcs.size()));
+    igraph_vector_init(&capacity, igraph_integer_t(arcs.size()));
+    igraph_vector_init(&flow, 0);
+    for (size_t k = 0; k < arcs.size(); k++) {
+        VECTOR(ends)[2 * k] = arcs[k].from;
+        VECTOR(ends)[2 * k + 1] = arcs[k].to;
+        VECTOR(capacity)[k] = double(arcs[k].capacity);
+    }
+    igraph_t graph;
+    igraph_create(&graph, &ends, nodes, IGRAPH_DIRECTED);
+    igraph_real_t value;
+    igraph_maxflow(&graph, &value, &flow, nullptr, nullptr, nullptr, nodes - 2, nodes - 1, &capacity, nullptr);
+    std::vector<Amount> left;
+    for (size_t k = 0; k < arcs.size(); k++) {
+        Amount moved = Amount(VECTOR(flow)[k]);
+        left.push_back(arcs[k].capacity - moved);
+        left.push_back(moved);
+    }
+    return left;
+}
+#endif
+
 static void write(const Mine &mine, const std::vector<char> &inside) {
     size_t count = 0;
     Amount worth = 0;
@@ -191,17 +250,49 @@ static void write(const Mine &mine, const std::vector<char> &inside) {
         if (inside[block]) std::printf("%zu\n", block);
 }
 
-int main(int count, char **words) {
-    if (count != 4) return 2;
-    std::string name = words[1];
-    auto now = [] { return std::chrono::steady_clock::now(); };
-    auto begin = now();
-    Mine mine = read(words[2], words[3]);
-    auto read_at = now();
+static const std::vector<std::string> peers{
+    "boykov_kolmogorov",
+    "push_relabel",
+    "lemon_preflow",
+#ifdef HAS_KOLMOGOROV
+    "kolmogorov",
+#endif
+#ifdef HAS_IGRAPH
+    "igraph",
+#endif
+};
+
+// The blocks of the pit, and when the flow was found.
+static std::vector<char> solve(const std::string &name, const Mine &mine, std::clock_t &solved_at) {
     int nodes = int(mine.values.size()) + 2;
+    std::vector<char> inside;
+    std::vector<Amount> left;
+#ifdef HAS_KOLMOGOROV
+    if (name == "kolmogorov") {
+        inside = by_kolmogorov(mine);
+        solved_at = std::clock();
+        return inside;
+    }
+#endif
     std::vector<Arc> arcs = network(mine);
-    std::vector<Amount> left = name == "lemon_preflow" ? by_lemon(nodes, arcs) : by_boost(name == "push_relabel", nodes, arcs);
-    auto solved_at = now();
-    write(mine, reached(nodes, nodes - 2, arcs, left));
-    std::fprintf(stderr, "%.3f %.3f\n", std::chrono::duration<double>(read_at - begin).count(), std::chrono::duration<double>(solved_at - read_at).count());
+#ifdef HAS_IGRAPH
+    if (name == "igraph") left = by_igraph(nodes, arcs);
+#endif
+    if (name == "lemon_preflow") left = by_lemon(nodes, arcs);
+    if (name == "push_relabel" || name == "boykov_kolmogorov") left = by_boost(name == "push_relabel", nodes, arcs);
+    solved_at = std::clock();
+    return reached(nodes, nodes - 2, arcs, left);
+}
+
+int main(int count, char **words) {
+    if (count == 1)
+        for (const std::string &peer : peers) std::puts(peer.c_str());
+    if (count != 4) return count == 1 ? 0 : 2;
+    if (std::find(peers.begin(), peers.end(), words[1]) == peers.end()) return 2;
+    auto begin = std::clock();
+    Mine mine = read(words[2], words[3]);
+    auto read_at = std::clock();
+    auto solved_at = read_at;
+    write(mine, solve(words[1], mine, solved_at));
+    std::fprintf(stderr, "%.3f %.3f\n", double(read_at - begin) / CLOCKS_PER_SEC, double(solved_at - read_at) / CLOCKS_PER_SEC);
 }

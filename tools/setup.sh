@@ -1,10 +1,11 @@
 #!/bin/sh
 # Installs from Debian, by name, what of the planner's layer and its tests is missing. Where all is there it takes no time.
 #
-#     tools/setup.sh [core|tests|all]
+#     tools/setup.sh [core|tests|all|bench]
 #
 # core is what tools/pitplan needs; tests, the default, adds what its exports, its 3D page, its scenarios over Dask and its
-# tests need; all adds Chromium, in which the page is opened by the tests where it is there.
+# tests need; all adds Chromium, in which the page is opened by the tests where it is there. bench is the other people's
+# maximum flows beside which the program is timed.
 set -eu
 core="python3-numpy python3-pandas python3-matplotlib python3-jinja2"
 more="python3-vtk9 python3-ezdxf libjs-three python3-dask python3-distributed python3-pytest python3-hypothesis"
@@ -12,7 +13,8 @@ case "${1:-tests}" in
 core) wanted=$core ;;
 tests) wanted="$core $more" ;;
 all) wanted="$core $more chromium" ;;
-*) echo "usage: tools/setup.sh [core|tests|all]" >&2; exit 2 ;;
+bench) wanted="g++ libboost-graph-dev liblemon-dev libmaxflow-dev libigraph-dev" ;;
+*) echo "usage: tools/setup.sh [core|tests|all|bench]" >&2; exit 2 ;;
 esac
 
 missing=""
@@ -23,7 +25,7 @@ done
 
 line="apt-get install -y --no-install-recommends$missing"
 if [ "$(id -u)" -ne 0 ]; then
-    echo "The planner's layer needs these packages of Debian; as root run: apt-get update && $line" >&2
+    echo "These packages of Debian are needed; as root run: apt-get update && $line" >&2
     exit 1
 fi
 echo "installing from Debian:$missing"
