@@ -206,6 +206,22 @@ def test_a_journal_and_a_certificate_of_one_new_name(mine: Mine) -> None:
         assert {file.name for file in mine.folder.iterdir()} == before
 
 
+@pytest.mark.parametrize("name", ["both.txt", "./both.txt", "/dev/stdout"])
+def test_a_journal_takes_nothing_from_standard_output(mine: Mine, name: str) -> None:
+    with open(mine.folder / "both.txt", "w") as out:
+        ran = subprocess.run([PROGRAM, *SHARED, "1", "--journal", name], cwd=mine.folder, stdout=out, stderr=subprocess.PIPE, timeout=60)
+    assert (ran.returncode, ran.stderr) == (1, b"error 18: write failed\n")
+    assert mine.read("both.txt") == ""
+
+
+def test_a_link_without_its_file_gives_way_to_the_journal(mine: Mine) -> None:
+    (mine.folder / "made.journal").symlink_to("nowhere")
+    assert mine.run(*SHARED, "1", "--journal", "made.journal") == (0, PIT, "")
+    assert not (mine.folder / "made.journal").is_symlink()
+    assert mine.read("made.journal") == ONE_MERGER
+    assert not (mine.folder / "nowhere").exists()
+
+
 def test_a_refused_run_leaves_the_journal_that_stood_there(mine: Mine) -> None:
     mine.write("made.journal", OLD)
     mine.write("mine.prec", "1 1 1\n")
