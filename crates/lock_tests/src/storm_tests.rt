@@ -9,7 +9,7 @@ use std::sync::Wait;
 use std::test::*;
 use std::thread::Threads;
 
-// What fails in ten runs over the mine of this seed.
+// What fails in five runs over the mine of this seed.
 fn storm<R: AllocGlobal + Threads + Wait + Sync>(
     rt: &R,
     seed: u64,
@@ -21,7 +21,7 @@ fn storm<R: AllocGlobal + Threads + Wait + Sync>(
     if alone.pit.len() <= 1000 {
         return Ok(Some("the pit has more than 1,000 blocks"));
     }
-    for _run in 0..10 {
+    for _run in 0..5 {
         let (outcome, journal) = solve_shared(rt, rt.alloc(), &mine, 8, None, 1, &OpenGate)?;
         let is_found = pit_in(&outcome) == Some(alone.pit.as_slice());
         let is_led = leads_to(rt.alloc(), &mine, &journal, &alone.pit)?;
