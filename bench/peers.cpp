@@ -203,7 +203,14 @@ static std::vector<Amount> by_lemon(int nodes, const std::vector<Arc> &arcs) {
 }
 #endif
 
-// The authors' own code takes the arcs of source and sink with the nodes. Doubles hold these sums exactly: they are below 2^53.
+// Two peers count in doubles, which hold all sums of a flow exactly where the values' sizes come to less than 2^52.
+static bool doubles_hold(const Mine &mine) {
+    Amount sizes = 0;
+    for (Amount value : mine.values) sizes += std::abs(value);
+    return sizes < Amount(1) << 52;
+}
+
+// The authors' own code takes the arcs of source and sink with the nodes.
 #ifdef HAS_KOLMOGOROV
 static std::vector<char> by_kolmogorov(const Mine &mine) {
     using Graph = maxflow::Graph<double, double, double>;
@@ -306,11 +313,16 @@ int main(int count, char **words) {
     if (count == 1)
         for (const std::string &peer : peers) std::puts(peer.c_str());
     if (count != 4) return count == 1 ? 0 : 2;
-    if (std::find(peers.begin(), peers.end(), words[1]) == peers.end()) return 2;
+    std::string name = words[1];
+    if (std::find(peers.begin(), peers.end(), name) == peers.end()) return 2;
     auto begin = std::clock();
     Mine mine = read(words[2], words[3]);
     auto read_at = std::clock();
+    if ((name == "kolmogorov" || name == "igraph") && !doubles_hold(mine)) {
+        std::fprintf(stderr, "the values are too large for the doubles in which %s counts\n", name.c_str());
+        return 2;
+    }
     auto solved_at = read_at;
-    write(mine, solve(words[1], mine, solved_at));
+    write(mine, solve(name, mine, solved_at));
     std::fprintf(stderr, "%.3f %.3f\n", double(read_at - begin) / CLOCKS_PER_SEC, double(solved_at - read_at) / CLOCKS_PER_SEC);
 }

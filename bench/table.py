@@ -113,7 +113,7 @@ class Bench:
             elif "shells" not in name and rows and row.run.written != rows[0].run.written:
                 raise SystemExit(f"{name} has another pit than {rows[0].solver} at {blocks} blocks with slopes {slopes}")
             rows.append(row)
-            print(f"{slopes} {blocks} {name}: {row.run.processor if row.run else f'more than {self.limit}'}", flush=True)
+            print(f"{slopes} {blocks} {name}: {f'{row.run.processor:.3f}' if row.run else f'more than {self.limit}'}", flush=True)
         return Mine(slopes, blocks, pairs, rows)
 
 
@@ -172,9 +172,10 @@ def main() -> None:
     target = ROOT / "bench" / "results" / f"{begun:%Y-%m-%d}-table{part}.md"
     target.parent.mkdir(exist_ok=True)
     mines: list[Mine] = []
-    for slopes in given.slopes:
-        for blocks in sizes:
+    for blocks in sizes:
+        for slopes in given.slopes:
             mines.append(bench.measure(slopes, blocks))
+            mines.sort(key=lambda mine: (given.slopes.index(mine.slopes), mine.blocks))
             head = [
                 f"# Beside other people's maximum flows, {begun:%Y-%m-%d %H:%M} to {datetime.datetime.now(datetime.UTC):%H:%M} UTC",
                 "",
