@@ -4,13 +4,12 @@ Debian's packages: libmaxflow-dev (Boykov and Kolmogorov's own code), libigraph-
 without its package is left out. `tools/setup.sh bench` installs all four.
 """
 
-import dataclasses
 import pathlib
 import shutil
 import subprocess
 
 from run import ROOT, WORK
-from timing import Run, best
+from timing import Run, timed
 
 # Where Debian puts the headers of libmaxflow-dev.
 KOLMOGOROV = "/usr/include/maxflow-3.0"
@@ -26,14 +25,6 @@ NAMES = {
 }
 
 
-@dataclasses.dataclass(frozen=True)
-class Timed:
-    """A whole run, and the seconds of its solve alone: the network and the flow, without reading and writing."""
-
-    whole: Run
-    solve: float
-
-
 def build() -> tuple[pathlib.Path, list[str]]:
     """The program with the peers whose headers are there, and their words."""
     if shutil.which("c++") is None:
@@ -45,7 +36,7 @@ def build() -> tuple[pathlib.Path, list[str]]:
     return target, [name for name in NAMES if name in found]
 
 
-def time_peer(program: pathlib.Path, name: str, mine: tuple[pathlib.Path, pathlib.Path], runs: int, limit: int) -> Timed | None:
-    """A peer's run on a model and a precedence file; None where it needs more processor seconds than the limit."""
-    whole = best([program, name, *mine], runs, limit=limit)
-    return None if whole is None else Timed(whole, float(whole.told.split()[1]))
+def time_peer(program: pathlib.Path, name: str, mine: tuple[pathlib.Path, pathlib.Path], limit: int) -> tuple[Run, float] | None:
+    """A peer's run on a model and a precedence file, and the seconds of its network and flow; None where it is past the limit."""
+    run = timed([program, name, *mine], limit=limit)
+    return None if run is None else (run, float(run.told.split()[1]))

@@ -1,12 +1,13 @@
 #!/usr/bin/env python3
 """Times the program in its modes, and other people's maximum flows beside it, on the same mines in one run; `make bench`.
 
-    bench/table.py [--quick] [--bin build/pitshell] [--blocks N ...] [--slopes 1:5 1:9 cone] [--peers NAME ...] [--limit 20]
+    bench/table.py [--quick] [--bin build/pitshell] [--blocks N ...] [--slopes 1:5 1:9 cone] [--peers NAME ...]
+                   [--single] [--limit 20]
 
 For each mine (tools/make_mine.py, seed 1): `pitshell solve` in mode single, parts and shared (four workers), `pitshell shells`
 with 30 factors up to 1500 per mille, and each peer of bench/peers.py. All pits of a mine must be the same bytes, or the bench
-ends with status 1. Processor seconds, the least of three runs (of two from 500,000 blocks on; what takes more than three
-seconds is run once):
+ends with status 1. Processor seconds, the least of three rounds in which each runs once (of two above 100,000 blocks; what takes
+more than eight seconds is run once):
 
 `whole`: from the files to the written answer. `solve`: without reading. For pitshell that is the whole run less one whose
 precedence file is refused in its last line, so it has the graph, the solve and the writing in it; a peer's has its network
@@ -29,13 +30,16 @@ from collections.abc import Callable
 import machine
 import peers
 from run import ROOT, WORK, mine_files
-from timing import Run, best
+from timing import Run, timed
 
 SIZES = [50000, 100000, 500000, 1000000]
 QUICK = [50000, 100000]
 FACTORS = ",".join(map(str, range(50, 1501, 50)))
 MODES = {"single": [], "parts": ["--mode", "parts"], "shared, 4 workers": ["--mode", "shared", "--workers", "4"]}
 SINGLE = "pitshell, single"
+SHELLS = "pitshell, shells of 30 factors"
+# A run that took so many seconds is not repeated.
+LONG = 8.0
 
 
 @dataclasses.dataclass(frozen=True)
@@ -60,6 +64,31 @@ class Mine:
         return f"| {self.slopes} | {self.blocks:,} | {self.pairs:,} "
 
 
+Turn = Callable[[], tuple[Run, float] | None]
+
+
+def own(command: list[object], prec: pathlib.Path, broken: pathlib.Path, limit: int | None) -> tuple[Run, float] | None:
+    """The program's run on a precedence file, and the seconds of reading, which are those of a run on a broken copy."""
+    whole = timed([*command, "--prec", prec], limit=limit)
+    if whole is None:
+        return None
+    return whole, timed([*command, "--prec", broken], status=1).processor
+
+
+def row_of(name: str, times: list[tuple[Run, float]]) -> Row:
+    """The run with the least processor seconds; the program's solve is what that has beyond the least reading."""
+    if not times:
+        return Row(name, None)
+    run = min((run for run, _ in times), key=lambda run: run.processor)
+    least = min(seconds for _, seconds in times)
+    return Row(name, run, run.processor - least if name.startswith("pitshell") else least)
+
+
+def pairs_of(prec: pathlib.Path) -> int:
+    with open(prec) as file:
+        return sum(int(line.split(maxsplit=2)[1]) for line in file)
+
+
 def made(blocks: int, slopes: str) -> None:
     """Makes the mine in a process of its own: what a process holds when it starts another counts for the other's peak."""
     maker = multiprocessing.get_context("spawn").Process(target=mine_files, args=(blocks, slopes))
@@ -72,49 +101,50 @@ def made(blocks: int, slopes: str) -> None:
 class Bench:
     """The programs, the peers and the limit of a whole bench, and who was past the limit at which slopes."""
 
-    def __init__(self, program: pathlib.Path, names: list[str] | None, limit: int) -> None:
-        self.program, self.limit = program, limit
-        self.peers, found = peers.build()
-        self.names = found if names is None else names
-        if missing := [name for name in self.names if name not in found]:
+    def __init__(self, program: pathlib.Path, modes: bool, names: list[str] | None, limit: int) -> None:
+        self.program, self.modes, self.limit = program, modes, limit
+        self.others, found = peers.build()
+        self.peers = found if names is None else names
+        if missing := [name for name in self.peers if name not in found]:
             raise SystemExit(f"no such peer, or its headers are missing: {', '.join(missing)}; there are {', '.join(found)}")
         self.late: set[tuple[str, str]] = set()
 
-    def own(self, command: list[object], mine: tuple[pathlib.Path, pathlib.Path], name: str, runs: int) -> Row:
-        """The program's run of a command on a precedence file, less the reading that a broken copy of it takes."""
-        whole = best([*command, "--prec", mine[0]], runs, limit=None if name == SINGLE else self.limit)
-        if whole is None:
-            return Row(name, None)
-        reading = best([*command, "--prec", mine[1]], runs, status=1)
-        return Row(name, whole, whole.processor - reading.processor)
-
-    def peer(self, name: str, mine: tuple[pathlib.Path, pathlib.Path], runs: int) -> Row:
-        row = peers.time_peer(self.peers, name, mine, runs, self.limit)
-        return Row(peers.NAMES[name], None) if row is None else Row(peers.NAMES[name], row.whole, row.solve)
-
-    def measure(self, slopes: str, blocks: int) -> Mine:
-        """All rows of one mine."""
-        made(blocks, slopes)
+    def turns(self, slopes: str, blocks: int) -> dict[str, Turn]:
+        """What is timed on a mine, each by its name in the table."""
         model, prec, _, broken = mine_files(blocks, slopes)
-        with open(prec) as file:
-            pairs = sum(int(line.split(maxsplit=2)[1]) for line in file)
-        runs = 3 if blocks <= 100000 else 2
         solve = [self.program, "solve", "--model", model]
         shells = [self.program, "shells", "--revenue", "0", "--cost", "1", "--blocks", model.with_suffix(".blocks"), "--factors", FACTORS]
-        turns: dict[str, Callable[[str], Row]] = {f"pitshell, {mode}": lambda n, w=words: self.own([*solve, *w], (prec, broken), n, runs) for mode, words in MODES.items()}
-        turns["pitshell, shells of 30 factors"] = lambda n: self.own(shells, (prec, broken), n, runs)
-        for name in self.names:
-            turns[peers.NAMES[name]] = lambda _, p=name: self.peer(p, (model, prec), runs)
-        rows = []
-        for name, turn in turns.items():
-            row = Row(name, None) if (slopes, name) in self.late else turn(name)
-            if row.run is None:
-                self.late.add((slopes, name))
-            elif "shells" not in name and rows and row.run.written != rows[0].run.written:
-                raise SystemExit(f"{name} has another pit than {rows[0].solver} at {blocks} blocks with slopes {slopes}")
-            rows.append(row)
-            print(f"{slopes} {blocks} {name}: {f'{row.run.processor:.3f}' if row.run else f'more than {self.limit}'}", flush=True)
-        return Mine(slopes, blocks, pairs, rows)
+        commands = {f"pitshell, {mode}": [*solve, *words] for mode, words in MODES.items()} | {SHELLS: shells}
+        if not self.modes:
+            commands = {SINGLE: commands[SINGLE]}
+        turns: dict[str, Turn] = {}
+        for name, words in commands.items():
+            limit = None if name == SINGLE else self.limit
+            turns[name] = lambda w=words, most=limit: own(w, prec, broken, most)
+        for peer in self.peers:
+            turns[peers.NAMES[peer]] = lambda p=peer: peers.time_peer(self.others, p, (model, prec), self.limit)
+        return turns
+
+    def measure(self, slopes: str, blocks: int) -> Mine:
+        """All rows of one mine: each solver runs once a round, so that what else the machine does meets all of them."""
+        made(blocks, slopes)
+        turns = self.turns(slopes, blocks)
+        times: dict[str, list[tuple[Run, float]]] = {name: [] for name in turns}
+        for _ in range(3 if blocks <= QUICK[-1] else 2):
+            for name, turn in turns.items():
+                if (slopes, name) in self.late or any(run.elapsed > LONG for run, _ in times[name]):
+                    continue
+                if (found := turn()) is None:
+                    self.late.add((slopes, name))
+                    times[name].clear()
+                    continue
+                times[name].append(found)
+                if name != SHELLS and found[0].written != times[SINGLE][0][0].written:
+                    raise SystemExit(f"{name} has another pit than {SINGLE} at {blocks} blocks with slopes {slopes}")
+        rows = [row_of(name, times[name]) for name in turns]
+        for row in rows:
+            print(f"{slopes} {blocks} {row.solver}: {f'{row.run.processor:.3f}' if row.run else f'more than {self.limit}'}", flush=True)
+        return Mine(slopes, blocks, pairs_of(mine_files(blocks, slopes)[1]), rows)
 
 
 def short(mines: list[Mine], limit: int) -> list[str]:
@@ -160,6 +190,7 @@ def main() -> None:
     options.add_argument("--blocks", type=int, nargs="+", help="the sizes, from small to large")
     options.add_argument("--slopes", nargs="+", default=["1:5", "1:9", "cone"])
     options.add_argument("--peers", nargs="*", help="all that there are, where it is not given")
+    options.add_argument("--single", action="store_true", help="of pitshell mode single alone")
     options.add_argument("--limit", type=int, default=20, help="processor seconds of one run")
     given = options.parse_args()
     if not given.bin.exists():
@@ -167,8 +198,9 @@ def main() -> None:
     WORK.mkdir(exist_ok=True)
     sizes = sorted(given.blocks or (QUICK if given.quick else SIZES))
     begun, load = datetime.datetime.now(datetime.UTC), machine.load()
-    bench = Bench(given.bin.resolve(), given.peers, given.limit)
+    bench = Bench(given.bin.resolve(), not given.single, given.peers, given.limit)
     part = f"-{sizes[0]}-{sizes[-1]}" if given.blocks else "-quick" if given.quick else ""
+    part += "-single" if given.single else ""
     target = ROOT / "bench" / "results" / f"{begun:%Y-%m-%d}-table{part}.md"
     target.parent.mkdir(exist_ok=True)
     mines: list[Mine] = []

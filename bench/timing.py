@@ -10,9 +10,6 @@ from collections.abc import Sequence
 
 from run import WORK
 
-# A run that took so many seconds is not repeated: noise is small beside it.
-LONG = 3.0
-
 
 @dataclasses.dataclass(frozen=True)
 class Run:
@@ -52,14 +49,6 @@ def timed(command: Sequence[object], status: int = 0, limit: int | None = None) 
     return Run(processor, elapsed, usage.ru_maxrss / 1024, digest, told)
 
 
-def best(command: Sequence[object], runs: int, status: int = 0, limit: int | None = None) -> Run | None:
-    """The run with the least processor seconds of so many; a long one is not repeated. None where one is past the limit."""
-    rows: list[Run] = []
-    while len(rows) < runs:
-        row = timed(command, status, limit)
-        if row is None:
-            return None
-        rows.append(row)
-        if row.elapsed > LONG:
-            break
-    return min(rows, key=lambda row: row.processor)
+def best(command: Sequence[object], runs: int, status: int = 0) -> Run:
+    """The run with the least processor seconds of so many."""
+    return min((timed(command, status) for _ in range(runs)), key=lambda row: row.processor)
