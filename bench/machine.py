@@ -30,9 +30,9 @@ def load() -> str:
 
 
 def versions(program: pathlib.Path) -> str:
-    """The program's version and the commit it stands at, and those of Debian's packages that are there."""
+    """The program's version, the commit of this bench, and the versions of those of Debian's packages that are there."""
     commit = said("git", "-C", str(pathlib.Path(__file__).parent), "rev-parse", "--short", "HEAD")
-    rows = [f"{said(str(program), '--version')} ({commit})"]
+    rows = [f"{said(str(program), '--version')}, this bench at commit {commit}"]
     for package in PACKAGES:
         found = said("dpkg-query", "-W", "-f", "${db:Status-Status} ${Version}", package).split()
         if found[:1] == ["installed"]:
