@@ -65,11 +65,12 @@ storm:
 	test -x build/pitshell || $(MAKE) build
 	tools/journal_storm.py --results bench/results/journal-storm.md
 
-# Processor seconds beside other people's maximum flows, at up to a million blocks; results go to bench/results/.
+# The program in its modes and other people's maximum flows beside it, at up to a million blocks; the
+# table goes to bench/results/. BENCH=--quick stops at 100,000 blocks. Peers whose packages are missing are left out.
 bench:
-	tools/setup.sh bench
-	test -x build/pitshell || $(MAKE) build
-	python3 bench/peers.py --blocks 50000 100000 500000 1000000 --limit 30
+	tools/setup.sh bench || echo "going on with the peers that there are"
+	test -x $(PROGRAM) || $(MAKE) build
+	python3 bench/table.py $(BENCH)
 
 # Installs what the planner's layer and its tests need of Debian's packages, where anything is missing.
 setup:

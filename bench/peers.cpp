@@ -2,18 +2,24 @@
 //
 //     peers PEER MODEL PREC > PIT
 //
-// PEER is boykov_kolmogorov or push_relabel of Boost, lemon_preflow of LEMON, and, where their headers are there, kolmogorov,
-// the authors' own Boykov-Kolmogorov, and igraph, its push-relabel. Without words it lists those that it has.
+// PEER is kolmogorov, the authors' own Boykov-Kolmogorov, igraph, its push-relabel, boykov_kolmogorov or push_relabel of Boost,
+// or lemon_preflow of LEMON, each where its headers are there. Without words it lists those that it has.
 //
 // The flow network is Picard's (1976): an arc from the source to each block of positive value, from each other block to the
 // sink, with the value's size as its capacity, and an arc without limit along each pair. The pit is what the source reaches
 // over arcs with capacity left, so it is the smallest of the best. The processor seconds of reading and of solving (network and
 // flow) go to standard error. Files are trusted: this is a yardstick, and checks nothing.
+#if __has_include(<boost/graph/boykov_kolmogorov_max_flow.hpp>)
 #include <boost/graph/adjacency_list.hpp>
 #include <boost/graph/boykov_kolmogorov_max_flow.hpp>
 #include <boost/graph/push_relabel_max_flow.hpp>
+#define HAS_BOOST
+#endif
+#if __has_include(<lemon/preflow.h>)
 #include <lemon/preflow.h>
 #include <lemon/static_graph.h>
+#define HAS_LEMON
+#endif
 #if __has_include(<maxflow.h>)
 #define MAXFLOW_INCLUDE_TEMPLATE_IMPLEMENTATION
 #include <maxflow.h>
@@ -132,6 +138,7 @@ static std::vector<char> reached(int nodes, int source, const std::vector<Arc> &
     return seen;
 }
 
+#ifdef HAS_BOOST
 using Traits = boost::adjacency_list_traits<boost::vecS, boost::vecS, boost::directedS>;
 using BoostGraph = boost::adjacency_list<
     boost::vecS, boost::vecS, boost::directedS,
@@ -170,7 +177,9 @@ static std::vector<Amount> by_boost(bool push_relabel, int nodes, const std::vec
     }
     return left;
 }
+#endif
 
+#ifdef HAS_LEMON
 static std::vector<Amount> by_lemon(int nodes, const std::vector<Arc> &arcs) {
     std::vector<size_t> order(arcs.size());
     for (size_t k = 0; k < order.size(); k++) order[k] = k;
@@ -192,8 +201,16 @@ static std::vector<Amount> by_lemon(int nodes, const std::vector<Arc> &arcs) {
     }
     return left;
 }
+#endif
 
-// The authors' own code takes the arcs of source and sink with the nodes. Doubles hold these sums exactly: they are below 2^53.
+// Two peers count in doubles, which hold all sums of a flow exactly where the values' sizes come to less than 2^52.
+static bool doubles_hold(const Mine &mine) {
+    Amount sizes = 0;
+    for (Amount value : mine.values) sizes += std::abs(value);
+    return sizes < Amount(1) << 52;
+}
+
+// The authors' own code takes the arcs of source and sink with the nodes.
 #ifdef HAS_KOLMOGOROV
 static std::vector<char> by_kolmogorov(const Mine &mine) {
     using Graph = maxflow::Graph<double, double, double>;
@@ -251,14 +268,18 @@ static void write(const Mine &mine, const std::vector<char> &inside) {
 }
 
 static const std::vector<std::string> peers{
-    "boykov_kolmogorov",
-    "push_relabel",
-    "lemon_preflow",
 #ifdef HAS_KOLMOGOROV
     "kolmogorov",
 #endif
 #ifdef HAS_IGRAPH
     "igraph",
+#endif
+#ifdef HAS_BOOST
+    "boykov_kolmogorov",
+    "push_relabel",
+#endif
+#ifdef HAS_LEMON
+    "lemon_preflow",
 #endif
 };
 
@@ -278,8 +299,12 @@ static std::vector<char> solve(const std::string &name, const Mine &mine, std::c
 #ifdef HAS_IGRAPH
     if (name == "igraph") left = by_igraph(nodes, arcs);
 #endif
+#ifdef HAS_LEMON
     if (name == "lemon_preflow") left = by_lemon(nodes, arcs);
+#endif
+#ifdef HAS_BOOST
     if (name == "push_relabel" || name == "boykov_kolmogorov") left = by_boost(name == "push_relabel", nodes, arcs);
+#endif
     solved_at = std::clock();
     return reached(nodes, nodes - 2, arcs, left);
 }
@@ -288,11 +313,16 @@ int main(int count, char **words) {
     if (count == 1)
         for (const std::string &peer : peers) std::puts(peer.c_str());
     if (count != 4) return count == 1 ? 0 : 2;
-    if (std::find(peers.begin(), peers.end(), words[1]) == peers.end()) return 2;
+    std::string name = words[1];
+    if (std::find(peers.begin(), peers.end(), name) == peers.end()) return 2;
     auto begin = std::clock();
     Mine mine = read(words[2], words[3]);
     auto read_at = std::clock();
+    if ((name == "kolmogorov" || name == "igraph") && !doubles_hold(mine)) {
+        std::fprintf(stderr, "the values are too large for the doubles in which %s counts\n", name.c_str());
+        return 2;
+    }
     auto solved_at = read_at;
-    write(mine, solve(words[1], mine, solved_at));
+    write(mine, solve(name, mine, solved_at));
     std::fprintf(stderr, "%.3f %.3f\n", double(read_at - begin) / CLOCKS_PER_SEC, double(solved_at - read_at) / CLOCKS_PER_SEC);
 }

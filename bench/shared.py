@@ -20,8 +20,8 @@ import subprocess
 import sys
 
 sys.path.insert(0, str(pathlib.Path(__file__).resolve().parent))
-from peers import best  # noqa: E402
 from run import ROOT, WORK, mine_files  # noqa: E402
+from timing import best  # noqa: E402
 
 PROBES = {"decisions": "tree_lock::book::Book::decide::", "mergers": "norm_tree::tree::NormTree::try_merge", "turns": "crew::driver::decide_first::"}
 MERGING = ("norm_tree::", "tree_lock::", "forest::")
@@ -78,13 +78,13 @@ def main():
     for slopes in given.slopes:
         for blocks in given.blocks:
             model, prec, _, broken = mine_files(blocks, slopes)
-            reading = best([given.bin, "solve", "--model", model, "--prec", broken], given.runs, None, status=1)[0]
+            reading = best([given.bin, "solve", "--model", model, "--prec", broken], given.runs, status=1).elapsed
             parts = None
             for crew in [None, *given.workers]:
                 mode = ["--mode", "parts"] if crew is None else ["--mode", "shared", "--workers", str(crew)]
                 command = [given.bin, "solve", "--model", str(model), "--prec", str(prec), *mode]
-                whole, _, pit = best(command, given.runs, None)
-                own = whole - reading
+                whole = best(command, given.runs)
+                own, pit = whole.elapsed - reading, whole.written
                 parts = parts or (own, pit)
                 if pit != parts[1]:
                     raise SystemExit(f"another pit at {blocks} blocks with {mode}")
