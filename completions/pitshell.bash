@@ -7,7 +7,7 @@ _pitshell() {
         return
     fi
     case $before in
-    --model | --prec | --blocks | --certificate | --journal)
+    --model | --prec | --fixed | --blocks | --certificate | --journal)
         compopt -o filenames 2> /dev/null
         mapfile -t COMPREPLY < <(compgen -f -- "$word")
         return
@@ -16,13 +16,17 @@ _pitshell() {
         mapfile -t COMPREPLY < <(compgen -W "single parts shared" -- "$word")
         return
         ;;
+    --pit)
+        mapfile -t COMPREPLY < <(compgen -W "least greatest" -- "$word")
+        return
+        ;;
     --workers | --budget | --revenue | --cost | --factors) return ;;
     esac
     case ${COMP_WORDS[1]} in
-    solve) options="--model --prec --mode --workers --budget --journal --certificate --help" ;;
-    shells) options="--blocks --prec --revenue --cost --factors --mode --workers --budget --help" ;;
-    check) options="--model --prec --certificate --help" ;;
-    replay) options="--model --prec --journal --help" ;;
+    solve) options="--model --prec --fixed --mode --workers --budget --pit --journal --certificate --help" ;;
+    shells) options="--blocks --prec --revenue --cost --factors --mode --workers --budget --pit --help" ;;
+    check) options="--model --prec --fixed --certificate --help" ;;
+    replay) options="--model --prec --fixed --journal --help" ;;
     help) options="solve shells check replay" ;;
     esac
     mapfile -t COMPREPLY < <(compgen -W "$options" -- "$word")

@@ -3,6 +3,7 @@
 import os
 import pathlib
 import subprocess
+import types
 
 import pytest
 
@@ -39,6 +40,12 @@ class Mine:
         """Exit status, standard output and standard error."""
         ran = subprocess.run([PROGRAM, *words], cwd=self.folder, capture_output=True, timeout=60)
         return ran.returncode, ran.stdout.decode(), ran.stderr.decode()
+
+    def told_by(self, tool: types.ModuleType, name: str) -> tuple[int, str, str]:
+        """What a short tool answers to a certificate or a journal of the mine with its fixed blocks, as `run` gives it."""
+        model, prec, fixed, text = ((self.folder / file).read_bytes() for file in ("mine.upit", "mine.prec", "mine.fixed", name))
+        out, err, status = tool.answer(model, prec, text, fixed)
+        return status, out, err
 
 
 @pytest.fixture

@@ -208,12 +208,108 @@ def replay_rows() -> list[Row]:
     ]
 
 
+FIXED = (*SOLVE, "--fixed", "mine.fixed")
+FIXED_SOURCES = (*SOLVE_SOURCES, ("mine.fixed", "fixed"))
+CLASH = "error 21: fixed blocks clash at block 1\n"
+
+
+def two_ores(fixed: str, **more: str) -> dict[str, str]:
+    """A mine of which the second ore does not pay for its waste, with fixed blocks."""
+    return {"mine.upit": model_of(["-3", "-4", "10", "2"]), "mine.prec": "2 1 0\n3 2 0 1\n", "mine.fixed": fixed, **more}
+
+
+def fixed_rows() -> list[Row]:
+    """Blocks forced in and barred, in each mode; fixed blocks that clash; and a budget for a rest without pairs."""
+    all_four = pit_of(4, [0, 1, 2, 3], "5.000000")
+    cases = [
+        ("none", "", pit_of(4, [0, 2], "7.000000")),
+        ("ore forced in", "in 3\n", all_four),
+        ("waste barred", "out 0\n", pit_of(4, [], "0.000000")),
+        ("waste forced in, ore barred", "in 1\nout 3\n", pit_of(4, [0, 1, 2], "3.000000")),
+    ]
+    rows = [
+        Row(f"fixed, {name}, {mode}", (*FIXED, *more), two_ores(fixed), FIXED_SOURCES, out=out)
+        for name, fixed, out in cases
+        for mode, more in MODES.items()
+    ]
+    rows += [Row(f"fixed, a clash, {mode}", (*FIXED, *more), two_ores("out 1\nin 3\n"), FIXED_SOURCES, err=CLASH, status=1) for mode, more in MODES.items()]
+    budget = ("--budget", "0")
+    rows += [
+        Row(f"fixed, a budget of nothing, {mode}", (*FIXED, *MODES[mode], *budget), two_ores("in 3\n"), FIXED_SOURCES, out=all_four)
+        for mode in ("single", "shared 1")
+    ]
+    return rows
+
+
+def fixed_file_rows() -> list[Row]:
+    """What is written and read beside fixed blocks: certificates of the whole mine, journals of the rest."""
+    # block 0 is forced in, and ore worth 5 lies below waste that costs 3
+    mine = {"mine.upit": model_of(["-1", "-3", "5"]), "mine.prec": "2 1 1\n", "mine.fixed": "in 0\n"}
+    pit = pit_of(3, [0, 1, 2], "1.000000")
+    certificate = "PITCERT 2\nBLOCKS: 3\nARCS: 1\nFORCED: 1\n0\nBARRED: 0\nIN: 3\n0\n1\n2\nFLOW: 1\n2 1 5000000\n"
+    journal = journal_of(2, 1, "none", "1 0 1")
+    words = (*FIXED, *MODES["shared 1"], "--journal", "made.journal", "--certificate", "made.cert")
+    whole = "PITCERT 2\nBLOCKS: 4\nARCS: 3\nFORCED: 1\n3\nBARRED: 0\nIN: 4\n0\n1\n2\n3\nFLOW: 0\n"
+    check = ("check", *FIXED[1:], "--certificate", "some.cert")
+    check_sources = (*FIXED_SOURCES, ("some.cert", "certificate"))
+    replay = ("replay", *FIXED[1:], "--journal", "some.journal")
+    replay_sources = (*FIXED_SOURCES, ("some.journal", "journal"))
+    differ = "error 17: counts differ in certificate line 4\n"
+    return [
+        Row("fixed, with a certificate and a journal", words, mine, FIXED_SOURCES, out=pit, made={"made.cert": certificate, "made.journal": journal}),
+        Row("fixed, check says yes", check, two_ores("in 3\n", **{"some.cert": whole}), check_sources, out="yes\n"),
+        Row("fixed, check without them", CHECK, two_ores("in 3\n", **{"some.cert": whole}), CHECK_SOURCES, err=differ, status=1),
+        Row("fixed, replay", replay, {**mine, "some.journal": journal}, replay_sources, out=pit),
+    ]
+
+
+GREATEST = ("--pit", "greatest")
+ONE_ORE = {"mine.blocks": "0 0 0 0 0 3\n1 0 0 1 10 1\n", "mine.prec": "1 1 0\n"}
+
+
+def greatest_rows() -> list[Row]:
+    """The greatest pit and the greatest shells, where the least ones are smaller and where they are the same; in each mode."""
+    none = {"mine.upit": model_of([]), "mine.prec": ""}
+    worthless = {"mine.upit": model_of(["0"]), "mine.prec": ""}
+    tie = {"mine.upit": model_of(["-5", "5"]), "mine.prec": "1 1 0\n"}
+    zero = pit_of(1, [0], "0.000000")
+    solved = [
+        ("no block", SOLVE, none, SOLVE_SOURCES, pit_of(0, [], "0.000000")),
+        ("a worthless block", SOLVE, worthless, SOLVE_SOURCES, zero),
+        ("a tie", SOLVE, tie, SOLVE_SOURCES, pit_of(2, [0, 1], "0.000000")),
+        ("a tie whose ore is barred", FIXED, {**tie, "mine.fixed": "out 1\n"}, FIXED_SOURCES, pit_of(2, [], "0.000000")),
+        ("ore forced in", FIXED, two_ores("in 3\n"), FIXED_SOURCES, pit_of(4, [0, 1, 2, 3], "5.000000")),
+    ]
+    rows = [
+        Row(f"greatest, {name}, {mode}", (*words, *more, *GREATEST), files, sources, out=out)
+        for name, words, files, sources, out in solved
+        for mode, more in MODES.items()
+    ]
+    shells = "SHELLS\nBLOCKS: 2\nFACTORS: 3\n300 0 0.000000000\n400 2 0.000000000\n1000 2 6.000000000\n0 400\n1 400\n"
+    words = (*SHELLS, "300,400,1000")
+    rows += [Row(f"greatest shells, {mode}", (*words, *more, *GREATEST), ONE_ORE, SHELLS_SOURCES, out=shells) for mode, more in MODES.items()]
+    nothing = (*GREATEST, "--budget", "0")
+    used_up = "error 20: exhausted after 0 mergers\n"
+    for mode in ("single", "shared 1"):
+        rows += [
+            Row(f"greatest, a budget that suffices, {mode}", (*SOLVE, *MODES[mode], *nothing), worthless, SOLVE_SOURCES, out=zero),
+            Row(f"greatest, a budget of nothing, {mode}", (*SOLVE, *MODES[mode], *nothing), tie, SOLVE_SOURCES, err=used_up, status=3),
+            Row(f"greatest shells, a budget of nothing, {mode}", (*words, *MODES[mode], *nothing), ONE_ORE, SHELLS_SOURCES, err=used_up, status=3),
+        ]
+    return rows
+
+
 def all_rows() -> list[Row]:
-    return [*solve_rows(), *certificate_rows(), *journal_rows(), *refused_rows(), *shells_rows(), *check_rows(), *replay_rows()]
+    solved = [*solve_rows(), *certificate_rows(), *journal_rows(), *refused_rows()]
+    return [*solved, *shells_rows(), *check_rows(), *replay_rows(), *fixed_rows(), *fixed_file_rows(), *greatest_rows()]
 
 
 def few_rows() -> list[Row]:
     """One row of each kind and mode, for the gate."""
     wanted = {"four blocks", "an equal residual"}
     solved = [row for row in solve_rows() if any(row.name.startswith(f"solve {name},") for name in wanted)]
-    return [*solved, *certificate_rows(), *refused_rows()[2:], *shells_rows(), *check_rows(), *journal_rows(), *replay_rows()]
+    names = ("ore forced in", "a clash")
+    fixed = [row for row in fixed_rows() if any(row.name == f"fixed, {name}, {mode}" for name in names for mode in ("single", "shared 2"))]
+    greatest = [row for row in greatest_rows() if any(row.name == f"{name}, {mode}" for name in ("greatest, a tie", "greatest shells") for mode in ("single", "shared 2"))]
+    others = [*shells_rows(), *check_rows(), *journal_rows(), *replay_rows(), *fixed, *fixed_file_rows(), *greatest]
+    return [*solved, *certificate_rows(), *refused_rows()[2:], *others]

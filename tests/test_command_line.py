@@ -18,7 +18,9 @@ SHELLS = ["shells", "--blocks", "mine.blocks", "--prec", "mine.prec", "--revenue
     ],
 )
 def test_words_that_do_not_go_together(mine: Mine, words: list[str], line: str) -> None:
+    before = {file.name for file in mine.folder.iterdir()}
     assert mine.run(*words) == (2, "", line)
+    assert {file.name for file in mine.folder.iterdir()} == before
 
 
 @pytest.mark.parametrize(
@@ -37,6 +39,10 @@ def test_words_that_do_not_go_together(mine: Mine, words: list[str], line: str) 
         [*SOLVE, "mine.upit"],
         ["shells", "--blocks", "mine.blocks", "--prec", "mine.prec", "--revenue", "64", "--cost", "1", "--factors", "1"],
         ["check", "--model", "mine.upit", "--prec", "mine.prec"],
+        [*SHELLS, "--fixed", "mine.prec"],
+        [*SOLVE, "--fixed"],
+        [*SOLVE, "--pit"],
+        [*SHELLS, "--pit", "least", "--pit", "greatest"],
     ],
 )
 def test_mistakes_write_nothing_to_standard_output(mine: Mine, words: list[str]) -> None:
@@ -48,6 +54,7 @@ def test_mistakes_write_nothing_to_standard_output(mine: Mine, words: list[str])
 def test_a_mistyped_option_is_told_the_closest_one(mine: Mine) -> None:
     assert "  tip: a similar argument exists: '--model'\n" in mine.run("solve", "--modle", "mine.upit")[2]
     assert "  tip: a similar argument exists: '--mode'\n" in mine.run(*SOLVE, "--mod", "single")[2]
+    assert "  tip: a similar argument exists: '--fixed'\n" in mine.run(*SOLVE, "--fixd", "mine.fixed")[2]
 
 
 @pytest.mark.parametrize("words", [["--factors", "-1"], ["--factors=-1"]])
@@ -72,10 +79,10 @@ def test_help_goes_to_standard_output_and_names_the_statuses(mine: Mine, words: 
 @pytest.mark.parametrize(
     ("subcommand", "options"),
     [
-        ("solve", ["--model", "--prec", "--mode", "--workers", "--budget", "--journal", "--certificate"]),
-        ("shells", ["--blocks", "--prec", "--revenue", "--cost", "--factors", "--mode", "--workers", "--budget"]),
-        ("check", ["--model", "--prec", "--certificate"]),
-        ("replay", ["--model", "--prec", "--journal"]),
+        ("solve", ["--model", "--prec", "--fixed", "--mode", "--workers", "--budget", "--pit", "--journal", "--certificate"]),
+        ("shells", ["--blocks", "--prec", "--revenue", "--cost", "--factors", "--mode", "--workers", "--budget", "--pit"]),
+        ("check", ["--model", "--prec", "--fixed", "--certificate"]),
+        ("replay", ["--model", "--prec", "--fixed", "--journal"]),
     ],
 )
 def test_help_names_each_option(mine: Mine, subcommand: str, options: list[str]) -> None:

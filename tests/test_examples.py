@@ -30,6 +30,13 @@ def test_the_shells_of_the_guide() -> None:
     assert told_by_shell(command.replace("build/pitshell", str(PROGRAM)), TOP).startswith(shown)
 
 
+def test_the_other_runs_of_the_guide() -> None:
+    blocks = re.findall(r"^```\n(.*?)^```", (TOP / "docs" / "GUIDE.md").read_text(), re.MULTILINE | re.DOTALL)
+    runs = [run for block in blocks for run in runs_in(block)]
+    assert [told_by_shell(command.replace("build/pitshell", str(PROGRAM)), TOP) for command, _ in runs] == [shown for _, shown in runs]
+    assert len(runs) == 3
+
+
 def test_the_example_of_the_manual(tmp_path: pathlib.Path) -> None:
     text = (TOP / "man" / "pitshell.1").read_text()
     block = text.partition(".SH EXAMPLES")[2].partition(".nf\n.RS\n")[2].partition(".RE")[0]

@@ -7,11 +7,11 @@ import sys
 import pytest
 
 from conftest import PROGRAM, TOP, Mine
-from rows import pit_of
+from rows import FIXED, pit_of, two_ores
 
 sys.path.insert(0, str(TOP / "tools"))
 
-from compare_checks import ROWS, bent_bytes, bent_lines, compared  # noqa: E402
+from compare_checks import CASES, Case, bent_bytes, bent_lines, compared  # noqa: E402
 
 SOLVE = ["solve", "--model", "mine.upit", "--prec", "mine.prec"]
 SHELLS = ["shells", "--blocks", "mine.blocks", "--prec", "mine.prec", "--revenue", "0", "--cost", "1", "--factors", "300,400,1000"]
@@ -84,16 +84,29 @@ def test_a_block_model_cut_at_any_byte(mine: Mine) -> None:
         assert mine.run(*SHELLS) == ((0, due, "") if due == shells else (1, "", due)), length
 
 
+@pytest.mark.usefixtures("read")
+def test_a_fixed_file_cut_at_any_byte(mine: Mine) -> None:
+    """Block 1 is waste that is forced in, block 3 ore that is barred."""
+    few = "error 11: wrong number of fields in fixed line %d\n"
+    free, waste, barred = (pit_of(4, pit, worth) for pit, worth in (([0, 2], "7.000000"), ([0, 1, 2, 3], "5.000000"), ([0, 1, 2], "3.000000")))
+    cuts = [free, few % 1, few % 1, few % 1, waste, waste] + [few % 2] * 4 + [barred] * 2
+    text = "in 1\nout 3\n"
+    assert len(cuts) == len(text) + 1
+    for name, content in two_ores(text).items():
+        mine.write(name, content)
+    for length, due in enumerate(cuts):
+        mine.write("mine.fixed", text[:length])
+        assert mine.run(*FIXED) == ((0, due, "") if due.startswith("PIT") else (1, "", due)), length
+
+
 # how many bent certificates lie between two that are tried here
 STRIDE = 7
 
 
-@pytest.mark.parametrize("row", ROWS, ids=["a pit of two blocks", "no block pays"])
-def test_a_certificate_changed_in_a_byte_or_a_line(row: tuple[bytes, bytes, bytes], tmp_path: pathlib.Path) -> None:
-    model, prec, text = row
-    (tmp_path / "m").write_bytes(model)
-    (tmp_path / "p").write_bytes(prec)
-    bent = [*bent_lines(text), *list(bent_bytes(text))[::STRIDE]]
-    answers = [compared((PROGRAM, tmp_path, number, model, prec, one)) for number, one in enumerate([text, *bent])]
+@pytest.mark.parametrize("case", CASES.values(), ids=CASES)
+def test_a_certificate_changed_in_a_byte_or_a_line(case: Case, tmp_path: pathlib.Path) -> None:
+    case.write(tmp_path)
+    bent = [*bent_lines(case.text), *list(bent_bytes(case.text))[::STRIDE]]
+    answers = [compared((PROGRAM, tmp_path, number, case, one)) for number, one in enumerate([case.text, *bent])]
     assert [difference for _, difference in answers if difference] == []
     assert {"yes", "no"} <= {words for words, _ in answers}

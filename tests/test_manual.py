@@ -97,8 +97,8 @@ def test_zsh_reads_its_completion() -> None:
 
 
 def test_install_puts_all_in_place(tmp_path: pathlib.Path) -> None:
-    subprocess.run(["make", "-s", "install", f"PROGRAM={PROGRAM}", f"DESTDIR={tmp_path}", "PREFIX=/opt/pitshell"], cwd=TOP, check=True, timeout=60)
-    below = tmp_path / "opt" / "pitshell"
+    subprocess.run(["make", "-s", "install", f"PROGRAM={PROGRAM}", f"DESTDIR={tmp_path}", "PREFIX=/usr"], cwd=TOP, check=True, timeout=60)
+    below = tmp_path / "usr"
     places = {
         "bin/pitshell": PROGRAM,
         "share/man/man1/pitshell.1": MANUAL,

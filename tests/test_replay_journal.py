@@ -117,7 +117,7 @@ def test_the_limits_of_numbers(journal: str, wanted: tuple[str, str, int]) -> No
 
 
 def test_a_mine_that_is_not_lawful_is_refused() -> None:
-    no_mine = ("", "the model or the precedence file is not lawful\n", 1)
+    no_mine = ("", "the model, the precedence or the fixed file is not lawful\n", 1)
     empty = journal_of(2, 2, "none")
     assert replayed(["1", "1"], "0 1 1\n1 1 0\n", empty) == no_mine
     assert replayed(["1", "1.0000001"], "", empty) == no_mine

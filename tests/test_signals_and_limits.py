@@ -23,7 +23,16 @@ OLD = "what stood there\n"
 
 
 def start(mine: Mine, *words: str, **more: object) -> subprocess.Popen:
-    return subprocess.Popen([PROGRAM, *words], cwd=mine.folder, text=True, stdout=subprocess.PIPE, stderr=subprocess.PIPE, **more)
+    """Starts the program. A shell that runs the tests in the background ignores an interrupt, and so would the program."""
+    return subprocess.Popen(
+        [PROGRAM, *words],
+        cwd=mine.folder,
+        text=True,
+        stdout=subprocess.PIPE,
+        stderr=subprocess.PIPE,
+        preexec_fn=lambda: signal.signal(signal.SIGINT, signal.SIG_DFL),
+        **more,
+    )
 
 
 def write_pairs(mine: Mine, blocks: int) -> None:

@@ -1,13 +1,19 @@
 #!/usr/bin/env python3
 """Checks a certificate by the definition alone, for a reader who trusts no program but this short one.
 
-    tools/check_certificate.py MODEL PREC CERTIFICATE
+    tools/check_certificate.py MODEL PREC CERTIFICATE [--fixed FILE]
 
 It writes yes where the blocks are closed, the flow leaves no deficit in them and no excess outside, none comes in from
 outside, and each block is reached, by steps along pairs and back over pairs with flow, from one with an excess; and else no
 (status 4). A yes shows the smallest closed set of greatest worth (Picard 1976). A text that is no certificate is refused by
-its first fault (status 1). The model and the precedence file are taken to be lawful.
+its first fault (status 1). The model, the precedence file and the fixed file are taken to be lawful.
+
+With fixed blocks, all that the forced ones need must be in, all that needs barred ones out, and no flow touch either; the
+conditions on excess and reach are then those of the other blocks alone. A yes shows the smallest of the best closed sets that
+hold the forced blocks and none of the barred ones. Where there is none, since a forced block needs a barred one, the fixed
+file is refused.
 """
+import argparse
 import decimal
 import sys
 
@@ -19,6 +25,31 @@ Fault = type("Fault", (Exception,), {})
 def demand(holds, number, line):
     if not holds:
         raise Fault(f"error {number}: {WORDS[number]} in certificate line {line}\n")
+
+
+class Fixed:
+    """The blocks forced in and barred, as listed; and what follows: all that must be dug, and all that must be left."""
+
+    def __init__(self, text, pairs):
+        rows = [fields for _, fields in rows_of(text)[0]]
+        self.forced, self.barred = ([int(block) for word, block in rows if word == named] for named in (b"in", b"out"))
+        self.dug = closure(self.forced, pairs)
+        self.left = closure(self.barred, [(p, u) for u, p in pairs])
+        if clash := self.dug & set(self.barred):
+            raise Fault(f"error 21: fixed blocks clash at block {min(clash)}\n")
+
+
+def closure(blocks, pairs):
+    """The blocks with all that the pairs lead to from them."""
+    leads = {}
+    for u, p in pairs:
+        leads.setdefault(u, []).append(p)
+    found = set(queue := list(blocks))
+    while queue:
+        new = set(leads.get(queue.pop(), ())) - found
+        queue += new
+        found |= new
+    return found
 
 
 def rows_of(text):
@@ -41,8 +72,8 @@ def number(field, line, most=10):
     return int(field)
 
 
-def read_certificate(text, n, pairs):
-    """The blocks, and the amount on each pair that has a line."""
+def read_certificate(text, n, pairs, fixed):
+    """The blocks, and the amount on each pair that has a line. Format 2 names the fixed blocks too; format 1 is for none."""
     rows, count = rows_of(text)
     left = iter(rows)
 
@@ -56,20 +87,31 @@ def read_certificate(text, n, pairs):
         demand(len(fields) == 2 and fields[0] == word, 3, line)
         return number(fields[1], line), line
 
-    line, fields = due()
-    demand(fields == [b"PITCERT", b"1"], 3, line)
+    def blocks(word, wanted=None):
+        """Rising blocks behind their count; where others are wanted, the first line that differs is a fault."""
+        few, line = head(word)
+        demand(few <= n, 4, line)
+        demand(wanted is None or few == len(wanted), 17, line)
+        found = [-1]
+        for place in range(few):
+            line, fields = due()
+            demand(len(fields) == 1, 11, line)
+            block = number(fields[0], line)
+            demand(found[-1] < block < n, 7, line)
+            demand(wanted is None or block == wanted[place], 17, line)
+            found.append(block)
+        return found[1:]
+
+    line, title = due()
+    demand(title in ([b"PITCERT", b"1"], [b"PITCERT", b"2"]), 3, line)
+    demand(title[1] == b"2" or not (fixed.forced or fixed.barred), 17, line)
     for word, known in ((b"BLOCKS:", n), (b"ARCS:", len(pairs))):
         named, line = head(word)
         demand(named == known, 17, line)
-    few, line = head(b"IN:")
-    demand(few <= n, 4, line)
-    pit = [-1]
-    for _ in range(few):
-        line, fields = due()
-        demand(len(fields) == 1, 11, line)
-        block = number(fields[0], line)
-        demand(pit[-1] < block < n, 7, line)
-        pit.append(block)
+    if title[1] == b"2":
+        blocks(b"FORCED:", fixed.forced)
+        blocks(b"BARRED:", fixed.barred)
+    pit = blocks(b"IN:")
     few, line = head(b"FLOW:")
     demand(few <= len(pairs), 4, line)
     flow, known, last = {}, set(pairs), (-1, -1)
@@ -81,39 +123,50 @@ def read_certificate(text, n, pairs):
         flow[pair], last = number(fields[2], line, 31), pair
         demand(0 < flow[pair] <= 10**30, 4, line)
     demand(not (more := next(left, None)), 13, more and more[0])
-    return set(pit[1:]), flow
+    return set(pit), flow
 
 
-def certifies(values, pairs, pit, flow):
-    excess, steps = list(values), {u: [] for u in pit}
+def certifies(values, pairs, fixed, pit, flow):
+    settled = fixed.dug | fixed.left
+    if not fixed.dug <= pit or pit & fixed.left or any(u in settled or p in settled for u, p in flow):
+        return False
+    free = pit - settled
+    excess, steps = list(values), {u: [] for u in free}
     for u, p in pairs:
         amount = flow.get((u, p), 0)
         excess[u], excess[p] = excess[u] - amount, excess[p] + amount
         if (u in pit and p not in pit) or (u not in pit and p in pit and amount):
             return False
-        if u in pit:
+        if u in free and p in free:
             steps[u].append(p)
             steps[p] += [u] if amount else []
-    reached = set(queue := [u for u in pit if excess[u] > 0])
+    reached = set(queue := [u for u in free if excess[u] > 0])
     while queue:
         for b in steps[queue.pop()]:
             queue += [b] if b not in reached else []
             reached.add(b)
-    return reached == pit and all(e >= 0 if u in pit else e <= 0 for u, e in enumerate(excess))
+    return reached == free and all(e >= 0 if u in pit else e <= 0 for u, e in enumerate(excess) if u not in settled)
 
 
-def answer(model, prec, text):
+def answer(model, prec, text, fixed=b""):
     """What goes to standard output and to standard error, and the exit status."""
     values, pairs = read_mine(model, prec)
     try:
-        pit, flow = read_certificate(text, len(values), pairs)
+        settled = Fixed(fixed, pairs)
+        pit, flow = read_certificate(text, len(values), pairs, settled)
     except Fault as fault:
         return "", str(fault), 1
-    return ("yes\n", "", 0) if certifies(values, pairs, pit, flow) else ("no\n", "", 4)
+    return ("yes\n", "", 0) if certifies(values, pairs, settled, pit, flow) else ("no\n", "", 4)
 
 
 if __name__ == "__main__":
-    out, err, status = answer(*(open(name, "rb").read() for name in sys.argv[1:4]))
+    parser = argparse.ArgumentParser(description=__doc__, formatter_class=argparse.RawDescriptionHelpFormatter)
+    for name in ("model", "prec", "certificate"):
+        parser.add_argument(name, type=argparse.FileType("rb"), metavar=name.upper())
+    parser.add_argument("--fixed", type=argparse.FileType("rb"), metavar="FILE")
+    given = parser.parse_args()
+    files = [file.read() for file in (given.model, given.prec, given.certificate, given.fixed) if file]
+    out, err, status = answer(*files)
     sys.stdout.write(out)
     sys.stderr.write(err)
     sys.exit(status)

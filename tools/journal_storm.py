@@ -4,10 +4,10 @@ tools/replay_journal.py, which shares nothing with the program.
 
     tools/journal_storm.py [--bin build/pitshell] [--runs 100] [--seed 1] [--results FILE]      by hand; `make storm`
 
-Mines have 2,000 to 20,000 blocks, with slopes or with pairs at random; there are 1 to 64 workers, and a budget in some runs. All
-three must give the same standard output, standard error and status; and without a budget the pit is that of mode single. Each
-journal is then bent, in a verdict, an arc, a seat, a dropped, doubled or moved line, or cut, and the two replays must agree again.
-Whatever differs is kept below --keep with its files, and the status is 1.
+Mines have 2,000 to 20,000 blocks, with slopes or with pairs at random; there are 1 to 64 workers, and in some runs a budget, or
+blocks that are forced in or barred. All three must give the same standard output, standard error and status; and without a budget
+the pit is that of mode single. Each journal is then bent, in a verdict, an arc, a seat, a dropped, doubled or moved line, or cut,
+and the two replays must agree again. Whatever differs is kept below --keep with its files, and the status is 1.
 """
 
 import argparse
@@ -23,7 +23,7 @@ import tempfile
 import time
 
 from make_mine import write_mine
-from replay_journal import answer
+from replay_journal import answer, closure, read_mine
 
 TOP = pathlib.Path(__file__).resolve().parent.parent
 WORKERS = (1, 2, 3, 4, 8, 16, 33, 64)
@@ -33,26 +33,35 @@ SHAPES = ("1:5", "1:9", "cone", "random", "layers")
 
 @dataclasses.dataclass(frozen=True)
 class Run:
-    """A mine by its shape, size and seed, the number of workers, and the share of its mergers that a budget allows."""
+    """A mine by its shape, size and seed, the number of workers, the share of its mergers that a budget allows, and how many
+    blocks are forced in and how many barred."""
 
     shape: str
     blocks: int
     seed: int
     workers: int
     share: float | None
+    fixed: int = 0
 
 
 def random_storm(runs: int, seed: int) -> list[Run]:
     rng = random.Random(seed)
     return [
-        Run(SHAPES[k % len(SHAPES)], rng.randint(2_000, 20_000), rng.randrange(10**6), WORKERS[k % len(WORKERS)], rng.choice([None, None, rng.random()]))
+        Run(
+            shape=SHAPES[k % len(SHAPES)],
+            blocks=rng.randint(2_000, 20_000),
+            seed=rng.randrange(10**6),
+            workers=WORKERS[k % len(WORKERS)],
+            share=rng.choice([None, None, rng.random()]),
+            fixed=rng.choice([0, 0, 3]),
+        )
         for k in range(runs)
     ]
 
 
 def small_storm() -> list[Run]:
     """A few small mines, for the gate: each shape with few and many workers, and a budget for each of the latter."""
-    return [Run(shape, 300, 7, workers, share) for shape in SHAPES for workers, share in ((1, None), (3, None), (16, 0.5))]
+    return [Run(shape, 300, 7, workers, share, fixed) for shape in SHAPES for workers, share, fixed in ((1, None, 0), (3, None, 2), (16, 0.5, 0))]
 
 
 def write_pairs(prefix: pathlib.Path, run: Run) -> None:
@@ -68,6 +77,17 @@ def write_pairs(prefix: pathlib.Path, run: Run) -> None:
     model = "".join(f"{block} {value}.{rng.randrange(100):02}\n" for block, value in enumerate(values))
     prefix.with_suffix(".upit").write_text(f"NAME: {run.shape}\nTYPE: UPIT\nNBLOCKS: {run.blocks}\nOBJECTIVE_FUNCTION:\n{model}")
     prefix.with_suffix(".prec").write_text("".join(lines))
+
+
+def write_fixed(prefix: pathlib.Path, run: Run) -> None:
+    """Blocks at random that are forced in, and barred ones that none of these needs."""
+    rng = random.Random(f"{run}")
+    model, prec = (prefix.with_suffix(suffix).read_bytes() for suffix in (".upit", ".prec"))
+    values, pairs = read_mine(model, prec)
+    forced = rng.sample(range(len(values)), run.fixed)
+    others = sorted(set(range(len(values))) - closure(forced, pairs))
+    words = {block: "in" for block in forced} | {block: "out" for block in rng.sample(others, min(len(others), run.fixed))}
+    prefix.with_suffix(".fixed").write_text("".join(f"{words[block]} {block}\n" for block in sorted(words)))
 
 
 def bent(text: bytes, rng: random.Random) -> bytes:
@@ -108,13 +128,24 @@ class Storm:
         ran = subprocess.run([self.program, *words], cwd=self.folder, capture_output=True, text=True, timeout=3600)
         return ran.stdout, ran.stderr, ran.returncode
 
+    @staticmethod
+    def mine_of(run: Run) -> tuple[str, ...]:
+        """The options that name the files of the mine."""
+        return ("--model", "mine.upit", "--prec", "mine.prec", *(("--fixed", "mine.fixed") if run.fixed else ()))
+
+    def beside(self, journal: bytes) -> tuple[str, str, int]:
+        """What the short replay answers to a journal of the mine."""
+        model, prec, fixed = ((self.folder / name).read_bytes() for name in ("mine.upit", "mine.prec", "mine.fixed"))
+        return answer(model, prec, journal, fixed)
+
     def try_run(self, run: Run) -> None:
         prefix = self.folder / "mine"
         if run.shape in ("random", "layers"):
             write_pairs(prefix, run)
         else:
             write_mine(str(prefix), run.blocks, run.shape, run.seed)
-        mine = ("--model", "mine.upit", "--prec", "mine.prec")
+        write_fixed(prefix, run)
+        mine = self.mine_of(run)
         shared = ("--mode", "shared", "--workers", str(run.workers))
         alone = self.told("solve", *mine)
         budget = []
@@ -124,7 +155,7 @@ class Storm:
             budget = ["--budget", str(int(applied * run.share * 1.2))]
         solved = self.told("solve", *mine, *shared, *budget, "--journal", "run.journal")
         replayed = self.told("replay", *mine, "--journal", "run.journal")
-        beside = answer((self.folder / "mine.upit").read_bytes(), (self.folder / "mine.prec").read_bytes(), self.journal())
+        beside = self.beside(self.journal())
         self.count(solved[2])
         if not (solved == replayed == beside) or solved[2] not in ((0,) if not budget else (0, 3)) or (solved[2] == 0 and solved != alone):
             heads = [(out[:60], err, status) for out, err, status in (alone, solved, replayed, beside)]
@@ -136,10 +167,9 @@ class Storm:
     def bend(self, run: Run) -> None:
         """Both replays of journals that are bent from the one that was written."""
         rng, text = random.Random(f"{run}"), self.journal()
-        model, prec = ((self.folder / name).read_bytes() for name in ("mine.upit", "mine.prec"))
         for _ in range(BENDS):
             (self.folder / "bent.journal").write_bytes(other := bent(text, rng))
-            replayed, beside = self.told("replay", "--model", "mine.upit", "--prec", "mine.prec", "--journal", "bent.journal"), answer(model, prec, other)
+            replayed, beside = self.told("replay", *self.mine_of(run), "--journal", "bent.journal"), self.beside(other)
             self.bends[re.match(r"PIT|entry|open|error \d+", replayed[0] + replayed[1])[0] if replayed[0] + replayed[1] else "nothing"] += 1
             if replayed != beside:
                 heads = [(out[:60], err, status) for out, err, status in (replayed, beside)]
@@ -164,7 +194,7 @@ class Storm:
         if self.keep:
             place = self.keep / str(len(self.wrong))
             place.mkdir(parents=True, exist_ok=True)
-            for name in ("mine.upit", "mine.prec", "run.journal", "bent.journal"):
+            for name in ("mine.upit", "mine.prec", "mine.fixed", "run.journal", "bent.journal"):
                 if (self.folder / name).exists():
                     (place / name).write_bytes((self.folder / name).read_bytes())
 

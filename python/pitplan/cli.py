@@ -1,4 +1,4 @@
-"""The command line: `pitplan prepare | shells | view | export | audit | scenarios | convert`, and others that these need."""
+"""The command line: `pitplan prepare | shells | pit | view | export | audit | scenarios | convert`, and what these need."""
 
 from __future__ import annotations
 
@@ -22,6 +22,7 @@ def parser() -> argparse.ArgumentParser:
     words = {
         "prepare": "write the program's files and prepare.json, which says what was rounded, dropped and clipped",
         "shells": "prepare, run the program, and write tables, pictures and the report",
+        "pit": "solve the pit of one factor with the project's fixed blocks and without them, and compare the two",
         "view": "write a page that shows the shells in 3D (libjs-three)",
         "export": "write the shells for other programs",
         "audit": "write a folder by which others can check one shell",
@@ -33,9 +34,10 @@ def parser() -> argparse.ArgumentParser:
         sub.add_argument("--quiet", action="store_true", help="tell no progress on standard error")
         if name == "export":
             sub.add_argument("--to", required=True, choices=("csv", "vti", "dxf"))
-        if name in ("export", "audit"):
+        if name in ("pit", "export", "audit"):
             is_needed = name == "audit"
-            sub.add_argument("--factor", type=int, required=is_needed, default=None if is_needed else REFERENCE_FACTOR)
+            kind = positive if name == "pit" else int
+            sub.add_argument("--factor", type=kind, required=is_needed, default=None if is_needed else REFERENCE_FACTOR)
     add_scenarios(subs)
     text = "write other people's files as the program's"
     kinds = subs.add_parser("convert", help=text, description=text).add_subparsers(dest="kind", required=True)
@@ -118,6 +120,14 @@ def run_command(options: argparse.Namespace, project: Project, folder: Path, pro
         print_table([heading for _, heading, _, _ in columns], report.cells_of(table, columns))
         tell_notes(record["notes"])
         print(folder / commands.REPORT)
+    elif options.command == "pit":
+        folder = options.out or project.folder / "pit"
+        table, record = commands.pit(project, folder, options.factor, progress)
+        columns = report.columns_of(table, project)
+        lines = [[name, *row] for name, row in zip(table["fixed_blocks"], report.cells_of(table, columns))]
+        print_table(["fixed, blocks", *(heading for _, heading, _, _ in columns)], lines)
+        tell_notes(record["notes"])
+        print(folder / commands.PITS)
     elif options.command == "view":
         print(commands.view(folder, progress))
     elif options.command == "export":

@@ -1,7 +1,8 @@
-"""What each subcommand writes: `prepare`, `shells`, `view`, `export` and `audit`."""
+"""What each subcommand writes: `prepare`, `shells`, `pit`, `view`, `export` and `audit`."""
 
 from __future__ import annotations
 
+from dataclasses import replace
 from pathlib import Path
 from typing import Any
 
@@ -16,9 +17,22 @@ from .progress import Progress
 from .project import Project
 
 PREPARED = [files.BLOCKS, files.MODEL, files.PREC]
+PIT_MODEL, PITS = "pit.upit", "pits.csv"
+WITHOUT = "the shells are those without the fixed blocks of the project: pitplan pit keeps to them"
 PICTURES = {"pit_by_pit": "pit_by_pit.png", "plans": "plans.png", "sections": "sections.png"}
 REPORT, VIEW = "report.html", "view.html"
-WRITTEN = {*PREPARED, files.RECORD, files.TABLE, files.SHELLS, files.ANSWER, REPORT, VIEW, *PICTURES.values()}
+WRITTEN = {
+    *PREPARED,
+    files.FIXED,
+    files.RECORD,
+    files.TABLE,
+    files.SHELLS,
+    files.ANSWER,
+    REPORT,
+    VIEW,
+    *PICTURES.values(),
+}
+WRITTEN |= {PIT_MODEL, PITS}
 
 
 def prepare(project: Project, folder: Path, progress: Progress) -> dict[str, Any]:
@@ -28,7 +42,40 @@ def prepare(project: Project, folder: Path, progress: Progress) -> dict[str, Any
     with files.staged(folder) as stage:
         record = write_prepared(plan, stage, progress)
         write_table(plan.blocks, stage)
-        return finish(plan, record, [*PREPARED, files.TABLE], stage)
+        return finish(plan, record, [*written(plan), files.TABLE], stage)
+
+
+def written(plan: Plan) -> list[str]:
+    """The files of a plan for the program."""
+    return [*PREPARED, files.FIXED] if plan.project.fixed else PREPARED
+
+
+def pit(project: Project, folder: Path, factor: int, progress: Progress) -> tuple[pd.DataFrame, dict[str, Any]]:
+    """Prepares, and solves the pit of one factor with the project's fixed blocks and without them; gives a table with a row of
+    each, and the record. blocks.csv has the pit with them.
+
+    Raises PlanError where the project has no fixed blocks, and ProgramError where they clash.
+    """
+    if project.fixed is None:
+        raise PlanError(f"{project.path}: [fixed] is missing: it says which blocks must be dug and which may not be")
+    project = replace(
+        project, schedule=replace(project.schedule, factors=(factor,), chosen=None, reference_added=False)
+    )
+    demand_apart(project, folder)
+    plan = prepare_plan(project, progress=progress)
+    with files.staged(folder) as stage:
+        record = write_prepared(plan, stage, progress)
+        files.write_model(stage / PIT_MODEL, project.title, audits.values_at(stage / files.BLOCKS, factor))
+        mine = (stage / PIT_MODEL, stage / files.PREC)
+        with progress.step("solving with the fixed blocks and without"):
+            keeping = run.solve_pit(*mine, stage / files.FIXED, factor)
+            free = run.solve_pit(*mine, None, factor)
+        table = pd.concat([analyse.shells(plan, solution) for solution in (keeping, free)], ignore_index=True)
+        table.insert(0, "fixed_blocks", ["kept", "free"])
+        write_table(analyse.blocks(plan, keeping), stage)
+        shown(table).to_csv(stage / PITS, index=False)
+        finish(plan, record, [*written(plan), PIT_MODEL, files.TABLE, PITS], stage)
+    return table, record
 
 
 def shells(project: Project, folder: Path, progress: Progress) -> tuple[pd.DataFrame, dict[str, Any]]:
@@ -45,11 +92,12 @@ def shells(project: Project, folder: Path, progress: Progress) -> tuple[pd.DataF
             write_table(analyse.blocks(plan, solution), stage)
             shown(table).to_csv(stage / files.SHELLS, index=False)
             record["notes"] += analyse.edge_notes(plan, solution)
+            record["notes"] += [WITHOUT] if project.fixed else []
         chosen = analyse.chosen_factor(table, project.schedule)
         record["shells"] = {"factors": list(project.schedule.factors), "chosen": chosen, "program": identity}
         with progress.step("drawing"):
             draw(plan, solution, table, chosen, stage)
-        names = [*PREPARED, files.ANSWER, files.TABLE, files.SHELLS, *PICTURES.values()]
+        names = [*written(plan), files.ANSWER, files.TABLE, files.SHELLS, *PICTURES.values()]
         finish(plan, record, names, stage)
         write_report(project, table, record, stage)
     return table, record

@@ -21,7 +21,7 @@ from .grid import Grid
 from .needs import ABSENT, slices
 from .slopes import Walls
 
-BLOCKS, MODEL, PREC = "mine.blocks", "mine.upit", "mine.prec"
+BLOCKS, MODEL, PREC, FIXED = "mine.blocks", "mine.upit", "mine.prec", "mine.fixed"
 RECORD, TABLE, SHELLS, ANSWER = "prepare.json", "blocks.csv", "shells.csv", "shells.txt"
 CHUNK = 200_000
 

@@ -10,9 +10,10 @@ from typing import Any, Optional, Union
 import numpy as np
 import pandas as pd
 
-from . import files, grid as grids, money, slopes, table as tables, trim
+from . import files, fixed as fixing, grid as grids, money, slopes, table as tables, trim
 from .errors import PlanError
 from .files import Pairs
+from .fixed import NOTHING, FixedBlocks
 from .grid import Grid
 from .money import Values
 from .progress import Progress, silent
@@ -37,6 +38,7 @@ class Plan:
     source  the table's file, or "table" where it came from pandas
     filled  how many empty fields were taken as 0
     notes   sentences that a planner should read before trusting the plan
+    fixed   blocks that must be dug, and blocks that may not be
     """
 
     project: Project
@@ -48,6 +50,7 @@ class Plan:
     source: str
     filled: int = 0
     notes: list[str] = field(default_factory=list)
+    fixed: FixedBlocks = NOTHING
 
     @property
     def blocks(self) -> pd.DataFrame:
@@ -60,11 +63,14 @@ class Plan:
         return frame.sort_values("id").reset_index(drop=True)
 
     def write(self, folder: Path) -> dict[str, Any]:
-        """Writes mine.blocks, mine.upit and mine.prec into a folder; gives the record of what was done. Raises PlanError."""
+        """Writes mine.blocks, mine.upit and mine.prec into a folder, and mine.fixed where the project has `[fixed]`; gives the
+        record of what was done. Raises PlanError."""
         nodes = self.values.nodes()
         processed = self.values.processed
         files.write_blocks(folder / files.BLOCKS, self.grid, processed, nodes)
         files.write_model(folder / files.MODEL, self.project.title, nodes[0] - nodes[1])
+        if self.project.fixed is not None:
+            fixing.write(folder / files.FIXED, self.fixed)
         pairs = files.write_prec(folder / files.PREC, self.grid, self.walls, self.used, processed)
         if pairs.written + pairs.processing > MOST_PAIRS:
             raise PlanError(
@@ -88,6 +94,7 @@ class Plan:
             },
             "walls": [pattern.as_json() for pattern in self.walls.patterns],
             "needs": self.record_of_needs(pairs),
+            "fixed": {"forced": len(self.fixed.forced), "barred": len(self.fixed.barred)},
             "factors": list(project.schedule.factors),
             "factor_1000_added": project.schedule.reference_added,
             "notes": [*self.notes, *self.notes_of_needs(pairs)],
@@ -163,8 +170,16 @@ def prepare(
 def plan_of(project: Project, frame: pd.DataFrame, grid: Grid, walls: Walls, source: str) -> Plan:
     """A plan of a checked table, without notes. Raises PlanError where its blocks cannot be weighed."""
     values = money.values_of(frame, grid, project, source)
-    paying = np.array(values.greatest_value(project.schedule.factors[-1]) > 0, dtype=bool)
-    return Plan(project, frame, grid, values, walls, trim.used_blocks(grid, walls, paying), source)
+    fixed = fixing.of_table(frame, grid, project, source)
+    used = trim.used_blocks(grid, walls, wanted(values, project, fixed))
+    return Plan(project, frame, grid, values, walls, used, source, fixed=fixed)
+
+
+def wanted(values: Values, project: Project, fixed: FixedBlocks) -> np.ndarray:
+    """The cells for which a pit digs others: those that can pay for themselves, and those that must be dug."""
+    found = np.array(values.greatest_value(project.schedule.factors[-1]) > 0, dtype=bool)
+    found[fixed.forced] = True
+    return found
 
 
 def notes_of(plan: Plan) -> list[str]:
@@ -185,6 +200,7 @@ def notes_of(plan: Plan) -> list[str]:
         notes.append(f"{plan.filled:,} empty fields were taken as 0")
     notes += [pattern.sentence() for pattern in plan.walls.patterns]
     notes += plan.values.notes
+    notes += plan.fixed.notes
     if plan.project.schedule.reference_added:
         notes.append("factor 1000, the price as given, was added to the factors")
     for name, rounding in plan.values.roundings.items():

@@ -100,6 +100,30 @@ class Slopes:
 
 
 @dataclass(frozen=True)
+class Area:
+    """A polygon on the map, by a table of its corners x and y in order, of which the inside or the outside may not be dug."""
+
+    polygon: Path
+    barred: str
+
+
+@dataclass(frozen=True)
+class FixedRules:
+    """What must be dug, and what may not be.
+
+    forced   a column of the table: blocks with a number above 0 must be dug
+    barred   a column of the table: blocks with a number above 0 may not be dug
+    surface  a table of points x, y, z of the ground as mined: the rock above it must be dug
+    areas    what may not be dug on the map
+    """
+
+    forced: Optional[str]
+    barred: Optional[str]
+    surface: Optional[Path]
+    areas: tuple[Area, ...]
+
+
+@dataclass(frozen=True)
 class Schedule:
     """Price factors in per mille, and what discounting needs: a yearly rate and yearly capacities in tonnes."""
 
@@ -139,6 +163,7 @@ class Project:
     schedule: Schedule
     folder: Path
     scenarios: Optional[Scenarios] = None
+    fixed: Optional[FixedRules] = None
 
 
 def load(path: Union[str, Path]) -> Project:
@@ -168,6 +193,7 @@ def of_data(data: dict, path: Path) -> Project:
         schedule=read_schedule(top.section("shells")),
         folder=path.parent / output.text("folder", "plan"),
         scenarios=read_scenarios(top.section("scenarios"), path.parent) if top.has("scenarios") else None,
+        fixed=read_fixed(top.section("fixed"), path.parent) if top.has("fixed") else None,
     )
     output.finish()
     top.finish()
@@ -298,6 +324,23 @@ def read_schedule(section: Section) -> Schedule:
     )
     section.finish()
     return schedule
+
+
+def read_fixed(section: Section, folder: Path) -> FixedRules:
+    rules = FixedRules(
+        forced=section.optional_text("forced"),
+        barred=section.optional_text("barred"),
+        surface=folder / section.text("surface") if section.has("surface") else None,
+        areas=tuple(read_area(area, folder) for area in section.sections("areas")) if section.has("areas") else (),
+    )
+    section.finish()
+    return rules
+
+
+def read_area(section: Section, folder: Path) -> Area:
+    area = Area(folder / section.text("polygon"), section.choice("barred", ("inside", "outside"), None))
+    section.finish()
+    return area
 
 
 def read_scenarios(section: Section, folder: Path) -> Scenarios:

@@ -75,6 +75,21 @@ def solve_files(blocks: Path, prec: Path, factors: tuple[int, ...]) -> Solution:
     return read_answer(call("shells", *options))
 
 
+def solve_pit(model: Path, prec: Path, fixed: Optional[Path], factor: int) -> Solution:
+    """One pit, of a model whose values are those of a factor, a thousandfold; with fixed blocks, where there is a file of them.
+
+    Raises ProgramError where the program refuses, as where a block must be dug and may not be.
+    """
+    options = ("--model", model, "--prec", prec, *(("--fixed", fixed) if fixed else ()))
+    answer = call("solve", *options)
+    lines = answer.decode().split("\n")
+    nodes, count, worth = (lines[k].split()[1] for k in (1, 2, 3))
+    entry = np.zeros(int(nodes), dtype=np.int32)
+    entry[np.array(lines[4:-1], dtype=np.int64)] = factor
+    worths = pd.Series([Decimal(worth) / 1000], index=[factor], dtype=object)
+    return Solution(worths, pd.Series([int(count)], index=[factor]), entry, answer)
+
+
 def read_answer(answer: bytes) -> Solution:
     """The program's shell text as arrays."""
     head = answer.split(b"\n", 3)

@@ -87,7 +87,8 @@ def read_header(file: Path, separator: str) -> list[str]:
 def names_of(project: Project) -> list[str]:
     """The columns that the project names, each once."""
     t = project.table
-    named = [t.id, t.x, t.y, t.z, t.tonnes, t.rock, t.region, *(metal.column for metal in project.metals)]
+    fixed = [project.fixed.forced, project.fixed.barred] if project.fixed else []
+    named = [t.id, t.x, t.y, t.z, t.tonnes, t.rock, t.region, *(metal.column for metal in project.metals), *fixed]
     return list(dict.fromkeys(name for name in named if name))
 
 

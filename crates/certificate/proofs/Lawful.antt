@@ -6,6 +6,7 @@ use Rattle.std.proofs.lemmas.Int.{ints}
 use Rattle.std.proofs.lemmas.Bool.{cases_eq, cases_lt}
 use Rattle.std.proofs.lemmas.List.Elements.{All-cons, All-nil}
 use Rattle.minelib_reader.specs.Text.{Row}
+use Rattle.pit_model.specs.Fixed.{FixedLists}
 use Rattle.pit_model.specs.Graph.{Graph}
 use Rattle.pit_model.specs.Limits.{Between}
 use Rattle.certificate.specs.Check.{amount, most_amount, AreRising, IsCandidate}
@@ -49,10 +50,10 @@ flow_between pairs from (r ∷ rows) flow s k l = ⊎_elim
     (cases_eq k s.0))
     (cases_lt k s.0)
 
-pub lawful : (graph : Graph) (rows : List Row) (c : PitAndFlow) → SpellsRows graph rows c → IsCandidate graph.blocks (length graph.pairs) c.pit c.flow
-lawful graph rows c s = record {
-  below = blocks_below graph.blocks 0 s.ids c.pit s.pit;
-  rising = blocks_rise graph.blocks 0 s.ids c.pit s.pit;
+pub lawful : (graph : Graph) (lists : FixedLists) (rows : List Row) (c : PitAndFlow) → SpellsRows graph lists rows c → IsCandidate graph.blocks (length graph.pairs) c.pit c.flow
+lawful graph lists rows c s = record {
+  below = blocks_below graph.blocks 0 s.pit.blocks c.pit s.pit.spelled;
+  rising = blocks_rise graph.blocks 0 s.pit.blocks c.pit s.pit.spelled;
   counted = s.counted;
   amounts = λ k l. flow_between graph.pairs 0 s.amounts c.flow s.flow k (omega arith);
 }

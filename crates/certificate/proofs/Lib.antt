@@ -9,7 +9,9 @@ pub mod Carrying
 pub mod ArcOf
 pub mod Steps
 pub mod LinesRead
+pub mod HeadRead
 pub mod TextRead
+pub mod HeadFound
 pub mod TextFound
 pub mod Lawful
 pub mod Written

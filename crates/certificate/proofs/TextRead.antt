@@ -4,16 +4,16 @@ use Rattle.std.specs.Prelude.{ℤ, pos, codes, replicate}
 use Rattle.std.proofs.lemmas.Bool.{cases_eq, cases_lt}
 use Rattle.std.proofs.lemmas.List.{append-nil, get_or-set_same, get_or-set_other, length-set, length-replicate, ext_get_or}
 use Rattle.minelib_reader.specs.Text.{Row}
+use Rattle.pit_model.specs.Fixed.{FixedLists}
 use Rattle.pit_model.specs.Graph.{Graph, AreRising}
 use Rattle.certificate.specs.declared.due.Due.TheVariants.{Block, Arc}
 use Rattle.certificate.specs.Check.{amount}
-use Rattle.certificate.specs.CertificateLines.{State, PitAndFlow, pit_and_flow, state, first_state, block_step, arc_step, step_at, end_at, certificate_from, count_line, arc_line}
+use Rattle.certificate.specs.CertificateLines.{State, PitAndFlow, pit_and_flow, state, first_state, step, end, block_step, arc_step, step_at, end_at, certificate_from, count_line, arc_line}
 use Rattle.certificate.specs.CertificateGrammar.{SpellsBlock, SpellsBlocks, SpellsFlow, SpellsRows}
-use Rattle.faults.specs.declared.source.Source.TheVariants.{Certificate}
-use Rattle.report.specs.HeadLines.{SpellsNumber}
 use Rattle.report.specs.LineByLine.{read_from}
-use Rattle.report.proofs.HeadRead.{reads_title, reads_same}
+use Rattle.report.proofs.ReadingOn.{read_on}
 use Rattle.certificate.proofs.LinesRead.{reads_count, reads_id, reads_arc}
+use Rattle.certificate.proofs.HeadRead.{format_read, from_after}
 
 -- at the start no arc carries anything
 pub none_carried : (m k : ℕ) → amount (replicate m (pos 0)) k ≡ pos 0
@@ -21,50 +21,44 @@ none_carried zero k = refl
 none_carried (suc m) zero = refl
 none_carried (suc m) (suc k) = none_carried m k
 
-module _ (graph : Graph) (count : ℕ) where
+module _ (graph : Graph) (lists : FixedLists) (count : ℕ) where
   -- one line
-  step_on : (s t : State) (r : Row) (rows : List Row) → step_at graph s.due s.pit s.flow r ≡ Ok t → certificate_from graph count s (r ∷ rows) ≡ certificate_from graph count t rows
-  unfolding read_from
-  step_on s t r rows h = rw h refl
-
-  -- where the next block starts behind these
-  abbrev from_after : ℕ → List ℕ → ℕ
-  from_after from [] = from
-  from_after from (id ∷ ids) = from_after (id + 1) ids
+  step_on : (s t : State) (r : Row) (rows : List Row) → step_at graph lists s.due s.pit s.flow r ≡ Ok t → certificate_from graph lists count s (r ∷ rows) ≡ certificate_from graph lists count t rows
+  step_on s t r rows h = read_on (step graph lists) (end count) s t r rows h
 
   block_read : (left from id : ℕ) (pit : List ℕ) (flow : List ℤ) (r : Row) → SpellsBlock graph.blocks from r id
-      → step_at graph (Block (suc left) from) pit flow r ≡ Ok (state (Block left (id + 1)) (pit ++ id ∷ []) flow)
+      → step_at graph lists (Block (suc left) from) pit flow r ≡ Ok (state (Block left (id + 1)) (pit ++ id ∷ []) flow)
   unfolding step_at block_step
   block_read left from id pit flow r s = rw (reads_id graph.blocks from r id s) refl
 
   blocks_read : (from : ℕ) (rows rest : List Row) (front ids : List ℕ) (flow : List ℤ) → SpellsBlocks graph.blocks from rows ids
-      → certificate_from graph count (state (Block (length ids) from) front flow) (rows ++ rest) ≡ certificate_from graph count (state (Block 0 (from_after from ids)) (front ++ ids) flow) rest
-  blocks_read from [] rest front [] flow s = ap (λ (xs : List ℕ). certificate_from graph count (state (Block 0 from) xs flow) rest) (sym (append-nil front))
+      → certificate_from graph lists count (state (Block (length ids) from) front flow) (rows ++ rest) ≡ certificate_from graph lists count (state (Block 0 (from_after from ids)) (front ++ ids) flow) rest
+  blocks_read from [] rest front [] flow s = ap (λ (xs : List ℕ). certificate_from graph lists count (state (Block 0 from) xs flow) rest) (sym (append-nil front))
   blocks_read from [] rest front (id ∷ ids) flow s = absurd s
   blocks_read from (r ∷ rows) rest front [] flow s = absurd s
   blocks_read from (r ∷ rows) rest front (id ∷ ids) flow s =
       step_on (state (Block (suc (length ids)) from) front flow) (state (Block (length ids) (id + 1)) (front ++ id ∷ []) flow) r (rows ++ rest) (block_read (length ids) from id front flow r s.0)
       ∙ blocks_read (id + 1) rows rest (front ++ id ∷ []) ids flow s.1
-      ∙ ap (λ (xs : List ℕ). certificate_from graph count (state (Block 0 (from_after (id + 1) ids)) xs flow) rest) (append_assoc front (id ∷ []) ids)
+      ∙ ap (λ (xs : List ℕ). certificate_from graph lists count (state (Block 0 (from_after (id + 1) ids)) xs flow) rest) (append_assoc front (id ∷ []) ids)
 
   carrying_read : (from n : ℕ) (pit : List ℕ) (flow : List ℤ) (r : Row) → count_line (codes "FLOW:") (length graph.pairs) r ≡ Ok n
-      → step_at graph (Block 0 from) pit flow r ≡ Ok (state (Arc n 0) pit flow)
+      → step_at graph lists (Block 0 from) pit flow r ≡ Ok (state (Arc n 0) pit flow)
   unfolding step_at block_step
   carrying_read from n pit flow r h = rw h refl
 
   arc_read : (left from : ℕ) (pit : List ℕ) (flow : List ℤ) (r : Row) (arc : ℕ × ℕ) → arc_line graph.pairs from r ≡ Ok arc
-      → step_at graph (Arc (suc left) from) pit flow r ≡ Ok (state (Arc left (arc.0 + 1)) pit (set flow arc.0 (pos arc.1)))
+      → step_at graph lists (Arc (suc left) from) pit flow r ≡ Ok (state (Arc left (arc.0 + 1)) pit (set flow arc.0 (pos arc.1)))
   unfolding step_at arc_step
   arc_read left from pit flow r arc h = rw h refl
 
-  ended : (from : ℕ) (pit : List ℕ) (flow : List ℤ) → certificate_from graph count (state (Arc 0 from) pit flow) [] ≡ Ok (pit_and_flow pit flow)
+  ended : (from : ℕ) (pit : List ℕ) (flow : List ℤ) → certificate_from graph lists count (state (Arc 0 from) pit flow) [] ≡ Ok (pit_and_flow pit flow)
   unfolding read_from end_at
   ended from pit flow = refl
 
   -- the flow so far is that of the certificate below the next arc, and 0 from there on
   flow_read : (from : ℕ) (rows : List Row) (pit : List ℕ) (now flow : List ℤ) → AreRising graph.pairs → length now ≡ length graph.pairs → length flow ≡ length graph.pairs
       → ((k : ℕ) → k < from → amount now k ≡ amount flow k) → ((k : ℕ) → from ≤ k → amount now k ≡ pos 0) → SpellsFlow graph.pairs from rows flow
-      → certificate_from graph count (state (Arc (length rows) from) pit now) rows ≡ Ok (pit_and_flow pit flow)
+      → certificate_from graph lists count (state (Arc (length rows) from) pit now) rows ≡ Ok (pit_and_flow pit flow)
   flow_read from [] pit now flow rising size counted below above s =
       let same : now ≡ flow = ext_get_or (pos 0) now flow (size ∙ sym counted)
       (λ k l. ⊎_elim (λ (h : k < from). below k h) (λ (h : from ≤ k). above k h ∙ sym (s k h)) (cases_lt k from)) in
@@ -87,18 +81,13 @@ module _ (graph : Graph) (count : ℕ) where
       (λ k l. other k (λ e. omega arith) ∙ above k (omega arith))
       s.3
 
-  head_read : (title blocks arcs inside : Row) (rows : List Row) (n : ℕ) → title.fields ≡ codes "PITCERT" ∷ codes "1" ∷ []
-      → SpellsNumber (codes "BLOCKS:") graph.blocks blocks → SpellsNumber (codes "ARCS:") (length graph.pairs) arcs → SpellsNumber (codes "IN:") n inside → n ≤ graph.blocks
-      → certificate_from graph count (first_state graph) (title ∷ blocks ∷ arcs ∷ inside ∷ rows) ≡ certificate_from graph count (state (Block n 0) [] (replicate (length graph.pairs) (pos 0))) rows
-  unfolding read_from step_at
-  head_read title blocks arcs inside rows n t b a i few =
-      rw (reads_title Certificate (codes "PITCERT") title t, reads_same Certificate (codes "BLOCKS:") graph.blocks blocks b, reads_same Certificate (codes "ARCS:") (length graph.pairs) arcs a, reads_count (codes "IN:") n graph.blocks inside i few) refl
-
-  pub reads : (rows : List Row) (c : PitAndFlow) → AreRising graph.pairs → SpellsRows graph rows c → certificate_from graph count (first_state graph) rows ≡ Ok c
+  pub reads : (rows : List Row) (c : PitAndFlow) → AreRising graph.pairs → SpellsRows graph lists rows c → certificate_from graph lists count (first_state graph) rows ≡ Ok c
   reads rows c rising s =
-      ap (certificate_from graph count (first_state graph)) s.are
-      ∙ head_read s.title s.blocks s.arcs s.inside (s.ids ++ s.carrying ∷ s.amounts) (length c.pit) s.is_title s.names_blocks s.names_arcs s.names_inside s.few_inside
-      ∙ blocks_read 0 s.ids (s.carrying ∷ s.amounts) [] c.pit (replicate (length graph.pairs) (pos 0)) s.pit
+      let lines : rows ≡ s.title ∷ s.blocks ∷ s.arcs ∷ (s.fixed ++ s.pit.count ∷ (s.pit.blocks ++ s.carrying ∷ s.amounts)) =
+      s.are ∙ ap (λ (xs : List Row). s.title ∷ s.blocks ∷ s.arcs ∷ (s.fixed ++ (xs ++ s.carrying ∷ s.amounts))) s.pit.are in
+      ap (certificate_from graph lists count (first_state graph)) lines
+      ∙ format_read graph lists count [] (replicate (length graph.pairs) (pos 0)) s.title s.blocks s.arcs s.fixed s.pit.count (s.pit.blocks ++ s.carrying ∷ s.amounts) (length c.pit) s.format s.names_blocks s.names_arcs s.pit.names s.pit.few
+      ∙ blocks_read 0 s.pit.blocks (s.carrying ∷ s.amounts) [] c.pit (replicate (length graph.pairs) (pos 0)) s.pit.spelled
       ∙ step_on (state (Block 0 (from_after 0 c.pit)) c.pit (replicate (length graph.pairs) (pos 0))) (state (Arc (length s.amounts) 0) c.pit (replicate (length graph.pairs) (pos 0))) s.carrying s.amounts
       (carrying_read (from_after 0 c.pit) (length s.amounts) c.pit (replicate (length graph.pairs) (pos 0)) s.carrying (reads_count (codes "FLOW:") (length s.amounts) (length graph.pairs) s.carrying s.names_carrying s.few_carrying))
       ∙ flow_read 0 s.amounts c.pit (replicate (length graph.pairs) (pos 0)) c.flow rising (length-replicate (length graph.pairs) (pos 0)) s.counted

@@ -1,24 +1,28 @@
 -- What is written of a certificate spells it: the text line by line, and each line field by field.
 use Rattle.std.proofs.Common.{◌≡◌, ℕ, zero, suc, ◌+◌, ◌^◌, ◌<◌, ◌≤◌, Bool, true, false, cond, List, [], ◌∷◌, ◌++◌, length, get_or, map, filter, refl, sym, ap, subst, ◌∙◌, arith, ⊎_elim, append_assoc}
-use Rattle.std.specs.Prelude.{ℤ, pos, negsuc, int_lt, unsigned_abs, ◌≤ℤ◌, codes, decimal}
+use Rattle.std.specs.Prelude.{ℤ, pos, negsuc, int_lt, unsigned_abs, ◌≤ℤ◌, if◌then◌else◌, codes, decimal}
 use Rattle.std.specs.List.{All, flat_map, range_with_len}
 use Rattle.std.proofs.lemmas.Int.{ints}
 use Rattle.std.proofs.lemmas.Bool.{cases_Bool, cases_eq}
 use Rattle.std.proofs.lemmas.List.{get_or_past}
 use Rattle.std.proofs.lemmas.List.Elements.{All-append, All-cons}
+use Rattle.std.proofs.lemmas.List.Kept.{AllPairs-from_increasing}
 use Rattle.minelib_reader.specs.Text.{Row, row, rows_from, rows_of, fields_of}
 use Rattle.minelib_reader.proofs.LineLemmas.{row_yes, no_rows}
+use Rattle.pit_model.specs.Fixed.{AreFixable, FixedLists}
 use Rattle.pit_model.specs.Graph.{Graph, IsGraph, first_of, second_of}
 use Rattle.pit_model.specs.Limits.{Between}
 use Rattle.pit_model.specs.PitText.{line_of}
 use Rattle.mine_graph.proofs.Counts.{pigeon}
 use Rattle.pit_model.proofs.Members.{members_few, members_below}
 use Rattle.certificate.specs.Check.{amount, AreRising, IsCandidate}
-use Rattle.certificate.specs.CertificateText.{carrying, certificate_head, certificate_text, flow_head, flow_line}
-use Rattle.certificate.specs.CertificateLines.{pit_and_flow}
-use Rattle.certificate.specs.CertificateGrammar.{SpellsBlock, SpellsBlocks, SpellsArc, SpellsFlow, SpellsCertificate}
+use Rattle.certificate.specs.CertificateText.{carrying, certificate_head, certificate_text, flow_head, flow_line, graph_head, list_text}
+use Rattle.certificate.specs.CertificateLines.{fixes_nothing, pit_and_flow}
+use Rattle.certificate.specs.CertificateGrammar.{SpellsBlock, SpellsBlocks, SpellsList, SpellsFormat, SpellsArc, SpellsFlow, SpellsCertificate}
+use Rattle.certificate.specs.CertificateGrammar.SpellsFormat.{with_fixed, without_fixed}
+use Rattle.certificate.proofs.LinesRead.{nothing_found}
 use Rattle.report.specs.HeadLines.{SpellsNumber}
-use Rattle.report.proofs.HeadWritten.{whole_read, written, number_words, names, number_line_plain, tested, blocks_word, arcs_word, title_plain, title_fields}
+use Rattle.report.proofs.HeadWritten.{whole_read, written, number_words, two_words, two_fields, two_plain, names, number_line_plain, tested, blocks_word, arcs_word}
 use Rattle.report.proofs.PlainLines.{IsLine, IsWord, AreLines, word_line, text_of, lines_text, one_word, next_word, digits_read}
 
 -- ---- the lines of blocks
@@ -88,16 +92,77 @@ in_word = tested 48 (codes "IN:") refl
 flow_word : IsWord (codes "FLOW:")
 flow_word = tested 48 (codes "FLOW:") refl
 
+forced_word : IsWord (codes "FORCED:")
+forced_word = tested 48 (codes "FORCED:") refl
+
+barred_word : IsWord (codes "BARRED:")
+barred_word = tested 48 (codes "BARRED:") refl
+
+abbrev title_words : List ℕ → List ℕ
+title_words format = two_words (codes "PITCERT") format
+
 abbrev head_before : List ℕ → List ℕ → List ℕ → List ℕ → List ℕ
-head_before n m c rest =
-    (codes "PITCERT" ++ 32 ∷ codes "1") ++ 10 ∷ ((codes "BLOCKS:" ++ 32 ∷ n) ++ 10 ∷ ((codes "ARCS:" ++ 32 ∷ m) ++ 10 ∷ ((codes "IN:" ++ 32 ∷ c) ++ 10 ∷ rest)))
+head_before format n m rest = title_words format ++ 10 ∷ ((codes "BLOCKS:" ++ 32 ∷ n) ++ 10 ∷ ((codes "ARCS:" ++ 32 ∷ m) ++ 10 ∷ rest))
 
-head_is : (n m c rest : List ℕ) → (codes "PITCERT 1\nBLOCKS: " ++ n ++ codes "\nARCS: " ++ m ++ codes "\nIN: " ++ c ++ codes "\n") ++ rest ≡ head_before n m c rest
-head_is n m c rest = simp append_assoc
+head_is : (format n m rest : List ℕ) → (codes "PITCERT " ++ format ++ codes "\nBLOCKS: " ++ n ++ codes "\nARCS: " ++ m ++ codes "\n") ++ rest ≡ head_before format n m rest
+head_is format n m rest = simp append_assoc
 
-head_text : (n m c : ℕ) (rest : List ℕ) → certificate_head n m c ++ rest ≡ head_before (decimal n) (decimal m) (decimal c) rest
-unfolding certificate_head
-head_text n m c rest = head_is (decimal n) (decimal m) (decimal c) rest
+head_text : (format : List ℕ) (n m : ℕ) (rest : List ℕ) → graph_head format n m ++ rest ≡ head_before format (decimal n) (decimal m) rest
+unfolding graph_head
+head_text format n m rest = head_is format (decimal n) (decimal m) rest
+
+-- ---- how many blocks are in a list, and these
+
+abbrev list_lines : List ℕ → List ℕ → List (List ℕ)
+list_lines word ids = number_words word (length ids) ∷ map decimal ids
+
+list_is_text : (word ids : List ℕ) (rest : List (List ℕ)) → text_of (list_lines word ids ++ rest) ≡ list_text word ids ++ text_of rest
+unfolding list_text
+list_is_text word ids rest = ap (λ (xs : List ℕ). number_words word (length ids) ++ 10 ∷ xs) (blocks_text ids rest) ∙ simp append_assoc
+
+-- a list that may be written for n blocks, behind this word
+record IsList (n : ℕ) (word ids : List ℕ) : Type 0 where
+  few : n ≤ 2 ^ 22
+  is_word : IsWord word
+  some : 0 < length word
+  below : All (λ u. u < n) ids
+  rising : AreRising ids
+  short : length ids ≤ n
+
+listed : (n : ℕ) (word ids : List ℕ) → n ≤ 2 ^ 22 → IsWord word → 0 < length word → All (λ u. u < n) ids → AreRising ids → IsList n word ids
+listed n word ids few is_word some below rising = record {
+  few = few;
+  is_word = is_word;
+  some = some;
+  below = below;
+  rising = rising;
+  short = pigeon ids n (λ i j lt l e. let up = rising i j lt l in omega arith) (λ k l. below k 0 l);
+}
+
+list_plain : (n : ℕ) (word ids : List ℕ) (rest : List (List ℕ)) → IsList n word ids → AreLines rest → AreLines (list_lines word ids ++ rest)
+list_plain n word ids rest is r =
+    let few = is.few in
+    let short = is.short in
+    (number_line_plain word (length ids) is.is_word (omega arith), blocks_plain n ids rest is.few is.below r)
+
+-- the lines of a list, from number k on
+record ListRead (n k : ℕ) (word ids : List ℕ) (rest : List (List ℕ)) : Type 0 where
+  rows : List Row
+  are : rows_from k (list_lines word ids ++ rest) ≡ rows ++ rows_from (k + 1 + length ids) rest
+  spelled : SpellsList word n rows ids
+
+list_read : (n k : ℕ) (word ids : List ℕ) (rest : List (List ℕ)) → 0 < k → IsList n word ids → ListRead n k word ids rest
+list_read n k word ids rest at is =
+    let few = is.few in
+    let short = is.short in
+    let named = names k word (length ids) is.is_word is.some (omega arith) in
+    let others = blocks_read n 0 (k + 1) ids rest is.few is.below is.rising (λ i l. omega arith) in
+    record {
+      rows = row k (fields_of (number_words word (length ids))) ∷ others.0;
+      are = row_yes k (number_words word (length ids)) word (named.field ∷ []) (map decimal ids ++ rest) named.fields
+          ∙ ap (λ (rs : List Row). row k (fields_of (number_words word (length ids))) ∷ rs) others.1;
+      spelled = record { count = row k (fields_of (number_words word (length ids))); blocks = others.0; are = refl; names = named; few = is.short; spelled = others.2 };
+    }
 
 module _ (graph : Graph) (flow : List ℤ) (is : IsGraph graph.blocks graph.pairs) (few : graph.blocks ≤ 2 ^ 22)
     (counted : length flow ≡ length graph.pairs)
@@ -211,18 +276,16 @@ module _ (graph : Graph) (flow : List ℤ) (is : IsGraph graph.blocks graph.pair
 
   -- ---- the whole text
 
-  module _ (pit : List ℕ) (few_pairs : length graph.pairs ≤ 2 ^ 26) (below : All (λ u. u < graph.blocks) pit) (rising : AreRising pit) (short : length pit ≤ graph.blocks) where
+  module _ (lists : FixedLists) (fixable : AreFixable graph.blocks lists) (pit : List ℕ) (few_pairs : length graph.pairs ≤ 2 ^ 26) (below : All (λ u. u < graph.blocks) pit) (rising : AreRising pit) where
     abbrev arcs : List ℕ
     arcs = carrying flow (length graph.pairs)
-
-    abbrev title : List ℕ
-    title = codes "PITCERT" ++ 32 ∷ codes "1"
 
     abbrev behind : List (List ℕ)
     behind = number_words (codes "FLOW:") (length arcs) ∷ map (arc_words graph.pairs flow) arcs
 
-    abbrev all_lines : List (List ℕ)
-    all_lines = title ∷ number_words (codes "BLOCKS:") graph.blocks ∷ number_words (codes "ARCS:") (length graph.pairs) ∷ number_words (codes "IN:") (length pit) ∷ (map decimal pit ++ behind)
+    -- the lines of the pit, and those behind them
+    abbrev tail : List (List ℕ)
+    tail = list_lines (codes "IN:") pit ++ behind
 
     few_arcs : length arcs ≤ length graph.pairs
     few_arcs = members_few (length graph.pairs) carries
@@ -231,73 +294,114 @@ module _ (graph : Graph) (flow : List ℤ) (is : IsGraph graph.blocks graph.pair
     unfolding flow_head
     behind_text = ap (λ (xs : List ℕ). number_words (codes "FLOW:") (length arcs) ++ 10 ∷ xs) (arcs_text arcs) ∙ simp append_assoc
 
-    is_text : certificate_text graph pit flow ≡ text_of all_lines
+    abbrev head : List ℕ
+    head = certificate_head graph lists
+
+    is_text : certificate_text graph lists pit flow ≡ head ++ text_of tail
     is_text =
-        let head : List ℕ = certificate_head graph.blocks (length graph.pairs) (length pit) in
-        let ids : List ℕ = flat_map line_of pit in
+        let ids : List ℕ = list_text (codes "IN:") pit in
         let middle : List ℕ = flow_head (length arcs) in
         let last : List ℕ = flat_map (flow_line graph.pairs flow) arcs in
         append_assoc (head ++ ids) middle last ∙ append_assoc head ids (middle ++ last)
-        ∙ head_text graph.blocks (length graph.pairs) (length pit) (ids ++ (middle ++ last))
-        ∙ ap (head_before (decimal graph.blocks) (decimal (length graph.pairs)) (decimal (length pit))) (sym (blocks_text pit behind ∙ ap (λ (xs : List ℕ). flat_map line_of pit ++ xs) behind_text))
+        ∙ ap (λ (xs : List ℕ). head ++ xs) (sym (list_is_text (codes "IN:") pit behind ∙ ap (λ (xs : List ℕ). list_text (codes "IN:") pit ++ xs) behind_text))
 
-    all_plain : AreLines all_lines
-    all_plain =
+    pit_list : IsList graph.blocks (codes "IN:") pit
+    pit_list = listed graph.blocks (codes "IN:") pit few in_word (omega arith) below rising
+
+    tail_plain : AreLines tail
+    tail_plain =
         let last : AreLines behind = (number_line_plain (codes "FLOW:") (length arcs) flow_word (let l = few_arcs in omega arith), arcs_plain arcs (members_below (length graph.pairs) carries)) in
-        let fourth : AreLines (number_words (codes "IN:") (length pit) ∷ (map decimal pit ++ behind)) = (number_line_plain (codes "IN:") (length pit) in_word (omega arith), blocks_plain graph.blocks pit behind few below last) in
-        let third : AreLines (number_words (codes "ARCS:") (length graph.pairs) ∷ number_words (codes "IN:") (length pit) ∷ (map decimal pit ++ behind)) = (number_line_plain (codes "ARCS:") (length graph.pairs) arcs_word few_pairs, fourth) in
-        (title_plain (codes "PITCERT") title_word, (number_line_plain (codes "BLOCKS:") graph.blocks blocks_word (omega arith), third))
+        list_plain graph.blocks (codes "IN:") pit behind pit_list last
 
-    pub spells : SpellsCertificate graph (certificate_text graph pit flow) (pit_and_flow pit flow)
-    spells =
-        let ids = blocks_read graph.blocks 0 5 pit behind few below rising (λ i l. omega arith) in
-        let place : ℕ = 5 + length pit in
-        let amounts = flow_read (length graph.pairs) 0 (place + 1) (omega arith) in
-        let fit : length arcs ≤ 2 ^ 26 = (let l = few_arcs in omega arith) in
-        let named = names place (codes "FLOW:") (length arcs) flow_word (omega arith) fit in
+    abbrev IsSpelled : Type 0
+    IsSpelled = SpellsCertificate graph lists (certificate_text graph lists pit flow) (pit_and_flow pit flow)
+
+    -- by its format, and the lines behind the graph's counts
+    spells_by : (format : List ℕ) (lines : List (List ℕ)) (fixed : List Row) (place : ℕ) → IsWord format → 0 < length format → 0 < place
+        → head ++ text_of tail ≡ graph_head format graph.blocks (length graph.pairs) ++ text_of lines → AreLines lines
+        → rows_from 4 lines ≡ fixed ++ rows_from place tail → SpellsFormat graph.blocks lists (row 1 (fields_of (title_words format))) fixed → IsSpelled
+    spells_by format lines fixed place is_word some at text plain rows spelled =
+        let title = two_fields (codes "PITCERT") format title_word (omega arith) is_word some in
         let n1 = names 2 (codes "BLOCKS:") graph.blocks blocks_word (omega arith) (omega arith) in
         let n2 = names 3 (codes "ARCS:") (length graph.pairs) arcs_word (omega arith) few_pairs in
-        let n3 = names 4 (codes "IN:") (length pit) in_word (omega arith) (omega arith) in
-        let line1 = title in
+        let line1 = title_words format in
         let line2 = number_words (codes "BLOCKS:") graph.blocks in
         let line3 = number_words (codes "ARCS:") (length graph.pairs) in
-        let line4 = number_words (codes "IN:") (length pit) in
         let line5 = number_words (codes "FLOW:") (length arcs) in
-        let arc_lines = map (arc_words graph.pairs flow) arcs in
-        let rest : List (List ℕ) = map decimal pit ++ behind in
-        let one = row_yes 1 line1 (codes "PITCERT") (codes "1" ∷ []) (line2 ∷ line3 ∷ line4 ∷ rest) (title_fields (codes "PITCERT") title_word (omega arith)) in
-        let two = row_yes 2 line2 (codes "BLOCKS:") (n1.field ∷ []) (line3 ∷ line4 ∷ rest) n1.fields in
-        let three = row_yes 3 line3 (codes "ARCS:") (n2.field ∷ []) (line4 ∷ rest) n2.fields in
-        let four = row_yes 4 line4 (codes "IN:") (n3.field ∷ []) rest n3.fields in
-        let last = row_yes place line5 (codes "FLOW:") (named.field ∷ []) arc_lines named.fields ∙ ap (λ (rs : List Row). row place (fields_of line5) ∷ rs) amounts.1 in
+        let inside = list_read graph.blocks place (codes "IN:") pit behind at pit_list in
+        let last : ℕ = place + 1 + length pit in
+        let amounts = flow_read (length graph.pairs) 0 (last + 1) (omega arith) in
+        let fit : length arcs ≤ 2 ^ 26 = (let l = few_arcs in omega arith) in
+        let named = names last (codes "FLOW:") (length arcs) flow_word (omega arith) fit in
+        let all_plain : AreLines (line1 ∷ line2 ∷ line3 ∷ lines) =
+        (two_plain (codes "PITCERT") format title_word is_word, (number_line_plain (codes "BLOCKS:") graph.blocks blocks_word (omega arith), (number_line_plain (codes "ARCS:") (length graph.pairs) arcs_word few_pairs, plain))) in
+        let whole : certificate_text graph lists pit flow ≡ text_of (line1 ∷ line2 ∷ line3 ∷ lines) = is_text ∙ text ∙ head_text format graph.blocks (length graph.pairs) (text_of lines) in
+        let one = row_yes 1 line1 (codes "PITCERT") (format ∷ []) (line2 ∷ line3 ∷ lines) title in
+        let two = row_yes 2 line2 (codes "BLOCKS:") (n1.field ∷ []) (line3 ∷ lines) n1.fields in
+        let three = row_yes 3 line3 (codes "ARCS:") (n2.field ∷ []) lines n2.fields in
+        let flow_rows = row_yes last line5 (codes "FLOW:") (named.field ∷ []) (map (arc_words graph.pairs flow) arcs) named.fields ∙ ap (λ (rs : List Row). row last (fields_of line5) ∷ rs) amounts.1 in
         record {
           title = row 1 (fields_of line1);
           blocks = row 2 (fields_of line2);
           arcs = row 3 (fields_of line3);
-          inside = row 4 (fields_of line4);
-          ids = ids.0;
-          carrying = row place (fields_of line5);
+          fixed = fixed;
+          inside = inside.rows;
+          carrying = row last (fields_of line5);
           amounts = amounts.0;
-          are = ap rows_of is_text ∙ ap (rows_from 1) (lines_text all_lines all_plain) ∙ one
+          are = ap rows_of whole ∙ ap (rows_from 1) (lines_text (line1 ∷ line2 ∷ line3 ∷ lines) all_plain) ∙ one
               ∙ ap (λ (rs : List Row). row 1 (fields_of line1) ∷ rs) (two
               ∙ ap (λ (rs : List Row). row 2 (fields_of line2) ∷ rs) (three
-              ∙ ap (λ (rs : List Row). row 3 (fields_of line3) ∷ rs) (four
-              ∙ ap (λ (rs : List Row). row 4 (fields_of line4) ∷ rs) (ids.1 ∙ ap (λ (rs : List Row). ids.0 ++ rs) last))));
-          is_title = title_fields (codes "PITCERT") title_word (omega arith);
+              ∙ ap (λ (rs : List Row). row 3 (fields_of line3) ∷ rs) (rows
+              ∙ ap (λ (rs : List Row). fixed ++ rs) (inside.are ∙ ap (λ (rs : List Row). inside.rows ++ rs) flow_rows))));
+          format = spelled;
           names_blocks = n1;
           names_arcs = n2;
-          names_inside = n3;
-          few_inside = short;
-          pit = ids.2;
-          names_carrying = subst (λ (n : ℕ). SpellsNumber (codes "FLOW:") n (row place (fields_of line5))) (sym amounts.2) named;
+          pit = inside.spelled;
+          names_carrying = subst (λ (n : ℕ). SpellsNumber (codes "FLOW:") n (row last (fields_of line5))) (sym amounts.2) named;
           few_carrying = subst (λ (n : ℕ). n ≤ length graph.pairs) (sym amounts.2) few_arcs;
           flow = amounts.3;
           counted = counted;
         }
 
+    -- the head by whether a block is fixed
+    abbrev head_by : Bool → List ℕ
+    head_by nothing =
+        if nothing then graph_head (codes "1") graph.blocks (length graph.pairs)
+        else (graph_head (codes "2") graph.blocks (length graph.pairs) ++ list_text (codes "FORCED:") lists.forced ++ list_text (codes "BARRED:") lists.barred)
+
+    spells_first : fixes_nothing lists ≡ true → IsSpelled
+    spells_first none =
+        let one = two_fields (codes "PITCERT") (codes "1") title_word (omega arith) (tested 48 (codes "1") refl) (omega arith) in
+        let text : head ++ text_of tail ≡ graph_head (codes "1") graph.blocks (length graph.pairs) ++ text_of tail = ap (λ (nothing : Bool). head_by nothing ++ text_of tail) none in
+        spells_by (codes "1") tail [] 4 (tested 48 (codes "1") refl) (omega arith) (omega arith) text tail_plain refl (without_fixed one (nothing_found lists none) refl)
+
+    spells_second : fixes_nothing lists ≡ false → IsSpelled
+    spells_second some =
+        let two = two_fields (codes "PITCERT") (codes "2") title_word (omega arith) (tested 48 (codes "2") refl) (omega arith) in
+        let forced_is = listed graph.blocks (codes "FORCED:") lists.forced few forced_word (omega arith) fixable.forced_below (λ i j lt l. AllPairs-from_increasing lists.forced fixable.forced_rising i j 0 lt l) in
+        let barred_is = listed graph.blocks (codes "BARRED:") lists.barred few barred_word (omega arith) fixable.barred_below (λ i j lt l. AllPairs-from_increasing lists.barred fixable.barred_rising i j 0 lt l) in
+        let forced = list_read graph.blocks 4 (codes "FORCED:") lists.forced (list_lines (codes "BARRED:") lists.barred ++ tail) (omega arith) forced_is in
+        let barred = list_read graph.blocks (4 + 1 + length lists.forced) (codes "BARRED:") lists.barred tail (omega arith) barred_is in
+        let start : List ℕ = graph_head (codes "2") graph.blocks (length graph.pairs) in
+        let f : List ℕ = list_text (codes "FORCED:") lists.forced in
+        let b : List ℕ = list_text (codes "BARRED:") lists.barred in
+        let lines : List (List ℕ) = list_lines (codes "FORCED:") lists.forced ++ (list_lines (codes "BARRED:") lists.barred ++ tail) in
+        let fixed_text : text_of lines ≡ f ++ (b ++ text_of tail) =
+        list_is_text (codes "FORCED:") lists.forced (list_lines (codes "BARRED:") lists.barred ++ tail) ∙ ap (λ (xs : List ℕ). f ++ xs) (list_is_text (codes "BARRED:") lists.barred tail) in
+        let text : head ++ text_of tail ≡ start ++ text_of lines =
+        ap (λ (nothing : Bool). head_by nothing ++ text_of tail) some ∙ append_assoc (start ++ f) b (text_of tail) ∙ append_assoc start f (b ++ text_of tail) ∙ ap (λ (xs : List ℕ). start ++ xs) (sym fixed_text) in
+        let plain : AreLines lines = list_plain graph.blocks (codes "FORCED:") lists.forced (list_lines (codes "BARRED:") lists.barred ++ tail) forced_is (list_plain graph.blocks (codes "BARRED:") lists.barred tail barred_is tail_plain) in
+        let place : ℕ = 4 + 1 + length lists.forced + 1 + length lists.barred in
+        let rows : rows_from 4 lines ≡ (forced.rows ++ barred.rows) ++ rows_from place tail =
+        forced.are ∙ ap (λ (rs : List Row). forced.rows ++ rs) barred.are ∙ sym (append_assoc forced.rows barred.rows (rows_from place tail)) in
+        spells_by (codes "2") lines (forced.rows ++ barred.rows) place (tested 48 (codes "2") refl) (omega arith) (omega arith) text plain rows
+        (with_fixed two forced.rows barred.rows refl forced.spelled barred.spelled)
+
+    pub spells : IsSpelled
+    spells = ⊎_elim spells_first spells_second (cases_Bool (fixes_nothing lists))
+
 -- what is written of what may be checked spells it
-pub written_spells : (graph : Graph) (pit : List ℕ) (flow : List ℤ) → IsGraph graph.blocks graph.pairs → graph.blocks ≤ 2 ^ 22 → length graph.pairs ≤ 2 ^ 26
-    → IsCandidate graph.blocks (length graph.pairs) pit flow → SpellsCertificate graph (certificate_text graph pit flow) (pit_and_flow pit flow)
-written_spells graph pit flow is few few_pairs given =
-    let short : length pit ≤ graph.blocks = pigeon pit graph.blocks (λ i j lt l e. let up = given.rising i j lt l in omega arith) (λ k l. given.below k 0 l) in
-    spells graph flow is few given.counted given.amounts pit few_pairs given.below given.rising short
+pub written_spells : (graph : Graph) (lists : FixedLists) (pit : List ℕ) (flow : List ℤ) → IsGraph graph.blocks graph.pairs → graph.blocks ≤ 2 ^ 22 → length graph.pairs ≤ 2 ^ 26
+    → AreFixable graph.blocks lists → IsCandidate graph.blocks (length graph.pairs) pit flow → SpellsCertificate graph lists (certificate_text graph lists pit flow) (pit_and_flow pit flow)
+written_spells graph lists pit flow is few few_pairs fixable given =
+    spells graph flow is few given.counted given.amounts lists fixable pit few_pairs given.below given.rising

@@ -3,12 +3,18 @@ use Rattle.std.specs.Prelude.{◌≡◌, ℕ, false, IsTrue, Option, Some, None}
 use Rattle.pit_model.specs.Mine.{Instance, arcs, members}
 use Rattle.pit_model.specs.Tree.{MineTree, is_strong, is_merger}
 use Rattle.pit_model.specs.Certificate.{IsCertificate}
+use Rattle.pit_model.specs.Fixed.{Fixed, IsFixedCertificate}
 use Rattle.certificate.specs.Check.{IsCandidate}
 use Rattle.certificate.specs.declared.pit_with_flow.Certificate.{Certificate}
 
 -- a certificate of a mine: it meets the conditions, and may be written and checked
 pub record IsCertificateOf (mine : Instance) (c : Certificate) : Type 0 where
   pub certifies : IsCertificate mine c.pit.items c.flow.items
+  pub candidate : IsCandidate mine.blocks (arcs mine) c.pit.items c.flow.items
+
+-- a certificate of a mine with fixed blocks
+pub record IsFixedCertificateOf (mine : Instance) (fixed : Fixed) (c : Certificate) : Type 0 where
+  pub certifies : IsFixedCertificate mine fixed c.pit.items c.flow.items
   pub candidate : IsCandidate mine.blocks (arcs mine) c.pit.items c.flow.items
 
 -- the strong blocks and the flow, which are a certificate of the tree's mine

@@ -2,7 +2,9 @@
 use Rattle.std.specs.Prelude.{◌≡◌, ℕ, ℤ, pos, ◌+◌, ◌^◌, ◌<◌, ◌≤◌, List, [], ◌∷◌, ◌++◌, length, Some, codes}
 use Rattle.minelib_reader.specs.Text.{Row, rows_of}
 use Rattle.minelib_reader.specs.Number.{whole_of, digits_of}
+use Rattle.pit_model.specs.Fixed.{FixedLists}
 use Rattle.pit_model.specs.Graph.{Graph, first_of, second_of}
+use Rattle.mine_graph.specs.FixedBlocks.{no_lists}
 use Rattle.report.specs.HeadLines.{SpellsNumber}
 use Rattle.certificate.specs.Check.{amount}
 use Rattle.certificate.specs.CertificateLines.{PitAndFlow}
@@ -21,6 +23,21 @@ SpellsBlocks n from [] [] = Unit {0}
 SpellsBlocks n from [] (id ∷ ids) = ⊥
 SpellsBlocks n from (r ∷ rows) [] = ⊥
 SpellsBlocks n from (r ∷ rows) (id ∷ ids) = SpellsBlock n from r id × SpellsBlocks n (id + 1) rows ids
+
+-- how many blocks follow behind this word, and the lines of these, rising
+pub record SpellsList (word : List ℕ) (n : ℕ) (rows : List Row) (ids : List ℕ) : Type 0 where
+  pub count : Row
+  pub blocks : List Row
+  pub are : rows ≡ count ∷ blocks
+  pub names : SpellsNumber word (length ids) count
+  pub few : length ids ≤ n
+  pub spelled : SpellsBlocks n 0 blocks ids
+
+-- the title, and the lines of the fixed blocks: format 1 has none, and is lawful where nothing is fixed; format 2 lists them
+pub data SpellsFormat (n : ℕ) (lists : FixedLists) (title : Row) (rows : List Row) : Type 0 where
+  without_fixed : title.fields ≡ codes "PITCERT" ∷ codes "1" ∷ [] → lists ≡ no_lists → rows ≡ [] → SpellsFormat n lists title rows
+  with_fixed : title.fields ≡ codes "PITCERT" ∷ codes "2" ∷ [] → (forced barred : List Row) → rows ≡ forced ++ barred
+      → SpellsList (codes "FORCED:") n forced lists.forced → SpellsList (codes "BARRED:") n barred lists.barred → SpellsFormat n lists title rows
 
 -- the line of an arc with its amount: the arc is at least from
 pub record SpellsArc (pairs : List (ℕ × ℕ)) (from : ℕ) (r : Row) (arc : ℕ) (x : ℤ) : Type 0 where
@@ -45,27 +62,25 @@ SpellsFlow pairs from (r ∷ rows) flow =
     (arc : ℕ) × SpellsArc pairs from r arc (amount flow arc) × ((k : ℕ) → from ≤ k → k < arc → amount flow k ≡ pos 0)
     × SpellsFlow pairs (arc + 1) rows flow
 
--- the lines of a certificate of the graph
-pub record SpellsRows (graph : Graph) (rows : List Row) (c : PitAndFlow) : Type 0 where
+-- the lines of a certificate of the graph with these fixed blocks
+pub record SpellsRows (graph : Graph) (lists : FixedLists) (rows : List Row) (c : PitAndFlow) : Type 0 where
   pub title : Row
   pub blocks : Row
   pub arcs : Row
-  pub inside : Row
-  pub ids : List Row
+  pub fixed : List Row
+  pub inside : List Row
   pub carrying : Row
   pub amounts : List Row
-  pub are : rows ≡ title ∷ blocks ∷ arcs ∷ inside ∷ (ids ++ carrying ∷ amounts)
-  pub is_title : title.fields ≡ codes "PITCERT" ∷ codes "1" ∷ []
+  pub are : rows ≡ title ∷ blocks ∷ arcs ∷ (fixed ++ (inside ++ carrying ∷ amounts))
+  pub format : SpellsFormat graph.blocks lists title fixed
   pub names_blocks : SpellsNumber (codes "BLOCKS:") graph.blocks blocks
   pub names_arcs : SpellsNumber (codes "ARCS:") (length graph.pairs) arcs
-  pub names_inside : SpellsNumber (codes "IN:") (length c.pit) inside
-  pub few_inside : length c.pit ≤ graph.blocks
-  pub pit : SpellsBlocks graph.blocks 0 ids c.pit
+  pub pit : SpellsList (codes "IN:") graph.blocks inside c.pit
   pub names_carrying : SpellsNumber (codes "FLOW:") (length amounts) carrying
   pub few_carrying : length amounts ≤ length graph.pairs
   pub flow : SpellsFlow graph.pairs 0 amounts c.flow
   pub counted : length c.flow ≡ length graph.pairs
 
--- the text spells this certificate of the graph
-abbrev pub SpellsCertificate : Graph → List ℕ → PitAndFlow → Type 0
-SpellsCertificate graph text c = SpellsRows graph (rows_of text) c
+-- the text spells this certificate of the graph with these fixed blocks
+abbrev pub SpellsCertificate : Graph → FixedLists → List ℕ → PitAndFlow → Type 0
+SpellsCertificate graph lists text c = SpellsRows graph lists (rows_of text) c

@@ -1,17 +1,24 @@
 -- The text of a certificate: the checks of each line in their order, and the reading of all lines by them.
-use Rattle.std.specs.Prelude.{ℕ, zero, suc, ℤ, pos, ◌+◌, ◌^◌, nat_lt, nat_le, ◌==◌, ◌&&◌, List, [], ◌∷◌, ◌++◌, length, set, Option, Some, None, Result, Ok, Err, codes, replicate, if◌then◌else◌}
+use Rattle.std.specs.Prelude.{ℕ, zero, suc, ℤ, pos, ◌+◌, ◌^◌, Bool, true, false, nat_lt, nat_le, ◌==◌, ◌&&◌, List, [], ◌∷◌, ◌++◌, length, set, Option, Some, None, Result, Ok, Err, codes, replicate, if◌then◌else◌}
 use Rattle.faults.specs.declared.fault.Fault.{Fault}
 use Rattle.faults.specs.declared.refusal.Refusal.{Refusal}
-use Rattle.faults.specs.declared.refusal.Refusal.TheVariants.{OverLimit, NotWhole, IdOutOfPlace, WrongFieldCount, EndsEarly, AfterEnd}
+use Rattle.faults.specs.declared.refusal.Refusal.TheVariants.{OverLimit, NotWhole, IdOutOfPlace, WrongFieldCount, EndsEarly, AfterEnd, CountsDiffer}
 use Rattle.faults.specs.declared.source.Source.TheVariants.{Certificate}
 use Rattle.minelib_reader.specs.Checks.{◌>>=◌, ok_if}
+use Rattle.std.specs.List.{slice_get}
 use Rattle.std.specs.Option.{ok_or}
 use Rattle.faults.specs.Refused.{at_line}
-use Rattle.minelib_reader.specs.Text.{Row, rows_of, count_of_lines}
+use Rattle.minelib_reader.specs.Text.{Row, rows_of, count_of_lines, two_of}
 use Rattle.minelib_reader.specs.Number.{whole_of, digits_of}
+use Rattle.minelib_reader.specs.Upit.{is_pair}
+use Rattle.pit_model.specs.Fixed.{FixedLists}
 use Rattle.pit_model.specs.Graph.{Graph}
 use Rattle.certificate.specs.declared.due.Due.{Due}
-use Rattle.certificate.specs.declared.due.Due.TheVariants.{Title, Blocks, Arcs, Count, Block, Arc}
+use Rattle.certificate.specs.declared.due.Due.TheVariants.{Head, Block, Arc}
+use Rattle.certificate.specs.declared.due.Head.{Head as HeadLine}
+use Rattle.certificate.specs.declared.due.Head.TheVariants.{Title, Blocks, Arcs, FixedCount, FixedBlock, Count}
+use Rattle.certificate.specs.declared.due.Kind.{Kind}
+use Rattle.certificate.specs.declared.due.Kind.TheVariants.{Forced, Barred}
 use Rattle.report.specs.HeadLines.{three_of, title_line, number_line, same_line}
 use Rattle.report.specs.LineByLine.{read_from}
 
@@ -59,6 +66,81 @@ arc_line pairs from r = do
   limit ← ok_if (nat_lt 0 amount && nat_le amount (10 ^ 30)) (in_certificate OverLimit r.line)
   Ok (arc, amount)
 
+-- no list names a block
+abbrev pub is_empty : List ℕ → Bool
+is_empty [] = true
+is_empty (id ∷ ids) = false
+
+abbrev pub fixes_nothing : FixedLists → Bool
+fixes_nothing lists = is_empty lists.forced && is_empty lists.barred
+
+-- the blocks of a kind, and the word before how many they are
+abbrev pub list_of : FixedLists → Kind → List ℕ
+list_of lists Forced = lists.forced
+list_of lists Barred = lists.barred
+
+abbrev pub word_of : Kind → List ℕ
+word_of Forced = codes "FORCED:"
+word_of Barred = codes "BARRED:"
+
+-- the title of format 1, which has no place for fixed blocks
+unfoldable pub first_format : FixedLists → Row → Result Bool Fault
+first_format lists r = do
+  title ← title_line Certificate (codes "PITCERT") r
+  none ← ok_if (fixes_nothing lists) (in_certificate CountsDiffer r.line)
+  Ok false
+
+-- the title: whether it is that of format 2, which names the fixed blocks
+unfoldable pub format_line : FixedLists → Row → Result Bool Fault
+format_line lists r = if is_pair (codes "PITCERT") (codes "2") (two_of r.fields) then Ok true else first_format lists r
+
+-- how many blocks of a kind follow, which are as many as the list has
+unfoldable pub fixed_count_line : ℕ → FixedLists → Kind → Row → Result Due Fault
+fixed_count_line n lists kind r = do
+  count ← count_line (word_of kind) n r
+  same ← ok_if (count == length (list_of lists kind)) (in_certificate CountsDiffer r.line)
+  Ok (Head (FixedBlock kind 0 0))
+
+-- how many blocks of the pit follow
+unfoldable pub inside_line : ℕ → Row → Result Due Fault
+inside_line n r = do
+  count ← count_line (codes "IN:") n r
+  Ok (Block count 0)
+
+-- the line behind the last block of a kind
+abbrev pub behind_fixed : ℕ → FixedLists → Kind → Row → Result Due Fault
+behind_fixed n lists Forced r = fixed_count_line n lists Barred r
+behind_fixed n lists Barred r = inside_line n r
+
+-- a fixed block, which is this one
+unfoldable pub fixed_id_line : ℕ → ℕ → ℕ → Row → Result ℕ Fault
+fixed_id_line n from id r = do
+  named ← id_line n from r
+  same ← ok_if (named == id) (in_certificate CountsDiffer r.line)
+  Ok named
+
+-- a block of a kind, which is the one of the list, or behind the last the line that follows
+unfoldable pub fixed_block_line : ℕ → FixedLists → Kind → ℕ → ℕ → Option ℕ → Row → Result Due Fault
+fixed_block_line n lists kind at from None r = behind_fixed n lists kind r
+fixed_block_line n lists kind at from (Some id) r = do
+  named ← fixed_id_line n from id r
+  Ok (Head (FixedBlock kind (at + 1) (named + 1)))
+
+-- which line is due behind a line before the blocks of the pit
+unfoldable pub head_line : Graph → FixedLists → HeadLine → Row → Result Due Fault
+head_line graph lists Title r = do
+  names_fixed ← format_line lists r
+  Ok (Head (Blocks names_fixed))
+head_line graph lists (Blocks names_fixed) r = do
+  same ← same_line Certificate (codes "BLOCKS:") graph.blocks r
+  Ok (Head (Arcs names_fixed))
+head_line graph lists (Arcs names_fixed) r = do
+  same ← same_line Certificate (codes "ARCS:") (length graph.pairs) r
+  Ok (Head (if names_fixed then FixedCount Forced else Count))
+head_line graph lists (FixedCount kind) r = fixed_count_line graph.blocks lists kind r
+head_line graph lists (FixedBlock kind at from) r = fixed_block_line graph.blocks lists kind at from (slice_get (list_of lists kind) at) r
+head_line graph lists Count r = inside_line graph.blocks r
+
 -- what the lines so far give, and which line is due
 pub record State : Type 0 where
   pub due : Due
@@ -85,21 +167,12 @@ arc_step graph (suc left) from pit flow r = do
   Ok (state (Arc left (arc.0 + 1)) pit (set flow arc.0 (pos arc.1)))
 
 -- what a line gives where it is the one that is due
-unfoldable pub step_at : Graph → Due → List ℕ → List ℤ → Row → Result State Fault
-step_at graph Title pit flow r = do
-  title ← title_line Certificate (codes "PITCERT") r
-  Ok (state Blocks pit flow)
-step_at graph Blocks pit flow r = do
-  same ← same_line Certificate (codes "BLOCKS:") graph.blocks r
-  Ok (state Arcs pit flow)
-step_at graph Arcs pit flow r = do
-  same ← same_line Certificate (codes "ARCS:") (length graph.pairs) r
-  Ok (state Count pit flow)
-step_at graph Count pit flow r = do
-  count ← count_line (codes "IN:") graph.blocks r
-  Ok (state (Block count 0) pit flow)
-step_at graph (Block left from) pit flow r = block_step graph left from pit flow r
-step_at graph (Arc left from) pit flow r = arc_step graph left from pit flow r
+unfoldable pub step_at : Graph → FixedLists → Due → List ℕ → List ℤ → Row → Result State Fault
+step_at graph lists (Head head) pit flow r = do
+  due ← head_line graph lists head r
+  Ok (state due pit flow)
+step_at graph lists (Block left from) pit flow r = block_step graph left from pit flow r
+step_at graph lists (Arc left from) pit flow r = arc_step graph left from pit flow r
 
 -- a certificate without where it lies in memory
 pub record PitAndFlow : Type 0 where
@@ -114,20 +187,20 @@ unfoldable pub end_at : ℕ → Due → List ℕ → List ℤ → Result PitAndF
 end_at count (Arc zero from) pit flow = Ok (pit_and_flow pit flow)
 end_at count _ pit flow = Err (in_certificate EndsEarly (count + 1))
 
-abbrev pub step : Graph → State → Row → Result State Fault
-step graph s r = step_at graph s.due s.pit s.flow r
+abbrev pub step : Graph → FixedLists → State → Row → Result State Fault
+step graph lists s r = step_at graph lists s.due s.pit s.flow r
 
 abbrev pub end : ℕ → State → Result PitAndFlow Fault
 end count s = end_at count s.due s.pit s.flow
 
 -- all lines, one after the other
-abbrev pub certificate_from : Graph → ℕ → State → List Row → Result PitAndFlow Fault
-certificate_from graph count s rows = read_from (step graph) (end count) s rows
+abbrev pub certificate_from : Graph → FixedLists → ℕ → State → List Row → Result PitAndFlow Fault
+certificate_from graph lists count s rows = read_from (step graph lists) (end count) s rows
 
 -- at the start no block is listed, and no arc carries anything
 abbrev pub first_state : Graph → State
-first_state graph = state Title [] (replicate (length graph.pairs) (pos 0))
+first_state graph = state (Head Title) [] (replicate (length graph.pairs) (pos 0))
 
--- the certificate of the graph that a text spells, or its first fault
-abbrev pub certificate_of : Graph → List ℕ → Result PitAndFlow Fault
-certificate_of graph text = certificate_from graph (count_of_lines text) (first_state graph) (rows_of text)
+-- the certificate of the graph with these fixed blocks that a text spells, or its first fault
+abbrev pub certificate_of : Graph → FixedLists → List ℕ → Result PitAndFlow Fault
+certificate_of graph lists text = certificate_from graph lists (count_of_lines text) (first_state graph) (rows_of text)

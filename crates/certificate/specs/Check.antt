@@ -1,11 +1,13 @@
 -- What may be checked as a certificate, what a yes shows, and what the passes of the check test.
-use Rattle.std.specs.Prelude.{◌≡◌, ℕ, ◌^◌, ◌<◌, ℤ, pos, ◌≤ℤ◌, Bool, false, ◌↔◌, IsTrue, List, length, get_or}
+use Rattle.std.specs.Prelude.{◌≡◌, ℕ, ◌^◌, ◌<◌, ℤ, pos, ◌≤ℤ◌, Bool, false, not, ◌&&◌, ◌||◌, ◌↔◌, IsTrue, List, length, get_or}
 use Rattle.std.specs.List.{All}
 use Rattle.pit_model.specs.Graph.{first_of, second_of}
 use Rattle.pit_model.specs.Mine.{Instance, value, members, IsPit}
 use Rattle.pit_model.specs.Flow.{excess}
 use Rattle.pit_model.specs.Certificate.{IsReached}
 use Rattle.pit_model.specs.Limits.{Between}
+use Rattle.pit_model.specs.Fixed.{is_open}
+use Rattle.mine_graph.specs.FixedBlocks.{FixedBlocks, dug_in, left_in}
 
 -- each number is greater than all that stand before it
 abbrev pub AreRising : List ℕ → Type 0
@@ -49,19 +51,29 @@ abbrev pub AreReached : Instance → List ℤ → List Bool → List Bool → Ty
 AreReached mine flow inside marks =
     (u : ℕ) → u < mine.blocks → IsTrue (has marks u) ↔ ((steps : ℕ) × IsReached mine (has inside) (amount flow) u steps)
 
--- what is tested of one pair, by the marks of its ends and the amount on it: it doesn't lead out of the set, and no flow
--- comes in over it
-pub record PairAllows (from to : Bool) (x : ℤ) : Type 0 where
+-- a block that is neither to be dug nor to be left
+abbrev pub open_in : FixedBlocks → ℕ → Bool
+open_in fixed u = is_open (dug_in fixed) (left_in fixed) u
+
+-- what is tested of one pair, by the marks of its ends and the amount on it: it doesn't lead out of the set, no flow comes in
+-- over it, and none is on it where not both ends are open
+pub record PairAllows (from to are_open : Bool) (x : ℤ) : Type 0 where
   pub closed : IsTrue from → IsTrue to
   pub none_enters : IsTrue to → from ≡ false → x ≡ pos 0
+  pub idle : are_open ≡ false → x ≡ pos 0
 
-abbrev pub PairsAllow : List (ℕ × ℕ) → List ℤ → List Bool → ℕ → Type 0
-PairsAllow pairs flow inside m = (k : ℕ) → k < m → PairAllows (has inside (first_of pairs k)) (has inside (second_of pairs k)) (amount flow k)
+abbrev pub PairsAllow : List (ℕ × ℕ) → (ℕ → Bool) → List ℤ → List Bool → ℕ → Type 0
+PairsAllow pairs open_block flow inside m =
+    (k : ℕ) → k < m → PairAllows (has inside (first_of pairs k)) (has inside (second_of pairs k)) (open_block (first_of pairs k) && open_block (second_of pairs k)) (amount flow k)
 
--- what is tested of one block: inside it is reached and has no deficit, and outside it has nothing to send
-pub record BlockAllows (inside reached : Bool) (x : ℤ) : Type 0 where
-  pub within : IsTrue inside → IsTrue reached × (pos 0 ≤ℤ x)
-  pub outside : inside ≡ false → x ≤ℤ pos 0
+-- what is tested of one block: inside where it must be dug, outside where it must be left; and where it is open, inside it is
+-- reached and has no deficit, and outside it has nothing to send
+pub record BlockAllows (dug left inside reached : Bool) (x : ℤ) : Type 0 where
+  pub keeps : IsTrue dug → IsTrue inside
+  pub misses : IsTrue left → inside ≡ false
+  pub within : IsTrue (not (dug || left)) → IsTrue inside → IsTrue reached × (pos 0 ≤ℤ x)
+  pub outside : IsTrue (not (dug || left)) → inside ≡ false → x ≤ℤ pos 0
 
-abbrev pub BlocksAllow : List ℤ → List Bool → List Bool → ℕ → Type 0
-BlocksAllow excesses inside reached n = (u : ℕ) → u < n → BlockAllows (has inside u) (has reached u) (get_or excesses u (pos 0))
+abbrev pub BlocksAllow : FixedBlocks → List ℤ → List Bool → List Bool → ℕ → Type 0
+BlocksAllow fixed excesses inside reached n =
+    (u : ℕ) → u < n → BlockAllows (dug_in fixed u) (left_in fixed u) (has inside u) (has reached u) (get_or excesses u (pos 0))

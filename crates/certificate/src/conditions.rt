@@ -1,17 +1,22 @@
 //! The check of a certificate, from whatever solver it comes: by the graph, the values and plain sums, one pass over the
 //! pairs and one over the blocks once the excesses and the reached blocks are known. It knows nothing of the tree.
-ghost use Rattle.std.specs.Prelude.{◌≡◌, ◌<◌, ◌↔◌, ℕ, pos, ◌≤ℤ◌, IsTrue, length, IfOk, IfErr};
+ghost use Rattle.std.specs.Prelude.{◌≡◌, ◌<◌, ◌≤◌, ◌↔◌, ◌&&◌, ℕ, IsTrue, length, IfOk, IfErr};
 ghost use Rattle.std.specs.List.{All};
 ghost use Rattle.faults.specs.Refused.{no_memory};
 ghost use Rattle.pit_model.specs.Mine.{arcs, members};
-ghost use Rattle.pit_model.specs.Certificate.{Certifies, IsCertificate};
-ghost use Rattle.certificate.specs.Check.{amount, has, AreAmounts, AreExcesses, AreReached, AreRising, BlockAllows, BlocksAllow, IsCandidate, PairAllows, PairsAllow, ShowsPit};
+ghost use Rattle.pit_model.specs.Certificate.{IsCertificate};
+ghost use Rattle.pit_model.specs.Size.{most_blocks};
+ghost use Rattle.pit_model.specs.Direction.{ListsPit};
+ghost use Rattle.pit_model.specs.Fixed.{IsFixedCertificate, IsNothingFixed, fixed_of, graph_of_mine};
+ghost use Rattle.pit_model.specs.declared.direction.Direction.TheVariants.{Least};
+ghost use Rattle.mine_graph.specs.FixedBlocks.{IsFixedOf};
+ghost use Rattle.certificate.specs.Check.{has, open_in, AreRising, BlockAllows, BlocksAllow, IsCandidate, PairAllows, PairsAllow};
 
 use crate::excess::excesses_of;
 use crate::pit_with_flow::Certificate;
 use crate::reach::reached_of;
 use faults::Fault;
-use mine_graph::{Graph, Instance};
+use mine_graph::{Fixed, Graph, Instance};
 use std::alloc::{AllocError, Global};
 
 /// A mark for each of n blocks: whether it is on the list.
@@ -28,89 +33,109 @@ fn marks_of(alloc: Global, n: u32, pit: &[u32]) -> Result<Vec<bool>, AllocError>
     Ok(marks)
 }
 
-/// Whether a pair doesn't lead out of the set, and no flow comes in over it.
-fn pair_allows(from: bool, to: bool, amount: i128) -> bool
-    requires { pos 0 ≤ℤ amount }
-    ensures { IsTrue result ↔ PairAllows from to amount }
+/// Whether a pair doesn't lead out of the set, no flow comes in over it, and it has none where not both its blocks are open.
+fn pair_allows(from: bool, to: bool, are_open: bool, amount: i128) -> bool
+    ensures { IsTrue result ↔ PairAllows from to are_open amount }
 {
-    if from { to } else { !to || amount == 0 }
+    (to || !from) && (amount == 0 || (are_open && from == to))
 }
 
-/// Whether the set is closed, and no flow comes into it from outside.
-fn pairs_allow(graph: &Graph, flow: &[i128], inside: &[bool]) -> bool
+/// Whether the set is closed, no flow comes into it from outside, and none is where not both blocks are open.
+fn pairs_allow(graph: &Graph, fixed: &Fixed, flow: &[i128], inside: &[bool]) -> bool
     requires counted { length flow.now ≡ length graph.now.pairs }
-    requires amounts { AreAmounts flow.now }
     requires blocks { length inside.now ≡ graph.now.blocks }
-    ensures { IsTrue result ↔ PairsAllow graph.now.pairs flow.now inside.now (length graph.now.pairs) }
+    ensures { IsTrue result ↔ PairsAllow graph.now.pairs (open_in fixed.now) flow.now inside.now (length graph.now.pairs) }
 {
     graph.law();
     for k in 0..graph.arcs() {
         let (u, p) = graph.arc(k);
-        if !pair_allows(inside[u as usize], inside[p as usize], flow[k as usize]) {
+        let are_open = fixed.is_open(u) && fixed.is_open(p);
+        if !pair_allows(
+            inside[u as usize],
+            inside[p as usize],
+            are_open,
+            flow[k as usize],
+        ) {
             return false;
         }
     }
     true
 }
 
-/// Whether a block inside is reached and has no deficit, and one outside has nothing to send.
-fn block_allows(inside: bool, reached: bool, excess: i128) -> bool
-    ensures { IsTrue result ↔ BlockAllows inside reached excess }
+/// Whether a block that must be dug is inside, one that must be left outside, and an open one is reached and has no deficit
+/// where it is inside, and has nothing to send where it is outside.
+fn block_allows(is_dug: bool, is_left: bool, inside: bool, reached: bool, excess: i128) -> bool
+    ensures { IsTrue result ↔ BlockAllows is_dug is_left inside reached excess }
 {
-    if inside {
+    if is_dug {
+        inside && !is_left
+    } else if is_left {
+        !inside
+    } else if inside {
         reached && excess >= 0
     } else {
         excess <= 0
     }
 }
 
-/// Whether no block inside has a deficit, none outside more than nothing, and each inside is reached.
-fn blocks_allow(excesses: &[i128], inside: &[bool], reached: &[bool]) -> bool
+/// Whether all blocks meet these conditions.
+fn blocks_allow(fixed: &Fixed, excesses: &[i128], inside: &[bool], reached: &[bool]) -> bool
+    requires few { length inside.now ≤ most_blocks }
     requires count { length excesses.now ≡ length inside.now }
     requires reached { length reached.now ≡ length inside.now }
-    ensures { IsTrue result ↔ BlocksAllow excesses.now inside.now reached.now (length inside.now) }
+    ensures { IsTrue result ↔ BlocksAllow fixed.now excesses.now inside.now reached.now (length inside.now) }
 {
     for u in 0..inside.len() {
-        if !block_allows(inside[u], reached[u], excesses[u]) {
+        let block = u as u32;
+        if !block_allows(
+            fixed.is_dug(block),
+            fixed.is_left(block),
+            inside[u],
+            reached[u],
+            excesses[u],
+        ) {
             return false;
         }
     }
     true
 }
 
-/// Whether a set and a flow meet the conditions of a certificate, given the excesses and the blocks that are reached.
-fn certifies(
-    mine: &Instance,
-    flow: &[i128],
-    inside: &[bool],
-    excesses: &[i128],
-    reached: &[bool],
-) -> bool
-    requires counted { length flow.now ≡ arcs mine.now }
-    requires amounts { AreAmounts flow.now }
-    requires inside { length inside.now ≡ mine.now.blocks }
-    requires count { length excesses.now ≡ mine.now.blocks }
-    requires excesses { AreExcesses mine.now flow.now excesses.now }
-    requires marks { length reached.now ≡ mine.now.blocks }
-    requires reached { AreReached mine.now flow.now inside.now reached.now }
-    ensures { IsTrue result ↔ Certifies mine.now (has inside.now) (amount flow.now) }
+/// A mark for each block that is inside and open.
+fn open_inside(alloc: Global, fixed: &Fixed, inside: &[bool]) -> Result<Vec<bool>, AllocError>
+    requires few { length inside.now ≤ most_blocks }
+    ensures count { IfOk result (λ v. length v.items ≡ length inside.now) }
+    ensures marks { IfOk result (λ v. (u : ℕ) → u < length inside.now → has v.items u ≡ (has inside.now u && open_in fixed.now u)) }
 {
-    pairs_allow(mine.graph(), flow, inside) && blocks_allow(excesses, inside, reached)
+    let n = inside.len() as u32;
+    (0..n)
+        .map(|u| inside[u as usize] && fixed.is_open(u))
+        .collect(alloc)
 }
 
-/// Whether the blocks and the flow meet the conditions of a certificate of the instance: then, and then alone, the flow
-/// shows that the blocks are the smallest closed set of greatest worth. Refused for want of memory alone. Time and memory
-/// are linear in blocks and pairs. (Picard 1976)
-pub fn check(alloc: Global, mine: &Instance, certificate: &Certificate) -> Result<bool, Fault>
-    requires { IsCandidate mine.now.blocks (arcs mine.now) certificate.now.pit.items certificate.now.flow.items }
-    ensures exact { IfOk result (λ yes. IsTrue yes ↔ IsCertificate mine.now certificate.now.pit.items certificate.now.flow.items) }
-    ensures shows_pit { IfOk result (λ yes. IsTrue yes → ShowsPit mine.now certificate.now.pit.items) }
+/// Whether the blocks and the flow meet the conditions of a certificate of the instance with these blocks fixed: then, and then
+/// alone, the flow shows that the blocks are the smallest closed set of greatest worth among those that hold each block forced
+/// in and none that is barred. Refused for want of memory alone. Time and memory are linear in blocks and pairs. (Picard 1976)
+pub fn check(
+    alloc: Global,
+    mine: &Instance,
+    fixed: &Fixed,
+    certificate: &Certificate,
+) -> Result<bool, Fault>
+    requires fixed { IsFixedOf (graph_of_mine mine.now) fixed.now }
+    requires candidate { IsCandidate mine.now.blocks (arcs mine.now) certificate.now.pit.items certificate.now.flow.items }
+    ensures exact { IfOk result (λ yes. IsTrue yes ↔ IsFixedCertificate mine.now (fixed_of fixed.now.lists) certificate.now.pit.items certificate.now.flow.items) }
+    ensures shows_pit { IfOk result (λ yes. IsTrue yes → ListsPit Least mine.now (fixed_of fixed.now.lists) certificate.now.pit.items) }
+    ensures none_fixed { IfOk result (λ yes. IsNothingFixed (fixed_of fixed.now.lists) → IsTrue yes ↔ IsCertificate mine.now certificate.now.pit.items certificate.now.flow.items) }
     ensures refused { IfErr result (λ e. e ≡ no_memory) }
 {
     mine.law();
     let flow = certificate.flow.as_slice();
     let inside = marks_of(alloc, mine.graph().n(), &certificate.pit)?;
+    let open = open_inside(alloc, fixed, &inside)?;
     let excesses = excesses_of(alloc, mine, flow)?;
-    let reached = reached_of(alloc, mine, flow, &excesses, &inside)?;
-    Ok(certifies(mine, flow, &inside, &excesses, &reached))
+    let reached = reached_of(alloc, mine, flow, &excesses, &open)?;
+    Ok(
+        pairs_allow(mine.graph(), fixed, flow, &inside)
+            && blocks_allow(fixed, &excesses, &inside, &reached),
+    )
 }

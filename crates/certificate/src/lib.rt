@@ -4,6 +4,7 @@
 mod conditions;
 mod due;
 mod excess;
+mod head;
 mod lines;
 mod make;
 mod pit_with_flow;

@@ -1,4 +1,4 @@
-//! The text of a certificate: a head of four lines, the blocks of the pit, how many arcs carry something, and these.
+//! The text of a certificate: its head (`head`), the blocks of the pit, how many arcs carry something, and these.
 //! Each line is the one that is `Due`, checked by a function of `lines`; the first fault ends the reading.
 ghost use Rattle.std.specs.Prelude.{◌≡◌, ◌↔◌, ℕ, ℤ, List, Ok, Err, ◌≤◌, ◌<◌, ◌^◌, length, IfOk, IfErr};
 ghost use Rattle.std.specs.Io.KnownBytes.{Keeps};
@@ -6,19 +6,20 @@ ghost use Rattle.faults.specs.declared.fault.Fault.{Fault as AnyFault};
 ghost use Rattle.faults.specs.declared.source.Source.TheVariants as sources;
 ghost use Rattle.minelib_reader.specs.Answer.{Gives, Answers, AnswersBy, FailsBy, FailsAt};
 ghost use Rattle.minelib_reader.specs.Text.{row, fields_of};
+ghost use Rattle.pit_model.specs.Fixed.{FixedLists};
 ghost use Rattle.pit_model.specs.Graph.{AreRising, Graph as AnyGraph};
 ghost use Rattle.certificate.specs.Check.{IsCandidate};
 ghost use Rattle.certificate.specs.CertificateLines.{arc_step, block_step, certificate_of, end_at, pit_and_flow, state, step_at, PitAndFlow};
 ghost use Rattle.certificate.specs.CertificateFault.{IsFirstCertificateFault};
 ghost use Rattle.certificate.specs.CertificateGrammar.{SpellsCertificate};
 
-use crate::due::Due;
+use crate::due::{Due, Head};
+use crate::head::take_head;
 use crate::lines::{in_certificate, read_arc, read_count, read_id};
 use crate::pit_with_flow::Certificate;
 use faults::{Fault, Refusal, Source};
-use mine_graph::Graph;
+use mine_graph::{Fixed, Graph};
 use minelib_reader::{InBytes, Row, Rows, read_all};
-use report::{check_count, check_title};
 use std::alloc::Global;
 
 /// The line of a block, while some are left; then how many arcs follow.
@@ -65,35 +66,20 @@ fn take_arc(graph: &Graph, left: u32, from: u32, r: Row, flow: &mut Vec<i128>) -
 #[tactic(auto, unfolding(crate::specs::CertificateLines::step_at))]
 fn take_line(
     graph: &Graph,
+    fixed: &Fixed,
     due: Due,
     r: Row,
-    pit: &mut Vec<u32>,
-    flow: &mut Vec<i128>,
+    found: &mut Certificate,
 ) -> Result<Due, Fault>
-    requires { length flow.old.items ≡ length graph.now.pairs }
-    ensures ok { IfOk result (λ next. step_at graph.now due pit.old.items flow.old.items (row r.entry.line (fields_of r.entry.text.now)) ≡ Ok (state next pit.new.items flow.new.items)) }
-    ensures err { IfErr result (λ e. FailsBy e.refusal e (step_at graph.now due pit.old.items flow.old.items (row r.entry.line (fields_of r.entry.text.now)))) }
-    ensures counted { length flow.new.items ≡ length graph.now.pairs }
+    requires { length found.old.flow.items ≡ length graph.now.pairs }
+    ensures ok { IfOk result (λ next. step_at graph.now fixed.now.lists due found.old.pit.items found.old.flow.items (row r.entry.line (fields_of r.entry.text.now)) ≡ Ok (state next found.new.pit.items found.new.flow.items)) }
+    ensures err { IfErr result (λ e. FailsBy e.refusal e (step_at graph.now fixed.now.lists due found.old.pit.items found.old.flow.items (row r.entry.line (fields_of r.entry.text.now)))) }
+    ensures counted { length found.new.flow.items ≡ length graph.now.pairs }
 {
     match due {
-        Due::Title => {
-            check_title(Source::Certificate, b"PITCERT", r)?;
-            Ok(Due::Blocks)
-        }
-        Due::Blocks => {
-            check_count(Source::Certificate, b"BLOCKS:", graph.n(), r)?;
-            Ok(Due::Arcs)
-        }
-        Due::Arcs => {
-            check_count(Source::Certificate, b"ARCS:", graph.arcs(), r)?;
-            Ok(Due::Count)
-        }
-        Due::Count => {
-            let left = read_count(b"IN:", graph.n(), r)?;
-            Ok(Due::Block { left, from: 0 })
-        }
-        Due::Block { left, from } => take_block(graph, left, from, r, pit),
-        Due::Arc { left, from } => take_arc(graph, left, from, r, flow),
+        Due::Head(head) => take_head(graph, fixed, head, r),
+        Due::Block { left, from } => take_block(graph, left, from, r, &mut found.pit),
+        Due::Arc { left, from } => take_arc(graph, left, from, r, &mut found.flow),
     }
 }
 
@@ -110,55 +96,71 @@ fn check_end(due: Due, count: u64) -> Result<(), Fault>
 }
 
 /// All lines, one after the other.
-fn parse_lines(alloc: Global, text: &[u8], graph: &Graph) -> Result<Certificate, Fault>
+fn parse_lines(
+    alloc: Global,
+    text: &[u8],
+    graph: &Graph,
+    fixed: &Fixed,
+) -> Result<Certificate, Fault>
     requires { length text.now ≤ 2 ^ 40 }
-    ensures exact { Gives (λ c. pit_and_flow c.pit.items c.flow.items) result (certificate_of graph.now text.now) }
+    ensures exact { Gives (λ c. pit_and_flow c.pit.items c.flow.items) result (certificate_of graph.now fixed.now.lists text.now) }
 {
     let mut rows = Rows::new(text);
-    let mut pit = Vec::new(alloc);
-    let mut flow = vec![in alloc; 0i128; graph.arcs() as usize]?;
-    let mut due = Due::Title;
+    let pit = Vec::new(alloc);
+    let flow = vec![in alloc; 0i128; graph.arcs() as usize]?;
+    let mut found = Certificate { pit, flow };
+    let mut due = Due::Head(Head::Title);
     while let Some(row) = rows.next_row() {
-        due = take_line(graph, due, row, &mut pit, &mut flow)?;
+        due = take_line(graph, fixed, due, row, &mut found)?;
     }
     check_end(due, rows.number)?;
-    Ok(Certificate { pit, flow })
+    Ok(found)
 }
 
-/// Each text spells one certificate of a graph or has one first fault, and not both: what is read of it says which.
-/// The pairs of a graph are in order, so each of them has one number.
+/// Each text spells one certificate of a graph with these fixed blocks or has one first fault, and not both: what is read of
+/// it says which. The pairs of a graph are in order, so each of them has one number.
 pub fn certificate_law()
-    ensures spelled { (graph : AnyGraph) (text : List ℕ) (c : PitAndFlow) → AreRising graph.pairs → (certificate_of graph text ≡ Ok c) ↔ SpellsCertificate graph text c }
-    ensures faulty { (graph : AnyGraph) (text : List ℕ) (fault : AnyFault) → (certificate_of graph text ≡ Err fault) ↔ IsFirstCertificateFault graph text fault }
+    ensures spelled { (graph : AnyGraph) (lists : FixedLists) (text : List ℕ) (c : PitAndFlow) → AreRising graph.pairs → (certificate_of graph lists text ≡ Ok c) ↔ SpellsCertificate graph lists text c }
+    ensures faulty { (graph : AnyGraph) (lists : FixedLists) (text : List ℕ) (fault : AnyFault) → (certificate_of graph lists text ≡ Err fault) ↔ IsFirstCertificateFault graph lists text fault }
 {}
 
-/// The certificate of the graph that a text spells, else the first fault of the text, or `NoMemory`.
-pub fn parse_certificate(alloc: Global, text: &[u8], graph: &Graph) -> Result<Certificate, Fault>
+/// The certificate of the graph with these fixed blocks that a text spells, else the first fault of the text, or `NoMemory`.
+pub fn parse_certificate(
+    alloc: Global,
+    text: &[u8],
+    graph: &Graph,
+    fixed: &Fixed,
+) -> Result<Certificate, Fault>
     requires { length text.now ≤ 2 ^ 40 }
     // Which certificate or which fault it is.
-    ensures exact { Gives (λ c. pit_and_flow c.pit.items c.flow.items) result (certificate_of graph.now text.now) }
+    ensures exact { Gives (λ c. pit_and_flow c.pit.items c.flow.items) result (certificate_of graph.now fixed.now.lists text.now) }
     // What is read is spelled so, and what is spelled so is read, unless memory runs out.
-    ensures spelled { IfOk result (λ c. SpellsCertificate graph.now text.now (pit_and_flow c.pit.items c.flow.items)) }
-    ensures read { (c : PitAndFlow) → SpellsCertificate graph.now text.now c → Gives (λ c. pit_and_flow c.pit.items c.flow.items) result (Ok c) }
-    ensures first_fault { IfErr result (λ e. FailsAt e.refusal e (IsFirstCertificateFault graph.now text.now)) }
+    ensures spelled { IfOk result (λ c. SpellsCertificate graph.now fixed.now.lists text.now (pit_and_flow c.pit.items c.flow.items)) }
+    ensures read { (c : PitAndFlow) → SpellsCertificate graph.now fixed.now.lists text.now c → Gives (λ c. pit_and_flow c.pit.items c.flow.items) result (Ok c) }
+    ensures first_fault { IfErr result (λ e. FailsAt e.refusal e (IsFirstCertificateFault graph.now fixed.now.lists text.now)) }
     ensures candidate { IfOk result (λ c. IsCandidate graph.now.blocks (length graph.now.pairs) c.pit.items c.flow.items) }
 {
     graph.law();
-    parse_lines(alloc, text, graph)
+    parse_lines(alloc, text, graph, fixed)
 }
 
-/// The certificate of the graph that all spells which the reader has left, else the first fault of that text. Refused by
-/// `ReadFailed` exactly where the reader counted a failure in this call, and by `NoMemory`.
-pub fn read<R: InBytes>(alloc: Global, reader: &mut R, graph: &Graph) -> Result<Certificate, Fault>
+/// The certificate of the graph with these fixed blocks that all spells which the reader has left, else the first fault of
+/// that text. Refused by `ReadFailed` exactly where the reader counted a failure in this call, and by `NoMemory`.
+pub fn read<R: InBytes>(
+    alloc: Global,
+    reader: &mut R,
+    graph: &Graph,
+    fixed: &Fixed,
+) -> Result<Certificate, Fault>
     requires countable { (R.progress reader.old).failures < 2 ^ 63 }
     requires bounded { (R.progress reader.old).allowance ≤ 2 ^ 40 }
-    ensures answers { AnswersBy (λ c. pit_and_flow c.pit.items c.flow.items) (SpellsCertificate graph.now) (IsFirstCertificateFault graph.now) sources.Certificate (R.progress reader.old) (R.progress reader.new) (R.IsAtEnd reader.new) result }
+    ensures answers { AnswersBy (λ c. pit_and_flow c.pit.items c.flow.items) (SpellsCertificate graph.now fixed.now.lists) (IsFirstCertificateFault graph.now fixed.now.lists) sources.Certificate (R.progress reader.old) (R.progress reader.new) (R.IsAtEnd reader.new) result }
     ensures candidate { IfOk result (λ c. IsCandidate graph.now.blocks (length graph.now.pairs) c.pit.items c.flow.items) }
     ensures known { Keeps (R.known_text reader.old) (R.known_text reader.new) }
 
     // The same by what is read of a text.
-    ensures exact { Answers (λ c. pit_and_flow c.pit.items c.flow.items) (certificate_of graph.now) sources.Certificate (R.progress reader.old) (R.progress reader.new) (R.IsAtEnd reader.new) result }
+    ensures exact { Answers (λ c. pit_and_flow c.pit.items c.flow.items) (certificate_of graph.now fixed.now.lists) sources.Certificate (R.progress reader.old) (R.progress reader.new) (R.IsAtEnd reader.new) result }
 {
     let text = read_all(alloc, reader, Source::Certificate)?;
-    parse_certificate(alloc, &text, graph)
+    parse_certificate(alloc, &text, graph, fixed)
 }

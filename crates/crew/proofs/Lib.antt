@@ -1,2 +1,3 @@
 pub mod FirstFound
+pub mod Meeting
 pub mod Seats

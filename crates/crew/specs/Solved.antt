@@ -1,12 +1,15 @@
 -- What a solve by workers at one tree gives.
-use Rattle.std.specs.Prelude.{◌≡◌, ◌⊎◌, ℕ, List, Option, Some, None, IsTrue}
+use Rattle.std.specs.Prelude.{◌≡◌, ◌⊎◌, ℕ, List, Option, Some, None, IsTrue, IfSome}
 use Rattle.pit_model.specs.declared.journal.Entry.{Entry}
 use Rattle.pit_model.specs.declared.journal.Verdict.{Verdict}
 use Rattle.pit_model.specs.Mine.{Instance}
 use Rattle.pit_model.specs.Journal.{is_used_up, applied_count, IsLawful, AreSeated, replay}
 use Rattle.pit_model.specs.FirstRun.{HasMerger, HasNoMerger, IsFirstMerger}
 use Rattle.certificate.specs.Certificate.{IsCertificateOf}
+use Rattle.pit_model.specs.Version.{applied_arcs}
+use Rattle.proposals.specs.declared.knows.Desk.{Desk}
 use Rattle.tree_lock.specs.Held.{Held, Decides}
+use Rattle.tree_lock.specs.Served.{MeetsJournal}
 use Rattle.merging.specs.declared.outcome.Outcome.{Outcome}
 use Rattle.merging.specs.declared.outcome.Outcome.TheVariants.{Pit, Exhausted}
 
@@ -29,3 +32,8 @@ IsEnded held = HasNoMerger held.mine held.tree ⊎ IsTrue (is_used_up held.budge
 abbrev pub DecidesFirst : Held → Held → Option Verdict → Type 0
 DecidesFirst old new None = HasNoMerger old.mine old.tree × (new ≡ old)
 DecidesFirst old new (Some verdict) = (arc : ℕ) × IsFirstMerger old.mine old.tree (Some arc) × Decides arc old new verdict
+
+-- a worker's seats have met the holder's: what it asked and collected agrees with the entries under its seat, and its seat to look
+-- from, which is None only while it is lent, is told of all mergers
+abbrev pub HasMet : List Entry → Desk → Option (List ℕ) → Type 0
+HasMet journal asks looks = MeetsJournal asks journal × IfSome looks (λ list. list ≡ applied_arcs journal)

@@ -3,7 +3,8 @@
 ghost use Rattle.std.specs.Prelude.{◌≡◌, true, IfOk, IfErr};
 ghost use Rattle.faults.specs.Refused.{no_seat, IsNoRoom};
 ghost use Rattle.pit_model.specs.Mine.{arcs};
-ghost use Rattle.crew.specs.Solved.{IsEnded};
+ghost use Rattle.std.specs.List.{All};
+ghost use Rattle.crew.specs.Solved.{HasMet, IsEnded};
 
 use crate::driver::is_ended;
 use crate::gate::Gate;
@@ -76,6 +77,16 @@ fn count_applied(entries: &[Entry]) -> usize {
         .count()
 }
 
+// The seats of each meet the holder's.
+fn meet_all<S: Site>(board: &Board<S>, workers: &mut [Worker<S>], holder: &mut Holder<S>)
+    ensures same { holder.new ≡ holder.old }
+    ensures met { All (λ worker. HasMet holder.old.journal worker.asks worker.looks) workers.new }
+{
+    for worker in workers.iter_mut() {
+        worker.meet(board, holder);
+    }
+}
+
 impl<'a, S: Site + Send + Sync, G: Gate + Sync> Crew<'a, S, G> {
     // One sweep over all arcs, by this counter.
     fn sweep_by<L: Lot + Send + Sync, R: Threads + Wait + Sync>(
@@ -107,10 +118,11 @@ impl<'a, S: Site + Send + Sync, G: Gate + Sync> Crew<'a, S, G> {
     }
 
     // Each worker's seats meet the holder's.
-    fn meet(&mut self, holder: &mut Holder<S>) {
-        for worker in self.workers.iter_mut() {
-            worker.meet(self.board, holder);
-        }
+    fn meet(&mut self, holder: &mut Holder<S>)
+        ensures same { holder.new ≡ holder.old }
+        ensures met { All (λ worker. HasMet holder.old.journal worker.asks worker.looks) self.new.workers.items }
+    {
+        meet_all(self.board, &mut self.workers, holder);
     }
 
     // One sweep over all arcs, with a counter of its own.

@@ -2,8 +2,7 @@
 //! it sees there, serves the board under the lock, and collects its reply.
 ghost use Rattle.std.specs.Prelude.{◌≡◌, ◌≤◌, ◌<◌, IfSome};
 ghost use Rattle.pit_model.specs.Mine.{arcs};
-ghost use Rattle.pit_model.specs.Version.{applied_arcs};
-ghost use Rattle.tree_lock.specs.Served.{MeetsJournal};
+ghost use Rattle.crew.specs.Solved.{HasMet};
 
 use crate::gate::Gate;
 use crate::guide::{Guide, Sighting};
@@ -142,8 +141,8 @@ impl<S: Site> Worker<S> {
     /// and it is told of all mergers that were made.
     pub fn meet(&mut self, board: &Board<S>, holder: &mut Holder<S>)
         ensures same { holder.new ≡ holder.old }
-        ensures settled { (self.new.asks ≡ self.old.asks) × MeetsJournal self.old.asks holder.old.journal }
-        ensures told { IfSome self.new.looks (λ list. list ≡ applied_arcs holder.old.journal) }
+        ensures asks { self.new.asks ≡ self.old.asks }
+        ensures met { HasMet holder.old.journal self.new.asks self.new.looks }
     {
         holder.settle(board, &mut self.asks);
         match &mut self.looks {

@@ -2,7 +2,7 @@
 use Rattle.std.specs.Prelude.{◌≡◌, ◌⊎◌, ℕ}
 use Rattle.faults.specs.declared.fault.Fault.{Fault}
 use Rattle.faults.specs.declared.refusal.Refusal.{Refusal}
-use Rattle.faults.specs.declared.refusal.Refusal.TheVariants.{NoMemory, WriteFailed, NoSeat, Exhausted}
+use Rattle.faults.specs.declared.refusal.Refusal.TheVariants.{NoMemory, WriteFailed, NoSeat, Exhausted, FixedClash}
 use Rattle.faults.specs.declared.source.Source.{Source}
 use Rattle.faults.specs.declared.source.Source.TheVariants.{None}
 
@@ -33,3 +33,7 @@ IsNoRoom fault = (fault ≡ no_memory) ⊎ (fault ≡ no_seat)
 -- the budget of so many mergers is used up
 abbrev pub exhausted : ℕ → Fault
 exhausted count = nowhere (Exhausted count)
+
+-- this barred block must be dug
+abbrev pub clash : ℕ → Fault
+clash block = nowhere (FixedClash block)

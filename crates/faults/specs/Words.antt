@@ -1,9 +1,9 @@
 -- The number and the words of each refusal, and the words that name an input.
 use Rattle.std.specs.Prelude.{ℕ, List, [], codes}
 use Rattle.faults.specs.declared.refusal.Refusal.{Refusal}
-use Rattle.faults.specs.declared.refusal.Refusal.TheVariants.{NoMemory, ReadFailed, WrongHeader, OverLimit, NotWhole, NotDecimal, IdOutOfPlace, PredecessorOutOfRange, NeedsItself, PredecessorTwice, WrongFieldCount, EndsEarly, AfterEnd, Cycle, NegativeColumn, NoSuchColumn, CountsDiffer, WriteFailed, FactorsNotRising, Exhausted, NoSeat}
+use Rattle.faults.specs.declared.refusal.Refusal.TheVariants.{NoMemory, ReadFailed, WrongHeader, OverLimit, NotWhole, NotDecimal, IdOutOfPlace, PredecessorOutOfRange, NeedsItself, PredecessorTwice, WrongFieldCount, EndsEarly, AfterEnd, Cycle, NegativeColumn, NoSuchColumn, CountsDiffer, WriteFailed, FactorsNotRising, Exhausted, FixedClash, NoSeat}
 use Rattle.faults.specs.declared.source.Source.{Source}
-use Rattle.faults.specs.declared.source.Source.TheVariants.{None, Model, Precedence, Blocks, Certificate, Journal, Factors}
+use Rattle.faults.specs.declared.source.Source.TheVariants.{None, Model, Precedence, Blocks, Certificate, Journal, Factors, Fixed}
 
 -- the number of a refusal
 abbrev pub number_of : Refusal → ℕ
@@ -27,6 +27,7 @@ number_of CountsDiffer = 17
 number_of WriteFailed = 18
 number_of FactorsNotRising = 19
 number_of (Exhausted mergers) = 20
+number_of (FixedClash block) = 21
 number_of NoSeat = 22
 
 -- its words, up to what differs from fault to fault
@@ -51,6 +52,7 @@ words_of CountsDiffer = codes "counts differ"
 words_of WriteFailed = codes "write failed"
 words_of FactorsNotRising = codes "factors not rising"
 words_of (Exhausted mergers) = codes "exhausted after "
+words_of (FixedClash block) = codes "fixed blocks clash at block "
 words_of NoSeat = codes "no seat"
 
 -- the input
@@ -62,6 +64,7 @@ source_text Blocks = codes " in blocks"
 source_text Certificate = codes " in certificate"
 source_text Journal = codes " in journal"
 source_text Factors = codes " in factors"
+source_text Fixed = codes " in fixed"
 
 -- the word before a line's number, or an item's
 abbrev pub place_word : Source → List ℕ

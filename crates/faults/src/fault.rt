@@ -1,6 +1,6 @@
 //! A fault: a refusal and where it lies.
 ghost use Rattle.std.specs.Prelude.{◌≡◌};
-ghost use Rattle.faults.specs.Refused.{at_line, exhausted, no_memory, no_seat, nowhere, write_failed};
+ghost use Rattle.faults.specs.Refused.{at_line, clash, exhausted, no_memory, no_seat, nowhere, write_failed};
 
 use crate::refusal::Refusal;
 use crate::source::Source;
@@ -56,6 +56,13 @@ impl Fault {
     {
         Fault::nowhere(Refusal::Exhausted(count))
     }
+
+    /// What is answered where a barred block must be dug.
+    pub fn clash(block: u32) -> Fault
+        ensures { result ≡ clash block }
+    {
+        Fault::nowhere(Refusal::FixedClash(block))
+    }
 }
 
 impl From<AllocError> for Fault {
@@ -84,6 +91,7 @@ impl Display for Fault {
                 }
             }
             Refusal::NegativeColumn(block) => write!(f, "{block}")?,
+            Refusal::FixedClash(block) => write!(f, "{block}")?,
             Refusal::NoSuchColumn(column) => write!(f, "{column}")?,
             Refusal::Exhausted(mergers) => write!(f, "{mergers} mergers")?,
             _ => {}

@@ -2,7 +2,7 @@
 ghost use Rattle.std.specs.Prelude.{◌≡◌, ◌≤◌, length};
 ghost use Rattle.faults.specs.Words.{number_of, words_of};
 
-/// What was wrong, in the order of the numbers under which it is told, from 1 to 22 without 21.
+/// What was wrong, in the order of the numbers under which it is told, from 1 to 22.
 #[derive(Debug, Drop)]
 pub enum Refusal {
     NoMemory,
@@ -28,6 +28,8 @@ pub enum Refusal {
     FactorsNotRising,
     /// How many mergers the budget allowed.
     Exhausted(u64),
+    /// The least barred block that a forced one needs, directly or through others.
+    FixedClash(u32),
     NoSeat,
 }
 
@@ -57,6 +59,7 @@ impl Refusal {
             Refusal::WriteFailed => 18,
             Refusal::FactorsNotRising => 19,
             Refusal::Exhausted(_) => 20,
+            Refusal::FixedClash(_) => 21,
             Refusal::NoSeat => 22,
         }
     }
@@ -87,6 +90,7 @@ impl Refusal {
             Refusal::WriteFailed => "write failed",
             Refusal::FactorsNotRising => "factors not rising",
             Refusal::Exhausted(_) => "exhausted after ",
+            Refusal::FixedClash(_) => "fixed blocks clash at block ",
             Refusal::NoSeat => "no seat",
         }
     }

@@ -12,6 +12,7 @@ pub enum Source {
     Certificate,
     Journal,
     Factors,
+    Fixed,
 }
 
 impl Source {
@@ -28,6 +29,7 @@ impl Source {
             Source::Certificate => " in certificate",
             Source::Journal => " in journal",
             Source::Factors => " in factors",
+            Source::Fixed => " in fixed",
         }
     }
 

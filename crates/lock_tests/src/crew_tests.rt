@@ -1,6 +1,8 @@
 //! Workers at one tree: that two of them work at once, that their asks make the mergers, and that the journal leads to the
 //! same tree when it is followed by one thread. Which worker does what differs from run to run.
-use crate::mines::{cut_once, dug_whole, eight_over_one, one_part, pairs_of_blocks};
+use crate::mines::{
+    cut_once, dug_whole, eight_over_one, one_part, ores_below_waste, pairs_of_blocks,
+};
 use crate::outcomes::{exhausted_at, leads_to, mergers_in, pit_in};
 use crew::{Entry, Gate, OpenGate, Verdict, solve_shared};
 use solver::{Mode, solve};
@@ -213,6 +215,19 @@ fn the_driver_decides_once_after_the_last_sweep(rt: HostRuntime) -> Result<(), F
     Ok(())
 }
 
+/// In the first sweep no distance leads from an ore to the ore above it. The driver makes one of these mergers, and the distances
+/// grow, so that the workers make the others in the second sweep.
+#[test]
+fn distances_grow_between_two_sweeps(rt: HostRuntime) -> Result<(), Fail> {
+    let mine = ores_below_waste(rt.alloc(), 100)?;
+    let (outcome, journal) = solve_shared(&rt, rt.alloc(), &mine, 2, None, 7, &OpenGate)?;
+    assert_eq!(rt; pit_in(&outcome).map(|pit| pit.len()), Some(300));
+    assert_eq!(rt; mergers_in(&journal), 200);
+    assert_eq!(rt; of_driver(&journal), 1, "the driver decides once");
+    Ok(())
+}
+
+/// Each of the two ores must be merged with its waste, so no order of asks ends after one merger.
 #[test]
 fn workers_stop_at_the_budget(rt: HostRuntime) -> Result<(), Fail> {
     let mine = dug_whole(rt.alloc())?;
@@ -222,12 +237,12 @@ fn workers_stop_at_the_budget(rt: HostRuntime) -> Result<(), Fail> {
             rt.alloc(),
             &mine,
             workers,
-            Some(2),
+            Some(1),
             1,
             &OpenGate,
         )?;
-        assert_eq!(rt; exhausted_at(&outcome), Some(2), "with {workers} workers");
-        assert_eq!(rt; mergers_in(&journal), 2, "with {workers} workers");
+        assert_eq!(rt; exhausted_at(&outcome), Some(1), "with {workers} workers");
+        assert_eq!(rt; mergers_in(&journal), 1, "with {workers} workers");
     }
     Ok(())
 }

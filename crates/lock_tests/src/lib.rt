@@ -19,6 +19,8 @@ mod draw_tests;
 #[cfg(test)]
 mod failures;
 #[cfg(test)]
+mod fixed_tests;
+#[cfg(test)]
 mod look_tests;
 #[cfg(test)]
 mod looks;

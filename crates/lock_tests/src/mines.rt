@@ -102,6 +102,23 @@ pub fn pairs_of_blocks(alloc: Global, copies: u32) -> Result<Instance, Fail> {
     Ok(spelled(alloc, &model, &prec)?)
 }
 
+/// So many copies of a mine of three blocks, at most 1,000, numbered three at a time: ore below ore below waste. The upper ore
+/// does not pay for the waste, and both do. Each copy is two mergers, the upper one first.
+pub fn ores_below_waste(alloc: Global, copies: u32) -> Result<Instance, Fail> {
+    let copies = copies.min(1000);
+    let mut model = format!(in alloc;
+        "NAME: t\nTYPE: UPIT\nNBLOCKS: {}\nOBJECTIVE_FUNCTION:\n",
+        3 * copies
+    )?;
+    let mut prec = String::new(alloc);
+    for copy in 0..copies {
+        let u = 3 * copy;
+        model.push_str(&format!(in alloc; "{u} -5\n{} 1\n{} 10\n", u + 1, u + 2)?)?;
+        prec.push_str(&format!(in alloc; "{} 1 {u}\n{} 1 {}\n", u + 1, u + 2, u + 1)?)?;
+    }
+    Ok(spelled(alloc, &model, &prec)?)
+}
+
 // What a block of the cross section is worth: ore below, waste above and at the sides.
 fn worth(depth: u32, place: u32, random: u64) -> i128 {
     let noise = (random >> 40) as i128 % 97;

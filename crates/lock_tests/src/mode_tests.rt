@@ -1,7 +1,7 @@
 //! The calls that the program makes, in each mode, over small mines that were worked out by hand.
 use crate::failures::first_failure;
 use crate::mines::{cut_once, three_parts};
-use certificate::check;
+use crate::outcomes::is_shown;
 use faults::{Fault, Refusal};
 use mine_graph::Instance;
 use solver::{Mode, OpenGate, find_certificate, find_pit};
@@ -11,7 +11,7 @@ use std::test::*;
 use std::thread::Threads;
 
 // Each way to solve; the budget suffices.
-const MODES: [Mode; 4] = [
+pub(crate) const MODES: [Mode; 4] = [
     Mode::Single { budget: None },
     Mode::Single { budget: Some(9) },
     Mode::Parts,
@@ -32,14 +32,14 @@ fn failure_in<R: Threads + Wait + Sync>(
 ) -> Result<Option<&'static str>, Fault> {
     let found = find_pit(rt, alloc, mine, mode, &OpenGate)?;
     let certificate = find_certificate(rt, alloc, mine, mode, &OpenGate)?;
-    let is_shown = check(alloc, mine, &certificate)?;
+    let shown = is_shown(alloc, mine, &certificate)?;
     Ok(first_failure(&[
         ("find_pit finds the pit", found.as_slice() == pit),
         (
             "find_certificate finds the pit",
             certificate.pit.as_slice() == pit,
         ),
-        ("the flow shows it", is_shown),
+        ("the flow shows it", shown),
     ]))
 }
 

@@ -1,6 +1,11 @@
 //! What a solve answered, as a test asks for it.
+ghost use Rattle.std.specs.Prelude.{length};
+ghost use Rattle.pit_model.specs.Mine.{arcs};
+ghost use Rattle.certificate.specs.Check.{IsCandidate};
+
+use certificate::{Certificate, check};
 use faults::Fault;
-use mine_graph::Instance;
+use mine_graph::{Fixed, Instance};
 use norm_tree::NormTree;
 use solver::{Entry, Outcome, Verdict};
 use std::alloc::Global;
@@ -19,6 +24,13 @@ pub fn exhausted_at(outcome: &Outcome) -> Option<u64> {
         Outcome::Pit(_) => None,
         Outcome::Exhausted(count) => Some(*count),
     }
+}
+
+/// Whether the flow shows the pit, where nothing is fixed.
+pub fn is_shown(alloc: Global, mine: &Instance, certificate: &Certificate) -> Result<bool, Fault>
+    requires { IsCandidate mine.now.blocks (arcs mine.now) certificate.now.pit.items certificate.now.flow.items }
+{
+    check(alloc, mine, &Fixed::none(), certificate)
 }
 
 /// How many of the entries are mergers.

@@ -1,7 +1,6 @@
 //! One thread, and the parts, over small mines whose pits and whose mergers one by one were worked out by hand.
 use crate::mines::{cut_once, dug_whole, one_part, three_parts, worth_nothing};
-use crate::outcomes::{exhausted_at, pit_in};
-use certificate::check;
+use crate::outcomes::{exhausted_at, is_shown, pit_in};
 use merging::{merge_by_lowest_label, pit_by_parts, solve_parts, solve_single};
 use norm_tree::{BareTree, NormTree};
 use std::test::*;
@@ -46,7 +45,7 @@ fn parts_find_the_pit(rt: HostRuntime) -> Result<(), Fail> {
     let answer = solve_parts(&rt, rt.alloc(), &mine)?;
     assert_eq!(rt; answer.pit.as_slice(), [2, 3, 4, 5, 8].as_slice());
     assert!(rt;
-        check(rt.alloc(), &mine, &answer)?,
+        is_shown(rt.alloc(), &mine, &answer)?,
         "the flow shows the pit of three parts"
     );
     let pit = pit_by_parts(&rt, rt.alloc(), &mine)?;
@@ -60,7 +59,7 @@ fn a_single_part_finds_the_pit(rt: HostRuntime) -> Result<(), Fail> {
     let answer = solve_parts(&rt, rt.alloc(), &mine)?;
     assert_eq!(rt; answer.pit.as_slice(), [0, 1].as_slice());
     assert!(rt;
-        check(rt.alloc(), &mine, &answer)?,
+        is_shown(rt.alloc(), &mine, &answer)?,
         "the flow shows the pit of one part"
     );
     Ok(())

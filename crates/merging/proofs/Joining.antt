@@ -41,7 +41,7 @@ rising_once pairs rising k l a b first second =
 abbrev pub Rises : List ℕ → Type 0
 Rises blocks = (u v : ℕ) → u < v → v < length blocks → get_or blocks u 0 < get_or blocks v 0
 
-rises_once : (blocks : List ℕ) → Rises blocks → (u v : ℕ) → u < length blocks → v < length blocks → get_or blocks u 0 ≡ get_or blocks v 0 → u ≡ v
+pub rises_once : (blocks : List ℕ) → Rises blocks → (u v : ℕ) → u < length blocks → v < length blocks → get_or blocks u 0 ≡ get_or blocks v 0 → u ≡ v
 rises_once blocks rises u v a b e = ⊎_elim
     (λ (s : u ≡ v). s)
     (λ (apart : (u < v) ⊎ (v < u)). absurd (⊎_elim

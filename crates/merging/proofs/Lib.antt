@@ -6,3 +6,4 @@ pub mod Joining
 pub mod Ordering
 pub mod Shown
 pub mod SolvedPart
+pub mod Resting

@@ -14,7 +14,7 @@ use mine_graph::{Graph, Instance};
 use std::alloc::{AllocError, Global};
 
 // Marks the blocks of a part's pit.
-fn mark_pit(blocks: &[u32], pit: &[u32], marks: &mut [bool])
+pub(crate) fn mark_pit(blocks: &[u32], pit: &[u32], marks: &mut [bool])
     requires pit { (i : ℕ) → i < length pit.now → get_or pit.now i 0 < length blocks.now }
     requires blocks { (u : ℕ) → u < length blocks.now → get_or blocks.now u 0 < length marks.old }
     ensures { AreMarked blocks.now pit.now (length pit.now) marks.old marks.new }
@@ -25,7 +25,13 @@ fn mark_pit(blocks: &[u32], pit: &[u32], marks: &mut [bool])
 }
 
 // Writes the amount on each pair of a part where the pair stands in the whole.
-fn carry_flow(whole: &Graph, blocks: &[u32], part: &Graph, amounts: &[i128], flow: &mut [i128])
+pub(crate) fn carry_flow(
+    whole: &Graph,
+    blocks: &[u32],
+    part: &Graph,
+    amounts: &[i128],
+    flow: &mut [i128],
+)
     requires count { part.now.blocks ≡ length blocks.now }
     requires blocks { (u : ℕ) → u < length blocks.now → get_or blocks.now u 0 < whole.now.blocks }
     requires apart { (u v : ℕ) → u < v → v < length blocks.now → get_or blocks.now u 0 < get_or blocks.now v 0 }
@@ -81,7 +87,7 @@ fn place_parts(instance: &Instance, parts: &[SolvedPart], marks: &mut [bool], fl
 }
 
 // The marked blocks, rising.
-fn marked(alloc: Global, marks: &[bool]) -> Result<Vec<u32>, AllocError>
+pub(crate) fn marked(alloc: Global, marks: &[bool]) -> Result<Vec<u32>, AllocError>
     requires { length marks.now < 4294967296 }
     ensures { IfOk result (λ v. v.items ≡ members (length marks.now) (has marks.now)) }
 {

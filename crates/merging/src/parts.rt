@@ -22,7 +22,11 @@ use std::sync::Arc;
 use std::thread::Threads;
 
 // The values of some blocks.
-fn values_of(alloc: Global, instance: &Instance, blocks: &[u32]) -> Result<Vec<i128>, AllocError>
+pub(crate) fn values_of(
+    alloc: Global,
+    instance: &Instance,
+    blocks: &[u32],
+) -> Result<Vec<i128>, AllocError>
     requires { (u : ℕ) → u < length blocks.now → get_or blocks.now u 0 < instance.now.blocks }
     ensures count { IfOk result (λ v. length v.items ≡ length blocks.now) }
     ensures each { IfOk result (λ v. (u : ℕ) → u < length blocks.now → get_or v.items u (pos 0) ≡ value instance.now (get_or blocks.now u 0)) }

@@ -1,4 +1,5 @@
 pub mod Rows
+pub mod FixedBlocks
 pub mod Queue
 pub mod Left
 pub mod Users
@@ -8,3 +9,4 @@ pub mod Renumbered
 pub mod Classes
 pub mod Order
 pub mod Parts
+pub mod Flood

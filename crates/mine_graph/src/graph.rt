@@ -1,13 +1,15 @@
 //! The graph of the pairs "u needs p". Making one puts the pairs into their order (rising.rt) and refuses by a cycle where they
 //! have one (no_cycle.rt); so its type carries that it has none.
 ghost use Rattle.std.specs.Prelude.{◌≡◌, ◌<◌, ◌≤◌, ◌^◌, ◌↔◌, ◌==◌, ℕ, length, get_or, IfOk, IfErr, IfSome, IfNone};
+ghost use Rattle.faults.specs.Refused.{no_memory};
+ghost use Rattle.pit_model.specs.Direction.{IsReversed};
 ghost use Rattle.pit_model.specs.Graph.{first_of, second_of, AreApart, AreInRange, AreSamePairs, IsAcyclic, IsGraph};
 ghost use Rattle.pit_model.specs.Mine.{members};
 ghost use Rattle.mine_graph.specs.Faults.{IsGraphFault};
 
 use crate::no_cycle::check_acyclic;
 use crate::rising::in_order;
-use crate::sort::number_by_second;
+use crate::sort::{number_by_second, turn_in_order};
 use faults::Fault;
 use std::alloc::Global;
 use std::marker::Model;
@@ -120,6 +122,24 @@ impl Graph {
         let begin = self.user_starts[p as usize] as usize;
         let end = self.user_starts[p as usize + 1] as usize;
         &self.users[begin..end]
+    }
+
+    /// The graph with each pair turned round, by one pass: the pairs by which a block is needed there are those that it needs here.
+    /// Refused for want of memory alone. Time is linear in blocks and pairs.
+    pub fn reversed(&self) -> Result<Graph, Fault>
+        ensures reversed { IfOk result (λ g. IsReversed self.now g) }
+        ensures no_memory { IfErr result (λ e. e ≡ no_memory) }
+    {
+        let alloc = self.alloc();
+        let (starts, pairs, users) = turn_in_order(alloc, self.blocks, &self.pairs)?;
+        let user_starts = Vec::from_slice(alloc, &self.starts)?;
+        Ok(Graph {
+            blocks: self.blocks,
+            starts,
+            pairs,
+            user_starts,
+            users,
+        })
     }
 
     /// The number of a pair, by halving the row of its block.

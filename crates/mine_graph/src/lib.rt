@@ -4,6 +4,8 @@
 mod classes;
 mod count_down;
 mod cycle;
+mod fixed;
+mod flood;
 mod graph;
 mod instance;
 mod no_cycle;
@@ -14,6 +16,7 @@ mod sort;
 
 pub use classes::Classes;
 pub use cycle::acyclic_has_no_needy;
+pub use fixed::Fixed;
 pub use graph::Graph;
 pub use instance::Instance;
 pub use part::Part;

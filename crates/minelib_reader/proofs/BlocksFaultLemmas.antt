@@ -1,6 +1,6 @@
 -- The reading of a block model file fails by the fault of the least line that breaks a check, and only where one does.
 -- Its idea: each line is checked by its place and the width alone, and the width is known where the first line passes.
-use Rattle.std.proofs.Common.{◌≡◌, ℕ, zero, suc, ◌+◌, ◌-◌, ◌<◌, leb, List, [], ◌∷◌, ◌++◌, length, Option, Some, None, Result, Ok, Err, refl, ap, ◌∙◌, arith, inl, inr, ℤ}
+use Rattle.std.proofs.Common.{◌≡◌, ℕ, zero, suc, ◌+◌, ◌-◌, leb, List, [], ◌∷◌, ◌++◌, length, Option, Some, None, Result, Ok, Err, refl, ap, ◌∙◌, arith, inl, inr, ℤ}
 use Rattle.std.specs.List.{slice_get}
 use Rattle.faults.specs.declared.fault.Fault.{Fault}
 use Rattle.faults.specs.declared.refusal.Refusal.TheVariants.{OverLimit, WrongFieldCount}
@@ -12,7 +12,7 @@ use Rattle.minelib_reader.specs.Table.{Place, Table, table}
 use Rattle.minelib_reader.specs.Blocks.{most_columns, in_blocks, width_line, block_line, blocks_from, as_table, table_of_rows}
 use Rattle.minelib_reader.specs.BlocksFault.{block_line_fault, fault_in_rows}
 use Rattle.minelib_reader.proofs.CheckLemmas.{passed, stopped, passing, same_value}
-use Rattle.minelib_reader.proofs.FirstFaultLemmas.{no_fault, that_fault}
+use Rattle.minelib_reader.proofs.FirstFaultLemmas.{no_fault, that_fault, none_before_next}
 
 -- the width that the first line gives is the one that it names
 pub width_is : (r : Row) (w : ℕ) → width_line r ≡ Ok w → length r.fields - 4 ≡ w
@@ -42,10 +42,6 @@ from_next width i r rows k = let same : i + suc k ≡ i + 1 + k = omega arith in
 
 from_first : (width i : ℕ) (r : Row) (rows : List Row) → fault_from width i (r ∷ rows) 0 ≡ result_err (block_line width i r)
 from_first width i r rows = let same : i + 0 ≡ i = omega arith in ap (λ (j : ℕ). result_err (block_line width j r)) same
-
-none_before_next : (f g : ℕ → Option Fault) (k : ℕ) → f 0 ≡ None → ((j : ℕ) → f (suc j) ≡ g j) → ((j : ℕ) → j < k → g j ≡ None) → (j : ℕ) → j < suc k → f j ≡ None
-none_before_next f g k first same clear zero lt = first
-none_before_next f g k first same clear (suc j) lt = same j ∙ clear j (omega (arith, lt))
 
 blocks_fail : (width i : ℕ) (rows : List Row) (e : Fault) → blocks_from width i rows ≡ Err e → IsFirstFault (fault_from width i rows) e
 unfolding blocks_from

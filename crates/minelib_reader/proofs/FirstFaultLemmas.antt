@@ -1,5 +1,5 @@
 -- Which places of a text are clear of faults, and that a text has one first fault at most.
-use Rattle.std.proofs.Common.{◌≡◌, ℕ, suc, ◌<◌, Option, Some, None, Result, Ok, Err, refl, sym, ap, subst, ◌∙◌, arith, inl, inr}
+use Rattle.std.proofs.Common.{◌≡◌, ℕ, zero, suc, ◌<◌, Option, Some, None, Result, Ok, Err, refl, sym, ap, subst, ◌∙◌, arith, inl, inr}
 use Rattle.std.specs.Result.{result_err}
 use Rattle.std.proofs.lemmas.Bool.{cases_lt}
 use Rattle.std.proofs.lemmas.Option.{none-some, same_Some}
@@ -24,6 +24,11 @@ clear_more f k before here j lt = elim (cases_lt j k) [
   | inl below ↦ before j below
   | inr le ↦ let same : k ≡ j = omega (arith, lt, le) in subst (λ (x : ℕ). f x ≡ None) same here
 ]
+
+-- a clear place before those of another text, as far as they are clear
+pub none_before_next : (f g : ℕ → Option Fault) (k : ℕ) → f 0 ≡ None → ((j : ℕ) → f (suc j) ≡ g j) → ((j : ℕ) → j < k → g j ≡ None) → (j : ℕ) → j < suc k → f j ≡ None
+none_before_next f g k first same clear zero lt = first
+none_before_next f g k first same clear (suc j) lt = same j ∙ clear j (omega (arith, lt))
 
 -- a place that has a fault is not clear
 clash : (f : ℕ → Option Fault) (k : ℕ) (fault : Fault) → f k ≡ None → f k ≡ Some fault → ⊥

@@ -15,6 +15,9 @@ pub mod PrecLineLemmas
 pub mod PrecFaultLemmas
 pub mod PrecGrammarLemmas
 pub mod PrecLimitLemmas
+pub mod FixedLineLemmas
+pub mod FixedGrammarLemmas
+pub mod FixedFaultLemmas
 mod BlocksLineLemmas
 mod BlocksFaultLemmas
 pub mod BlocksGrammarLemmas

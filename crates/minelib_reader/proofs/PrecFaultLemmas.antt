@@ -1,7 +1,7 @@
 -- The reading of a precedence file fails by the fault of the least line that breaks a check, and only where one does.
--- Its idea: what a line that was read names is what `id_in` and `count_in` take from its fields, so that the state
+-- Its idea: what a line that was read names is what `first_number` and `second_number` take from its fields, so that the state
 -- behind it is the one that the next line is checked against.
-use Rattle.std.proofs.Common.{◌≡◌, ℕ, zero, suc, ◌+◌, ◌<◌, ◌≤◌, eqb, leb, ltb, List, [], ◌∷◌, ◌++◌, length, take, Option, Some, None, Result, Ok, Err, refl, sym, ap, subst, ◌∙◌, arith, inl, inr, ◌&&◌}
+use Rattle.std.proofs.Common.{◌≡◌, ℕ, zero, suc, ◌+◌, ◌<◌, ◌≤◌, eqb, leb, ltb, List, [], ◌∷◌, ◌++◌, length, take, Some, None, Result, Ok, Err, refl, sym, ap, subst, ◌∙◌, arith, inl, inr, ◌&&◌}
 use Rattle.std.proofs.lemmas.Bool.{eqb-true, leb-true, ltb-true, and_parts}
 use Rattle.std.specs.List.{slice_get}
 use Rattle.faults.specs.declared.fault.Fault.{Fault}
@@ -12,10 +12,10 @@ use Rattle.minelib_reader.specs.FirstFault.{IsFirstFault}
 use Rattle.minelib_reader.specs.Text.{Row, two_and_more}
 use Rattle.minelib_reader.specs.Number.{whole_of}
 use Rattle.minelib_reader.specs.Prec.{most_pairs, in_precedence, needs_from, front_of, needs_line, pairs_of, pairs_from}
-use Rattle.minelib_reader.specs.PrecFault.{number_or_zero, id_in, count_in, from_behind, total_behind, needs_line_fault, fault_behind}
+use Rattle.minelib_reader.specs.PrecFault.{number_or_zero, first_number, second_number, from_behind, total_behind, needs_line_fault, fault_behind}
 use Rattle.minelib_reader.proofs.CheckLemmas.{passed, stopped, passing, same_value, value_there, test_holds}
 use Rattle.std.proofs.lemmas.Option.{same_Some}
-use Rattle.minelib_reader.proofs.FirstFaultLemmas.{no_fault, that_fault}
+use Rattle.minelib_reader.proofs.FirstFaultLemmas.{no_fault, that_fault, none_before_next}
 use Rattle.minelib_reader.proofs.PrecLineLemmas.{length_needs}
 
 -- what the checks of a line's front tell, where it passes them
@@ -88,24 +88,20 @@ line_found n from total r line e =
     subst (λ (x : ℕ × List ℕ). LineFound n from total r x) (same_value (a.value.0, b.value) line b.behind) all
 
 -- so the next line is checked against what this one names
-id_is : (n from total : ℕ) (r : Row) (line : ℕ × List ℕ) → LineFound n from total r line → id_in r.fields ≡ line.0
-id_is n from total r line f = ap id_in f.front.fields ∙ ap number_or_zero f.front.is_id
+id_is : (n from total : ℕ) (r : Row) (line : ℕ × List ℕ) → LineFound n from total r line → first_number r.fields ≡ line.0
+id_is n from total r line f = ap first_number f.front.fields ∙ ap number_or_zero f.front.is_id
 
-count_is : (n from total : ℕ) (r : Row) (line : ℕ × List ℕ) → LineFound n from total r line → count_in r.fields ≡ length line.1
-count_is n from total r line f = ap count_in f.front.fields ∙ ap number_or_zero f.front.is_count ∙ f.counted
+count_is : (n from total : ℕ) (r : Row) (line : ℕ × List ℕ) → LineFound n from total r line → second_number r.fields ≡ length line.1
+count_is n from total r line f = ap second_number f.front.fields ∙ ap number_or_zero f.front.is_count ∙ f.counted
 
 behind_line : (n from total : ℕ) (r : Row) (rows : List Row) (line : ℕ × List ℕ) → needs_line n from total r ≡ Ok line → (k : ℕ) → fault_behind n from total (r ∷ rows) (suc k) ≡ fault_behind n (line.0 + 1) (total + length line.1) rows k
 behind_line n from total r rows line h k =
     let f = line_found n from total r line h in
-    ap (λ (i : ℕ). needs_line_fault n (from_behind (i + 1) (take k rows)) (total_behind (total + count_in r.fields) (take k rows)) (slice_get rows k)) (id_is n from total r line f)
+    ap (λ (i : ℕ). needs_line_fault n (from_behind (i + 1) (take k rows)) (total_behind (total + second_number r.fields) (take k rows)) (slice_get rows k)) (id_is n from total r line f)
     ∙ ap (λ (c : ℕ). needs_line_fault n (from_behind (line.0 + 1) (take k rows)) (total_behind (total + c) (take k rows)) (slice_get rows k)) (count_is n from total r line f)
 
 abbrev with_line : ℕ × List ℕ → List (ℕ × ℕ) → Result (List (ℕ × ℕ)) Fault
 with_line line others = passing (pairs_of line.0 line.1 ++ others)
-
-none_before_next : (f g : ℕ → Option Fault) (k : ℕ) → f 0 ≡ None → ((j : ℕ) → f (suc j) ≡ g j) → ((j : ℕ) → j < k → g j ≡ None) → (j : ℕ) → j < suc k → f j ≡ None
-none_before_next f g k first same clear zero lt = first
-none_before_next f g k first same clear (suc j) lt = same j ∙ clear j (omega (arith, lt))
 
 pub fails_first : (n from total : ℕ) (rows : List Row) (e : Fault) → pairs_from n from total rows ≡ Err e → IsFirstFault (fault_behind n from total rows) e
 unfolding pairs_from

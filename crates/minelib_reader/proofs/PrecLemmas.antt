@@ -6,7 +6,8 @@ use Rattle.std.proofs.lemmas.List.Folds.{list_any-append}
 use Rattle.faults.specs.declared.fault.Fault.{Fault}
 use Rattle.minelib_reader.specs.Checks.{◌>>=◌}
 use Rattle.minelib_reader.specs.Marks.{AreMarked}
-use Rattle.minelib_reader.specs.Prec.{need_of, needs_from, is_among, pairs_of}
+use Rattle.pit_model.specs.Fixed.{is_among}
+use Rattle.minelib_reader.specs.Prec.{need_of, needs_from, pairs_of}
 
 abbrev Needs : Type 0
 Needs = Result (List ℕ) Fault

@@ -1,4 +1,4 @@
--- What a text is refused for lies in the text: never a seat that was refused, nor a budget.
+-- What a text is refused for lies in the text: never a seat that was refused, nor a budget, nor a clash of fixed blocks.
 use Rattle.std.proofs.Common.{◌≡◌, ℕ, zero, suc, ◌+◌, ◌++◌, length, Bool, true, false, refl, subst, List, [], ◌∷◌, Option, Some, None, take}
 use Rattle.std.specs.Prelude.{ℤ, ◌-◌, Result, Ok, Err, nat_lt, nat_le, ◌==◌, not, ◌&&◌, codes}
 use Rattle.std.specs.Str.{bytes_eq}
@@ -6,14 +6,17 @@ use Rattle.minelib_reader.specs.Number.{whole_of, decimal_of, signed_of}
 use Rattle.std.specs.List.{slice_get}
 use Rattle.faults.specs.declared.fault.Fault.{Fault}
 use Rattle.faults.specs.declared.refusal.Refusal.{Refusal}
-use Rattle.faults.specs.declared.refusal.Refusal.TheVariants.{NoSeat, Exhausted}
+use Rattle.faults.specs.declared.refusal.Refusal.TheVariants.{NoSeat, Exhausted, FixedClash}
 use Rattle.minelib_reader.specs.Checks.{◌>>=◌, ok_if}
 use Rattle.std.specs.Result.{result_err}
 use Rattle.minelib_reader.specs.Text.{two_of, two_and_more, Row, rows_of, count_of_lines, four_and_more}
 use Rattle.pit_model.specs.Size.{most_blocks}
 use Rattle.minelib_reader.specs.Upit.{name_line, type_line, blocks_line, objective_line, value_line}
 use Rattle.minelib_reader.specs.UpitFault.{model_line_fault, place_fault, blocks_named, IsFirstUpitFault}
-use Rattle.minelib_reader.specs.Prec.{most_pairs, is_among, need_of, needs_from, front_of, needs_line}
+use Rattle.pit_model.specs.Fixed.{is_among}
+use Rattle.minelib_reader.specs.Prec.{most_pairs, need_of, needs_from, front_of, needs_line}
+use Rattle.minelib_reader.specs.Fixed.{is_forced_by, fixed_line}
+use Rattle.minelib_reader.specs.FixedFault.{IsFirstFixedFault, fixed_line_fault, from_behind as fixed_from_behind}
 use Rattle.minelib_reader.specs.Table.{Place}
 use Rattle.minelib_reader.specs.Blocks.{most_columns, is_coordinate, width_line, coordinate_of, front_of as place_front, attribute_of, attributes_of, block_line}
 use Rattle.minelib_reader.specs.BlocksFault.{IsFirstTableFault, block_line_fault, width_named}
@@ -22,6 +25,7 @@ use Rattle.minelib_reader.specs.PrecFault.{IsFirstPrecFault, needs_line_fault, f
 abbrev pub IsOfText : Refusal → Type 0
 IsOfText NoSeat = ⊥
 IsOfText (Exhausted count) = ⊥
+IsOfText (FixedClash block) = ⊥
 IsOfText _ = Unit {0}
 
 abbrev pub FailsOfText : {X : Type 0} → Result X Fault → Type 0
@@ -139,6 +143,22 @@ pub prec_fault_of_text : (n : ℕ) (text : List ℕ) (e : Fault) → IsFirstPrec
 prec_fault_of_text n text e is =
     subst MaybeOfText is.here
     (prec_row_of_text n (from_behind 0 (take is.place (rows_of text))) (total_behind 0 (take is.place (rows_of text))) (slice_get (rows_of text) is.place))
+
+-- a line of a file of fixed blocks
+fixed_line_of_text : (n from : ℕ) (r : Row) → FailsOfText (fixed_line n from r)
+unfolding fixed_line
+fixed_line_of_text n from r =
+    by_option (two_of r.fields) (λ e. rw e tt) (λ pair e. rw e
+    (by_option (is_forced_by pair.0) (λ e2. rw e2 tt) (λ is_forced e2. rw e2
+    (by_option (whole_of pair.1) (λ e3. rw e3 tt) (λ id e3. rw e3
+    (by_test (nat_lt id n && nat_le from id) (λ e4. rw e4 tt) (λ e4. rw e4 tt)))))))
+
+fixed_row_of_text : (n from : ℕ) (o : Option Row) → MaybeOfText (fixed_line_fault n from o)
+fixed_row_of_text n from None = tt
+fixed_row_of_text n from (Some r) = maybe_of_text (fixed_line n from r) (fixed_line_of_text n from r)
+
+pub fixed_fault_of_text : (n : ℕ) (text : List ℕ) (e : Fault) → IsFirstFixedFault n text e → IsOfText e.refusal
+fixed_fault_of_text n text e is = subst MaybeOfText is.here (fixed_row_of_text n (fixed_from_behind 0 (take is.place (rows_of text))) (slice_get (rows_of text) is.place))
 
 -- a line of a block model
 width_of_text : (r : Row) → FailsOfText (width_line r)

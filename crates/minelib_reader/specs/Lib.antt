@@ -19,3 +19,6 @@ pub mod BlocksGrammar
 pub mod BlocksFault
 pub mod Column
 pub mod Added
+pub mod Fixed
+pub mod FixedGrammar
+pub mod FixedFault

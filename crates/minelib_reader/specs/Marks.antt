@@ -1,6 +1,7 @@
 -- What the reading of a precedence file keeps: the marks of the blocks seen on a line, and the pairs so far.
 use Rattle.std.specs.Prelude.{◌≡◌, ℕ, ◌+◌, ◌<◌, ◌==◌, ◌++◌, List, length, slice_index, Ok}
-use Rattle.minelib_reader.specs.Prec.{is_among, needs_line, pairs_of}
+use Rattle.pit_model.specs.Fixed.{is_among}
+use Rattle.minelib_reader.specs.Prec.{needs_line, pairs_of}
 use Rattle.minelib_reader.specs.Text.{Row}
 
 -- the marks id + 1 stand at the blocks that were seen on the line of block id

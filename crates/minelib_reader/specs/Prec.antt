@@ -1,6 +1,6 @@
 -- The precedence file: the checks of each line in their order, and the reading of all lines by them.
-use Rattle.std.specs.Prelude.{ℕ, ◌+◌, Bool, not, nat_lt, nat_le, ◌==◌, ◌&&◌, List, [], ◌∷◌, ◌++◌, length, map, Result, Ok}
-use Rattle.std.specs.List.{list_any}
+use Rattle.std.specs.Prelude.{ℕ, ◌+◌, not, nat_lt, nat_le, ◌==◌, ◌&&◌, List, [], ◌∷◌, ◌++◌, length, map, Result, Ok}
+use Rattle.pit_model.specs.Fixed.{is_among}
 use Rattle.faults.specs.declared.fault.Fault.{Fault}
 use Rattle.faults.specs.declared.refusal.Refusal.{Refusal}
 use Rattle.faults.specs.declared.refusal.Refusal.TheVariants.{OverLimit, NotWhole, IdOutOfPlace, PredecessorOutOfRange, NeedsItself, PredecessorTwice, WrongFieldCount}
@@ -17,10 +17,6 @@ most_pairs = 67108864
 
 abbrev pub in_precedence : Refusal → ℕ → Fault
 in_precedence refusal line = at_line Precedence refusal line
-
--- p is among the numbers
-abbrev pub is_among : List ℕ → ℕ → Bool
-is_among seen p = list_any (λ x. x == p) seen
 
 -- one predecessor of block id, behind those that were seen on its line
 unfoldable pub need_of : ℕ → ℕ → ℕ → List ℕ → List ℕ → Result ℕ Fault

@@ -13,24 +13,24 @@ abbrev pub number_or_zero : Option ℕ → ℕ
 number_or_zero None = 0
 number_or_zero (Some n) = n
 
--- what a line names as its id and as its count
-abbrev pub id_in : List (List ℕ) → ℕ
-id_in [] = 0
-id_in (f ∷ fs) = number_or_zero (whole_of f)
+-- the numbers that the first field and the second write
+abbrev pub first_number : List (List ℕ) → ℕ
+first_number [] = 0
+first_number (f ∷ fs) = number_or_zero (whole_of f)
 
-abbrev pub count_in : List (List ℕ) → ℕ
-count_in (f ∷ g ∷ fs) = number_or_zero (whole_of g)
-count_in fs = 0
+abbrev pub second_number : List (List ℕ) → ℕ
+second_number (f ∷ g ∷ fs) = number_or_zero (whole_of g)
+second_number fs = 0
 
 -- the least id that a line may have behind these lines, where it was from before them
 abbrev pub from_behind : ℕ → List Row → ℕ
 from_behind from [] = from
-from_behind from (r ∷ rows) = from_behind (id_in r.fields + 1) rows
+from_behind from (r ∷ rows) = from_behind (first_number r.fields + 1) rows
 
 -- the sum of the counts of these lines, on top of total
 abbrev pub total_behind : ℕ → List Row → ℕ
 total_behind total [] = total
-total_behind total (r ∷ rows) = total_behind (total + count_in r.fields) rows
+total_behind total (r ∷ rows) = total_behind (total + second_number r.fields) rows
 
 -- the first check that a line breaks, if there is the line
 abbrev pub needs_line_fault : ℕ → ℕ → ℕ → Option Row → Option Fault

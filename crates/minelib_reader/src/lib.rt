@@ -4,6 +4,7 @@
 mod blocks;
 mod columns;
 mod device;
+mod fixed;
 mod history;
 mod input;
 mod limits;
@@ -21,6 +22,7 @@ pub use blocks::{blocks_law, parse_blocks, read_blocks};
 pub use columns::column;
 pub use device::{DeviceFailed, InBytes, OutBytes};
 pub use faults::{Fault, Refusal, Source};
+pub use fixed::{fixed_law, parse_fixed, read_fixed};
 pub use input::{FileReader, MemoryReader, read_all};
 pub use lines::{next_field, next_whole, two_fields};
 pub use number::{Decimal, cut, decimal, digits, whole_number};

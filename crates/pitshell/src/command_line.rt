@@ -20,48 +20,64 @@ fn file<'a>(alloc: Global, name: &'a str, help: &'a str) -> Arg<'a> {
         .action(ArgAction::Set)
 }
 
+/// The model of a mine.
+fn model_file<'a>(alloc: Global) -> Arg<'a> {
+    file(
+        alloc,
+        "model",
+        "Optimisation model (.upit): the value of each block",
+    )
+}
+
+/// The pairs of a mine.
+fn prec_file<'a>(alloc: Global) -> Arg<'a> {
+    file(
+        alloc,
+        "prec",
+        "Precedence (.prec): the blocks that each block needs",
+    )
+}
+
+/// The fixed blocks of a mine, where some are.
+fn fixed_file<'a>(alloc: Global) -> Arg<'a> {
+    file(
+        alloc,
+        "fixed",
+        "Fixed blocks (.fixed): those that must be dug and those that may not be",
+    )
+    .required(false)
+}
+
+/// The files of a mine, in the order in which they are read. Help shows them first.
+fn with_mine<'a>(alloc: Global, command: Command<'a>) -> Result<Command<'a>, AllocError> {
+    command
+        .arg(model_file(alloc).display_order(0))?
+        .arg(prec_file(alloc).display_order(1))?
+        .arg(fixed_file(alloc).display_order(2))
+}
+
 /// `check` with its files.
 fn check_command<'a>(alloc: Global) -> Result<Command<'a>, AllocError> {
-    Command::new(alloc, "check")
+    let check = Command::new(alloc, "check")
         .about("Writes yes where a certificate shows the ultimate pit of the mine, and else no")
-        .after_help(STATUSES)
-        .arg(file(
-            alloc,
-            "model",
-            "Optimisation model (.upit): the value of each block",
-        ))?
-        .arg(file(
-            alloc,
-            "prec",
-            "Precedence (.prec): the blocks that each block needs",
-        ))?
-        .arg(file(
-            alloc,
-            "certificate",
-            "Certificate: the blocks of a pit, and the flow that shows it",
-        ))
+        .after_help(STATUSES);
+    with_mine(alloc, check)?.arg(file(
+        alloc,
+        "certificate",
+        "Certificate: the blocks of a pit, and the flow that shows it",
+    ))
 }
 
 /// `replay` with its files.
 fn replay_command<'a>(alloc: Global) -> Result<Command<'a>, AllocError> {
-    Command::new(alloc, "replay")
+    let replay = Command::new(alloc, "replay")
         .about("Writes the ultimate pit that a journal of mode shared leads to, by one thread")
-        .after_help(STATUSES)
-        .arg(file(
-            alloc,
-            "model",
-            "Optimisation model (.upit): the value of each block",
-        ))?
-        .arg(file(
-            alloc,
-            "prec",
-            "Precedence (.prec): the blocks that each block needs",
-        ))?
-        .arg(file(
-            alloc,
-            "journal",
-            "Journal: what the workers of a solve decided",
-        ))
+        .after_help(STATUSES);
+    with_mine(alloc, replay)?.arg(file(
+        alloc,
+        "journal",
+        "Journal: what the workers of a solve decided",
+    ))
 }
 
 /// An option that must be given and takes the number of an attribute column.
@@ -92,11 +108,7 @@ fn shells_command<'a>(alloc: Global) -> Result<Command<'a>, AllocError> {
             "blocks",
             "Block model (.blocks): the place and the attributes of each block",
         ))?
-        .arg(file(
-            alloc,
-            "prec",
-            "Precedence (.prec): the blocks that each block needs",
-        ))?
+        .arg(prec_file(alloc))?
         .arg(attribute(
             alloc,
             "revenue",
@@ -108,12 +120,12 @@ fn shells_command<'a>(alloc: Global) -> Result<Command<'a>, AllocError> {
             "Attribute column of the cost, the first being 0",
         ))?
         .arg(factors)?;
-    with_mode(alloc, shells, 5)
+    with_asked(alloc, shells, 5)
 }
 
-/// How to solve: the mode's word, which `mode_words` checks, the number of workers and the budget of mergers. Help shows them
-/// in places from this one on.
-fn with_mode<'a>(
+/// What is asked for: the word of the mode and that of the pit, which `runs` checks, the number of workers and the budget of
+/// mergers. Help shows them in places from this one on.
+fn with_asked<'a>(
     alloc: Global,
     command: Command<'a>,
     place: usize,
@@ -140,28 +152,23 @@ fn with_mode<'a>(
         .value_parser(value_parser!(u64))
         .display_order(place.saturating_add(2))
         .action(ArgAction::Set);
-    command.arg(mode)?.arg(workers)?.arg(budget)
+    let pit = Arg::new(alloc, "pit")
+        .long("pit")
+        .value_name("PIT")
+        .help("least or greatest: which of the pits of equal worth")
+        .default_value("least")
+        .display_order(place.saturating_add(3))
+        .action(ArgAction::Set);
+    command.arg(mode)?.arg(workers)?.arg(budget)?.arg(pit)
 }
 
-/// `solve` with its files and its mode. The model's option is added behind that of the mode: of two names that are as close
-/// to a mistyped one, the last is suggested.
+/// `solve` with its files and what is asked for. The model's option is added behind that of the mode: of two names that are as
+/// close to a mistyped one, the last is suggested.
 fn solve_command<'a>(alloc: Global) -> Result<Command<'a>, AllocError> {
     let solve = Command::new(alloc, "solve")
         .about("Writes the smallest closed set of greatest worth: the ultimate pit")
         .after_help(STATUSES);
-    let model = file(
-        alloc,
-        "model",
-        "Optimisation model (.upit): the value of each block",
-    );
-    let prec = file(
-        alloc,
-        "prec",
-        "Precedence (.prec): the blocks that each block needs",
-    );
-    with_mode(alloc, solve, 2)?
-        .arg(model.display_order(0))?
-        .arg(prec.display_order(1))?
+    with_mine(alloc, with_asked(alloc, solve, 3)?)?
         .arg(file(
             alloc,
             "certificate",

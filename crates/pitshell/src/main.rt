@@ -2,24 +2,26 @@
 //! The crate `runs` does the work over readers and writers; `main` opens files, calls it and gives the exit status.
 #![tactic(auto)]
 
-ghost use Rattle.std.specs.Prelude.{◌≡◌, IfErr};
-ghost use Rattle.faults.specs.Refused.{at_line};
-ghost use Rattle.faults.specs.declared.refusal.Refusal.TheVariants.{ReadFailed};
+ghost use Rattle.std.specs.Prelude.{◌≡◌, ◌⊎◌, None};
+ghost use Rattle.pit_model.specs.declared.direction.Direction.TheVariants.{Least};
 ghost use Rattle.runs.specs.Chosen.{progress_of, IsCountable};
 ghost use Rattle.runs.specs.Journaled.{MayJournal};
 
 mod command_line;
+mod inputs;
 mod options;
 mod output;
 
 use clap::error::ErrorKind;
 use command_line::command;
 use faults::{Fault, Refusal, Source};
+use inputs::{Inputs, open};
 use minelib_reader::{FileReader, OutBytes, StreamWriter};
 use options::{CheckOptions, Options, ReplayOptions, ShellsOptions, SolveOptions};
 use output::{Output, end};
+use pit_model::Direction;
 use report::write_fault;
-use runs::{Status, exit_code, run_check, run_replay, run_shells, run_solve};
+use runs::{Asked, SolveOutputs, Status, exit_code, run_check, run_replay, run_shells, run_solve};
 use shells::Factors;
 use solver::Mode;
 use std::alloc::AllocError;
@@ -29,21 +31,11 @@ use std::sync::Wait;
 use std::thread::Threads;
 use std::{env, io};
 
-/// Opens an input; one that cannot be opened is a read that failed.
-fn open(rt: &HostRuntime, path: &str, source: Source) -> Result<File, Fault>
-    ensures refused { IfErr result (λ e. e ≡ at_line source ReadFailed 0) }
-{
-    match File::open(rt, path) {
-        Ok(file) => Ok(file),
-        Err(_) => Err(Fault::at_line(source, Refusal::ReadFailed, 0)),
-    }
-}
-
 /// Makes an output file, where one is wanted; it may be none of the files that are taken.
 fn create_if_wanted(
     rt: &HostRuntime,
     path: Option<&str>,
-    taken: &[&File],
+    taken: &[Option<&File>],
 ) -> Result<Option<Output>, Fault> {
     match path {
         None => Ok(None),
@@ -63,17 +55,12 @@ impl Outputs {
     fn create(
         rt: &HostRuntime,
         options: &SolveOptions<'_>,
-        inputs: &[&File; 2],
+        inputs: &Inputs,
     ) -> Result<Outputs, Fault> {
-        let journal = create_if_wanted(rt, options.journal, inputs)?;
-        let certificate = match &journal {
-            None => create_if_wanted(rt, options.certificate, inputs),
-            Some(output) => {
-                let taken = [inputs[0], inputs[1], &output.file];
-                create_if_wanted(rt, options.certificate, &taken)
-            }
-        };
-        match certificate {
+        let [model, prec, fixed] = inputs.files();
+        let journal = create_if_wanted(rt, options.journal, &[model, prec, fixed])?;
+        let written = journal.as_ref().map(|output| &output.file);
+        match create_if_wanted(rt, options.certificate, &[model, prec, fixed, written]) {
             Ok(certificate) => Ok(Outputs {
                 journal,
                 certificate,
@@ -118,44 +105,60 @@ fn writer_of<'a>(output: &'a mut Option<Output>) -> Option<StreamWriter<&'a mut 
     }
 }
 
-/// What writes to the file of the journal, where there is one. Mode shared alone has a journal.
+/// What writes to the file of the journal, where there is one. Mode shared alone has a journal, and of the least pit.
 fn journal_writer<'a>(
-    mode: &Mode,
+    asked: Asked,
     output: &'a mut Option<Output>,
 ) -> Option<StreamWriter<&'a mut File>>
     ensures unwritten { IsCountable (progress_of (⟦<StreamWriter<&'a mut File> as OutBytes>⟧.progress) result) }
-    ensures may { MayJournal mode.now (progress_of (⟦<StreamWriter<&'a mut File> as OutBytes>⟧.progress) result) }
+    ensures may { MayJournal asked.mode (progress_of (⟦<StreamWriter<&'a mut File> as OutBytes>⟧.progress) result) }
+    ensures least { (asked.pit ≡ Least) ⊎ (progress_of (⟦<StreamWriter<&'a mut File> as OutBytes>⟧.progress) result ≡ None) }
 {
-    match *mode {
-        Mode::Shared { .. } => writer_of(output),
-        Mode::Single { .. } | Mode::Parts => None,
+    match asked.pit {
+        Direction::Greatest => None,
+        Direction::Least => match asked.mode {
+            Mode::Shared { .. } => writer_of(output),
+            Mode::Single { .. } | Mode::Parts => None,
+        },
     }
 }
 
-/// Solves the mine of two files, and writes its pit to standard output, and its journal and certificate to files where these
+/// What writes to the file of the certificate, where there is one. The least pit alone has a certificate.
+fn certificate_writer<'a>(
+    pit: Direction,
+    output: &'a mut Option<Output>,
+) -> Option<StreamWriter<&'a mut File>>
+    ensures unwritten { IsCountable (progress_of (⟦<StreamWriter<&'a mut File> as OutBytes>⟧.progress) result) }
+    ensures least { (pit ≡ Least) ⊎ (progress_of (⟦<StreamWriter<&'a mut File> as OutBytes>⟧.progress) result ≡ None) }
+{
+    match pit {
+        Direction::Greatest => None,
+        Direction::Least => writer_of(output),
+    }
+}
+
+/// Solves the mine of its files, and writes its pit to standard output, and its journal and certificate to files where these
 /// are wanted. `threads` starts the workers.
 fn solve_files<R: Threads + Wait + Sync>(
     rt: &HostRuntime,
     threads: &R,
     options: &SolveOptions<'_>,
 ) -> Result<Status, Fault> {
-    let model = open(rt, options.model, Source::Model)?;
-    let prec = open(rt, options.prec, Source::Precedence)?;
-    let mut outputs = Outputs::create(rt, options, &[&model, &prec])?;
-    let mut certificate = writer_of(&mut outputs.certificate);
-    let mut journal = journal_writer(&options.mode, &mut outputs.journal);
+    let inputs = Inputs::open(rt, &options.mine)?;
+    let mut outputs = Outputs::create(rt, options, &inputs)?;
+    let mut writers = SolveOutputs {
+        journal: journal_writer(options.asked, &mut outputs.journal),
+        certificate: certificate_writer(options.asked.pit, &mut outputs.certificate),
+        out: StreamWriter::new(io::writer(rt)),
+    };
     let outcome = run_solve(
         threads,
         rt.alloc(),
-        &mut FileReader::new(model),
-        &mut FileReader::new(prec),
-        &mut journal,
-        &mut certificate,
-        &mut StreamWriter::new(io::writer(rt)),
-        options.mode,
+        &mut inputs.readers(),
+        &mut writers,
+        options.asked,
     );
-    drop(certificate);
-    drop(journal);
+    drop(writers);
     outputs.end(rt, outcome)
 }
 
@@ -178,33 +181,29 @@ fn shell_files<R: Threads + Wait + Sync>(
         options.revenue,
         options.cost,
         &factors,
-        &options.mode,
+        options.asked,
     )
 }
 
-/// Checks the certificate of a file for the mine of two others, and writes the answer to standard output.
+/// Checks the certificate of a file for the mine of others, and writes the answer to standard output.
 fn check_files(rt: &HostRuntime, options: &CheckOptions<'_>) -> Result<Status, Fault> {
-    let model = open(rt, options.model, Source::Model)?;
-    let prec = open(rt, options.prec, Source::Precedence)?;
+    let inputs = Inputs::open(rt, &options.mine)?;
     let certificate = open(rt, options.certificate, Source::Certificate)?;
     run_check(
         rt.alloc(),
-        &mut FileReader::new(model),
-        &mut FileReader::new(prec),
+        &mut inputs.readers(),
         &mut FileReader::new(certificate),
         &mut StreamWriter::new(io::writer(rt)),
     )
 }
 
-/// Replays the journal of a file for the mine of two others, and writes what it comes to to standard output.
+/// Replays the journal of a file for the mine of others, and writes what it comes to to standard output.
 fn replay_files(rt: &HostRuntime, options: &ReplayOptions<'_>) -> Result<Status, Fault> {
-    let model = open(rt, options.model, Source::Model)?;
-    let prec = open(rt, options.prec, Source::Precedence)?;
+    let inputs = Inputs::open(rt, &options.mine)?;
     let journal = open(rt, options.journal, Source::Journal)?;
     run_replay(
         rt.alloc(),
-        &mut FileReader::new(model),
-        &mut FileReader::new(prec),
+        &mut inputs.readers(),
         &mut FileReader::new(journal),
         &mut StreamWriter::new(io::writer(rt)),
     )

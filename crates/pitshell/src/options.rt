@@ -1,20 +1,28 @@
 //! What the command line asks for, as types of the program's own.
 
 use clap::ArgMatches;
-use runs::{mode_fault, mode_of};
+use runs::{Asked, mode_fault, mode_of, pit_fault, pit_of};
 use solver::Mode;
 
-/// The files of `solve`, and how to solve. Those of the certificate and of the journal are there where one is wanted.
+/// The files of a mine. That of the fixed blocks is there where some are.
 #[derive(Clone, Copy)]
-pub struct SolveOptions<'a> {
+pub struct MineNames<'a> {
     pub model: &'a str,
     pub prec: &'a str,
-    pub certificate: Option<&'a str>,
-    pub journal: Option<&'a str>,
-    pub mode: Mode,
+    pub fixed: Option<&'a str>,
 }
 
-/// The files of `shells`, the columns of revenue and cost, the text of the factors, and how to solve.
+/// The files of `solve`, how to solve, and for which pit. Those of the certificate and of the journal are there where one is
+/// wanted.
+#[derive(Clone, Copy)]
+pub struct SolveOptions<'a> {
+    pub mine: MineNames<'a>,
+    pub certificate: Option<&'a str>,
+    pub journal: Option<&'a str>,
+    pub asked: Asked,
+}
+
+/// The files of `shells`, the columns of revenue and cost, the text of the factors, how to solve, and for which pits.
 #[derive(Clone, Copy)]
 pub struct ShellsOptions<'a> {
     pub blocks: &'a str,
@@ -22,22 +30,20 @@ pub struct ShellsOptions<'a> {
     pub revenue: u32,
     pub cost: u32,
     pub factors: &'a str,
-    pub mode: Mode,
+    pub asked: Asked,
 }
 
 /// The files of `check`.
 #[derive(Clone, Copy)]
 pub struct CheckOptions<'a> {
-    pub model: &'a str,
-    pub prec: &'a str,
+    pub mine: MineNames<'a>,
     pub certificate: &'a str,
 }
 
 /// The files of `replay`.
 #[derive(Clone, Copy)]
 pub struct ReplayOptions<'a> {
-    pub model: &'a str,
-    pub prec: &'a str,
+    pub mine: MineNames<'a>,
     pub journal: &'a str,
 }
 
@@ -52,6 +58,15 @@ pub enum Options<'a> {
     Wrong(&'static str),
 }
 
+/// The files of the mine of a subcommand. None where the parse has let through that one is missing.
+fn mine_in<'a>(found: &ArgMatches<'a>) -> Option<MineNames<'a>> {
+    Some(MineNames {
+        model: found.get_str("model")?,
+        prec: found.get_str("prec")?,
+        fixed: found.get_str("fixed"),
+    })
+}
+
 /// The mode of a subcommand, or what is wrong with it or with a journal beside it. None where the parse has let through what
 /// it refuses.
 fn mode_in(found: &ArgMatches<'_>, journal: bool) -> Option<Result<Mode, &'static str>> {
@@ -64,32 +79,52 @@ fn mode_in(found: &ArgMatches<'_>, journal: bool) -> Option<Result<Mode, &'stati
     }
 }
 
+/// What a subcommand is asked for, or what is wrong with it: of the mode first, then of the pit or of a certificate or a journal
+/// beside it. None where the parse has let through what it refuses.
+fn asked_in(
+    found: &ArgMatches<'_>,
+    certificate: bool,
+    journal: bool,
+) -> Option<Result<Asked, &'static str>> {
+    let word = found.get_str("pit")?;
+    match mode_in(found, journal)? {
+        Err(line) => Some(Err(line)),
+        Ok(mode) => match pit_fault(word, certificate, journal) {
+            Some(line) => Some(Err(line)),
+            None => Some(Ok(Asked {
+                mode,
+                pit: pit_of(word),
+            })),
+        },
+    }
+}
+
 /// The options of `solve`.
 fn solve_of<'a>(found: &ArgMatches<'a>) -> Option<Options<'a>> {
+    let certificate = found.get_str("certificate");
     let journal = found.get_str("journal");
-    match mode_in(found, journal.is_some())? {
+    match asked_in(found, certificate.is_some(), journal.is_some())? {
         Err(line) => Some(Options::Wrong(line)),
-        Ok(mode) => Some(Options::Solve(SolveOptions {
-            model: found.get_str("model")?,
-            prec: found.get_str("prec")?,
-            certificate: found.get_str("certificate"),
+        Ok(asked) => Some(Options::Solve(SolveOptions {
+            mine: mine_in(found)?,
+            certificate,
             journal,
-            mode,
+            asked,
         })),
     }
 }
 
 /// The options of `shells`.
 fn shells_of<'a>(found: &ArgMatches<'a>) -> Option<Options<'a>> {
-    match mode_in(found, false)? {
+    match asked_in(found, false, false)? {
         Err(line) => Some(Options::Wrong(line)),
-        Ok(mode) => Some(Options::Shells(ShellsOptions {
+        Ok(asked) => Some(Options::Shells(ShellsOptions {
             blocks: found.get_str("blocks")?,
             prec: found.get_str("prec")?,
             revenue: u32::try_from(found.get_one::<u64>("revenue")?).ok()?,
             cost: u32::try_from(found.get_one::<u64>("cost")?).ok()?,
             factors: found.get_str("factors")?,
-            mode,
+            asked,
         })),
     }
 }
@@ -102,13 +137,11 @@ impl<'a> Options<'a> {
             "solve" => solve_of(found),
             "shells" => shells_of(found),
             "check" => Some(Options::Check(CheckOptions {
-                model: found.get_str("model")?,
-                prec: found.get_str("prec")?,
+                mine: mine_in(found)?,
                 certificate: found.get_str("certificate")?,
             })),
             "replay" => Some(Options::Replay(ReplayOptions {
-                model: found.get_str("model")?,
-                prec: found.get_str("prec")?,
+                mine: mine_in(found)?,
                 journal: found.get_str("journal")?,
             })),
             _ => None,

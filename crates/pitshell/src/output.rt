@@ -31,8 +31,8 @@ fn is_same(one: &Metadata, other: &Metadata) -> bool {
 }
 
 /// Whether the file is one of these. One that cannot be looked at counts as the same.
-fn is_among(found: &Metadata, files: &[&File]) -> bool {
-    files.iter().any(|file| match file.metadata() {
+fn is_among(found: &Metadata, files: &[Option<&File>]) -> bool {
+    files.iter().flatten().any(|file| match file.metadata() {
         Ok(other) => is_same(found, &other),
         Err(_) => true,
     })
@@ -47,7 +47,7 @@ fn is_standard_output(rt: &HostRuntime, found: &Metadata) -> bool {
 }
 
 /// Whether the file of this name is one of these.
-fn is_taken(rt: &HostRuntime, path: &str, files: &[&File]) -> bool {
+fn is_taken(rt: &HostRuntime, path: &str, files: &[Option<&File>]) -> bool {
     match fs::metadata(rt, path) {
         Ok(found) => is_among(&found, files),
         Err(_) => false,
@@ -56,7 +56,11 @@ fn is_taken(rt: &HostRuntime, path: &str, files: &[&File]) -> bool {
 
 /// A file beside this path, under a name that nothing has yet: the path with a number and `.part` behind it. Refused where
 /// one of these files stands there, which then waits for the same place.
-fn create_beside(rt: &HostRuntime, path: PathBuf, taken: &[&File]) -> Result<Output, Fault> {
+fn create_beside(
+    rt: &HostRuntime,
+    path: PathBuf,
+    taken: &[Option<&File>],
+) -> Result<Output, Fault> {
     for number in 0..MOST_NAMES {
         let partial = format!(in rt.alloc(); "{}.{number}.part", path.display())?;
         match OpenOptions::new()
@@ -83,7 +87,7 @@ impl Output {
     /// Makes a file, or what it is written to before it takes its name. Refused where it cannot be made or may not be
     /// written, where it is one of the inputs and outputs that are taken or the file of standard output, and for want of
     /// memory.
-    pub fn create(rt: &HostRuntime, path: &str, taken: &[&File]) -> Result<Output, Fault> {
+    pub fn create(rt: &HostRuntime, path: &str, taken: &[Option<&File>]) -> Result<Output, Fault> {
         match fs::metadata(rt, path) {
             Ok(found) if !found.is_file() => match File::create(rt, path) {
                 Ok(file) => Ok(Output { file, place: None }),

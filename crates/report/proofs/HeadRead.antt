@@ -26,7 +26,7 @@ three_fields (a ∷ b ∷ []) p e = absurd cc
 three_fields (a ∷ b ∷ c ∷ []) p e = ap (λ (x : Three). x.0 ∷ x.1 ∷ x.2 ∷ []) (same_Some (a, b, c) p e)
 three_fields (a ∷ b ∷ c ∷ d ∷ fs) p e = absurd cc
 
-pair_found : (x y : List ℕ) (o : Option (List ℕ × List ℕ)) → is_pair x y o ≡ true → o ≡ Some (x, y)
+pub pair_found : (x y : List ℕ) (o : Option (List ℕ × List ℕ)) → is_pair x y o ≡ true → o ≡ Some (x, y)
 pair_found x y None e = absurd cc
 pair_found x y (Some p) e =
     let parts = and_parts (bytes_eq p.0 x) (bytes_eq p.1 y) e in

@@ -4,7 +4,7 @@ use Rattle.std.specs.List.{flat_map}
 use Rattle.faults.specs.Words.{number_of, words_of, source_text, place_word}
 use Rattle.faults.specs.declared.fault.Fault.{Fault}
 use Rattle.faults.specs.declared.refusal.Refusal.{Refusal}
-use Rattle.faults.specs.declared.refusal.Refusal.TheVariants.{Cycle, NegativeColumn, NoSuchColumn, Exhausted}
+use Rattle.faults.specs.declared.refusal.Refusal.TheVariants.{Cycle, NegativeColumn, NoSuchColumn, Exhausted, FixedClash}
 use Rattle.faults.specs.declared.source.Source.{Source}
 
 -- a block of a cycle
@@ -16,6 +16,7 @@ unfoldable pub detail_of : Refusal → List ℕ
 detail_of (Cycle list) = flat_map cycle_block list.items
 detail_of (NegativeColumn block) = decimal block
 detail_of (NoSuchColumn column) = decimal column
+detail_of (FixedClash block) = decimal block
 detail_of (Exhausted mergers) = decimal mergers ++ codes " mergers"
 detail_of _ = []
 

@@ -33,6 +33,7 @@ fn put_detail<W: OutBytes>(writer: &mut W, out: &mut Out, refusal: &Refusal)
     match refusal {
         Refusal::Cycle(list) => put_cycle(writer, out, list),
         Refusal::NegativeColumn(block) => put_number(writer, out, *block),
+        Refusal::FixedClash(block) => put_number(writer, out, *block),
         Refusal::NoSuchColumn(column) => put_number(writer, out, *column),
         Refusal::Exhausted(mergers) => {
             put_number(writer, out, *mergers);

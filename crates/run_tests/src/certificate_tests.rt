@@ -1,6 +1,7 @@
 //! The certificate that `solve` writes before the pit: its lines but for the flow, of which several may show the same pit;
 //! and that `check` says yes to it.
 
+use crate::files::{Written, least, texts};
 use crate::modes::{ONE_THREAD, TWO_WORKERS};
 use faults::Fault;
 use minelib_reader::{MemoryReader, MemoryWriter};
@@ -31,22 +32,21 @@ fn solve_into<R: AllocGlobal + Threads + Wait + Sync>(
     mine: SmallMine,
     room: usize,
 ) -> (Vec<u8>, Vec<u8>, Result<Status, Fault>) {
-    let mut no_journal: Option<MemoryWriter> = None;
-    let mut certificate = Some(MemoryWriter::new(rt.alloc(), room));
-    let mut out = MemoryWriter::new(rt.alloc(), 1000);
     if mine.model.len() > 1000 || mine.prec.len() > 1000 {
         return (Vec::new(rt.alloc()), Vec::new(rt.alloc()), Ok(Status::No));
     }
-    let result = run_solve(
-        rt,
-        rt.alloc(),
-        &mut MemoryReader::new(mine.model.as_bytes()),
-        &mut MemoryReader::new(mine.prec.as_bytes()),
-        &mut no_journal,
-        &mut certificate,
-        &mut out,
-        mode,
-    );
+    let mut files = texts(mine.model, mine.prec);
+    let mut written = Written {
+        journal: None,
+        certificate: Some(MemoryWriter::new(rt.alloc(), room)),
+        out: MemoryWriter::new(rt.alloc(), 1000),
+    };
+    let result = run_solve(rt, rt.alloc(), &mut files, &mut written, least(mode));
+    let Written {
+        journal: _,
+        certificate,
+        out,
+    } = written;
     let text = match certificate {
         Some(writer) => writer.text,
         None => Vec::new(rt.alloc()),
@@ -62,8 +62,7 @@ fn says_yes<R: AllocGlobal>(rt: &R, mine: SmallMine, certificate: &[u8]) -> bool
     let mut out = MemoryWriter::new(rt.alloc(), 1000);
     let result = run_check(
         rt.alloc(),
-        &mut MemoryReader::new(mine.model.as_bytes()),
-        &mut MemoryReader::new(mine.prec.as_bytes()),
+        &mut texts(mine.model, mine.prec),
         &mut MemoryReader::new(certificate),
         &mut out,
     );

@@ -2,6 +2,7 @@
 //! answers were worked out by hand.
 ghost use Rattle.std.specs.Prelude.{◌≤◌, ◌^◌, length};
 
+use crate::files::texts;
 use minelib_reader::{MemoryReader, MemoryWriter};
 use report::write_fault;
 use runs::{exit_code, run_check};
@@ -23,17 +24,10 @@ fn expect_check<R: Abort + AllocGlobal>(
     requires prec { length prec.now ≤ 2 ^ 40 }
     requires certificate { length certificate.now ≤ 2 ^ 40 }
 {
-    let mut model = MemoryReader::new(model.as_bytes());
-    let mut prec = MemoryReader::new(prec.as_bytes());
+    let mut files = texts(model, prec);
     let mut certificate = MemoryReader::new(certificate.as_bytes());
     let mut written = MemoryWriter::new(rt.alloc(), 1000);
-    let result = run_check(
-        rt.alloc(),
-        &mut model,
-        &mut prec,
-        &mut certificate,
-        &mut written,
-    );
+    let result = run_check(rt.alloc(), &mut files, &mut certificate, &mut written);
     let mut fault = MemoryWriter::new(rt.alloc(), 1000);
     if let Err(refused) = &result {
         write_fault(&mut fault, refused)?;

@@ -1,7 +1,6 @@
 //! 5,000 copies of a mine of four blocks, numbered four at a time: of each copy the second and the third block are dug, for 3.
+use crate::files::{least, solve_alone, texts};
 use crate::modes::EACH_MODE;
-use minelib_reader::{MemoryReader, MemoryWriter};
-use runs::run_solve;
 use solver::Mode;
 use std::alloc::{AllocError, Global};
 use std::sync::Wait;
@@ -57,21 +56,8 @@ fn finds_the_pit<R: AllocGlobal + Threads + Wait + Sync>(rt: &R, mode: Mode) -> 
     if model.len() > 1_000_000 || prec.len() > 1_000_000 {
         return Ok(false);
     }
-    let mut model = MemoryReader::new(model.as_bytes());
-    let mut prec = MemoryReader::new(prec.as_bytes());
-    let mut out = MemoryWriter::new(rt.alloc(), 1_000_000);
-    let mut no_journal: Option<MemoryWriter> = None;
-    let mut no_certificate: Option<MemoryWriter> = None;
-    let result = run_solve(
-        rt,
-        rt.alloc(),
-        &mut model,
-        &mut prec,
-        &mut no_journal,
-        &mut no_certificate,
-        &mut out,
-        mode,
-    );
+    let mut files = texts(model.as_str(), prec.as_str());
+    let (result, out) = solve_alone(rt, rt.alloc(), &mut files, least(mode), 1_000_000);
     Ok(result.is_ok() && out.text.as_slice() == pit.as_bytes())
 }
 

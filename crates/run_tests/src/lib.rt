@@ -9,6 +9,12 @@ mod check_tests;
 #[cfg(test)]
 mod copies_tests;
 #[cfg(test)]
+mod files;
+#[cfg(test)]
+mod fixed_tests;
+#[cfg(test)]
+mod greatest_shells_tests;
+#[cfg(test)]
 mod modes;
 #[cfg(test)]
 mod nested_tests;

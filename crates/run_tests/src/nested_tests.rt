@@ -1,10 +1,10 @@
 //! Small deposits, run over memory in each mode: what is written, what is refused, and the exit status. The expected texts
 //! were worked out by hand.
 
-use crate::modes::{EACH_MODE, ONE_THREAD};
+use crate::modes::{EACH_MODE, ONE_THREAD, least};
 use minelib_reader::{MemoryReader, MemoryWriter};
 use report::write_fault;
-use runs::{exit_code, run_shells};
+use runs::{Asked, exit_code, run_shells};
 use shells::Factors;
 use solver::Mode;
 use std::sync::Wait;
@@ -13,17 +13,17 @@ use std::thread::Threads;
 
 /// A block model, a precedence file and a list of factors, and what `shells` then writes.
 #[derive(Clone, Copy)]
-struct Row {
+pub(crate) struct Row {
     blocks: &'static str,
     prec: &'static str,
-    factors: &'static str,
+    pub(crate) factors: &'static str,
     out: &'static str,
     err: &'static str,
     status: u8,
 }
 
 /// A row whose shells are written.
-fn written(
+pub(crate) fn written(
     blocks: &'static str,
     prec: &'static str,
     factors: &'static str,
@@ -40,7 +40,7 @@ fn written(
 }
 
 /// A row that is refused.
-fn refused(
+pub(crate) fn refused(
     blocks: &'static str,
     prec: &'static str,
     factors: &'static str,
@@ -57,10 +57,11 @@ fn refused(
     }
 }
 
-/// Whether `shells` in this mode, with column 0 for revenue and column 1 for cost, writes the row's texts to standard output and standard error, and has its exit status.
-fn holds<R: AllocGlobal + Threads + Wait + Sync>(
+/// Whether `shells` as it is asked for, with column 0 for revenue and column 1 for cost, writes the row's texts to standard
+/// output and standard error, and has its exit status.
+pub(crate) fn holds<R: AllocGlobal + Threads + Wait + Sync>(
     rt: &R,
-    mode: Mode,
+    asked: Asked,
     row: Row,
 ) -> Result<bool, Fail> {
     if row.blocks.len() > 1000 || row.prec.len() > 1000 {
@@ -81,7 +82,7 @@ fn holds<R: AllocGlobal + Threads + Wait + Sync>(
             0,
             1,
             &factors,
-            &mode,
+            asked,
         ),
     };
     if let Err(fault) = &result {
@@ -95,13 +96,13 @@ fn holds<R: AllocGlobal + Threads + Wait + Sync>(
 }
 
 /// An ore that yields 10 and costs 1, below a block that costs 3.
-const ONE_ORE: &str = "0 0 0 0 0 3\n1 0 0 1 10 1\n";
+pub(crate) const ONE_ORE: &str = "0 0 0 0 0 3\n1 0 0 1 10 1\n";
 
 const ONE_ORE_TEXT: &str =
     "SHELLS\nBLOCKS: 2\nFACTORS: 3\n300 0 0.000000000\n400 0 0.000000000\n1000 2 6.000000000\n0 1000\n1 1000\n";
 
 /// Two ores below one block; at 800 the second is worth 0 and stays out.
-const TWO_ORES: &str = "0 0 0 0 0 3\n1 0 0 1 10 1\n2 0 0 1 10 8\n";
+pub(crate) const TWO_ORES: &str = "0 0 0 0 0 3\n1 0 0 1 10 1\n2 0 0 1 10 8\n";
 
 const TWO_ORES_TEXT: &str =
     "SHELLS\nBLOCKS: 3\nFACTORS: 3\n500 2 1.000000000\n800 2 4.000000000\n900 3 6.000000000\n0 500\n1 500\n2 900\n";
@@ -120,7 +121,7 @@ fn shells_nest_in_each_mode(rt: HostRuntime) -> Result<(), Fail> {
     ];
     for row in rows {
         for mode in EACH_MODE {
-            assert!(rt; holds(&rt, mode, row)?, "{}", row.factors);
+            assert!(rt; holds(&rt, least(mode), row)?, "{}", row.factors);
         }
     }
     Ok(())
@@ -150,7 +151,7 @@ fn a_budget_counts_anew_for_each_rest(rt: HostRuntime) -> Result<(), Fail> {
             budget: Some(budget),
         };
         assert!(rt;
-            holds(&rt, mode, row)?,
+            holds(&rt, least(mode), row)?,
             "{budget} mergers at {}",
             row.factors
         );
@@ -164,7 +165,11 @@ fn all_refused<R: AllocGlobal + Threads + Wait + Sync>(
     rows: &[(&'static str, &'static str, &'static str, &'static str)],
 ) -> Result<bool, Fail> {
     for (factors, blocks, prec, err) in rows {
-        if !holds(rt, ONE_THREAD, refused(blocks, prec, factors, err, 1))? {
+        if !holds(
+            rt,
+            least(ONE_THREAD),
+            refused(blocks, prec, factors, err, 1),
+        )? {
             return Ok(false);
         }
     }

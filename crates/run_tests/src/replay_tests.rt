@@ -2,6 +2,7 @@
 //! that one worker writes. The expected texts were worked out by hand.
 ghost use Rattle.std.specs.Prelude.{◌≤◌, ◌^◌, length};
 
+use crate::files::{Written, least, texts};
 use faults::Fault;
 use minelib_reader::{MemoryReader, MemoryWriter};
 use report::write_fault;
@@ -38,8 +39,7 @@ fn replays<R: AllocGlobal>(rt: &R, mine: SmallMine, row: Row) -> Result<bool, Fa
     let mut err = MemoryWriter::new(rt.alloc(), 1000);
     let result = run_replay(
         rt.alloc(),
-        &mut MemoryReader::new(mine.model.as_bytes()),
-        &mut MemoryReader::new(mine.prec.as_bytes()),
+        &mut texts(mine.model, mine.prec),
         &mut MemoryReader::new(row.journal.as_bytes()),
         &mut out,
     );
@@ -145,26 +145,26 @@ fn solve_by_one_worker<R: AllocGlobal + Threads + Wait + Sync>(
     budget: Option<u64>,
     room: usize,
 ) -> (Vec<u8>, Vec<u8>, Result<Status, Fault>) {
-    let mut journal = Some(MemoryWriter::new(rt.alloc(), room));
-    let mut no_certificate: Option<MemoryWriter> = None;
-    let mut out = MemoryWriter::new(rt.alloc(), 1000);
     if mine.model.len() > 1000 || mine.prec.len() > 1000 {
         return (Vec::new(rt.alloc()), Vec::new(rt.alloc()), Ok(Status::No));
     }
-    let result = run_solve(
-        rt,
-        rt.alloc(),
-        &mut MemoryReader::new(mine.model.as_bytes()),
-        &mut MemoryReader::new(mine.prec.as_bytes()),
-        &mut journal,
-        &mut no_certificate,
-        &mut out,
-        Mode::Shared {
-            workers: 1,
-            budget,
-            chunk: 1,
-        },
-    );
+    let mode = Mode::Shared {
+        workers: 1,
+        budget,
+        chunk: 1,
+    };
+    let mut files = texts(mine.model, mine.prec);
+    let mut written = Written {
+        journal: Some(MemoryWriter::new(rt.alloc(), room)),
+        certificate: None,
+        out: MemoryWriter::new(rt.alloc(), 1000),
+    };
+    let result = run_solve(rt, rt.alloc(), &mut files, &mut written, least(mode));
+    let Written {
+        journal,
+        certificate: _,
+        out,
+    } = written;
     let text = match journal {
         Some(writer) => writer.text,
         None => Vec::new(rt.alloc()),

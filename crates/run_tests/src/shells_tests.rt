@@ -1,9 +1,10 @@
 //! Small mines whose shells were worked out by hand.
-use crate::modes::{EACH_MODE, ONE_THREAD};
+use crate::modes::{EACH_MODE, ONE_THREAD, greatest, least};
 use faults::{Fault, Refusal, Source};
 use mine_graph::Graph;
 use minelib_reader::parse_blocks;
-use pit_model::ShellList;
+use pit_model::{Direction, ShellList};
+use runs::Asked;
 use shells::{Columns, Factors, shells};
 use solver::{Mode, OpenGate};
 use std::alloc::Global;
@@ -115,7 +116,7 @@ fn ending_of<R: Threads + Wait + Sync>(
     alloc: Global,
     mine: &(Columns, Arc<Graph>),
     factors: &str,
-    mode: &Mode,
+    asked: &Asked,
     wanted: &[(u32, &[u32], i128)],
 ) -> Result<Ending, Fault> {
     let (columns, graph) = mine;
@@ -123,7 +124,17 @@ fn ending_of<R: Threads + Wait + Sync>(
         return Ok(Ending::Refused);
     }
     let factors = Factors::read(alloc, factors)?;
-    match shells(rt, alloc, columns, graph, &factors, mode, &OpenGate) {
+    let list = shells(
+        rt,
+        alloc,
+        columns,
+        graph,
+        &factors,
+        &asked.mode,
+        &OpenGate,
+        asked.pit,
+    );
+    match list {
         Ok(list) => Ok(compared(&list, graph.n(), wanted)),
         Err(fault) => match fault.refusal {
             Refusal::Exhausted(count) => Ok(Ending::UsedUp(count)),
@@ -158,7 +169,7 @@ fn each_mode_gives_the_shells(rt: HostRuntime) -> Result<(), Fail> {
             alloc,
             &one_ore(alloc)?,
             "300,400,1000",
-            &mode,
+            &least(mode),
             &ONE_ORE,
         )?;
         assert!(rt; matches!(one, Ending::Wanted));
@@ -167,10 +178,34 @@ fn each_mode_gives_the_shells(rt: HostRuntime) -> Result<(), Fail> {
             alloc,
             &two_ores(alloc)?,
             "500,800,900",
-            &mode,
+            &least(mode),
             &TWO_ORES,
         )?;
         assert!(rt; matches!(two, Ending::Wanted));
+    }
+    Ok(())
+}
+
+/// At 400 the ore pays exactly for what it needs.
+const ONE_ORE_GREATEST: [(u32, &[u32], i128); 3] = [
+    (300, &[], 0),
+    (400, &[0, 1], 0),
+    (1000, &[0, 1], 6_000_000_000),
+];
+
+#[test]
+fn each_mode_gives_the_greatest_shells(rt: HostRuntime) -> Result<(), Fail> {
+    let alloc = rt.alloc();
+    for mode in EACH_MODE {
+        let ended = ending_of(
+            &rt,
+            alloc,
+            &one_ore(alloc)?,
+            "300,400,1000",
+            &greatest(mode),
+            &ONE_ORE_GREATEST,
+        )?;
+        assert!(rt; matches!(ended, Ending::Wanted));
     }
     Ok(())
 }
@@ -185,7 +220,7 @@ fn a_budget_counts_for_each_rest(rt: HostRuntime) -> Result<(), Fail> {
         alloc,
         &two_ores(alloc)?,
         "500,800,900",
-        &one,
+        &least(one),
         &TWO_ORES,
     )?;
     assert!(rt; matches!(found, Ending::Wanted));
@@ -194,11 +229,18 @@ fn a_budget_counts_for_each_rest(rt: HostRuntime) -> Result<(), Fail> {
         alloc,
         &two_ores(alloc)?,
         "500,800,900",
-        &none,
+        &least(none),
         &TWO_ORES,
     )?;
     assert!(rt; matches!(ended, Ending::UsedUp(0)));
-    let found = ending_of(&rt, alloc, &two_hills(alloc)?, "500,1000", &one, &TWO_HILLS)?;
+    let found = ending_of(
+        &rt,
+        alloc,
+        &two_hills(alloc)?,
+        "500,1000",
+        &least(one),
+        &TWO_HILLS,
+    )?;
     assert!(rt; matches!(found, Ending::Wanted));
     Ok(())
 }
@@ -216,6 +258,7 @@ fn no_factors_have_no_shells(rt: HostRuntime) -> Result<(), Fail> {
             &factors,
             &ONE_THREAD,
             &OpenGate,
+            Direction::Least,
         )?;
         assert_eq!(rt; list.n, 2);
         assert_eq!(rt; list.shells.len(), 0);

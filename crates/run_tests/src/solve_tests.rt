@@ -1,11 +1,12 @@
 //! The worked rows, run over memory in each mode: what is written, what is refused, and the exit status. The expected texts
 //! were worked out by hand.
 
+use crate::files::{least, solve_alone, texts};
 use crate::modes::{EACH_MODE, ONE_THREAD, TWO_WORKERS};
 use faults::{Fault, Refusal};
-use minelib_reader::{MemoryReader, MemoryWriter};
+use minelib_reader::MemoryWriter;
 use report::write_fault;
-use runs::{Status, exit_code, mode_fault, mode_of, run_solve};
+use runs::{Status, exit_code, mode_fault, mode_of};
 use small_mines::{
     FOUR_BLOCKS, FOUR_BLOCKS_THAT_PAY, PAYING_ORE, SMALL_MINES, SmallMine, WORTHLESS_BLOCK,
 };
@@ -55,22 +56,9 @@ fn holds<R: AllocGlobal + Threads + Wait + Sync>(
     if row.model.len() > 1000 || row.prec.len() > 1000 {
         return Ok(false);
     }
-    let mut model = MemoryReader::new(row.model.as_bytes());
-    let mut prec = MemoryReader::new(row.prec.as_bytes());
-    let mut out = MemoryWriter::new(rt.alloc(), 1000);
+    let mut files = texts(row.model, row.prec);
     let mut err = MemoryWriter::new(rt.alloc(), 1000);
-    let mut no_journal: Option<MemoryWriter> = None;
-    let mut no_certificate: Option<MemoryWriter> = None;
-    let result = run_solve(
-        rt,
-        rt.alloc(),
-        &mut model,
-        &mut prec,
-        &mut no_journal,
-        &mut no_certificate,
-        &mut out,
-        mode,
-    );
+    let (result, out) = solve_alone(rt, rt.alloc(), &mut files, least(mode), 1000);
     if let Err(fault) = &result {
         write_fault(&mut err, fault)?;
     }
@@ -224,21 +212,8 @@ fn is_cut<R: AllocGlobal + Threads + Wait + Sync>(
     text: &str,
     room: usize,
 ) -> Result<bool, Fail> {
-    let mut model = MemoryReader::new(PAYING_ORE.model.as_bytes());
-    let mut prec = MemoryReader::new(PAYING_ORE.prec.as_bytes());
-    let mut out = MemoryWriter::new(rt.alloc(), room);
-    let mut no_journal: Option<MemoryWriter> = None;
-    let mut no_certificate: Option<MemoryWriter> = None;
-    let result = run_solve(
-        rt,
-        rt.alloc(),
-        &mut model,
-        &mut prec,
-        &mut no_journal,
-        &mut no_certificate,
-        &mut out,
-        mode,
-    );
+    let mut files = texts(PAYING_ORE.model, PAYING_ORE.prec);
+    let (result, out) = solve_alone(rt, rt.alloc(), &mut files, least(mode), room);
     let Some(front) = text.as_bytes().get(..room) else {
         return Ok(false);
     };

@@ -4,37 +4,35 @@ use Rattle.std.specs.Prelude.{Option, Some, None, Result, Ok, Err, IfErr, true}
 use Rattle.minelib_reader.specs.Device.{Progress, Writes}
 use Rattle.faults.specs.Refused.{write_failed}
 use Rattle.faults.specs.declared.fault.Fault.{Fault}
-use Rattle.pit_model.specs.Mine.{Instance}
-use Rattle.pit_model.specs.Certificate.{IsCertificate}
+use Rattle.pit_model.specs.Fixed.{IsFixedCertificate}
 use Rattle.certificate.specs.CertificateGrammar.{SpellsCertificate}
 use Rattle.certificate.specs.CertificateLines.{PitAndFlow}
-use Rattle.runs.specs.Solve.{Reading}
-use Rattle.runs.specs.Mine.{HoldsMine}
+use Rattle.runs.specs.Solve.{Files, FixedMine, HoldsMine, fixed_in}
 use Rattle.merging.specs.Parts.{graph_of}
 use Rattle.runs.specs.Check.{AnswersText}
 use Rattle.runs.specs.Chosen.{Chosen, OfStates, OfWriter, OfWriterIfAny}
 use Rattle.runs.specs.Certified.{IsAnsweredYes, WritesCertificate, PutsCertificate, IsCertified, IsCertificateCut}
 
-answered : (mine : Instance) (text : List ℕ) (shown : PitAndFlow) → SpellsCertificate (graph_of mine) text shown → IsCertificate mine shown.pit shown.flow → AnswersText mine text true
-answered mine text shown spelled certifies = record { shown = shown; spelled = spelled; exact = (λ e. certifies, λ c. refl) }
+answered : (task : FixedMine) (text : List ℕ) (shown : PitAndFlow) → SpellsCertificate (graph_of task.mine) task.lists text shown → IsFixedCertificate task.mine (fixed_in task) shown.pit shown.flow → AnswersText task text true
+answered task text shown spelled certifies = record { shown = shown; spelled = spelled; exact = (λ e. certifies, λ c. refl) }
 
 -- a text that spells a certificate of the mine was written, or a beginning of it
-pub puts : (mine : Instance) (shown : PitAndFlow) (before after : Progress) (text : List ℕ) (r : Result (Unit {0}) Fault)
-    → SpellsCertificate (graph_of mine) text shown → IsCertificate mine shown.pit shown.flow → Writes before after text r → IfErr r (λ e. e ≡ write_failed)
-    → PutsCertificate mine (record { before = Some before; after = Some after }) r
-puts mine shown before after text (Ok x) spelled certifies w refused = inr (text, answered mine text shown spelled certifies, w)
-puts mine shown before after text (Err e) spelled certifies w refused = ((text, answered mine text shown spelled certifies, w), refused)
+pub puts : (task : FixedMine) (shown : PitAndFlow) (before after : Progress) (text : List ℕ) (r : Result (Unit {0}) Fault)
+    → SpellsCertificate (graph_of task.mine) task.lists text shown → IsFixedCertificate task.mine (fixed_in task) shown.pit shown.flow → Writes before after text r → IfErr r (λ e. e ≡ write_failed)
+    → PutsCertificate task (record { before = Some before; after = Some after }) r
+puts task shown before after text (Ok x) spelled certifies w refused = inr (text, answered task text shown spelled certifies, w)
+puts task shown before after text (Err e) spelled certifies w refused = ((text, answered task text shown spelled certifies, w), refused)
 
-answered_yes : (model prec : Reading) (mine : Instance) (text : List ℕ) → HoldsMine model prec mine → AnswersText mine text true → IsAnsweredYes model prec text
-answered_yes model prec mine text holds answers = record { mine = mine; given = record { holds = holds; ordered = holds.instance.graph }; yes = answers }
+answered_yes : (files : Files) (task : FixedMine) (text : List ℕ) → HoldsMine files task → AnswersText task text true → IsAnsweredYes files text
+answered_yes files task text holds answers = record { task = task; given = record { holds = holds; ordered = holds.instance.graph }; yes = answers }
 
-written : (model prec : Reading) (mine : Instance) → HoldsMine model prec mine → (before after : Progress) → WritesCertificate {E = Fault} mine (Ok tt) before after → IsCertified model prec before after
-written model prec mine holds before after w = record { text = w.0; answered = answered_yes model prec mine w.0 holds w.1; written = w.2.0; no_failure = w.2.1 }
+written : (files : Files) (task : FixedMine) → HoldsMine files task → (before after : Progress) → WritesCertificate {E = Fault} task (Ok tt) before after → IsCertified files before after
+written files task holds before after w = record { text = w.0; answered = answered_yes files task w.0 holds w.1; written = w.2.0; no_failure = w.2.1 }
 
-cut : (model prec : Reading) (mine : Instance) (e : Fault) → HoldsMine model prec mine → (before after : Progress) → WritesCertificate {E = Fault} mine (Err e) before after → IsCertificateCut model prec before after
-cut model prec mine e holds before after w = record {
+cut : (files : Files) (task : FixedMine) (e : Fault) → HoldsMine files task → (before after : Progress) → WritesCertificate {E = Fault} task (Err e) before after → IsCertificateCut files before after
+cut files task e holds before after w = record {
   text = w.0;
-  answered = answered_yes model prec mine w.0 holds w.1;
+  answered = answered_yes files task w.0 holds w.1;
   front = w.2.0.0;
   begins = w.2.0.1;
   written = w.2.0.2;
@@ -46,11 +44,11 @@ of_states P Q weaker (Some before) (Some after) holds = weaker before after hold
 of_states P Q weaker (Some before) None holds = absurd holds
 of_states P Q weaker None after holds = absurd holds
 
-pub certified : (model prec : Reading) (mine : Instance) (c : Chosen) → HoldsMine model prec mine → OfWriterIfAny c (WritesCertificate {E = Fault} mine (Ok tt)) → OfWriterIfAny c (IsCertified model prec)
-certified model prec mine c holds w = ⊎_elim
+pub certified : (files : Files) (task : FixedMine) (c : Chosen) → HoldsMine files task → OfWriterIfAny c (WritesCertificate {E = Fault} task (Ok tt)) → OfWriterIfAny c (IsCertified files)
+certified files task c holds w = ⊎_elim
     (λ none. inl none)
-    (λ wrote. inr (of_states (WritesCertificate {E = Fault} mine (Ok tt)) (IsCertified model prec) (written model prec mine holds) c.before c.after wrote))
+    (λ wrote. inr (of_states (WritesCertificate {E = Fault} task (Ok tt)) (IsCertified files) (written files task holds) c.before c.after wrote))
     w
 
-pub certificate_cut : (model prec : Reading) (mine : Instance) (e : Fault) (c : Chosen) → HoldsMine model prec mine → OfWriter c (WritesCertificate {E = Fault} mine (Err e)) → OfWriter c (IsCertificateCut model prec)
-certificate_cut model prec mine e c holds wrote = of_states (WritesCertificate {E = Fault} mine (Err e)) (IsCertificateCut model prec) (cut model prec mine e holds) c.before c.after wrote
+pub certificate_cut : (files : Files) (task : FixedMine) (e : Fault) (c : Chosen) → HoldsMine files task → OfWriter c (WritesCertificate {E = Fault} task (Err e)) → OfWriter c (IsCertificateCut files)
+certificate_cut files task e c holds wrote = of_states (WritesCertificate {E = Fault} task (Err e)) (IsCertificateCut files) (cut files task e holds) c.before c.after wrote

@@ -1,15 +1,18 @@
 -- Of two texts there is one first fault: each file has one, a text that has one spells nothing, and the cycle of pairs is one.
 -- Where a run is done, both texts are spelled and the pairs have no cycle; so there is none.
-use Rattle.std.proofs.Common.{◌≡◌, ℕ, inl, inr, refl, sym, ap, subst, ◌∙◌, List, ◌++◌}
+use Rattle.std.proofs.Common.{◌≡◌, ℕ, ◌&&◌, Bool, inl, inr, refl, sym, ap, subst, ◌∙◌, List, ◌++◌}
 use Rattle.std.specs.Prelude.{◌⊎◌, None, codes, decimal}
 use Rattle.std.specs.List.{flat_map}
+use Rattle.std.proofs.lemmas.Bool.{and_parts, true≢false}
 use Rattle.minelib_reader.specs.Text.{rows_of, count_of_lines}
 use Rattle.minelib_reader.specs.Upit.{Upit}
 use Rattle.minelib_reader.specs.UpitGrammar.{SpellsUpit}
 use Rattle.minelib_reader.specs.UpitFault.{upit_fault_at, IsFirstUpitFault}
 use Rattle.minelib_reader.specs.PrecGrammar.{SpellsPrec}
 use Rattle.minelib_reader.specs.PrecFault.{prec_fault_at, IsFirstPrecFault}
-use Rattle.faults.specs.Refused.{no_memory}
+use Rattle.minelib_reader.specs.FixedGrammar.{SpellsFixed}
+use Rattle.minelib_reader.specs.FixedFault.{fixed_fault_at, IsFirstFixedFault}
+use Rattle.faults.specs.Refused.{clash, no_memory}
 use Rattle.faults.specs.declared.fault.Fault.{Fault}
 use Rattle.faults.specs.declared.refusal.Refusal.{Refusal}
 use Rattle.faults.specs.declared.refusal.Refusal.TheVariants.{NoMemory, ReadFailed, WriteFailed, NoSeat, Exhausted, Cycle}
@@ -19,15 +22,24 @@ use Rattle.minelib_reader.proofs.UpitGrammarLemmas as models
 use Rattle.minelib_reader.proofs.PrecGrammarLemmas as precedences
 use Rattle.minelib_reader.proofs.UpitFaultLemmas as model_faults
 use Rattle.minelib_reader.proofs.PrecFaultLemmas as precedence_faults
+use Rattle.minelib_reader.proofs.FixedGrammarLemmas as fixed
+use Rattle.minelib_reader.proofs.FixedFaultLemmas as fixed_faults
 use Rattle.mine_graph.specs.Faults.{RefusesPairs, IsGraphFault}
 use Rattle.mine_graph.proofs.Renumbering.{only_memory}
 use Rattle.pit_model.specs.Graph.{IsAcyclic}
 use Rattle.pit_model.specs.Cycle.{IsCycleList}
-use Rattle.pit_model.proofs.OneCycle.{cycle_is_one}
+use Rattle.pit_model.specs.declared.direction.Direction.{Direction}
+use Rattle.pit_model.specs.declared.direction.Direction.TheVariants.{Least, Greatest}
+use Rattle.pit_model.specs.Direction.{IsPitToward}
+use Rattle.pit_model.specs.Fixed.{Fixed, FixedLists, IsAllowed, IsClash, fixed_of}
+use Rattle.pit_model.specs.Mine.{Instance, instance_of}
+use Rattle.pit_model.proofs.Fixed.{allowed_exists_unless_clash, closure_is_one}
+use Rattle.pit_model.proofs.SamePairs.{fixed_pit_knows_no_order}
+use Rattle.pit_model.proofs.OneCycle.{cycle_is_one, least_once}
 use Rattle.report.specs.FaultText.{fault_text, detail_of, place_text, cycle_block}
-use Rattle.runs.specs.Solve.{Reading, GaveMine, FirstFault, in_model, in_prec, in_pairs, RefusesMine}
-use Rattle.runs.specs.Uniqueness.{GaveAlike, NeverFaulty, FaultsOnce}
-use Rattle.runs.proofs.Uniqueness.{model_once, one_model, one_precedence}
+use Rattle.runs.specs.Solve.{Choice, no_reader, one_reader, gone, Files, FixedMine, Gave, GaveFixed, GaveMine, IsPitText, OfChoice, FirstFault, in_model, in_prec, in_fixed, in_pairs, in_blocks, RefusesMine, fixed_in, mine_of}
+use Rattle.runs.specs.Uniqueness.{ChoseAlike, ReadAlike, NeverFaulty, FaultsOnce}
+use Rattle.runs.proofs.Uniqueness.{model_once, one_lists, one_model, one_precedence, mine_in_order}
 
 -- a text that spells something has no fault
 pub sound_model : (text : List ℕ) (m : Upit) (fault : Fault) → SpellsUpit text m → IsFirstUpitFault text fault → ⊥
@@ -44,19 +56,70 @@ sound_precedence n text ps fault spelled is =
     let some = is.here in
     cc
 
-module _ (model prec other_model other_prec : Reading) (same : GaveAlike model other_model) (same_prec : GaveAlike prec other_prec)
-    (u : Upit) (ps : List (ℕ × ℕ)) (one : GaveMine model prec u ps) (acyclic : IsAcyclic ps) where
-  no_fault : (fault : Fault) → FirstFault fault other_model other_prec → fault ≡ no_memory
-  no_fault fault (in_model text given is) =
-      absurd (sound_model text u fault (subst (λ t. SpellsUpit t u) (same one.model_text text one.model_given given) one.model_spelled) is)
-  no_fault fault (in_prec text behind upit given spelled prec_given is) =
-      let m = model_once text u upit (subst (λ t. SpellsUpit t u) (same one.model_text text one.model_given given) one.model_spelled) spelled in
-      let there = subst (λ t. SpellsPrec u.n t ps) (same_prec one.prec_text behind one.prec_given prec_given) one.prec_spelled in
-      absurd (sound_precedence upit.n behind ps fault (subst (λ (v : Upit). SpellsPrec v.n behind ps) m there) is)
-  no_fault fault (in_pairs upit pairs gave is) =
-      only_memory pairs upit.n fault (subst IsAcyclic (one_precedence model prec other_model other_prec same same_prec u upit ps pairs one gave) acyclic) is
+pub sound_fixed : (n : ℕ) (text : List ℕ) (lists : FixedLists) (fault : Fault) → SpellsFixed n text lists → IsFirstFixedFault n text fault → ⊥
+sound_fixed n text lists fault spelled is =
+    let read = fixed.reads n 0 (rows_of text) lists spelled in
+    let none : fixed_fault_at n text is.place ≡ None = fixed_faults.clear_where_read n 0 (rows_of text) lists read is.place in
+    let some = is.here in
+    cc
 
-  only_passing : (r : Refusal) (fault : Fault) → fault.refusal ≡ r → RefusesMine r fault other_model other_prec → (r ≡ NoMemory) ⊎ (r ≡ ReadFailed)
+no_reader_faulty : (d : Choice) (m : ℕ) (fault : Fault) → ChoseAlike no_reader d → OfChoice d (λ r. (text : List ℕ) × Gave r text × IsFirstFixedFault m text fault) → ⊥
+no_reader_faulty no_reader m fault alike faulty = faulty
+no_reader_faulty (one_reader s) m fault alike faulty = alike
+no_reader_faulty gone m fault alike faulty = faulty
+
+-- where a fixed file spells something, it has no fault for whoever reads it
+no_fixed_fault : (c d : Choice) (n m : ℕ) (lists : FixedLists) (fault : Fault) → ChoseAlike c d → n ≡ m → GaveFixed c n lists
+    → OfChoice d (λ r. (text : List ℕ) × Gave r text × IsFirstFixedFault m text fault) → ⊥
+no_fixed_fault (one_reader r) (one_reader s) n m lists fault alike count given faulty =
+    let text = alike given.0 faulty.0 given.1 faulty.1 in
+    sound_fixed m faulty.0 lists fault (subst (λ i. SpellsFixed i faulty.0 lists) count (subst (λ t. SpellsFixed n t lists) text given.2)) faulty.2
+no_fixed_fault no_reader d n m lists fault alike count given faulty = no_reader_faulty d m fault alike faulty
+no_fixed_fault (one_reader r) no_reader n m lists fault alike count given faulty = absurd alike
+no_fixed_fault (one_reader r) gone n m lists fault alike count given faulty = absurd alike
+no_fixed_fault gone d n m lists fault alike count given faulty = absurd alike
+
+allowed_of : (direction : Direction) (mine : Instance) (fixed : Fixed) (pit : ℕ → Bool) → IsPitToward direction mine fixed pit → IsAllowed mine fixed pit
+allowed_of Least mine fixed pit is = is.allowed
+allowed_of Greatest mine fixed pit is = is.allowed
+
+-- a clash needs a barred block that each allowed set holds
+no_clash : (direction : Direction) (mine : Instance) (fixed : Fixed) (pit : ℕ → Bool) (block : ℕ) → IsPitToward direction mine fixed pit → IsClash mine.pairs fixed block → ⊥
+no_clash direction mine fixed pit block is clash =
+    let ok = allowed_of direction mine fixed pit is in
+    let dug = clash.dug in
+    let both = and_parts (fixed.barred block) (dug block) clash.least.member in
+    true≢false (sym both.1 ∙ (allowed_exists_unless_clash mine fixed dug clash.dug_is).1 (pit, ok) block both.0)
+
+module _ (files other : Files) (same : ReadAlike files other)
+    (u : Upit) (ps : List (ℕ × ℕ)) (lists : FixedLists) (one : GaveMine files.model files.prec u ps) (fixed_one : GaveFixed files.fixed u.n lists) (acyclic : IsAcyclic ps)
+    (direction : Direction) (text_of : List ℕ) (solved : IsPitText direction (mine_of u ps lists) text_of) where
+  no_fault : (fault : Fault) → FirstFault fault other → fault ≡ no_memory
+  no_fault fault (in_model text given is) =
+      absurd (sound_model text u fault (subst (λ t. SpellsUpit t u) (same.model one.model_text text one.model_given given) one.model_spelled) is)
+  no_fault fault (in_prec text behind upit given spelled prec_given is) =
+      let m = model_once text u upit (subst (λ t. SpellsUpit t u) (same.model one.model_text text one.model_given given) one.model_spelled) spelled in
+      let there = subst (λ t. SpellsPrec u.n t ps) (same.prec one.prec_text behind one.prec_given prec_given) one.prec_spelled in
+      absurd (sound_precedence upit.n behind ps fault (subst (λ (v : Upit). SpellsPrec v.n behind ps) m there) is)
+  no_fault fault (in_fixed upit pairs gave faulty) =
+      let m = one_model files.model files.prec other.model other.prec same.model same.prec u upit ps pairs one gave in
+      absurd (no_fixed_fault files.fixed other.fixed u.n upit.n lists fault same.fixed (ap (λ (w : Upit). w.n) m) fixed_one faulty)
+  no_fault fault (in_pairs upit pairs named gave fixed_gave is) =
+      only_memory pairs upit.n fault (subst IsAcyclic (one_precedence files.model files.prec other.model other.prec same.model same.prec u upit ps pairs one gave) acyclic) is
+  no_fault fault (in_blocks task block gave named is) =
+      let h = gave.holds in
+      let upit = one_model files.model files.prec other.model other.prec same.model same.prec u h.upit ps h.pairs one h.given in
+      let pairs = one_precedence files.model files.prec other.model other.prec same.model same.prec u h.upit ps h.pairs one h.given in
+      let same_lists = one_lists files.fixed other.fixed u.n h.upit.n lists task.lists same.fixed (ap (λ (w : Upit). w.n) upit) fixed_one h.fixed_given in
+      let here = subst (λ l. IsPitToward direction (mine_of u ps l).mine (fixed_of l) solved.pit) same_lists solved.is_pit in
+      let there = subst (λ (w : Upit). IsPitToward direction (mine_of w ps task.lists).mine (fixed_of task.lists) solved.pit) upit here in
+      let whole = subst (λ qs. IsPitToward direction (mine_of h.upit qs task.lists).mine (fixed_of task.lists) solved.pit) pairs there in
+      let moved = fixed_pit_knows_no_order direction h.upit.n h.upit.values h.pairs task.mine.pairs (fixed_of task.lists) solved.pit h.same whole in
+      let own = subst (λ n. IsPitToward direction (instance_of n h.upit.values task.mine.pairs) (fixed_of task.lists) solved.pit) (sym h.blocks) moved in
+      absurd (no_clash direction task.mine (fixed_of task.lists) solved.pit block
+      (subst (λ vs. IsPitToward direction (instance_of task.mine.blocks vs task.mine.pairs) (fixed_of task.lists) solved.pit) (sym h.values) own) named)
+
+  only_passing : (r : Refusal) (fault : Fault) → fault.refusal ≡ r → RefusesMine r fault other → (r ≡ NoMemory) ⊎ (r ≡ ReadFailed)
   only_passing NoMemory fault is h = inl refl
   only_passing ReadFailed fault is h = inr refl
   only_passing WriteFailed fault is h = absurd h
@@ -64,10 +127,10 @@ module _ (model prec other_model other_prec : Reading) (same : GaveAlike model o
   only_passing (Exhausted count) fault is h = absurd h
   only_passing r fault is h = inl (sym is ∙ ap (λ (f : Fault). f.refusal) (no_fault fault h))
 
-pub never_faulty : (model prec other_model other_prec : Reading) → NeverFaulty model prec other_model other_prec
-never_faulty model prec other_model other_prec before after status fault same same_prec done h =
+pub never_faulty : (files other : Files) → NeverFaulty files other
+never_faulty files other direction before after status fault same done h =
     let a = done.solves in
-    only_passing model prec other_model other_prec same same_prec a.upit a.pairs a.given a.acyclic fault.refusal fault refl h
+    only_passing files other same a.upit a.pairs a.lists a.given a.fixed_given a.acyclic direction done.text a.solved fault.refusal fault refl h
 
 -- the text of a cycle's fault is that of its blocks
 cycle_text : List ℕ → List ℕ
@@ -87,35 +150,118 @@ one_cycle pairs n f g some some_too a b =
     let y = names_cycle pairs n g.refusal g refl some_too b in
     x.2 ∙ ap cycle_text (cycle_is_one pairs n x.0 y.0 x.1 y.1) ∙ sym y.2
 
-module _ (model prec other_model other_prec : Reading) (same : GaveAlike model other_model) (same_prec : GaveAlike prec other_prec) (f g : Fault)
-    (some : f ≡ no_memory → ⊥) (some_too : g ≡ no_memory → ⊥) where
-  one_fault : FirstFault f model prec → FirstFault g other_model other_prec → fault_text f ≡ fault_text g
-  one_fault (in_model text given is) (in_model other_text other_given other_is) =
-      ap fault_text (one_first (upit_fault_at other_text) f g (subst (λ t. IsFirstUpitFault t f) (same text other_text given other_given) is) other_is)
-  one_fault (in_model text given is) (in_prec other_text behind upit other_given spelled prec_given other_is) =
-      absurd (sound_model other_text upit f spelled (subst (λ t. IsFirstUpitFault t f) (same text other_text given other_given) is))
-  one_fault (in_model text given is) (in_pairs upit pairs gave other_is) =
-      absurd (sound_model gave.model_text upit f gave.model_spelled (subst (λ t. IsFirstUpitFault t f) (same text gave.model_text given gave.model_given) is))
-  one_fault (in_prec text behind upit given spelled prec_given is) (in_model other_text other_given other_is) =
-      absurd (sound_model other_text upit g (subst (λ t. SpellsUpit t upit) (same text other_text given other_given) spelled) other_is)
-  one_fault (in_prec text behind upit given spelled prec_given is) (in_prec other_text other_behind other_upit other_given other_spelled other_prec_given other_is) =
-      let u = model_once other_text upit other_upit (subst (λ t. SpellsUpit t upit) (same text other_text given other_given) spelled) other_spelled in
-      let there = subst (λ t. IsFirstPrecFault upit.n t f) (same_prec behind other_behind prec_given other_prec_given) is in
-      ap fault_text (one_first (prec_fault_at other_upit.n other_behind) f g (subst (λ (m : Upit). IsFirstPrecFault m.n other_behind f) u there) other_is)
-  one_fault (in_prec text behind upit given spelled prec_given is) (in_pairs other_upit pairs gave other_is) =
-      let u = model_once gave.model_text upit other_upit (subst (λ t. SpellsUpit t upit) (same text gave.model_text given gave.model_given) spelled) gave.model_spelled in
-      let there = subst (λ t. IsFirstPrecFault upit.n t f) (same_prec behind gave.prec_text prec_given gave.prec_given) is in
-      absurd (sound_precedence other_upit.n gave.prec_text pairs f gave.prec_spelled (subst (λ (m : Upit). IsFirstPrecFault m.n gave.prec_text f) u there))
-  one_fault (in_pairs upit pairs gave is) (in_model other_text other_given other_is) =
-      absurd (sound_model other_text upit g (subst (λ t. SpellsUpit t upit) (same gave.model_text other_text gave.model_given other_given) gave.model_spelled) other_is)
-  one_fault (in_pairs upit pairs gave is) (in_prec other_text behind other_upit other_given other_spelled other_prec_given other_is) =
-      let u = model_once other_text upit other_upit (subst (λ t. SpellsUpit t upit) (same gave.model_text other_text gave.model_given other_given) gave.model_spelled) other_spelled in
-      let there = subst (λ t. SpellsPrec upit.n t pairs) (same_prec gave.prec_text behind gave.prec_given other_prec_given) gave.prec_spelled in
-      absurd (sound_precedence other_upit.n behind pairs g (subst (λ (m : Upit). SpellsPrec m.n behind pairs) u there) other_is)
-  one_fault (in_pairs upit pairs gave is) (in_pairs other_upit other_pairs other_gave other_is) =
-      let u = one_model model prec other_model other_prec same same_prec upit other_upit pairs other_pairs gave other_gave in
-      let p = one_precedence model prec other_model other_prec same same_prec upit other_upit pairs other_pairs gave other_gave in
-      one_cycle other_pairs other_upit.n f g some some_too (subst (λ ps. IsGraphFault ps other_upit.n f) p (subst (λ (m : Upit). IsGraphFault pairs m.n f) u is)) other_is
+-- what stands before the fixed blocks is told alike
+module _ (files other : Files) (same : ReadAlike files other) (f g : Fault) where
+  model_model : (text behind : List ℕ) → Gave files.model text → Gave other.model behind → IsFirstUpitFault text f → IsFirstUpitFault behind g → fault_text f ≡ fault_text g
+  model_model text behind given gave is two =
+      ap fault_text (one_first (upit_fault_at behind) f g (subst (λ t. IsFirstUpitFault t f) (same.model text behind given gave) is) two)
 
-pub faults_once : (model prec other_model other_prec : Reading) → FaultsOnce model prec other_model other_prec
-faults_once model prec other_model other_prec fault other same same_prec some some_too a b = one_fault model prec other_model other_prec same same_prec fault other some some_too a b
+  -- a fault of the model, where the other run found none there
+  model_sound : (text behind : List ℕ) (upit : Upit) → Gave files.model text → Gave other.model behind → IsFirstUpitFault text f → SpellsUpit behind upit → ⊥
+  model_sound text behind upit given gave is spelled = sound_model behind upit f spelled (subst (λ t. IsFirstUpitFault t f) (same.model text behind given gave) is)
+
+  sound_too : (text behind : List ℕ) (upit : Upit) → Gave files.model text → Gave other.model behind → SpellsUpit text upit → IsFirstUpitFault behind g → ⊥
+  sound_too text behind upit given gave spelled is = sound_model behind upit g (subst (λ t. SpellsUpit t upit) (same.model text behind given gave) spelled) is
+
+  prec_prec : (text behind ps qs : List ℕ) (u v : Upit) → Gave files.model text → Gave other.model behind → SpellsUpit text u → SpellsUpit behind v
+      → Gave files.prec ps → Gave other.prec qs → IsFirstPrecFault u.n ps f → IsFirstPrecFault v.n qs g → fault_text f ≡ fault_text g
+  prec_prec text behind ps qs u v given gave spelled spelled_too here there is two =
+      let m = model_once behind u v (subst (λ t. SpellsUpit t u) (same.model text behind given gave) spelled) spelled_too in
+      let moved = subst (λ t. IsFirstPrecFault u.n t f) (same.prec ps qs here there) is in
+      ap fault_text (one_first (prec_fault_at v.n qs) f g (subst (λ (w : Upit). IsFirstPrecFault w.n qs f) m moved) two)
+
+  prec_sound : (text ps : List ℕ) (u v : Upit) (pairs : List (ℕ × ℕ)) → Gave files.model text → SpellsUpit text u → Gave files.prec ps → IsFirstPrecFault u.n ps f
+      → GaveMine other.model other.prec v pairs → ⊥
+  prec_sound text ps u v pairs given spelled here is gave =
+      let m = model_once gave.model_text u v (subst (λ t. SpellsUpit t u) (same.model text gave.model_text given gave.model_given) spelled) gave.model_spelled in
+      let moved = subst (λ t. IsFirstPrecFault u.n t f) (same.prec ps gave.prec_text here gave.prec_given) is in
+      sound_precedence v.n gave.prec_text pairs f gave.prec_spelled (subst (λ (w : Upit). IsFirstPrecFault w.n gave.prec_text f) m moved)
+
+  sound_prec : (behind qs : List ℕ) (u v : Upit) (pairs : List (ℕ × ℕ)) → GaveMine files.model files.prec u pairs → Gave other.model behind → SpellsUpit behind v
+      → Gave other.prec qs → IsFirstPrecFault v.n qs g → ⊥
+  sound_prec behind qs u v pairs one gave spelled there is =
+      let m = model_once behind u v (subst (λ t. SpellsUpit t u) (same.model one.model_text behind one.model_given gave) one.model_spelled) spelled in
+      let moved = subst (λ t. SpellsPrec u.n t pairs) (same.prec one.prec_text qs one.prec_given there) one.prec_spelled in
+      sound_precedence v.n qs pairs g (subst (λ (w : Upit). SpellsPrec w.n qs pairs) m moved) is
+
+  same_count : (u v : Upit) (ps qs : List (ℕ × ℕ)) → GaveMine files.model files.prec u ps → GaveMine other.model other.prec v qs → u.n ≡ v.n
+  same_count u v ps qs one two = ap (λ (w : Upit). w.n) (one_model files.model files.prec other.model other.prec same.model same.prec u v ps qs one two)
+
+same_fixed_fault : (c d : Choice) (n m : ℕ) (f g : Fault) → ChoseAlike c d → n ≡ m → OfChoice c (λ r. (text : List ℕ) × Gave r text × IsFirstFixedFault n text f)
+    → OfChoice d (λ r. (text : List ℕ) × Gave r text × IsFirstFixedFault m text g) → fault_text f ≡ fault_text g
+same_fixed_fault (one_reader r) (one_reader s) n m f g alike count a b =
+    let moved = subst (λ i. IsFirstFixedFault i b.0 f) count (subst (λ t. IsFirstFixedFault n t f) (alike a.0 b.0 a.1 b.1) a.2) in
+    ap fault_text (one_first (fixed_fault_at m b.0) f g moved b.2)
+same_fixed_fault no_reader d n m f g alike count a b = absurd a
+same_fixed_fault gone d n m f g alike count a b = absurd a
+same_fixed_fault (one_reader r) no_reader n m f g alike count a b = absurd b
+same_fixed_fault (one_reader r) gone n m f g alike count a b = absurd b
+
+alike_back : (c d : Choice) → ChoseAlike c d → ChoseAlike d c
+alike_back no_reader no_reader alike = tt
+alike_back (one_reader r) (one_reader s) alike = λ text behind x y. sym (alike behind text y x)
+alike_back no_reader (one_reader s) alike = absurd alike
+alike_back no_reader gone alike = absurd alike
+alike_back (one_reader r) no_reader alike = absurd alike
+alike_back (one_reader r) gone alike = absurd alike
+alike_back gone d alike = absurd alike
+
+-- the least barred block that must be dug is one
+one_clash : (pairs : List (ℕ × ℕ)) (fixed : Fixed) (a b : ℕ) → IsClash pairs fixed a → IsClash pairs fixed b → a ≡ b
+one_clash pairs fixed a b x y =
+    let same : (u : ℕ) → (fixed.barred u && x.dug u) ≡ (fixed.barred u && y.dug u) = λ u. ap (λ t. fixed.barred u && t) (closure_is_one pairs fixed.forced x.dug y.dug x.dug_is y.dug_is u) in
+    least_once (λ u. fixed.barred u && x.dug u) (λ u. fixed.barred u && y.dug u) a b (λ u h. sym (same u) ∙ h) (λ u h. same u ∙ h) x.least y.least
+
+module _ (files other : Files) (same : ReadAlike files other) (f g : Fault)
+    (some : f ≡ no_memory → ⊥) (some_too : g ≡ no_memory → ⊥) where
+  one_fault : FirstFault f files → FirstFault g other → fault_text f ≡ fault_text g
+  one_fault (in_model text given is) (in_model behind gave two) = model_model files other same f g text behind given gave is two
+  one_fault (in_model text given is) (in_prec behind qs v gave spelled there two) = absurd (model_sound files other same f g text behind v given gave is spelled)
+  one_fault (in_model text given is) (in_fixed v qs gave two) = absurd (model_sound files other same f g text gave.model_text v given gave.model_given is gave.model_spelled)
+  one_fault (in_model text given is) (in_pairs v qs lists gave fixed_gave two) = absurd (model_sound files other same f g text gave.model_text v given gave.model_given is gave.model_spelled)
+  one_fault (in_model text given is) (in_blocks task block gave named two) =
+      let h = gave.holds.given in absurd (model_sound files other same f g text h.model_text gave.holds.upit given h.model_given is h.model_spelled)
+  one_fault (in_prec text ps u given spelled here is) (in_model behind gave two) = absurd (sound_too files other same f g text behind u given gave spelled two)
+  one_fault (in_prec text ps u given spelled here is) (in_prec behind qs v gave spelled_too there two) = prec_prec files other same f g text behind ps qs u v given gave spelled spelled_too here there is two
+  one_fault (in_prec text ps u given spelled here is) (in_fixed v qs gave two) = absurd (prec_sound files other same f g text ps u v qs given spelled here is gave)
+  one_fault (in_prec text ps u given spelled here is) (in_pairs v qs lists gave fixed_gave two) = absurd (prec_sound files other same f g text ps u v qs given spelled here is gave)
+  one_fault (in_prec text ps u given spelled here is) (in_blocks task block gave named two) =
+      absurd (prec_sound files other same f g text ps u gave.holds.upit gave.holds.pairs given spelled here is gave.holds.given)
+  one_fault (in_fixed u ps one is) (in_model behind gave two) = absurd (sound_too files other same f g one.model_text behind u one.model_given gave one.model_spelled two)
+  one_fault (in_fixed u ps one is) (in_prec behind qs v gave spelled there two) = absurd (sound_prec files other same f g behind qs u v ps one gave spelled there two)
+  one_fault (in_fixed u ps one is) (in_fixed v qs gave two) = same_fixed_fault files.fixed other.fixed u.n v.n f g same.fixed (same_count files other same f g u v ps qs one gave) is two
+  one_fault (in_fixed u ps one is) (in_pairs v qs lists gave fixed_gave two) =
+      absurd (no_fixed_fault other.fixed files.fixed v.n u.n lists f (alike_back files.fixed other.fixed same.fixed) (sym (same_count files other same f g u v ps qs one gave)) fixed_gave is)
+  one_fault (in_fixed u ps one is) (in_blocks task block gave named two) =
+      let h = gave.holds in
+      absurd (no_fixed_fault other.fixed files.fixed h.upit.n u.n task.lists f (alike_back files.fixed other.fixed same.fixed) (sym (same_count files other same f g u h.upit ps h.pairs one h.given)) h.fixed_given is)
+  one_fault (in_pairs u ps lists one fixed_one is) (in_model behind gave two) = absurd (sound_too files other same f g one.model_text behind u one.model_given gave one.model_spelled two)
+  one_fault (in_pairs u ps lists one fixed_one is) (in_prec behind qs v gave spelled there two) = absurd (sound_prec files other same f g behind qs u v ps one gave spelled there two)
+  one_fault (in_pairs u ps lists one fixed_one is) (in_fixed v qs gave two) =
+      absurd (no_fixed_fault files.fixed other.fixed u.n v.n lists g same.fixed (same_count files other same f g u v ps qs one gave) fixed_one two)
+  one_fault (in_pairs u ps lists one fixed_one is) (in_pairs v qs others gave fixed_gave two) =
+      let m = one_model files.model files.prec other.model other.prec same.model same.prec u v ps qs one gave in
+      let p = one_precedence files.model files.prec other.model other.prec same.model same.prec u v ps qs one gave in
+      one_cycle qs v.n f g some some_too (subst (λ rs. IsGraphFault rs v.n f) p (subst (λ (w : Upit). IsGraphFault ps w.n f) m is)) two
+  one_fault (in_pairs u ps lists one fixed_one is) (in_blocks task block gave named two) =
+      let h = gave.holds in
+      let p = one_precedence files.model files.prec other.model other.prec same.model same.prec u h.upit ps h.pairs one h.given in
+      absurd (some (only_memory ps u.n f (subst IsAcyclic (sym p) h.acyclic) is))
+  one_fault (in_blocks task block one named is) (in_model behind gave two) =
+      let h = one.holds.given in absurd (sound_too files other same f g h.model_text behind one.holds.upit h.model_given gave h.model_spelled two)
+  one_fault (in_blocks task block one named is) (in_prec behind qs v gave spelled there two) =
+      absurd (sound_prec files other same f g behind qs one.holds.upit v one.holds.pairs one.holds.given gave spelled there two)
+  one_fault (in_blocks task block one named is) (in_fixed v qs gave two) =
+      let h = one.holds in
+      absurd (no_fixed_fault files.fixed other.fixed h.upit.n v.n task.lists g same.fixed (same_count files other same f g h.upit v h.pairs qs h.given gave) h.fixed_given two)
+  one_fault (in_blocks task block one named is) (in_pairs v qs others gave fixed_gave two) =
+      let h = one.holds in
+      let p = one_precedence files.model files.prec other.model other.prec same.model same.prec h.upit v h.pairs qs h.given gave in
+      absurd (some_too (only_memory qs v.n g (subst IsAcyclic p h.acyclic) two))
+  one_fault (in_blocks task block one named is) (in_blocks task_too block_too gave named_too two) =
+      let t = mine_in_order files other same task task_too one gave in
+      let here = subst (λ (x : FixedMine). IsClash x.mine.pairs (fixed_in x) block) t named in
+      ap fault_text (is ∙ ap clash (one_clash task_too.mine.pairs (fixed_in task_too) block block_too here named_too) ∙ sym two)
+
+pub faults_once : (files other : Files) → FaultsOnce files other
+faults_once files other fault second same some some_too a b = one_fault files other same fault second some some_too a b

@@ -1,6 +1,6 @@
 -- Where one step of a run is refused, the run is refused so: by cases on the refusal.
-use Rattle.std.proofs.Common.{◌≡◌, ℕ, List, inl, inr, ⊎_elim, refl, sym, subst}
-use Rattle.faults.specs.Refused.{write_failed}
+use Rattle.std.proofs.Common.{◌≡◌, ℕ, List, Option, Some, None, inl, inr, ⊎_elim, refl, sym, subst}
+use Rattle.faults.specs.Refused.{no_memory, write_failed}
 use Rattle.minelib_reader.specs.Device.{Progress}
 use Rattle.minelib_reader.specs.Answer.{Refuses, ReadsText}
 use Rattle.minelib_reader.specs.Upit.{Upit}
@@ -9,75 +9,121 @@ use Rattle.minelib_reader.specs.UpitFault.{IsFirstUpitFault}
 use Rattle.minelib_reader.specs.PrecFault.{IsFirstPrecFault}
 use Rattle.faults.specs.declared.fault.Fault.{Fault}
 use Rattle.faults.specs.declared.refusal.Refusal.{Refusal}
-use Rattle.faults.specs.declared.refusal.Refusal.TheVariants.{NoMemory, ReadFailed, WriteFailed, NoSeat, Exhausted}
+use Rattle.faults.specs.declared.refusal.Refusal.TheVariants.{NoMemory, ReadFailed, WriteFailed, NoSeat, Exhausted, FixedClash}
 use Rattle.faults.specs.declared.source.Source.TheVariants as sources
 use Rattle.mine_graph.specs.Faults.{RefusesPairs, IsGraphFault}
-use Rattle.runs.specs.Solve.{Reading, Gave, NeverFailed, GaveMine, in_model, in_prec, in_pairs, RefusesMine}
-use Rattle.runs.specs.Mine.{HoldsMine}
+use Rattle.minelib_reader.specs.FixedFault.{IsFirstFixedFault}
+use Rattle.mine_graph.specs.FixedBlocks.{RefusesFixed}
+use Rattle.pit_model.specs.Fixed.{FixedLists, graph_of_mine}
+use Rattle.runs.specs.Solve.{Choice, no_reader, one_reader, gone, choice, Files, FixedMine, GaveFixed, GaveInOrder, HoldsMine, OfChoice, OfChoiceIfAny, Gave, NeverFailed, GaveMine, in_model, in_prec, in_fixed, in_pairs, in_blocks, RefusesFixedText, RefusesMine}
+use Rattle.runs.specs.declared.asked.Asked.{Asked}
 use Rattle.pit_model.specs.Replay.{IsSettled}
 use Rattle.runs.specs.Chosen.{Chosen, IsLeft}
 use Rattle.runs.specs.Journaled.{AtBudget}
 use Rattle.runs.specs.Run.{RefusesPit, RefusesRun, WasCutShort, in_journal, in_certificate}
 use Rattle.runs.proofs.Certifying.{certificate_cut}
 use Rattle.runs.proofs.Journaling.{journaled, journal_cut}
-use Rattle.solver.specs.declared.mode.Mode.{Mode}
-use Rattle.pit_model.specs.Mine.{Instance}
-use Rattle.minelib_reader.proofs.TextFaults.{IsOfText, upit_fault_of_text, prec_fault_of_text}
+use Rattle.minelib_reader.proofs.TextFaults.{IsOfText, upit_fault_of_text, prec_fault_of_text, fixed_fault_of_text}
+
+-- a reader that was not called did not fail
+pub still : {F : Type 0} (progress : F → Progress) (is_at_end : F → Type 0) (fixed : Option F) → OfChoiceIfAny (choice progress is_at_end fixed fixed) NeverFailed
+still progress is_at_end None = tt
+still progress is_at_end (Some reader) = refl
 
 pub model_refused :
-    (r : Refusal) (e : Fault) (model prec : Reading) → e.refusal ≡ r → NeverFailed prec
-    → Refuses r sources.Model e model.before model.after (ReadsText model.before model.after model.ended (λ text. IsFirstUpitFault text e))
-    → RefusesMine r e model prec
-model_refused NoMemory e model prec is still h = (h.1, h.0, still)
-model_refused ReadFailed e model prec is still h = inl h
-model_refused WriteFailed e model prec is still h = h
-model_refused NoSeat e model prec is still h = subst IsOfText is (upit_fault_of_text h.0 e h.2)
-model_refused (Exhausted count) e model prec is still h = subst IsOfText is (upit_fault_of_text h.0 e h.2)
-model_refused _ e model prec is still h = in_model h.0 h.1 h.2
+    (r : Refusal) (e : Fault) (files : Files) → e.refusal ≡ r → NeverFailed files.prec → OfChoiceIfAny files.fixed NeverFailed
+    → Refuses r sources.Model e files.model.before files.model.after (ReadsText files.model.before files.model.after files.model.ended (λ text. IsFirstUpitFault text e))
+    → RefusesMine r e files
+model_refused NoMemory e files is prec fixed h = (h.1, h.0, prec, fixed)
+model_refused ReadFailed e files is prec fixed h = inl h
+model_refused WriteFailed e files is prec fixed h = h
+model_refused NoSeat e files is prec fixed h = subst IsOfText is (upit_fault_of_text h.0 e h.2)
+model_refused (Exhausted count) e files is prec fixed h = subst IsOfText is (upit_fault_of_text h.0 e h.2)
+model_refused _ e files is prec fixed h = in_model h.0 h.1 h.2
 
 pub prec_refused :
-    (r : Refusal) (e : Fault) (model prec : Reading) (upit : Upit) (text : List ℕ) → e.refusal ≡ r → Gave model text → SpellsUpit text upit
-    → Refuses r sources.Precedence e prec.before prec.after (ReadsText prec.before prec.after prec.ended (λ behind. IsFirstPrecFault upit.n behind e))
-    → RefusesMine r e model prec
-prec_refused NoMemory e model prec upit text is given spelled h = (h.1, given.failures, h.0)
-prec_refused ReadFailed e model prec upit text is given spelled h = inr h
-prec_refused WriteFailed e model prec upit text is given spelled h = h
-prec_refused NoSeat e model prec upit text is given spelled h = subst IsOfText is (prec_fault_of_text upit.n h.0 e h.2)
-prec_refused (Exhausted count) e model prec upit text is given spelled h = subst IsOfText is (prec_fault_of_text upit.n h.0 e h.2)
-prec_refused _ e model prec upit text is given spelled h = in_prec text h.0 upit given spelled h.1 h.2
+    (r : Refusal) (e : Fault) (files : Files) (upit : Upit) (text : List ℕ) → e.refusal ≡ r → OfChoiceIfAny files.fixed NeverFailed → Gave files.model text → SpellsUpit text upit
+    → Refuses r sources.Precedence e files.prec.before files.prec.after (ReadsText files.prec.before files.prec.after files.prec.ended (λ behind. IsFirstPrecFault upit.n behind e))
+    → RefusesMine r e files
+prec_refused NoMemory e files upit text is fixed given spelled h = (h.1, given.failures, h.0, fixed)
+prec_refused ReadFailed e files upit text is fixed given spelled h = inr (inl h)
+prec_refused WriteFailed e files upit text is fixed given spelled h = h
+prec_refused NoSeat e files upit text is fixed given spelled h = subst IsOfText is (prec_fault_of_text upit.n h.0 e h.2)
+prec_refused (Exhausted count) e files upit text is fixed given spelled h = subst IsOfText is (prec_fault_of_text upit.n h.0 e h.2)
+prec_refused _ e files upit text is fixed given spelled h = in_prec text h.0 upit given spelled h.1 h.2
+
+-- a fault of a fixed file lies in the text
+of_fixed_text : (c : Choice) (n : ℕ) (e : Fault) (r : Refusal) → e.refusal ≡ r → OfChoice c (λ s. (text : List ℕ) × Gave s text × IsFirstFixedFault n text e) → IsOfText r
+of_fixed_text (one_reader s) n e r is h = subst IsOfText is (fixed_fault_of_text n h.0 e h.2)
+of_fixed_text no_reader n e r is h = absurd h
+of_fixed_text gone n e r is h = absurd h
+
+-- a reader of choice that answered did not fail
+of_choice_any : (c : Choice) → OfChoice c NeverFailed → OfChoiceIfAny c NeverFailed
+of_choice_any no_reader h = tt
+of_choice_any (one_reader r) h = h
+of_choice_any gone h = h
+
+pub fixed_refused :
+    (r : Refusal) (e : Fault) (files : Files) (upit : Upit) (pairs : List (ℕ × ℕ)) → e.refusal ≡ r → GaveMine files.model files.prec upit pairs
+    → RefusesFixedText r e upit.n files.fixed → RefusesMine r e files
+fixed_refused NoMemory e files upit pairs is given h = (h.0, given.model_given.failures, given.prec_given.failures, of_choice_any files.fixed h.1)
+fixed_refused ReadFailed e files upit pairs is given h = inr (inr h)
+fixed_refused WriteFailed e files upit pairs is given h = h
+fixed_refused NoSeat e files upit pairs is given h = of_fixed_text files.fixed upit.n e NoSeat is h
+fixed_refused (Exhausted count) e files upit pairs is given h = of_fixed_text files.fixed upit.n e (Exhausted count) is h
+fixed_refused _ e files upit pairs is given h = in_fixed upit pairs given h
+
+-- the fixed blocks that were read did not fail
+given_fixed : (c : Choice) (n : ℕ) (lists : FixedLists) → GaveFixed c n lists → OfChoiceIfAny c NeverFailed
+given_fixed no_reader n lists given = tt
+given_fixed (one_reader r) n lists given = given.1.failures
+given_fixed gone n lists given = absurd given
 
 pub pairs_refused :
-    (r : Refusal) (e : Fault) (model prec : Reading) (upit : Upit) (pairs : List (ℕ × ℕ)) → GaveMine model prec upit pairs
-    → IsGraphFault pairs upit.n e → RefusesPairs pairs upit.n r e → RefusesMine r e model prec
-pairs_refused NoMemory e model prec upit pairs given is h = (h, given.model_given.failures, given.prec_given.failures)
-pairs_refused ReadFailed e model prec upit pairs given is h = absurd h
-pairs_refused WriteFailed e model prec upit pairs given is h = h
-pairs_refused NoSeat e model prec upit pairs given is h = h
-pairs_refused (Exhausted count) e model prec upit pairs given is h = h
-pairs_refused _ e model prec upit pairs given is h = in_pairs upit pairs given is
+    (r : Refusal) (e : Fault) (files : Files) (upit : Upit) (pairs : List (ℕ × ℕ)) (lists : FixedLists) → GaveMine files.model files.prec upit pairs → GaveFixed files.fixed upit.n lists
+    → IsGraphFault pairs upit.n e → RefusesPairs pairs upit.n r e → RefusesMine r e files
+pairs_refused NoMemory e files upit pairs lists given fixed is h = (h, given.model_given.failures, given.prec_given.failures, given_fixed files.fixed upit.n lists fixed)
+pairs_refused ReadFailed e files upit pairs lists given fixed is h = absurd h
+pairs_refused WriteFailed e files upit pairs lists given fixed is h = h
+pairs_refused NoSeat e files upit pairs lists given fixed is h = h
+pairs_refused (Exhausted count) e files upit pairs lists given fixed is h = h
+pairs_refused _ e files upit pairs lists given fixed is h = in_pairs upit pairs lists given fixed is
+
+pub memory_refused : (files : Files) (upit : Upit) (pairs : List (ℕ × ℕ)) (lists : FixedLists) → GaveMine files.model files.prec upit pairs → GaveFixed files.fixed upit.n lists → RefusesMine NoMemory no_memory files
+memory_refused files upit pairs lists given fixed = (refl, given.model_given.failures, given.prec_given.failures, given_fixed files.fixed upit.n lists fixed)
+
+pub blocks_refused :
+    (r : Refusal) (e : Fault) (files : Files) (task : FixedMine) → GaveInOrder files task
+    → RefusesFixed (graph_of_mine task.mine) task.lists r e → RefusesMine r e files
+blocks_refused NoMemory e files task given h = (h, given.holds.given.model_given.failures, given.holds.given.prec_given.failures, given_fixed files.fixed given.holds.upit.n task.lists given.holds.fixed_given)
+blocks_refused (FixedClash block) e files task given h = in_blocks task block given h.1 h.0
+blocks_refused _ e files task given h = absurd h
 
 -- a refusal of the files is one of the run
-pub read_refused : (mode : Mode) (r : Refusal) (e : Fault) (model prec : Reading) (journal certificate : Chosen) (out : Progress) → IsLeft journal → IsLeft certificate → RefusesMine r e model prec → RefusesRun mode r e model prec journal certificate out out
-read_refused mode WriteFailed e model prec journal certificate out j c h = absurd h
-read_refused mode NoSeat e model prec journal certificate out j c h = absurd h
-read_refused mode (Exhausted count) e model prec journal certificate out j c h = absurd h
-read_refused mode _ e model prec journal certificate out j c h = (h, record { no_journal = j; no_certificate = c; no_pit = refl })
+pub read_refused : (asked : Asked) (r : Refusal) (e : Fault) (files : Files) (journal certificate : Chosen) (out : Progress) → IsLeft journal → IsLeft certificate → RefusesMine r e files → RefusesRun asked r e files journal certificate out out
+read_refused asked WriteFailed e files journal certificate out j c h = absurd h
+read_refused asked NoSeat e files journal certificate out j c h = absurd h
+read_refused asked (Exhausted count) e files journal certificate out j c h = absurd h
+read_refused asked _ e files journal certificate out j c h = (h, record { no_journal = j; no_certificate = c; no_pit = refl })
 
 -- and so is a refusal to find the pit
 pub pit_refused :
-    (mode : Mode) (r : Refusal) (e : Fault) (model prec : Reading) (mine : Instance) (journal certificate : Chosen) (out : Progress) → HoldsMine model prec mine
-    → RefusesPit mode mine r e journal certificate → RefusesRun mode r e model prec journal certificate out out
-pit_refused mode WriteFailed e model prec mine journal certificate out holds h = ⊎_elim
-    (λ of_journal. (of_journal.0.1, in_journal (journal_cut mode model prec mine e journal holds of_journal.0.0) of_journal.1 refl))
-    (λ behind. (behind.1.1, in_certificate (journaled IsSettled mode model prec mine journal holds behind.0) (certificate_cut model prec mine e certificate holds behind.1.0) refl))
+    (asked : Asked) (r : Refusal) (e : Fault) (files : Files) (task : FixedMine) (journal certificate : Chosen) (out : Progress) → HoldsMine files task
+    → RefusesPit asked.mode asked.pit task r e journal certificate → RefusesRun asked r e files journal certificate out out
+pit_refused asked WriteFailed e files task journal certificate out holds h = ⊎_elim
+    (λ of_journal. (of_journal.0.1, in_journal (journal_cut asked.mode files task e journal holds of_journal.0.0) of_journal.1 refl))
+    (λ behind. (behind.1.1, in_certificate (journaled IsSettled asked.mode files task journal holds behind.0) (certificate_cut files task e certificate holds behind.1.0) refl))
     h
-pit_refused mode NoMemory e model prec mine journal certificate out holds h = ((h.0, holds.given.model_given.failures, holds.given.prec_given.failures), record { no_journal = h.1; no_certificate = h.2; no_pit = refl })
-pit_refused mode NoSeat e model prec mine journal certificate out holds h = ((mine, holds, h.0), record { no_journal = h.1; no_certificate = h.2; no_pit = refl })
-pit_refused mode (Exhausted count) e model prec mine journal certificate out holds h = ((mine, holds, h.0), journaled (AtBudget count) mode model prec mine journal holds h.1, h.2, refl)
-pit_refused mode _ e model prec mine journal certificate out holds h = absurd h.0
+pit_refused asked NoMemory e files task journal certificate out holds h =
+    ((h.0, holds.given.model_given.failures, holds.given.prec_given.failures, given_fixed files.fixed holds.upit.n task.lists holds.fixed_given), record { no_journal = h.1; no_certificate = h.2; no_pit = refl })
+pit_refused asked NoSeat e files task journal certificate out holds h = (h.0.0, h.0.1, record { no_journal = h.1; no_certificate = h.2; no_pit = refl })
+pit_refused asked (Exhausted count) e files task journal certificate out holds h =
+    (h.0.0, (task, holds, h.0.1), journaled (AtBudget count) asked.mode files task journal holds h.1, h.2, refl)
+pit_refused asked _ e files task journal certificate out holds h = absurd h.0
 
 pub write_refused :
-    (mode : Mode) (e : Fault) (model prec : Reading) (journal certificate : Chosen) (before after : Progress) → e ≡ write_failed → WasCutShort mode model prec journal certificate before after
-    → RefusesRun mode e.refusal e model prec journal certificate before after
-write_refused mode e model prec journal certificate before after is cut =
-    subst (λ f. RefusesRun mode f.refusal f model prec journal certificate before after) (sym is) (refl, cut)
+    (asked : Asked) (e : Fault) (files : Files) (journal certificate : Chosen) (before after : Progress) → e ≡ write_failed → WasCutShort asked files journal certificate before after
+    → RefusesRun asked e.refusal e files journal certificate before after
+write_refused asked e files journal certificate before after is cut =
+    subst (λ f. RefusesRun asked f.refusal f files journal certificate before after) (sym is) (refl, cut)

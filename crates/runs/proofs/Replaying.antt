@@ -1,5 +1,5 @@
 -- The replay of a journal of the mine that was read is told, and where it comes to a pit, that is the pit of the files' mine.
-use Rattle.std.proofs.Common.{◌≡◌, ◌∙◌, ℕ, List, refl, sym, subst, Ok, Err, Result}
+use Rattle.std.proofs.Common.{◌≡◌, ◌∙◌, ℕ, Bool, List, length, refl, sym, subst, Ok, Err, Result, Vec, Global}
 use Rattle.std.specs.Prelude.{IfOk, IfErr}
 use Rattle.minelib_reader.specs.Device.{Progress}
 use Rattle.minelib_reader.specs.Answer.{Refuses, ReadsText}
@@ -8,7 +8,7 @@ use Rattle.faults.specs.declared.fault.Fault.{Fault}
 use Rattle.faults.specs.declared.refusal.Refusal.{Refusal}
 use Rattle.faults.specs.declared.refusal.Refusal.TheVariants.{NoMemory, ReadFailed, WriteFailed, NoSeat, Exhausted}
 use Rattle.faults.specs.declared.source.Source.TheVariants as sources
-use Rattle.pit_model.specs.Mine.{Instance}
+use Rattle.pit_model.specs.Mine.{Instance, members}
 use Rattle.pit_model.specs.Limits.{IsInstance}
 use Rattle.report.specs.JournalLines.{BudgetAndEntries}
 use Rattle.report.specs.JournalGrammar.{SpellsJournal}
@@ -16,114 +16,170 @@ use Rattle.report.specs.JournalFault.{IsFirstJournalFault}
 use Rattle.report.proofs.JournalOfText.{journal_fault_of_text}
 use Rattle.merging.specs.Parts.{graph_of}
 use Rattle.merging.specs.Replayed.{EndsReplay}
+use Rattle.merging.specs.Rest.{IsRestIn, ListsJoined}
+use Rattle.merging.specs.declared.rest.Rest.{Rest}
+use Rattle.mine_graph.specs.FixedBlocks.{FixedBlocks, no_lists}
+use Rattle.solver.proofs.Searching.{is_rest_of, joined_pit, none_is_rest, plain_pit}
 use Rattle.merging.specs.declared.replayed.Replayed.{Replayed}
 use Rattle.merging.specs.declared.replayed.Replayed.TheVariants as ends
-use Rattle.runs.specs.Solve.{Reading, Gave, Solves}
-use Rattle.runs.specs.Mine.{HoldsMine}
-use Rattle.runs.specs.Replay.{IsReplayed, AnswersJournal, settled, differs, unfinished, Replays, IsToldReplay, IsReplayCut, IsJournalSpent, RefusesJournal, NotReplayed, no_journal, RefusesReplay, ShowsEnd, TellsEnd, NotTold, cut, spent, IsTold}
+use Rattle.pit_model.specs.declared.direction.Direction.TheVariants.{Least}
+use Rattle.pit_model.specs.Fixed.{IsRestOf}
+use Rattle.runs.specs.Solve.{Files, FixedMine, Reading, Gave, HoldsMine, Solves, fixed_in}
+use Rattle.runs.specs.Replay.{EndsOnRest, IsReplayed, IsReplayedOn, AnswersJournal, settled, differs, unfinished, Replays, IsToldReplay, IsReplayCut, IsJournalSpent, RefusesJournal, RefusesJournalOn, NotReplayed, no_journal, RefusesReplay, TellsEnd, NotTold, cut, spent, IsTold}
 use Rattle.runs.specs.declared.status.Status.{Status}
 use Rattle.runs.specs.declared.status.Status.TheVariants.{Done, No}
 use Rattle.runs.proofs.Solving.{solves}
 
 -- a refusal of the reader is one of the journal
-pub reading_refused : (r : Refusal) (e : Fault) (mine : Instance) (journal : Reading) → e.refusal ≡ r
-    → Refuses r sources.Journal e journal.before journal.after (ReadsText journal.before journal.after journal.ended (λ text. IsFirstJournalFault (graph_of mine) text e))
-    → RefusesJournal r e mine journal
-reading_refused NoMemory e mine journal is h = (h.1, h.0)
-reading_refused ReadFailed e mine journal is h = h
-reading_refused WriteFailed e mine journal is h = h
-reading_refused NoSeat e mine journal is h = subst IsOfText is (journal_fault_of_text (graph_of mine) h.0 e h.2)
-reading_refused (Exhausted count) e mine journal is h = subst IsOfText is (journal_fault_of_text (graph_of mine) h.0 e h.2)
-reading_refused _ e mine journal is h = h
+pub reading_refused : (r : Refusal) (e : Fault) (rest : Instance) (journal : Reading) → e.refusal ≡ r
+    → Refuses r sources.Journal e journal.before journal.after (ReadsText journal.before journal.after journal.ended (λ text. IsFirstJournalFault (graph_of rest) text e))
+    → RefusesJournalOn r e rest journal
+reading_refused NoMemory e rest journal is h = (h.1, h.0)
+reading_refused ReadFailed e rest journal is h = h
+reading_refused WriteFailed e rest journal is h = h
+reading_refused NoSeat e rest journal is h = subst IsOfText is (journal_fault_of_text (graph_of rest) h.0 e h.2)
+reading_refused (Exhausted count) e rest journal is h = subst IsOfText is (journal_fault_of_text (graph_of rest) h.0 e h.2)
+reading_refused _ e rest journal is h = h
+
+-- why there is no journal of the rest
+pub rest_refused : (r : Refusal) (e : Fault) (task : FixedMine) (rest : Instance) (journal : Reading) → IsRestOf task.mine (fixed_in task) rest → RefusesJournalOn r e rest journal → RefusesJournal r e task journal
+rest_refused NoMemory e task rest journal is h = h
+rest_refused _ e task rest journal is h = (rest, is, h)
 
 -- the end of the replay of the journal that was read
 pub is_replayed :
     (mine : Instance) (reading : Reading) (said : BudgetAndEntries) (text : List ℕ) (answer : Result Replayed Fault) → Gave reading text → SpellsJournal (graph_of mine) text said
-    → IfOk answer (EndsReplay mine said.budget said.entries) → IfOk answer (IsReplayed mine reading)
+    → IfOk answer (EndsReplay mine said.budget said.entries) → IfOk answer (IsReplayedOn mine reading)
 is_replayed mine reading said text (Ok end) given spelled ended = record { journal = said; given = record { text = text; given = given; spelled = spelled }; ends = ended }
 is_replayed mine reading said text (Err e) given spelled ended = tt
 
-answers : (mine : Instance) (said : BudgetAndEntries) (end : Replayed) (text : List ℕ) (status : Status) → EndsReplay mine said.budget said.entries end → TellsEnd mine end text status → AnswersJournal mine said text status
-answers mine said (ends.Pit pit) text status e t = settled e.0 t.0 t.1
-answers mine said (ends.Differs k) text status e t = differs k e t.0 t.1
-answers mine said (ends.Open count) text status e t = unfinished count e t.0 t.1
-answers mine said (ends.Exhausted count) text status e t = absurd t
+-- the end of a replay of the mine itself, where nothing is fixed
+plain_end : (task : FixedMine) (journal : BudgetAndEntries) (end : Replayed) → task.lists ≡ no_lists → EndsReplay task.mine journal.budget journal.entries end → EndsOnRest task task.mine journal end
+plain_end task journal (ends.Pit pit) none e = (e.0, plain_pit task.mine task.lists pit.items none e.1)
+plain_end task journal _ none e = e
+
+pub plain_replayed : (task : FixedMine) (reading : Reading) (answer : Result Replayed Fault) → task.lists ≡ no_lists → IfOk answer (IsReplayedOn task.mine reading) → IfOk answer (IsReplayed task reading)
+plain_replayed task reading (Ok end) none r = record {
+  rest = task.mine;
+  is_rest = none_is_rest task.mine task.lists none;
+  journal = r.journal;
+  given = r.given;
+  ends = plain_end task r.journal end none r.ends;
+}
+plain_replayed task reading (Err e) none r = tt
+
+pub plain_refused : (task : FixedMine) (reading : Reading) (answer : Result Replayed Fault) → task.lists ≡ no_lists
+    → IfErr answer (λ e. RefusesJournalOn e.refusal e task.mine reading) → IfErr answer (λ e. RefusesJournal e.refusal e task reading)
+plain_refused task reading (Ok end) none r = tt
+plain_refused task reading (Err e) none r = rest_refused e.refusal e task task.mine reading (none_is_rest task.mine task.lists none) r
+
+-- the end of a replay of the rest without a pit
+open_end : (task : FixedMine) (rest : Instance) (journal : BudgetAndEntries) (end : Replayed) → ((pit : Vec ℕ Global) → end ≡ ends.Pit pit → ⊥)
+    → EndsReplay rest journal.budget journal.entries end → EndsOnRest task rest journal end
+open_end task rest journal (ends.Pit pit) other e = absurd (other pit refl)
+open_end task rest journal _ other e = e
+
+pub open_replayed : (task : FixedMine) (rest : Instance) (reading : Reading) (end : Replayed) → IsRestOf task.mine (fixed_in task) rest → ((pit : Vec ℕ Global) → end ≡ ends.Pit pit → ⊥)
+    → IsReplayedOn rest reading end → IsReplayed task reading end
+open_replayed task rest reading end is other r = record { rest = rest; is_rest = is; journal = r.journal; given = r.given; ends = open_end task rest r.journal end other r.ends }
+
+-- and with one, which is joined with what must be dug
+pub pit_replayed :
+    (mine : Instance) (fixed : FixedBlocks) (rest : Rest) (reading : Reading) (found list : Vec ℕ Global) → (fixed.lists ≡ no_lists → ⊥) → IsRestIn mine fixed rest
+    → IsReplayedOn rest.mine reading (ends.Pit found)
+    → ((set : ℕ → Bool) → found.items ≡ members (length rest.blocks.items) set → ListsJoined mine.blocks fixed rest.blocks.items set list.items)
+    → IsReplayed (record { mine = mine; lists = fixed.lists }) reading (ends.Pit list)
+pit_replayed mine fixed rest reading found list some is r joined = record {
+  rest = rest.mine;
+  is_rest = is_rest_of mine fixed rest some is;
+  journal = r.journal;
+  given = r.given;
+  ends = (r.ends.0, joined_pit mine fixed rest found.items list.items is r.ends.1 joined);
+}
+
+answers : (task : FixedMine) (rest : Instance) (said : BudgetAndEntries) (end : Replayed) (text : List ℕ) (status : Status) → EndsOnRest task rest said end → TellsEnd task end text status → AnswersJournal task rest said text status
+answers task rest said (ends.Pit pit) text status e t = settled e.0 t.0 t.1
+answers task rest said (ends.Differs k) text status e t = differs k e t.0 t.1
+answers task rest said (ends.Open count) text status e t = unfinished count e t.0 t.1
+answers task rest said (ends.Exhausted count) text status e t = absurd t
 
 no_is_not_done : No ≡ Done → ⊥
 no_is_not_done same = cc
 
 -- where the pit was told, its text is that of the mine as the files spell it
-solves_done : (model prec : Reading) (mine : Instance) (end : Replayed) (text : List ℕ) (status : Status) → HoldsMine model prec mine → TellsEnd mine end text status → status ≡ Done → Solves model prec text
-solves_done model prec mine (ends.Pit pit) text status holds t is = solves model prec mine text holds t.0
-solves_done model prec mine (ends.Differs k) text status holds t is = absurd (no_is_not_done (sym t.1 ∙ is))
-solves_done model prec mine (ends.Open count) text status holds t is = absurd (no_is_not_done (sym t.1 ∙ is))
-solves_done model prec mine (ends.Exhausted count) text status holds t is = absurd t
+solves_done : (files : Files) (task : FixedMine) (end : Replayed) (text : List ℕ) (status : Status) → HoldsMine files task → TellsEnd task end text status → status ≡ Done → Solves Least files text
+solves_done files task (ends.Pit pit) text status holds t is = solves Least files task text holds t.0
+solves_done files task (ends.Differs k) text status holds t is = absurd (no_is_not_done (sym t.1 ∙ is))
+solves_done files task (ends.Open count) text status holds t is = absurd (no_is_not_done (sym t.1 ∙ is))
+solves_done files task (ends.Exhausted count) text status holds t is = absurd t
 
-replays : (model prec journal : Reading) (mine : Instance) (end : Replayed) (text : List ℕ) (status : Status) → HoldsMine model prec mine → IsInstance mine
-    → IsReplayed mine journal end → TellsEnd mine end text status → Replays model prec journal text status
-replays model prec journal mine end text status holds is r t = record {
-  mine = mine;
+replays : (files : Files) (journal : Reading) (task : FixedMine) (end : Replayed) (text : List ℕ) (status : Status) → HoldsMine files task → IsInstance task.mine
+    → IsReplayed task journal end → TellsEnd task end text status → Replays files journal text status
+replays files journal task end text status holds is r t = record {
+  task = task;
   given = record { holds = holds; ordered = is.graph };
+  rest = r.rest;
+  is_rest = r.is_rest;
   said = r.journal;
   journal_given = r.given;
-  answers = answers mine r.journal end text status r.ends t;
-  solves = solves_done model prec mine end text status holds t;
+  answers = answers task r.rest r.journal end text status r.ends t;
+  solves = solves_done files task end text status holds t;
 }
 
-told : (model prec journal : Reading) (mine : Instance) (end : Replayed) (status : Status) (before after : Progress) → HoldsMine model prec mine → IsInstance mine
-    → IsReplayed mine journal end → IsTold mine end before after status → IsToldReplay model prec journal before after status
-told model prec journal mine end status before after holds is r t = record {
+told : (files : Files) (journal : Reading) (task : FixedMine) (end : Replayed) (status : Status) (before after : Progress) → HoldsMine files task → IsInstance task.mine
+    → IsReplayed task journal end → IsTold task end before after status → IsToldReplay files journal before after status
+told files journal task end status before after holds is r t = record {
   text = t.0;
-  replays = replays model prec journal mine end t.0 status holds is r t.1;
+  replays = replays files journal task end t.0 status holds is r t.1;
   written = t.2.0;
   no_failure = t.2.1;
 }
 
-not_told : (model prec journal : Reading) (mine : Instance) (end : Replayed) (before after : Progress) (e : Fault) → HoldsMine model prec mine → IsInstance mine
-    → IsReplayed mine journal end → NotTold mine end before after e → RefusesReplay e.refusal e model prec journal before after
-not_told model prec journal mine end before after e holds is r (cut text status t w failed) =
-    let was : IsReplayCut model prec journal before after = record {
+not_told : (files : Files) (journal : Reading) (task : FixedMine) (end : Replayed) (before after : Progress) (e : Fault) → HoldsMine files task → IsInstance task.mine
+    → IsReplayed task journal end → NotTold task end before after e → RefusesReplay e.refusal e files journal before after
+not_told files journal task end before after e holds is r (cut text status t w failed) =
+    let was : IsReplayCut files journal before after = record {
       text = text;
       status = status;
-      replays = replays model prec journal mine end text status holds is r t;
+      replays = replays files journal task end text status holds is r t;
       front = w.0.0;
       begins = w.0.1;
       written = w.0.2;
       failure = w.1;
     } in
-    subst (λ f. RefusesReplay f.refusal f model prec journal before after) (sym failed) (refl, was)
-not_told model prec journal mine end before after e holds is r (spent count ended used same) =
-    let was : IsJournalSpent model prec journal count = record {
-      mine = mine;
-      given = record { holds = holds; ordered = is.graph };
+    subst (λ f. RefusesReplay f.refusal f files journal before after) (sym failed) (refl, was)
+not_told files journal task end before after e holds is r (spent count ended used same) =
+    let was : IsJournalSpent files journal count = record {
+      rest = r.rest;
+      given = (task, record { holds = holds; ordered = is.graph }, r.is_rest);
       said = r.journal;
       journal_given = r.given;
-      spent = subst (EndsReplay mine r.journal.budget r.journal.entries) ended r.ends;
+      spent = subst (EndsOnRest task r.rest r.journal) ended r.ends;
     } in
-    subst (λ f. RefusesReplay f.refusal f model prec journal before after) (sym used) (refl, was, same)
+    subst (λ f. RefusesReplay f.refusal f files journal before after) (sym used) (refl, was, same)
 
 -- each refusal before anything is written
-not_replayed : (r : Refusal) (e : Fault) (model prec journal : Reading) (out : Progress) → (r ≡ WriteFailed → ⊥) → ((count : ℕ) → r ≡ Exhausted count → ⊥) → NotReplayed e model prec journal → RefusesReplay r e model prec journal out out
-not_replayed WriteFailed e model prec journal out written used n = absurd (written refl)
-not_replayed (Exhausted count) e model prec journal out written used n = absurd (used count refl)
-not_replayed _ e model prec journal out written used n = (n, refl)
+not_replayed : (r : Refusal) (e : Fault) (files : Files) (journal : Reading) (out : Progress) → (r ≡ WriteFailed → ⊥) → ((count : ℕ) → r ≡ Exhausted count → ⊥) → NotReplayed e files journal → RefusesReplay r e files journal out out
+not_replayed WriteFailed e files journal out written used n = absurd (written refl)
+not_replayed (Exhausted count) e files journal out written used n = absurd (used count refl)
+not_replayed _ e files journal out written used n = (n, refl)
 
-journal_is_no_write : (r : Refusal) (e : Fault) (mine : Instance) (journal : Reading) → RefusesJournal r e mine journal → r ≡ WriteFailed → ⊥
-journal_is_no_write WriteFailed e mine journal h same = h
-journal_is_no_write _ e mine journal h same = cc
+journal_is_no_write : (r : Refusal) (e : Fault) (task : FixedMine) (journal : Reading) → RefusesJournal r e task journal → r ≡ WriteFailed → ⊥
+journal_is_no_write WriteFailed e task journal h same = h.2
+journal_is_no_write _ e task journal h same = cc
 
-journal_is_no_budget : (r : Refusal) (e : Fault) (mine : Instance) (journal : Reading) → RefusesJournal r e mine journal → (count : ℕ) → r ≡ Exhausted count → ⊥
-journal_is_no_budget (Exhausted n) e mine journal h count same = h
-journal_is_no_budget _ e mine journal h count same = cc
+journal_is_no_budget : (r : Refusal) (e : Fault) (task : FixedMine) (journal : Reading) → RefusesJournal r e task journal → (count : ℕ) → r ≡ Exhausted count → ⊥
+journal_is_no_budget (Exhausted n) e task journal h count same = h.2
+journal_is_no_budget _ e task journal h count same = cc
 
-pub journal_refused : (e : Fault) (model prec journal : Reading) (mine : Instance) (out : Progress) → HoldsMine model prec mine → IsInstance mine → RefusesJournal e.refusal e mine journal → RefusesReplay e.refusal e model prec journal out out
-journal_refused e model prec journal mine out holds is h =
-    not_replayed e.refusal e model prec journal out (journal_is_no_write e.refusal e mine journal h) (journal_is_no_budget e.refusal e mine journal h) (no_journal mine (record { holds = holds; ordered = is.graph }) h)
+pub journal_refused : (e : Fault) (files : Files) (journal : Reading) (task : FixedMine) (out : Progress) → HoldsMine files task → IsInstance task.mine → RefusesJournal e.refusal e task journal → RefusesReplay e.refusal e files journal out out
+journal_refused e files journal task out holds is h =
+    not_replayed e.refusal e files journal out (journal_is_no_write e.refusal e task journal h) (journal_is_no_budget e.refusal e task journal h) (no_journal task (record { holds = holds; ordered = is.graph }) h)
 
 -- the end of a run
 pub told_or_not :
-    (model prec journal : Reading) (mine : Instance) (end : Replayed) (before after : Progress) (r : Result Status Fault) → HoldsMine model prec mine → IsInstance mine
-    → IsReplayed mine journal end → IfOk r (IsTold mine end before after) → IfErr r (NotTold mine end before after)
-    → IfOk r (IsToldReplay model prec journal before after) × IfErr r (λ e. RefusesReplay e.refusal e model prec journal before after)
-told_or_not model prec journal mine end before after (Ok status) holds is r t n = (told model prec journal mine end status before after holds is r t, tt)
-told_or_not model prec journal mine end before after (Err e) holds is r t n = (tt, not_told model prec journal mine end before after e holds is r n)
+    (files : Files) (journal : Reading) (task : FixedMine) (end : Replayed) (before after : Progress) (r : Result Status Fault) → HoldsMine files task → IsInstance task.mine
+    → IsReplayed task journal end → IfOk r (IsTold task end before after) → IfErr r (NotTold task end before after)
+    → IfOk r (IsToldReplay files journal before after) × IfErr r (λ e. RefusesReplay e.refusal e files journal before after)
+told_or_not files journal task end before after (Ok status) holds is r t n = (told files journal task end status before after holds is r t, tt)
+told_or_not files journal task end before after (Err e) holds is r t n = (tt, not_told files journal task end before after e holds is r n)

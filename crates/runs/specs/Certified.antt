@@ -3,37 +3,36 @@ use Rattle.std.specs.Prelude.{◌≡◌, ℕ, ◌+◌, ◌++◌, true, List, Res
 use Rattle.minelib_reader.specs.Device.{Progress, Begins, Writes}
 use Rattle.faults.specs.Refused.{write_failed}
 use Rattle.faults.specs.declared.fault.Fault.{Fault}
-use Rattle.pit_model.specs.Mine.{Instance}
-use Rattle.runs.specs.Solve.{Reading}
-use Rattle.runs.specs.Check.{AnswersText, GaveInOrder}
+use Rattle.runs.specs.Solve.{Files, FixedMine, GaveInOrder}
+use Rattle.runs.specs.Check.{AnswersText}
 use Rattle.runs.specs.Chosen.{Chosen, OfWriter, OfWriterIfAny}
 
 -- the text is a certificate of the mine that the readers gave, and the answer to it is yes
-pub record IsAnsweredYes (model prec : Reading) (text : List ℕ) : Type 0 where
-  pub mine : Instance
-  pub given : GaveInOrder model prec mine
-  pub yes : AnswersText mine text true
+pub record IsAnsweredYes (files : Files) (text : List ℕ) : Type 0 where
+  pub task : FixedMine
+  pub given : GaveInOrder files task
+  pub yes : AnswersText task text true
 
 -- a text to which the answer is yes was written, or a beginning of it
-abbrev pub WritesCertificate : {E : Type 0} → Instance → Result (Unit {0}) E → Progress → Progress → Type 0
-WritesCertificate mine result before after = (text : List ℕ) × AnswersText mine text true × Writes before after text result
+abbrev pub WritesCertificate : {E : Type 0} → FixedMine → Result (Unit {0}) E → Progress → Progress → Type 0
+WritesCertificate task result before after = (text : List ℕ) × AnswersText task text true × Writes before after text result
 
 -- what went of a certificate of the mine to a writer of choice
-abbrev pub PutsCertificate : Instance → Chosen → Result (Unit {0}) Fault → Type 0
-PutsCertificate mine c (Ok x) = OfWriterIfAny c (WritesCertificate {E = Fault} mine (Ok x))
-PutsCertificate mine c (Err e) = OfWriter c (WritesCertificate {E = Fault} mine (Err e)) × (e ≡ write_failed)
+abbrev pub PutsCertificate : FixedMine → Chosen → Result (Unit {0}) Fault → Type 0
+PutsCertificate task c (Ok x) = OfWriterIfAny c (WritesCertificate {E = Fault} task (Ok x))
+PutsCertificate task c (Err e) = OfWriter c (WritesCertificate {E = Fault} task (Err e)) × (e ≡ write_failed)
 
 -- exactly a certificate of the mine was written
-pub record IsCertified (model prec : Reading) (before after : Progress) : Type 0 where
+pub record IsCertified (files : Files) (before after : Progress) : Type 0 where
   pub text : List ℕ
-  pub answered : IsAnsweredYes model prec text
+  pub answered : IsAnsweredYes files text
   pub written : after.bytes ≡ before.bytes ++ text
   pub no_failure : after.failures ≡ before.failures
 
 -- a beginning of one was written, and then a write failed
-pub record IsCertificateCut (model prec : Reading) (before after : Progress) : Type 0 where
+pub record IsCertificateCut (files : Files) (before after : Progress) : Type 0 where
   pub text : List ℕ
-  pub answered : IsAnsweredYes model prec text
+  pub answered : IsAnsweredYes files text
   pub front : List ℕ
   pub begins : Begins front text
   pub written : after.bytes ≡ before.bytes ++ front

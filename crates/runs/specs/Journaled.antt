@@ -1,11 +1,15 @@
 -- The journal that a run of `solve` writes, in the words in which `replay` answers to it.
 use Rattle.std.specs.Prelude.{◌≡◌, ◌⊎◌, ℕ, ◌+◌, ◌++◌, List, Option, None, Result, Ok, Err}
 use Rattle.minelib_reader.specs.Device.{Progress, Begins, Writes}
-use Rattle.faults.specs.Refused.{write_failed}
+use Rattle.faults.specs.Refused.{no_memory, write_failed}
 use Rattle.faults.specs.declared.fault.Fault.{Fault}
+use Rattle.faults.specs.declared.refusal.Refusal.{Refusal}
+use Rattle.faults.specs.declared.refusal.Refusal.TheVariants.{NoMemory, WriteFailed}
 use Rattle.pit_model.specs.declared.journal.Entry.{Entry}
-use Rattle.pit_model.specs.Mine.{Instance}
+use Rattle.pit_model.specs.Mine.{Instance, arcs}
+use Rattle.pit_model.specs.Fixed.{IsRestOf}
 use Rattle.pit_model.specs.Journal.{AreSeated}
+use Rattle.pit_model.specs.JournalText.{AreSeatedBelow}
 use Rattle.pit_model.specs.Replay.{IsSettled, IsSpentAt}
 use Rattle.report.specs.JournalGrammar.{SpellsJournal}
 use Rattle.report.specs.JournalLines.{budget_and_entries}
@@ -13,11 +17,14 @@ use Rattle.merging.specs.Parts.{graph_of}
 use Rattle.merging.specs.declared.outcome.Outcome.{Outcome}
 use Rattle.merging.specs.declared.outcome.Outcome.TheVariants.{Pit, Exhausted}
 use Rattle.solver.specs.declared.mode.Mode.{Mode}
-use Rattle.solver.specs.declared.mode.Mode.TheVariants.{Single, Parts, Shared}
+use Rattle.solver.specs.declared.mode.Mode.TheVariants.{Shared}
 use Rattle.solver.specs.Modes.{IsShared}
-use Rattle.runs.specs.Solve.{Reading}
-use Rattle.runs.specs.Check.{GaveInOrder}
+use Rattle.runs.specs.Solve.{Files, FixedMine, GaveInOrder, fixed_in}
 use Rattle.runs.specs.Chosen.{Chosen, OfWriter, OfWriterIfAny}
+
+-- the rest of the mine that the readers gave: the instance that a journal is of
+abbrev pub GaveRest : Files → Instance → Type 0
+GaveRest files rest = (task : FixedMine) × GaveInOrder files task × IsRestOf task.mine (fixed_in task) rest
 
 -- a journal is written in mode shared alone
 abbrev pub MayJournal : Mode → Option Progress → Type 0
@@ -46,31 +53,53 @@ SaysJournal Ends (Shared workers budget chunk) mine text =
     (entries : List Entry) × SpellsJournal (graph_of mine) text (budget_and_entries budget entries) × AreSeated mine workers entries × Ends mine budget entries
 SaysJournal Ends mode mine text = ⊥
 
--- the text of such a journal was written, or a beginning of it
-abbrev pub WritesJournal : {E : Type 0} → JournalEnd → Mode → Instance → Result (Unit {0}) E → Progress → Progress → Type 0
-WritesJournal Ends mode mine result before after = (text : List ℕ) × SaysJournal Ends mode mine text × Writes before after text result
+-- the text of such a journal of the rest of a mine was written, or a beginning of it
+pub record WritesJournal {E : Type 0} (Ends : JournalEnd) (mode : Mode) (task : FixedMine) (result : Result (Unit {0}) E) (before after : Progress) : Type 0 where
+  pub rest : Instance
+  pub is_rest : IsRestOf task.mine (fixed_in task) rest
+  pub text : List ℕ
+  pub says : SaysJournal Ends mode rest text
+  pub writes : Writes before after text result
 
 -- what went of such a journal to a writer of choice
-abbrev pub PutsJournal : JournalEnd → Mode → Instance → Chosen → Result (Unit {0}) Fault → Type 0
-PutsJournal Ends mode mine c (Ok x) = OfWriterIfAny c (WritesJournal {E = Fault} Ends mode mine (Ok x))
-PutsJournal Ends mode mine c (Err e) = OfWriter c (WritesJournal {E = Fault} Ends mode mine (Err e)) × (e ≡ write_failed)
+abbrev pub PutsJournal : JournalEnd → Mode → FixedMine → Chosen → Result (Unit {0}) Fault → Type 0
+PutsJournal Ends mode task c (Ok x) = OfWriterIfAny c (WritesJournal {E = Fault} Ends mode task (Ok x))
+PutsJournal Ends mode task c (Err e) = OfWriter c (WritesJournal {E = Fault} Ends mode task (Err e)) × (e ≡ write_failed)
 
--- exactly the text of a journal of the mine that the readers gave was written
-pub record IsJournaled (Ends : JournalEnd) (mode : Mode) (model prec : Reading) (before after : Progress) : Type 0 where
-  pub mine : Instance
-  pub given : GaveInOrder model prec mine
+-- exactly the text of a journal of the rest of the mine that the readers gave was written
+pub record IsJournaled (Ends : JournalEnd) (mode : Mode) (files : Files) (before after : Progress) : Type 0 where
+  pub rest : Instance
+  pub given : GaveRest files rest
   pub text : List ℕ
-  pub says : SaysJournal Ends mode mine text
+  pub says : SaysJournal Ends mode rest text
   pub written : after.bytes ≡ before.bytes ++ text
   pub no_failure : after.failures ≡ before.failures
 
 -- a beginning of one was written, and then a write failed
-pub record IsJournalCut (mode : Mode) (model prec : Reading) (before after : Progress) : Type 0 where
-  pub mine : Instance
-  pub given : GaveInOrder model prec mine
+pub record IsJournalCut (mode : Mode) (files : Files) (before after : Progress) : Type 0 where
+  pub rest : Instance
+  pub given : GaveRest files rest
   pub text : List ℕ
-  pub says : SaysJournal AtAnyEnd mode mine text
+  pub says : SaysJournal AtAnyEnd mode rest text
   pub front : List ℕ
   pub begins : Begins front text
   pub written : after.bytes ≡ before.bytes ++ front
   pub failure : after.failures ≡ before.failures + 1
+
+-- entries that can be written as a journal of the rest of a mine
+abbrev pub MayPutEntries : FixedMine → List Entry → Type 0
+MayPutEntries task entries = (rest : Instance) × IsRestOf task.mine (fixed_in task) rest × AreSeatedBelow (arcs rest) entries
+
+-- the text of these entries as a journal of the rest was written, or a beginning of it
+pub record PutsEntries (task : FixedMine) (budget : Option ℕ) (entries : List Entry) (before after : Progress) (result : Result (Unit {0}) Fault) : Type 0 where
+  pub rest : Instance
+  pub is_rest : IsRestOf task.mine (fixed_in task) rest
+  pub text : List ℕ
+  pub spelled : SpellsJournal (graph_of rest) text (budget_and_entries budget entries)
+  pub writes : Writes before after text result
+
+-- why they were not written: no memory, and then nothing of them; or a write failed
+abbrev pub RefusesEntries : FixedMine → Option ℕ → List Entry → Refusal → Fault → Progress → Progress → Type 0
+RefusesEntries task budget entries NoMemory fault before after = (fault ≡ no_memory) × (after ≡ before)
+RefusesEntries task budget entries WriteFailed fault before after = (fault ≡ write_failed) × PutsEntries task budget entries before after (Err fault)
+RefusesEntries task budget entries _ fault before after = ⊥

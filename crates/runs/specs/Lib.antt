@@ -1,6 +1,5 @@
 pub mod Exit
 pub mod Solve
-pub mod Mine
 pub mod Check
 pub mod Replay
 pub mod Journaled
@@ -11,3 +10,4 @@ pub mod Run
 pub mod Deposit
 pub mod ShellsRun
 pub mod Uniqueness
+pub mod Pits

@@ -16,103 +16,125 @@ use Rattle.merging.specs.Parts.{graph_of}
 use Rattle.merging.specs.Replayed.{EndsReplay}
 use Rattle.merging.specs.declared.replayed.Replayed.{Replayed}
 use Rattle.merging.specs.declared.replayed.Replayed.TheVariants as ends
-use Rattle.certificate.specs.Check.{ShowsPit}
-use Rattle.runs.specs.Solve.{Reading, Gave, NeverFailed, FailedOnce, RefusesMine, IsPitText, Solves}
-use Rattle.runs.specs.Check.{GaveInOrder}
+use Rattle.pit_model.specs.declared.direction.Direction.TheVariants.{Least}
+use Rattle.pit_model.specs.Fixed.{IsRestOf}
+use Rattle.pit_model.specs.Direction.{ListsPit}
+use Rattle.runs.specs.Solve.{Files, FixedMine, GaveInOrder, Reading, Gave, NeverFailed, FailedOnce, RefusesMine, IsPitText, Solves, fixed_in}
+use Rattle.runs.specs.Journaled.{GaveRest}
 use Rattle.runs.specs.declared.status.Status.{Status}
 use Rattle.runs.specs.declared.status.Status.TheVariants.{Done, No}
 
--- the reader gave a text that spells this journal of the mine's graph
-pub record GaveJournal (mine : Instance) (reading : Reading) (journal : BudgetAndEntries) : Type 0 where
+-- the reader gave a text that spells this journal of the rest's graph
+pub record GaveJournal (rest : Instance) (reading : Reading) (journal : BudgetAndEntries) : Type 0 where
   pub text : List ℕ
   pub given : Gave reading text
-  pub spelled : SpellsJournal (graph_of mine) text journal
+  pub spelled : SpellsJournal (graph_of rest) text journal
 
--- the reader gave a journal of the mine, and its replay ends so
-pub record IsReplayed (mine : Instance) (reading : Reading) (end : Replayed) : Type 0 where
+-- the reader gave a journal of an instance, and its replay ends so
+pub record IsReplayedOn (rest : Instance) (reading : Reading) (end : Replayed) : Type 0 where
   pub journal : BudgetAndEntries
-  pub given : GaveJournal mine reading journal
-  pub ends : EndsReplay mine journal.budget journal.entries end
+  pub given : GaveJournal rest reading journal
+  pub ends : EndsReplay rest journal.budget journal.entries end
 
--- what is written of the replay of a mine's journal: the text of the pit, where each verdict is lawful and no merger arc is
+-- how the replay of a journal of the rest ends; at its end without a merger arc left, the blocks are the pit of the mine
+abbrev pub EndsOnRest : FixedMine → Instance → BudgetAndEntries → Replayed → Type 0
+EndsOnRest task rest journal (ends.Pit pit) = IsSettled rest journal.budget journal.entries × ListsPit Least task.mine (fixed_in task) pit.items
+EndsOnRest task rest journal end = EndsReplay rest journal.budget journal.entries end
+
+-- the reader gave a journal of the rest of the mine, and its replay ends so
+pub record IsReplayed (task : FixedMine) (reading : Reading) (end : Replayed) : Type 0 where
+  pub rest : Instance
+  pub is_rest : IsRestOf task.mine (fixed_in task) rest
+  pub journal : BudgetAndEntries
+  pub given : GaveJournal rest reading journal
+  pub ends : EndsOnRest task rest journal end
+
+-- what is written of the replay of a journal of a mine's rest: the text of the pit, where each verdict is lawful and no merger arc is
 -- left; which entry is the first without its lawful verdict; or after how many mergers one is left that the budget allows
-pub data AnswersJournal (mine : Instance) (journal : BudgetAndEntries) (text : List ℕ) (status : Status) : Type 0 where
-  settled : IsSettled mine journal.budget journal.entries → IsPitText mine text → status ≡ Done → AnswersJournal mine journal text status
-  differs : (k : ℕ) → DiffersAt mine journal.budget journal.entries k → text ≡ difference_text k → status ≡ No → AnswersJournal mine journal text status
-  unfinished : (count : ℕ) → IsOpenAt mine journal.budget journal.entries count → text ≡ open_text count → status ≡ No → AnswersJournal mine journal text status
+pub data AnswersJournal (task : FixedMine) (rest : Instance) (journal : BudgetAndEntries) (text : List ℕ) (status : Status) : Type 0 where
+  settled : IsSettled rest journal.budget journal.entries → IsPitText Least task text → status ≡ Done → AnswersJournal task rest journal text status
+  differs : (k : ℕ) → DiffersAt rest journal.budget journal.entries k → text ≡ difference_text k → status ≡ No → AnswersJournal task rest journal text status
+  unfinished : (count : ℕ) → IsOpenAt rest journal.budget journal.entries count → text ≡ open_text count → status ≡ No → AnswersJournal task rest journal text status
 
--- three readers gave a mine and a journal of it, and this is the answer; where that is the text of a pit, it is the pit of
+-- the readers gave a mine and a journal of its rest, and this is the answer; where that is the text of a pit, it is the pit of
 -- the mine as the files spell it
-pub record Replays (model prec journal : Reading) (text : List ℕ) (status : Status) : Type 0 where
-  pub mine : Instance
-  pub given : GaveInOrder model prec mine
+pub record Replays (files : Files) (journal : Reading) (text : List ℕ) (status : Status) : Type 0 where
+  pub task : FixedMine
+  pub given : GaveInOrder files task
+  pub rest : Instance
+  pub is_rest : IsRestOf task.mine (fixed_in task) rest
   pub said : BudgetAndEntries
-  pub journal_given : GaveJournal mine journal said
-  pub answers : AnswersJournal mine said text status
-  pub solves : status ≡ Done → Solves model prec text
+  pub journal_given : GaveJournal rest journal said
+  pub answers : AnswersJournal task rest said text status
+  pub solves : status ≡ Done → Solves Least files text
 
 -- exactly the answer was written
-pub record IsToldReplay (model prec journal : Reading) (before after : Progress) (status : Status) : Type 0 where
+pub record IsToldReplay (files : Files) (journal : Reading) (before after : Progress) (status : Status) : Type 0 where
   pub text : List ℕ
-  pub replays : Replays model prec journal text status
+  pub replays : Replays files journal text status
   pub written : after.bytes ≡ before.bytes ++ text
   pub no_failure : after.failures ≡ before.failures
 
 -- a beginning of the answer was written, and then a write failed
-pub record IsReplayCut (model prec journal : Reading) (before after : Progress) : Type 0 where
+pub record IsReplayCut (files : Files) (journal : Reading) (before after : Progress) : Type 0 where
   pub text : List ℕ
   pub status : Status
-  pub replays : Replays model prec journal text status
+  pub replays : Replays files journal text status
   pub front : List ℕ
   pub begins : Begins front text
   pub written : after.bytes ≡ before.bytes ++ front
   pub failure : after.failures ≡ before.failures + 1
 
 -- each verdict of the journal is lawful, and its budget of so many mergers is used up with a merger arc left
-pub record IsJournalSpent (model prec journal : Reading) (count : ℕ) : Type 0 where
-  pub mine : Instance
-  pub given : GaveInOrder model prec mine
+pub record IsJournalSpent (files : Files) (journal : Reading) (count : ℕ) : Type 0 where
+  pub rest : Instance
+  pub given : GaveRest files rest
   pub said : BudgetAndEntries
-  pub journal_given : GaveJournal mine journal said
-  pub spent : IsSpentAt mine said.budget said.entries count
+  pub journal_given : GaveJournal rest journal said
+  pub spent : IsSpentAt rest said.budget said.entries count
 
--- why no journal of a mine was read or replayed
-abbrev pub RefusesJournal : Refusal → Fault → Instance → Reading → Type 0
-RefusesJournal NoMemory fault mine journal = (fault ≡ no_memory) × NeverFailed journal
-RefusesJournal ReadFailed fault mine journal = FailedOnce sources.Journal fault journal
-RefusesJournal WriteFailed fault mine journal = ⊥
-RefusesJournal NoSeat fault mine journal = ⊥
-RefusesJournal (Exhausted count) fault mine journal = ⊥
-RefusesJournal _ fault mine journal = (text : List ℕ) × Gave journal text × IsFirstJournalFault (graph_of mine) text fault
+-- why no journal of an instance was read or replayed
+abbrev pub RefusesJournalOn : Refusal → Fault → Instance → Reading → Type 0
+RefusesJournalOn NoMemory fault rest journal = (fault ≡ no_memory) × NeverFailed journal
+RefusesJournalOn ReadFailed fault rest journal = FailedOnce sources.Journal fault journal
+RefusesJournalOn WriteFailed fault rest journal = ⊥
+RefusesJournalOn NoSeat fault rest journal = ⊥
+RefusesJournalOn (Exhausted count) fault rest journal = ⊥
+RefusesJournalOn _ fault rest journal = (text : List ℕ) × Gave journal text × IsFirstJournalFault (graph_of rest) text fault
+
+-- why no journal of a mine's rest was read or replayed
+abbrev pub RefusesJournal : Refusal → Fault → FixedMine → Reading → Type 0
+RefusesJournal NoMemory fault task journal = (fault ≡ no_memory) × NeverFailed journal
+RefusesJournal refusal fault task journal = (rest : Instance) × IsRestOf task.mine (fixed_in task) rest × RefusesJournalOn refusal fault rest journal
 
 -- why nothing was replayed: no mine was read, and then nothing of a journal either; or no journal of the mine was
-pub data NotReplayed (fault : Fault) (model prec journal : Reading) : Type 0 where
-  no_mine : RefusesMine fault.refusal fault model prec → journal.after ≡ journal.before → NotReplayed fault model prec journal
-  no_journal : (mine : Instance) → GaveInOrder model prec mine → RefusesJournal fault.refusal fault mine journal → NotReplayed fault model prec journal
+pub data NotReplayed (fault : Fault) (files : Files) (journal : Reading) : Type 0 where
+  no_mine : RefusesMine fault.refusal fault files → journal.after ≡ journal.before → NotReplayed fault files journal
+  no_journal : (task : FixedMine) → GaveInOrder files task → RefusesJournal fault.refusal fault task journal → NotReplayed fault files journal
 
 -- why a run ended without an answer: nothing was written, but where a write failed
-abbrev pub RefusesReplay : Refusal → Fault → Reading → Reading → Reading → Progress → Progress → Type 0
-RefusesReplay WriteFailed fault model prec journal before after = (fault ≡ write_failed) × IsReplayCut model prec journal before after
-RefusesReplay (Exhausted count) fault model prec journal before after = (fault ≡ exhausted count) × IsJournalSpent model prec journal count × (after ≡ before)
-RefusesReplay _ fault model prec journal before after = NotReplayed fault model prec journal × (after ≡ before)
+abbrev pub RefusesReplay : Refusal → Fault → Files → Reading → Progress → Progress → Type 0
+RefusesReplay WriteFailed fault files journal before after = (fault ≡ write_failed) × IsReplayCut files journal before after
+RefusesReplay (Exhausted count) fault files journal before after = (fault ≡ exhausted count) × IsJournalSpent files journal count × (after ≡ before)
+RefusesReplay _ fault files journal before after = NotReplayed fault files journal × (after ≡ before)
 
 -- the blocks at the end of a replay, where it gives some, are the pit
-abbrev pub ShowsEnd : Instance → Replayed → Type 0
-ShowsEnd mine (ends.Pit pit) = ShowsPit mine pit.items
-ShowsEnd mine _ = Unit {0}
+abbrev pub ShowsEnd : FixedMine → Replayed → Type 0
+ShowsEnd task (ends.Pit pit) = ListsPit Least task.mine (fixed_in task) pit.items
+ShowsEnd task _ = Unit {0}
 
 -- what is written of the end of a replay, and the status
-abbrev pub TellsEnd : Instance → Replayed → List ℕ → Status → Type 0
-TellsEnd mine (ends.Pit pit) text status = IsPitText mine text × (status ≡ Done)
-TellsEnd mine (ends.Differs k) text status = (text ≡ difference_text k) × (status ≡ No)
-TellsEnd mine (ends.Open count) text status = (text ≡ open_text count) × (status ≡ No)
-TellsEnd mine (ends.Exhausted count) text status = ⊥
+abbrev pub TellsEnd : FixedMine → Replayed → List ℕ → Status → Type 0
+TellsEnd task (ends.Pit pit) text status = IsPitText Least task text × (status ≡ Done)
+TellsEnd task (ends.Differs k) text status = (text ≡ difference_text k) × (status ≡ No)
+TellsEnd task (ends.Open count) text status = (text ≡ open_text count) × (status ≡ No)
+TellsEnd task (ends.Exhausted count) text status = ⊥
 
 -- why the end of a replay was not told: a beginning of its text was written; or a budget is used up, and nothing was
-pub data NotTold (mine : Instance) (end : Replayed) (before after : Progress) (fault : Fault) : Type 0 where
-  cut : (text : List ℕ) (status : Status) → TellsEnd mine end text status → Writes before after text (Err fault) → fault ≡ write_failed → NotTold mine end before after fault
-  spent : (count : ℕ) → end ≡ ends.Exhausted count → fault ≡ exhausted count → after ≡ before → NotTold mine end before after fault
+pub data NotTold (task : FixedMine) (end : Replayed) (before after : Progress) (fault : Fault) : Type 0 where
+  cut : (text : List ℕ) (status : Status) → TellsEnd task end text status → Writes before after text (Err fault) → fault ≡ write_failed → NotTold task end before after fault
+  spent : (count : ℕ) → end ≡ ends.Exhausted count → fault ≡ exhausted count → after ≡ before → NotTold task end before after fault
 
 -- the text of the end of a replay was written
-abbrev pub IsTold : Instance → Replayed → Progress → Progress → Status → Type 0
-IsTold mine end before after status = (text : List ℕ) × TellsEnd mine end text status × Writes {E = Fault} before after text (Ok tt)
+abbrev pub IsTold : FixedMine → Replayed → Progress → Progress → Status → Type 0
+IsTold task end before after status = (text : List ℕ) × TellsEnd task end text status × Writes {E = Fault} before after text (Ok tt)

@@ -1,26 +1,37 @@
 -- How a run of `solve` ends, over the bytes that went through its readers and its writers.
-use Rattle.std.specs.Prelude.{◌≡◌, ◌⊎◌, Ok, Err}
+use Rattle.std.specs.Prelude.{◌≡◌, ◌⊎◌, None, Ok, Err}
 use Rattle.minelib_reader.specs.Device.{Progress}
-use Rattle.faults.specs.Refused.{write_failed}
+use Rattle.faults.specs.Refused.{exhausted, no_seat, write_failed}
 use Rattle.faults.specs.declared.fault.Fault.{Fault}
 use Rattle.faults.specs.declared.refusal.Refusal.{Refusal}
 use Rattle.faults.specs.declared.refusal.Refusal.TheVariants.{NoSeat, Exhausted, WriteFailed}
+use Rattle.pit_model.specs.declared.direction.Direction.{Direction}
+use Rattle.pit_model.specs.declared.direction.Direction.TheVariants.{Least}
 use Rattle.pit_model.specs.Mine.{Instance}
-use Rattle.solver.specs.declared.mode.Mode.{Mode}
-use Rattle.runs.specs.Solve.{Reading, RefusesMine, IsCutShort}
-use Rattle.runs.specs.Mine.{HoldsMine}
-use Rattle.runs.specs.Chosen.{Chosen, IsLeft, OfWriter, OfWriterIfAny}
-use Rattle.runs.specs.Certified.{PutsCertificate, IsCertified, IsCertificateCut}
-use Rattle.solver.specs.Modes.{EndsWithin, LacksRoom, RunsOut, RefusesSolve}
-use Rattle.certificate.specs.Certificate.{IsCertificateOf}
+use Rattle.pit_model.specs.Replay.{IsSettled}
+use Rattle.certificate.specs.Certificate.{IsFixedCertificateOf}
 use Rattle.merging.specs.declared.outcome.Outcome.{Outcome}
 use Rattle.merging.specs.declared.outcome.Outcome.TheVariants as outcomes
-use Rattle.pit_model.specs.Replay.{IsSettled}
-use Rattle.runs.specs.Journaled.{AtAnyEnd, AtBudget, EndOf, PutsJournal, IsJournaled, IsJournalCut}
+use Rattle.solver.specs.declared.mode.Mode.{Mode}
+use Rattle.solver.specs.Modes.{EndsWithin, IsShared, LacksRoom, RunsOut}
+use Rattle.solver.specs.Searched.{OfSearched, RefusesSearch}
+use Rattle.runs.specs.declared.asked.Asked.{Asked}
+use Rattle.runs.specs.declared.solve.SolveOutputs.{SolveOutputs}
+use Rattle.runs.specs.Solve.{Files, FixedMine, HoldsMine, RefusesMine, IsCutShort, fixed_in}
+use Rattle.runs.specs.Chosen.{Chosen, IsCountable, IsLeft, OfWriter, OfWriterIfAny, progress_of}
+use Rattle.runs.specs.Certified.{PutsCertificate, IsCertified, IsCertificateCut}
+use Rattle.runs.specs.Journaled.{AtAnyEnd, AtBudget, EndOf, MayJournal, PutsJournal, IsJournaled, IsJournalCut}
 
--- this holds of the mine that the readers gave
-abbrev pub HoldsOfMine : Reading → Reading → (Instance → Type 0) → Type 0
-HoldsOfMine model prec Holds = (mine : Instance) × HoldsMine model prec mine × Holds mine
+-- this holds of the instance that is searched for the pit of the mine that the readers gave
+abbrev pub HoldsOfSearched : Direction → Files → (Instance → Type 0) → Type 0
+HoldsOfSearched direction files Holds = (task : FixedMine) × HoldsMine files task × OfSearched direction task.mine (fixed_in task) Holds
+
+-- the writers of a solve may be called; mode shared alone has one of a journal, and the least pit alone one of either
+pub record MayWrite {J C W : Type 0} (journal : J → Progress) (certificate : C → Progress) (asked : Asked) (outputs : SolveOutputs J C W) : Type 0 where
+  pub journal_countable : IsCountable (progress_of journal outputs.journal)
+  pub certificate_countable : IsCountable (progress_of certificate outputs.certificate)
+  pub may_journal : MayJournal asked.mode (progress_of journal outputs.journal)
+  pub may_record : (asked.pit ≡ Least) ⊎ ((progress_of journal outputs.journal ≡ None) × (progress_of certificate outputs.certificate ≡ None))
 
 -- nothing was written
 pub record IsUnwritten (journal certificate : Chosen) (before after : Progress) : Type 0 where
@@ -30,42 +41,41 @@ pub record IsUnwritten (journal certificate : Chosen) (before after : Progress) 
 
 -- where a write failed: in the journal, of which a beginning was written, and nothing else; in the certificate, behind the
 -- whole journal; or in the pit's text, behind both. Each is there where it is wanted
-pub data WasCutShort (mode : Mode) (model prec : Reading) (journal certificate : Chosen) (before after : Progress) : Type 0 where
-  in_journal : OfWriter journal (IsJournalCut mode model prec) → IsLeft certificate → after ≡ before → WasCutShort mode model prec journal certificate before after
-  in_certificate : OfWriterIfAny journal (IsJournaled IsSettled mode model prec) → OfWriter certificate (IsCertificateCut model prec) → after ≡ before → WasCutShort mode model prec journal certificate before after
-  in_pit : OfWriterIfAny journal (IsJournaled IsSettled mode model prec) → OfWriterIfAny certificate (IsCertified model prec) → IsCutShort model prec before after → WasCutShort mode model prec journal certificate before after
+pub data WasCutShort (asked : Asked) (files : Files) (journal certificate : Chosen) (before after : Progress) : Type 0 where
+  in_journal : OfWriter journal (IsJournalCut asked.mode files) → IsLeft certificate → after ≡ before → WasCutShort asked files journal certificate before after
+  in_certificate : OfWriterIfAny journal (IsJournaled IsSettled asked.mode files) → OfWriter certificate (IsCertificateCut files) → after ≡ before → WasCutShort asked files journal certificate before after
+  in_pit : OfWriterIfAny journal (IsJournaled IsSettled asked.mode files) → OfWriterIfAny certificate (IsCertified files) → IsCutShort asked.pit files before after → WasCutShort asked files journal certificate before after
 
 -- why no pit of a mine was found: a write failed in the journal, or in the certificate behind it; the budget is used up, of
 -- which the journal was written; or the solve lacked room, and nothing was written
-abbrev pub RefusesPit : Mode → Instance → Refusal → Fault → Chosen → Chosen → Type 0
-RefusesPit mode mine WriteFailed fault journal certificate =
-    (PutsJournal AtAnyEnd mode mine journal (Err fault) × IsLeft certificate)
-    ⊎ (PutsJournal IsSettled mode mine journal (Ok tt) × PutsCertificate mine certificate (Err fault))
-RefusesPit mode mine (Exhausted count) fault journal certificate =
-    RefusesSolve mode mine (Exhausted count) fault × PutsJournal (AtBudget count) mode mine journal (Ok tt) × IsLeft certificate
-RefusesPit mode mine refusal fault journal certificate = RefusesSolve mode mine refusal fault × IsLeft journal × IsLeft certificate
+abbrev pub RefusesPit : Mode → Direction → FixedMine → Refusal → Fault → Chosen → Chosen → Type 0
+RefusesPit mode direction task WriteFailed fault journal certificate =
+    (PutsJournal AtAnyEnd mode task journal (Err fault) × IsLeft certificate)
+    ⊎ (PutsJournal IsSettled mode task journal (Ok tt) × PutsCertificate task certificate (Err fault))
+RefusesPit mode direction task (Exhausted count) fault journal certificate =
+    RefusesSearch mode direction task.mine (fixed_in task) (Exhausted count) fault × PutsJournal (AtBudget count) mode task journal (Ok tt) × IsLeft certificate
+RefusesPit mode direction task refusal fault journal certificate = LacksRoom mode refusal fault × IsLeft journal × IsLeft certificate
 
 -- why a solve gave no outcome: a write failed in the journal; or it lacked room, and nothing was written
-abbrev pub RefusesOutcome : Mode → Instance → Refusal → Fault → Chosen → Type 0
-RefusesOutcome mode mine WriteFailed fault journal = PutsJournal AtAnyEnd mode mine journal (Err fault)
-RefusesOutcome mode mine refusal fault journal = LacksRoom mode refusal fault × IsLeft journal
+abbrev pub RefusesOutcome : Mode → FixedMine → Refusal → Fault → Chosen → Type 0
+RefusesOutcome mode task WriteFailed fault journal = PutsJournal AtAnyEnd mode task journal (Err fault)
+RefusesOutcome mode task refusal fault journal = LacksRoom mode refusal fault × IsLeft journal
 
--- how a solve in a mode ended
-abbrev pub EndsSolve : Mode → Instance → Outcome → Type 0
-EndsSolve mode mine (outcomes.Pit certificate) = IsCertificateOf mine certificate × EndsWithin mode mine
-EndsSolve mode mine (outcomes.Exhausted count) = RunsOut mode mine count
+-- how a solve in a mode ended: with a certificate of the mine, or with a budget that the rest uses up
+abbrev pub EndsSolve : Mode → FixedMine → Outcome → Type 0
+EndsSolve mode task (outcomes.Pit certificate) = IsFixedCertificateOf task.mine (fixed_in task) certificate × OfSearched Least task.mine (fixed_in task) (EndsWithin mode)
+EndsSolve mode task (outcomes.Exhausted count) = OfSearched Least task.mine (fixed_in task) (λ rest. RunsOut mode rest count)
 
 -- how a solve ended whose journal was written, where that is wanted
-abbrev pub EndsJournaled : Mode → Instance → Chosen → Outcome → Type 0
-EndsJournaled mode mine journal outcome = EndsSolve mode mine outcome × PutsJournal (EndOf outcome) mode mine journal (Ok tt)
+abbrev pub EndsJournaled : Mode → FixedMine → Chosen → Outcome → Type 0
+EndsJournaled mode task journal outcome = EndsSolve mode task outcome × PutsJournal (EndOf outcome) mode task journal (Ok tt)
 
 -- why a run ended without a pit: nothing was written, but where a write failed, and where the budget is used up, of which the
 -- journal was written
-abbrev pub RefusesRun : Mode → Refusal → Fault → Reading → Reading → Chosen → Chosen → Progress → Progress → Type 0
-RefusesRun mode WriteFailed fault model prec journal certificate before after = (fault ≡ write_failed) × WasCutShort mode model prec journal certificate before after
-RefusesRun mode NoSeat fault model prec journal certificate before after =
-    HoldsOfMine model prec (λ mine. RefusesSolve mode mine NoSeat fault) × IsUnwritten journal certificate before after
-RefusesRun mode (Exhausted count) fault model prec journal certificate before after =
-    HoldsOfMine model prec (λ mine. RefusesSolve mode mine (Exhausted count) fault)
-    × OfWriterIfAny journal (IsJournaled (AtBudget count) mode model prec) × IsLeft certificate × (after ≡ before)
-RefusesRun mode refusal fault model prec journal certificate before after = RefusesMine refusal fault model prec × IsUnwritten journal certificate before after
+abbrev pub RefusesRun : Asked → Refusal → Fault → Files → Chosen → Chosen → Progress → Progress → Type 0
+RefusesRun asked WriteFailed fault files journal certificate before after = (fault ≡ write_failed) × WasCutShort asked files journal certificate before after
+RefusesRun asked NoSeat fault files journal certificate before after = (fault ≡ no_seat) × IsShared asked.mode × IsUnwritten journal certificate before after
+RefusesRun asked (Exhausted count) fault files journal certificate before after =
+    (fault ≡ exhausted count) × HoldsOfSearched asked.pit files (λ searched. RunsOut asked.mode searched count)
+    × OfWriterIfAny journal (IsJournaled (AtBudget count) asked.mode files) × IsLeft certificate × (after ≡ before)
+RefusesRun asked refusal fault files journal certificate before after = RefusesMine refusal fault files × IsUnwritten journal certificate before after

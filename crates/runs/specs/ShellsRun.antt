@@ -6,6 +6,7 @@ use Rattle.faults.specs.declared.fault.Fault.{Fault}
 use Rattle.faults.specs.declared.refusal.Refusal.{Refusal}
 use Rattle.faults.specs.declared.refusal.Refusal.TheVariants.{NoSeat, Exhausted, WriteFailed}
 use Rattle.pit_model.specs.declared.shell.Shell.{Shell}
+use Rattle.pit_model.specs.declared.direction.Direction.{Direction}
 use Rattle.pit_model.specs.Deposit.{Deposit}
 use Rattle.pit_model.specs.Shells.{AreShells}
 use Rattle.pit_model.specs.ShellText.{shells_text}
@@ -16,30 +17,30 @@ use Rattle.runs.specs.Deposit.{GaveDeposit, RefusesDeposit}
 use Rattle.runs.specs.declared.status.Status.{Status}
 use Rattle.runs.specs.declared.status.Status.TheVariants.{Done}
 
--- a text is the text of the shells of a deposit: of its pit at each factor
-pub record IsShellsText (deposit : Deposit) (factors : List ℕ) (text : List ℕ) : Type 0 where
+-- a text is the text of the shells of a deposit: of its pit toward a direction at each factor
+pub record IsShellsText (direction : Direction) (deposit : Deposit) (factors : List ℕ) (text : List ℕ) : Type 0 where
   pub shells : List Shell
-  pub are : AreShells deposit factors shells
+  pub are : AreShells direction deposit factors shells
   pub is_text : text ≡ shells_text deposit.blocks shells
 
 -- the readers gave a deposit, and this is the text of its shells
-pub record GivesShells (blocks prec : Reading) (revenue cost : ℕ) (factors text : List ℕ) : Type 0 where
+pub record GivesShells (direction : Direction) (blocks prec : Reading) (revenue cost : ℕ) (factors text : List ℕ) : Type 0 where
   pub deposit : Deposit
   pub given : GaveDeposit blocks prec revenue cost deposit
-  pub solved : IsShellsText deposit factors text
+  pub solved : IsShellsText direction deposit factors text
 
 -- exactly the shells' text was written
-pub record IsShellsDone (blocks prec : Reading) (revenue cost : ℕ) (factors : List ℕ) (before after : Progress) (status : Status) : Type 0 where
+pub record IsShellsDone (direction : Direction) (blocks prec : Reading) (revenue cost : ℕ) (factors : List ℕ) (before after : Progress) (status : Status) : Type 0 where
   pub done : status ≡ Done
   pub text : List ℕ
-  pub gives : GivesShells blocks prec revenue cost factors text
+  pub gives : GivesShells direction blocks prec revenue cost factors text
   pub written : after.bytes ≡ before.bytes ++ text
   pub no_failure : after.failures ≡ before.failures
 
 -- a beginning of it was written, and then a write failed
-pub record IsShellsCut (blocks prec : Reading) (revenue cost : ℕ) (factors : List ℕ) (before after : Progress) : Type 0 where
+pub record IsShellsCut (direction : Direction) (blocks prec : Reading) (revenue cost : ℕ) (factors : List ℕ) (before after : Progress) : Type 0 where
   pub text : List ℕ
-  pub gives : GivesShells blocks prec revenue cost factors text
+  pub gives : GivesShells direction blocks prec revenue cost factors text
   pub front : List ℕ
   pub begins : Begins front text
   pub written : after.bytes ≡ before.bytes ++ front
@@ -50,10 +51,10 @@ abbrev pub HoldsOfDeposit : Reading → Reading → ℕ → ℕ → (Deposit →
 HoldsOfDeposit blocks prec revenue cost Holds = (deposit : Deposit) × GaveDeposit blocks prec revenue cost deposit × Holds deposit
 
 -- why a run ended without shells: nothing was written, but where a write failed
-abbrev pub RefusesShellsRun : Mode → Refusal → Fault → Reading → Reading → ℕ → ℕ → List ℕ → Progress → Progress → Type 0
-RefusesShellsRun mode WriteFailed fault blocks prec revenue cost factors before after = (fault ≡ write_failed) × IsShellsCut blocks prec revenue cost factors before after
-RefusesShellsRun mode NoSeat fault blocks prec revenue cost factors before after =
-    HoldsOfDeposit blocks prec revenue cost (λ deposit. RefusesShells mode deposit factors NoSeat fault) × (after ≡ before)
-RefusesShellsRun mode (Exhausted count) fault blocks prec revenue cost factors before after =
-    HoldsOfDeposit blocks prec revenue cost (λ deposit. RefusesShells mode deposit factors (Exhausted count) fault) × (after ≡ before)
-RefusesShellsRun mode refusal fault blocks prec revenue cost factors before after = RefusesDeposit refusal fault blocks prec revenue cost × (after ≡ before)
+abbrev pub RefusesShellsRun : Mode → Direction → Refusal → Fault → Reading → Reading → ℕ → ℕ → List ℕ → Progress → Progress → Type 0
+RefusesShellsRun mode direction WriteFailed fault blocks prec revenue cost factors before after = (fault ≡ write_failed) × IsShellsCut direction blocks prec revenue cost factors before after
+RefusesShellsRun mode direction NoSeat fault blocks prec revenue cost factors before after =
+    HoldsOfDeposit blocks prec revenue cost (λ deposit. RefusesShells mode direction deposit factors NoSeat fault) × (after ≡ before)
+RefusesShellsRun mode direction (Exhausted count) fault blocks prec revenue cost factors before after =
+    HoldsOfDeposit blocks prec revenue cost (λ deposit. RefusesShells mode direction deposit factors (Exhausted count) fault) × (after ≡ before)
+RefusesShellsRun mode direction refusal fault blocks prec revenue cost factors before after = RefusesDeposit refusal fault blocks prec revenue cost × (after ≡ before)

@@ -5,10 +5,11 @@ use Rattle.faults.specs.Refused.{no_memory}
 use Rattle.faults.specs.declared.fault.Fault.{Fault}
 use Rattle.faults.specs.declared.refusal.Refusal.TheVariants.{NoMemory, ReadFailed}
 use Rattle.pit_model.specs.Graph.{IsGraph}
-use Rattle.pit_model.specs.Mine.{Instance}
+use Rattle.pit_model.specs.declared.direction.Direction.{Direction}
+use Rattle.pit_model.specs.declared.direction.Direction.TheVariants.{Least}
 use Rattle.report.specs.AnswerText.{answer_text}
 use Rattle.report.specs.FaultText.{fault_text}
-use Rattle.runs.specs.Solve.{Reading, Gave, IsDone, FirstFault, RefusesMine}
+use Rattle.runs.specs.Solve.{Choice, no_reader, one_reader, Files, FixedMine, Reading, Gave, IsDone, FirstFault, RefusesMine}
 use Rattle.runs.specs.ShellsRun.{IsShellsDone}
 use Rattle.runs.specs.Certified.{IsCertified}
 use Rattle.runs.specs.Check.{AnswersText, IsChecked}
@@ -23,6 +24,18 @@ use Rattle.runs.specs.declared.status.Status.TheVariants.{Done}
 abbrev pub GaveAlike : (reading other : Reading) → Type 0
 GaveAlike reading other = (text behind : List ℕ) → Gave reading text → Gave other behind → text ≡ behind
 
+-- and neither did two readers of choice; one is there where the other is
+abbrev pub ChoseAlike : (c other : Choice) → Type 0
+ChoseAlike no_reader no_reader = Unit {0}
+ChoseAlike (one_reader r) (one_reader s) = GaveAlike r s
+ChoseAlike c other = ⊥
+
+-- two runs are over the same texts of a mine
+pub record ReadAlike (files other : Files) : Type 0 where
+  pub model : GaveAlike files.model other.model
+  pub prec : GaveAlike files.prec other.prec
+  pub fixed : ChoseAlike files.fixed other.fixed
+
 -- the same text went to two writers
 pub record TookSame (before after other_before other_after : Progress) : Type 0 where
   pub text : List ℕ
@@ -35,82 +48,79 @@ pub record GaveTaken (reading : Reading) (before after : Progress) : Type 0 wher
   pub taken : after.bytes ≡ before.bytes ++ text
   pub given : Gave reading text
 
--- two runs of `solve` over the same texts, both done, wrote the same text
-abbrev pub SolvesOnce : (model prec other_model other_prec : Reading) → Type 0
-SolvesOnce model prec other_model other_prec =
-    (before after other_before other_after : Progress) (status other_status : Status)
-    → GaveAlike model other_model → GaveAlike prec other_prec
-    → IsDone model prec before after status → IsDone other_model other_prec other_before other_after other_status
+-- two runs of `solve` over the same texts, both done toward one direction, wrote the same text
+abbrev pub SolvesOnce : (files other : Files) → Type 0
+SolvesOnce files other =
+    (direction : Direction) (before after other_before other_after : Progress) (status other_status : Status)
+    → ReadAlike files other → IsDone direction files before after status → IsDone direction other other_before other_after other_status
     → TookSame before after other_before other_after
 
 -- where a run of `solve` is done, none over the same texts finds a fault in them: if it reads no mine, then for want of memory
 -- or by a failed read
-abbrev pub NeverFaulty : (model prec other_model other_prec : Reading) → Type 0
-NeverFaulty model prec other_model other_prec =
-    (before after : Progress) (status : Status) (fault : Fault)
-    → GaveAlike model other_model → GaveAlike prec other_prec
-    → IsDone model prec before after status → RefusesMine fault.refusal fault other_model other_prec
+abbrev pub NeverFaulty : (files other : Files) → Type 0
+NeverFaulty files other =
+    (direction : Direction) (before after : Progress) (status : Status) (fault : Fault)
+    → ReadAlike files other → IsDone direction files before after status → RefusesMine fault.refusal fault other
     → (fault.refusal ≡ NoMemory) ⊎ (fault.refusal ≡ ReadFailed)
 
 -- two runs over the same texts that their first fault refuses name the same fault: its text is the same
-abbrev pub FaultsOnce : (model prec other_model other_prec : Reading) → Type 0
-FaultsOnce model prec other_model other_prec =
-    (fault other : Fault)
-    → GaveAlike model other_model → GaveAlike prec other_prec
-    → fault ≢ no_memory → other ≢ no_memory → FirstFault fault model prec → FirstFault other other_model other_prec
-    → fault_text fault ≡ fault_text other
+abbrev pub FaultsOnce : (files other : Files) → Type 0
+FaultsOnce files other =
+    (fault second : Fault) → ReadAlike files other
+    → fault ≢ no_memory → second ≢ no_memory → FirstFault fault files → FirstFault second other
+    → fault_text fault ≡ fault_text second
 
--- two runs of `shells` over the same texts, with the same columns and factors, both done, wrote the same text
+-- two runs of `shells` over the same texts, with the same columns and factors, both done toward one direction, wrote the same text
 abbrev pub NestsOnce : (blocks prec other_blocks other_prec : Reading) → Type 0
 NestsOnce blocks prec other_blocks other_prec =
-    (revenue cost : ℕ) (factors : List ℕ) (before after other_before other_after : Progress) (status other_status : Status)
+    (direction : Direction) (revenue cost : ℕ) (factors : List ℕ) (before after other_before other_after : Progress) (status other_status : Status)
     → GaveAlike blocks other_blocks → GaveAlike prec other_prec
-    → IsShellsDone blocks prec revenue cost factors before after status
-    → IsShellsDone other_blocks other_prec revenue cost factors other_before other_after other_status
+    → IsShellsDone direction blocks prec revenue cost factors before after status
+    → IsShellsDone direction other_blocks other_prec revenue cost factors other_before other_after other_status
     → TookSame before after other_before other_after
 
 -- the law: of one text and one mine there is one answer: yes and no exclude each other
 abbrev pub AnswerIsOne : Type 0
 AnswerIsOne =
-    (mine : Instance) (text : List ℕ) (answer other : Bool) → IsGraph mine.blocks mine.pairs
-    → AnswersText mine text answer → AnswersText mine text other → answer ≡ other
+    (task : FixedMine) (text : List ℕ) (answer other : Bool) → IsGraph task.mine.blocks task.mine.pairs
+    → AnswersText task text answer → AnswersText task text other → answer ≡ other
 
 -- two runs of `check` over the same texts, both done, wrote the same answer, and ended with the same status
-abbrev pub ChecksOnce : (model prec certificate other_model other_prec other_certificate : Reading) → Type 0
-ChecksOnce model prec certificate other_model other_prec other_certificate =
+abbrev pub ChecksOnce : (files other : Files) (certificate other_certificate : Reading) → Type 0
+ChecksOnce files other certificate other_certificate =
     (before after other_before other_after : Progress) (status other_status : Status)
-    → GaveAlike model other_model → GaveAlike prec other_prec → GaveAlike certificate other_certificate
-    → IsChecked model prec certificate before after status
-    → IsChecked other_model other_prec other_certificate other_before other_after other_status
+    → ReadAlike files other → GaveAlike certificate other_certificate
+    → IsChecked files certificate before after status
+    → IsChecked other other_certificate other_before other_after other_status
     → TookSame before after other_before other_after × (status ≡ other_status)
 
 -- where `check` is done over the same texts and the certificate that a run of `solve` wrote, it wrote yes
-abbrev pub PassesCheck : (model prec other_model other_prec certificate : Reading) → Type 0
-PassesCheck model prec other_model other_prec certificate =
+abbrev pub PassesCheck : (files other : Files) (certificate : Reading) → Type 0
+PassesCheck files other certificate =
     (before after other_before other_after : Progress) (status : Status)
-    → GaveAlike model other_model → GaveAlike prec other_prec → GaveTaken certificate before after
-    → IsCertified model prec before after
-    → IsChecked other_model other_prec certificate other_before other_after status
+    → ReadAlike files other → GaveTaken certificate before after
+    → IsCertified files before after
+    → IsChecked other certificate other_before other_after status
     → (status ≡ Done) × (other_after.bytes ≡ other_before.bytes ++ answer_text true)
 
 -- where a run of `solve` is done that wrote its journal, and `replay` over the same texts and that journal ends without a fault,
 -- it wrote the same pit
-abbrev pub PassesReplay : (model prec other_model other_prec journal : Reading) → Type 0
-PassesReplay model prec other_model other_prec journal =
+abbrev pub PassesReplay : (files other : Files) (journal : Reading) → Type 0
+PassesReplay files other journal =
     (mode : Mode) (before after pit_before pit_after other_before other_after : Progress) (status other_status : Status)
-    → GaveAlike model other_model → GaveAlike prec other_prec → GaveTaken journal before after
-    → IsJournaled IsSettled mode model prec before after → IsDone model prec pit_before pit_after status
-    → IsToldReplay other_model other_prec journal other_before other_after other_status
+    → ReadAlike files other → GaveTaken journal before after
+    → IsJournaled IsSettled mode files before after → IsDone Least files pit_before pit_after status
+    → IsToldReplay other journal other_before other_after other_status
     → TookSame pit_before pit_after other_before other_after × (other_status ≡ status)
 
 -- where a run of `solve` used up its budget, `replay` over the same texts and its journal writes nothing; and if it names a count
 -- of mergers, it is that budget
-pub record SpendsReplay (model prec other_model other_prec journal : Reading) : Type 0 where
+pub record SpendsReplay (files other : Files) (journal : Reading) : Type 0 where
   pub not_told :
       (mode : Mode) (count : ℕ) (before after other_before other_after : Progress) (other_status : Status)
-      → GaveAlike model other_model → GaveAlike prec other_prec → GaveTaken journal before after
-      → IsJournaled (AtBudget count) mode model prec before after → IsToldReplay other_model other_prec journal other_before other_after other_status → ⊥
+      → ReadAlike files other → GaveTaken journal before after
+      → IsJournaled (AtBudget count) mode files before after → IsToldReplay other journal other_before other_after other_status → ⊥
   pub same_count :
-      (mode : Mode) (count other : ℕ) (before after : Progress)
-      → GaveAlike model other_model → GaveAlike prec other_prec → GaveTaken journal before after
-      → IsJournaled (AtBudget count) mode model prec before after → IsJournalSpent other_model other_prec journal other → other ≡ count
+      (mode : Mode) (count named : ℕ) (before after : Progress)
+      → ReadAlike files other → GaveTaken journal before after
+      → IsJournaled (AtBudget count) mode files before after → IsJournalSpent other journal named → named ≡ count

@@ -1,35 +1,65 @@
-//! The mine of a run: its two files, read in their order, and the graph of their pairs.
+//! The mine of a run: its files, read in their order, the graph of their pairs, and the blocks that are fixed.
 ghost use Rattle.std.specs.Prelude.{◌<◌, ◌≤◌, ◌^◌, IfOk, IfErr};
-ghost use Rattle.runs.specs.Solve.{reading, RefusesMine};
-ghost use Rattle.runs.specs.Mine.{HoldsMine};
+ghost use Rattle.pit_model.specs.Fixed.{AreFixable, graph_of_mine};
+ghost use Rattle.mine_graph.specs.FixedBlocks.{IsFixedOf, lists_of};
+ghost use Rattle.minelib_reader.specs.Fixed.{fixed_lists};
+ghost use Rattle.runs.specs.Solve.{choice, files_of, task_of, GaveFixed, HoldsMine, MayRead, MayReadIfAny, RefusesFixedText, RefusesMine};
 
 use faults::Fault;
-use mine_graph::{Graph, Instance};
-use minelib_reader::{InBytes, read_prec, read_upit};
+use mine_graph::{Fixed, Graph, Instance};
+use minelib_reader::{InBytes, read_fixed, read_prec, read_upit};
 use std::alloc::Global;
 use std::sync::Arc;
 
-/// The mine of a model and a precedence file, else the first fault of the two.
-pub fn read_mine<M: InBytes, P: InBytes>(
+/// What reads the files of a mine, in the order in which they are read; that of the fixed blocks where there is one.
+#[derive(Drop)]
+pub struct MineFiles<M, P, F> {
+    pub model: M,
+    pub prec: P,
+    pub fixed: Option<F>,
+}
+
+/// A mine with its fixed blocks.
+#[derive(Drop)]
+pub struct Task {
+    pub mine: Instance,
+    pub fixed: Fixed,
+}
+
+/// The blocks forced in and those barred that the file of fixed blocks names; none where there is no such file.
+fn read_lists<F: InBytes>(
     alloc: Global,
-    model: &mut M,
-    prec: &mut P,
-) -> Result<Instance, Fault>
-    requires model_countable { (M.progress model.old).failures < 2 ^ 63 }
-    requires model_bounded { (M.progress model.old).allowance ≤ 2 ^ 40 }
-    requires prec_countable { (P.progress prec.old).failures < 2 ^ 63 }
-    requires prec_bounded { (P.progress prec.old).allowance ≤ 2 ^ 40 }
-    ensures mine { IfOk result (HoldsMine
-        (reading (M.progress model.old) (M.progress model.new) (M.IsAtEnd model.new))
-        (reading (P.progress prec.old) (P.progress prec.new) (P.IsAtEnd prec.new))) }
-    ensures refused { IfErr result (λ e. RefusesMine e.refusal e
-        (reading (M.progress model.old) (M.progress model.new) (M.IsAtEnd model.new))
-        (reading (P.progress prec.old) (P.progress prec.new) (P.IsAtEnd prec.new))) }
+    fixed: &mut Option<F>,
+    n: u32,
+) -> Result<(Vec<u32>, Vec<u32>), Fault>
+    requires { MayReadIfAny F.progress fixed.old }
+    ensures fixable { IfOk result (λ v. AreFixable n (fixed_lists v.0.items v.1.items)) }
+    ensures given { IfOk result (λ v. GaveFixed (choice F.progress F.IsAtEnd fixed.old fixed.new) n (fixed_lists v.0.items v.1.items)) }
+    ensures refused { IfErr result (λ e. RefusesFixedText e.refusal e n (choice F.progress F.IsAtEnd fixed.old fixed.new)) }
 {
-    let mine = read_upit(alloc, model)?;
-    let pairs = read_prec(alloc, prec, mine.n)?;
-    let graph = Graph::new(alloc, mine.n, pairs)?;
-    let instance = Instance::new(Arc::new(alloc, graph)?, mine.values);
-    instance.law();
-    Ok(instance)
+    match fixed {
+        None => Ok((Vec::new(alloc), Vec::new(alloc))),
+        Some(reader) => read_fixed(alloc, reader, n),
+    }
+}
+
+/// The mine of a model, a precedence file and the file of its fixed blocks, where there is one; else the first fault: of the
+/// files, then a cycle of the pairs (14), then a clash of the fixed blocks (21).
+pub fn read_mine<M: InBytes, P: InBytes, F: InBytes>(
+    alloc: Global,
+    files: &mut MineFiles<M, P, F>,
+) -> Result<Task, Fault>
+    requires { MayRead M.progress P.progress F.progress files.old }
+    ensures mine { IfOk result (λ t. HoldsMine (files_of M.progress M.IsAtEnd P.progress P.IsAtEnd F.progress F.IsAtEnd files.old files.new) (task_of t)) }
+    ensures fixed { IfOk result (λ t. IsFixedOf (graph_of_mine t.mine) t.fixed) }
+    ensures refused { IfErr result (λ e. RefusesMine e.refusal e (files_of M.progress M.IsAtEnd P.progress P.IsAtEnd F.progress F.IsAtEnd files.old files.new)) }
+{
+    let model = read_upit(alloc, &mut files.model)?;
+    let pairs = read_prec(alloc, &mut files.prec, model.n)?;
+    let (forced, barred) = read_lists(alloc, &mut files.fixed, model.n)?;
+    let graph = Graph::new(alloc, model.n, pairs)?;
+    let mine = Instance::new(Arc::new(alloc, graph)?, model.values);
+    mine.law();
+    let fixed = Fixed::new(alloc, mine.graph(), forced, barred)?;
+    Ok(Task { mine, fixed })
 }

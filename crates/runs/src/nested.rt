@@ -4,19 +4,20 @@ ghost use Rattle.shells.specs.Grown.{EachEndsWithin};
 ghost use Rattle.runs.specs.Solve.{reading};
 ghost use Rattle.runs.specs.ShellsRun.{HoldsOfDeposit, IsShellsDone, RefusesShellsRun};
 
+use crate::asked::Asked;
 use crate::deposit::read_deposit;
 use crate::status::Status;
 use faults::Fault;
 use minelib_reader::{InBytes, OutBytes};
 use report::write_shells;
 use shells::{Factors, shells};
-use solver::{Mode, OpenGate};
+use solver::OpenGate;
 use std::alloc::Global;
 use std::sync::Wait;
 use std::thread::Threads;
 
 /// Reads a block model and then a precedence file, takes the columns of revenue and of cost, and writes the text of the
-/// shells: the pit at each factor, whatever the mode.
+/// shells: the pit that is asked for at each factor, whatever the mode.
 ///
 /// Refused by the first fault of the files (3 to 14), by that of the columns (15, 16), for want of memory (1), where a read
 /// failed (2), where the budget is used up on some factor's rest (20) and where a worker could not be started (22), all with
@@ -30,22 +31,22 @@ pub fn run_shells<R: Threads + Wait + Sync, B: InBytes, P: InBytes, W: OutBytes>
     revenue: u32,
     cost: u32,
     factors: &Factors,
-    mode: &Mode,
+    asked: Asked,
 ) -> Result<Status, Fault>
     requires blocks_countable { (B.progress blocks.old).failures < 2 ^ 63 }
     requires blocks_bounded { (B.progress blocks.old).allowance ≤ 2 ^ 40 }
     requires prec_countable { (P.progress prec.old).failures < 2 ^ 63 }
     requires prec_bounded { (P.progress prec.old).allowance ≤ 2 ^ 40 }
     requires out_countable { (W.progress out.old).failures < 2 ^ 63 }
-    ensures done { IfOk result (IsShellsDone
+    ensures done { IfOk result (IsShellsDone asked.pit
         (reading (B.progress blocks.old) (B.progress blocks.new) (B.IsAtEnd blocks.new))
         (reading (P.progress prec.old) (P.progress prec.new) (P.IsAtEnd prec.new))
         revenue cost factors.now (W.progress out.old) (W.progress out.new)) }
     ensures within { IfOk result (λ _. HoldsOfDeposit
         (reading (B.progress blocks.old) (B.progress blocks.new) (B.IsAtEnd blocks.new))
         (reading (P.progress prec.old) (P.progress prec.new) (P.IsAtEnd prec.new))
-        revenue cost (λ deposit. EachEndsWithin mode.now deposit factors.now)) }
-    ensures refused { IfErr result (λ e. RefusesShellsRun mode.now e.refusal e
+        revenue cost (λ deposit. EachEndsWithin asked.mode asked.pit deposit factors.now)) }
+    ensures refused { IfErr result (λ e. RefusesShellsRun asked.mode asked.pit e.refusal e
         (reading (B.progress blocks.old) (B.progress blocks.new) (B.IsAtEnd blocks.new))
         (reading (P.progress prec.old) (P.progress prec.new) (P.IsAtEnd prec.new))
         revenue cost factors.now (W.progress out.old) (W.progress out.new)) }
@@ -57,8 +58,9 @@ pub fn run_shells<R: Threads + Wait + Sync, B: InBytes, P: InBytes, W: OutBytes>
         &deposit.columns,
         &deposit.graph,
         factors,
-        mode,
+        &asked.mode,
         &OpenGate,
+        asked.pit,
     )?;
     write_shells(out, &list)?;
     Ok(Status::Done)

@@ -1,66 +1,103 @@
-//! `solve`: from the bytes of a model and a precedence file to the bytes of the pit, of the certificate that shows it, and of
-//! the journal of what workers decided.
-ghost use Rattle.std.specs.Prelude.{◌≡◌, ◌<◌, ◌≤◌, ◌^◌, Ok, IfOk, IfErr};
+//! `solve`: from the bytes of a model, a precedence file and a file of fixed blocks to the bytes of the pit, of the certificate
+//! that shows it, and of the journal of what workers decided.
+ghost use Rattle.std.specs.Prelude.{◌≡◌, ◌<◌, ◌^◌, ℕ, Bool, Ok, IfOk, IfErr};
 ghost use Rattle.faults.specs.Refused.{write_failed};
-ghost use Rattle.certificate.specs.Certificate.{IsCertificateOf};
-ghost use Rattle.certificate.specs.Check.{ShowsPit};
+ghost use Rattle.certificate.specs.Certificate.{IsFixedCertificateOf};
+ghost use Rattle.mine_graph.specs.FixedBlocks.{IsFixedOf};
+ghost use Rattle.pit_model.specs.declared.direction.Direction.{Direction as AnyDirection};
+ghost use Rattle.pit_model.specs.declared.direction.Direction.TheVariants.{Greatest, Least};
+ghost use Rattle.pit_model.specs.Mine.{members};
+ghost use Rattle.pit_model.specs.Direction.{ListsPit};
+ghost use Rattle.pit_model.specs.Fixed.{fixed_of, graph_of_mine};
+ghost use Rattle.pit_model.specs.Replay.{IsSettled};
 ghost use Rattle.runs.specs.Certified.{IsCertified, PutsCertificate};
 ghost use Rattle.runs.specs.Chosen.{chosen, progress_of, IsCountable, OfWriterIfAny};
-ghost use Rattle.solver.specs.Modes.{EndsIn, EndsWithin};
-ghost use Rattle.pit_model.specs.Replay.{IsSettled};
-ghost use Rattle.runs.specs.Journaled.{EndOf, IsJournaled, MayJournal, PutsJournal};
-ghost use Rattle.runs.specs.Run.{EndsJournaled, HoldsOfMine, RefusesOutcome, RefusesPit, RefusesRun};
-ghost use Rattle.runs.specs.Solve.{reading, IsDone, WritesPit};
+ghost use Rattle.runs.specs.Journaled.{EndOf, IsJournaled, MayJournal, MayPutEntries, PutsEntries, PutsJournal, RefusesEntries};
+ghost use Rattle.runs.specs.Run.{EndsJournaled, HoldsOfSearched, MayWrite, RefusesOutcome, RefusesPit, RefusesRun};
+ghost use Rattle.runs.specs.Solve.{files_of, fixed_in, task_of, IsDone, MayRead, WritesPit};
+ghost use Rattle.solver.specs.Modes.{EndsWithin};
+ghost use Rattle.solver.specs.Searched.{EndsFixed, OfSearched, RefusesSearch};
 
-use crate::mine::read_mine;
+use crate::asked::Asked;
+use crate::mine::{MineFiles, Task, read_mine};
 use crate::status::Status;
 use certificate::{Certificate, write};
 use faults::Fault;
 use merging::Outcome;
-use mine_graph::Instance;
 use minelib_reader::{InBytes, OutBytes};
+use pit_model::Direction;
 use report::{write_journal, write_pit};
-use solver::{Entry, Mode, OpenGate, find_pit, solve};
+use solver::{Entry, Mode, OpenGate, PitOutcome, find_fixed_pit, solve_fixed, solve_greatest};
 use std::alloc::Global;
 use std::sync::Wait;
 use std::thread::Threads;
 
+/// What takes the texts of a solve, in the order in which they are written; those of the journal and of the certificate where
+/// they are wanted.
+#[derive(Drop)]
+pub struct SolveOutputs<J, C, W> {
+    pub journal: Option<J>,
+    pub certificate: Option<C>,
+    pub out: W,
+}
+
 /// Writes a certificate of the mine to its writer, where there is one.
 fn put_certificate<C: OutBytes>(
     out: &mut Option<C>,
-    mine: &Instance,
+    task: &Task,
     certificate: &Certificate,
 ) -> Result<(), Fault>
     requires countable { IsCountable (progress_of C.progress out.old) }
-    requires shown { IsCertificateOf mine.now certificate.now }
-    ensures puts { PutsCertificate mine.now (chosen C.progress out.old out.new) result }
+    requires fixed { IsFixedOf (graph_of_mine task.now.mine) task.now.fixed }
+    requires shown { IsFixedCertificateOf task.now.mine (fixed_of task.now.fixed.lists) certificate.now }
+    ensures puts { PutsCertificate (task_of task.now) (chosen C.progress out.old out.new) result }
 {
-    mine.law();
+    task.mine.law();
     match out {
         None => Ok(()),
-        Some(writer) => write(writer, mine.graph(), certificate),
+        Some(writer) => write(writer, task.mine.graph(), &task.fixed, certificate),
     }
+}
+
+/// Writes the entries of a journal of the rest of the mine. Its graph is made once more where blocks are fixed.
+fn put_entries<J: OutBytes>(
+    writer: &mut J,
+    task: &Task,
+    budget: Option<u64>,
+    entries: &[Entry],
+) -> Result<(), Fault>
+    requires countable { (J.progress writer.old).failures < 2 ^ 63 }
+    requires fixed { IsFixedOf (graph_of_mine task.now.mine) task.now.fixed }
+    requires may { MayPutEntries (task_of task.now) entries.now }
+    ensures written { IfOk result (λ x. PutsEntries (task_of task.now) budget entries.now (J.progress writer.old) (J.progress writer.new) (Ok x)) }
+    ensures refused { IfErr result (λ e. RefusesEntries (task_of task.now) budget entries.now e.refusal e (J.progress writer.old) (J.progress writer.new)) }
+{
+    task.mine.law();
+    if task.fixed.is_none() {
+        return write_journal(writer, task.mine.graph(), budget, entries);
+    }
+    let rest = task.fixed.rest(task.mine.graph())?;
+    write_journal(writer, &rest.graph, budget, entries)
 }
 
 /// Writes the journal of what was decided to its writer, where there is one.
 fn put_journal<J: OutBytes>(
     out: &mut Option<J>,
-    mine: &Instance,
+    task: &Task,
     mode: &Mode,
-    outcome: &Outcome,
-    entries: &[Entry],
+    solved: &(Outcome, Vec<Entry>),
 ) -> Result<(), Fault>
     requires countable { IsCountable (progress_of J.progress out.old) }
     requires may { MayJournal mode.now (progress_of J.progress out.old) }
-    requires ended { EndsIn mode.now mine.now outcome.now entries.now }
-    ensures puts { PutsJournal (EndOf outcome.now) mode.now mine.now (chosen J.progress out.old out.new) result }
+    requires fixed { IsFixedOf (graph_of_mine task.now.mine) task.now.fixed }
+    requires ended { EndsFixed mode.now task.now.mine (fixed_of task.now.fixed.lists) solved.now.0 solved.now.1.items }
+    ensures put { IfOk result (λ x. PutsJournal (EndOf solved.now.0) mode.now (task_of task.now) (chosen J.progress out.old out.new) (Ok x)) }
+    ensures refused { IfErr result (λ e. RefusesOutcome mode.now (task_of task.now) e.refusal e (chosen J.progress out.old out.new)) }
 {
-    mine.law();
-    let _ = outcome;
     match out {
         None => Ok(()),
         Some(writer) => match *mode {
-            Mode::Shared { budget, .. } => write_journal(writer, mine.graph(), budget, entries),
+            Mode::Shared { budget, .. } => put_entries(writer, task, budget, &solved.1),
             Mode::Single { .. } | Mode::Parts => unreachable!(),
         },
     }
@@ -71,120 +108,153 @@ fn put_journal<J: OutBytes>(
 fn solve_journaled<J: OutBytes, R: Threads + Wait + Sync>(
     rt: &R,
     alloc: Global,
-    mine: &Instance,
+    task: &Task,
     mode: &Mode,
     journal: &mut Option<J>,
 ) -> Result<Outcome, Fault>
     requires countable { IsCountable (progress_of J.progress journal.old) }
     requires may { MayJournal mode.now (progress_of J.progress journal.old) }
-    ensures ended { IfOk result (EndsJournaled mode.now mine.now (chosen J.progress journal.old journal.new)) }
-    ensures refused { IfErr result (λ e. RefusesOutcome mode.now mine.now e.refusal e (chosen J.progress journal.old journal.new)) }
+    requires fixed { IsFixedOf (graph_of_mine task.now.mine) task.now.fixed }
+    ensures ended { IfOk result (EndsJournaled mode.now (task_of task.now) (chosen J.progress journal.old journal.new)) }
+    ensures refused { IfErr result (λ e. RefusesOutcome mode.now (task_of task.now) e.refusal e (chosen J.progress journal.old journal.new)) }
 {
-    let (outcome, entries) = solve(rt, alloc, mine, mode, &OpenGate)?;
-    put_journal(journal, mine, mode, &outcome, &entries)?;
-    Ok(outcome)
+    let solved = solve_fixed(rt, alloc, &task.mine, &task.fixed, mode, &OpenGate)?;
+    put_journal(journal, task, mode, &solved)?;
+    Ok(solved.0)
 }
 
 /// The pit of a mine. Where there is a writer for the journal, or for the certificate that shows the pit, these go there, in
 /// this order; else no certificate is made.
-fn solve_mine<J: OutBytes, C: OutBytes, R: Threads + Wait + Sync>(
+fn least_pit<J: OutBytes, C: OutBytes, W: OutBytes, R: Threads + Wait + Sync>(
     rt: &R,
     alloc: Global,
-    mine: &Instance,
+    task: &Task,
     mode: &Mode,
-    journal: &mut Option<J>,
-    certificate: &mut Option<C>,
+    outputs: &mut SolveOutputs<J, C, W>,
 ) -> Result<Vec<u32>, Fault>
-    requires journal_countable { IsCountable (progress_of J.progress journal.old) }
-    requires may { MayJournal mode.now (progress_of J.progress journal.old) }
-    requires countable { IsCountable (progress_of C.progress certificate.old) }
-    ensures shown { IfOk result (λ pit. ShowsPit mine.now pit.items) }
-    ensures journaled { IfOk result (λ _. PutsJournal IsSettled mode.now mine.now (chosen J.progress journal.old journal.new) (Ok tt)) }
-    ensures certified { IfOk result (λ _. PutsCertificate mine.now (chosen C.progress certificate.old certificate.new) (Ok tt)) }
-    ensures within { IfOk result (λ _. EndsWithin mode.now mine.now) }
-    ensures refused { IfErr result (λ e. RefusesPit mode.now mine.now e.refusal e (chosen J.progress journal.old journal.new) (chosen C.progress certificate.old certificate.new)) }
+    requires journal_countable { IsCountable (progress_of J.progress outputs.old.journal) }
+    requires may { MayJournal mode.now (progress_of J.progress outputs.old.journal) }
+    requires countable { IsCountable (progress_of C.progress outputs.old.certificate) }
+    requires fixed { IsFixedOf (graph_of_mine task.now.mine) task.now.fixed }
+    ensures shown { IfOk result (λ pit. ListsPit Least task.now.mine (fixed_of task.now.fixed.lists) pit.items) }
+    ensures journaled { IfOk result (λ _. PutsJournal IsSettled mode.now (task_of task.now) (chosen J.progress outputs.old.journal outputs.new.journal) (Ok tt)) }
+    ensures certified { IfOk result (λ _. PutsCertificate (task_of task.now) (chosen C.progress outputs.old.certificate outputs.new.certificate) (Ok tt)) }
+    ensures within { IfOk result (λ _. OfSearched Least task.now.mine (fixed_of task.now.fixed.lists) (EndsWithin mode.now)) }
+    ensures refused { IfErr result (λ e. RefusesPit mode.now Least (task_of task.now) e.refusal e (chosen J.progress outputs.old.journal outputs.new.journal) (chosen C.progress outputs.old.certificate outputs.new.certificate)) }
+    ensures no_pit { outputs.new.out ≡ outputs.old.out }
 {
-    if journal.is_none() && certificate.is_none() {
-        return find_pit(rt, alloc, mine, mode, &OpenGate);
+    if outputs.journal.is_none() && outputs.certificate.is_none() {
+        return find_fixed_pit(rt, alloc, &task.mine, &task.fixed, mode, &OpenGate);
     }
-    mine.law();
-    match solve_journaled(rt, alloc, mine, mode, journal)? {
+    match solve_journaled(rt, alloc, task, mode, &mut outputs.journal)? {
         Outcome::Exhausted(count) => Err(Fault::exhausted(count)),
         Outcome::Pit(shown) => {
-            put_certificate(certificate, mine, &shown)?;
+            put_certificate(&mut outputs.certificate, task, &shown)?;
+            task.mine.law();
             Ok(shown.pit)
         }
     }
 }
 
-/// Writes the text of a pit.
-pub(crate) fn put_pit<W: OutBytes>(out: &mut W, mine: &Instance, pit: &[u32]) -> Result<(), Fault>
-    requires countable { (W.progress out.old).failures < 2 ^ 63 }
-    requires shown { ShowsPit mine.now pit.now }
-    ensures written { WritesPit mine.now (W.progress out.old) (W.progress out.new) result }
-    ensures refused { IfErr result (λ e. e ≡ write_failed) }
+/// The greatest pit of a mine. A used-up budget is refused (20).
+fn greatest_pit<R: Threads + Wait + Sync>(
+    rt: &R,
+    alloc: Global,
+    task: &Task,
+    mode: &Mode,
+) -> Result<Vec<u32>, Fault>
+    requires { IsFixedOf (graph_of_mine task.now.mine) task.now.fixed }
+    ensures shown { IfOk result (λ pit. ListsPit Greatest task.now.mine (fixed_of task.now.fixed.lists) pit.items) }
+    ensures within { IfOk result (λ _. OfSearched Greatest task.now.mine (fixed_of task.now.fixed.lists) (EndsWithin mode.now)) }
+    ensures refused { IfErr result (λ e. RefusesSearch mode.now Greatest task.now.mine (fixed_of task.now.fixed.lists) e.refusal e) }
 {
-    mine.law();
-    let worth = mine.worth(pit);
-    write_pit(out, mine.graph().n(), pit, worth)
+    match solve_greatest(rt, alloc, &task.mine, &task.fixed, mode, &OpenGate)? {
+        PitOutcome::Pit(pit) => Ok(pit),
+        PitOutcome::Exhausted(count) => Err(Fault::exhausted(count)),
+    }
 }
 
-/// Reads a model and then a precedence file, and writes the text of the pit: of the smallest closed set of greatest worth,
-/// whatever the mode. Where there is a writer for the journal, which mode shared alone may have, what the workers decided is
-/// written before it: `run_replay` comes to the same pit. Where there is one for a certificate, the certificate that shows
-/// the pit is written behind the journal: `run_check` answers yes to it.
+/// The pit that is asked for. For the greatest there is no writer of a journal or of a certificate.
+fn solve_mine<J: OutBytes, C: OutBytes, W: OutBytes, R: Threads + Wait + Sync>(
+    rt: &R,
+    alloc: Global,
+    task: &Task,
+    asked: &Asked,
+    outputs: &mut SolveOutputs<J, C, W>,
+) -> Result<Vec<u32>, Fault>
+    requires may { MayWrite J.progress C.progress asked.now outputs.old }
+    requires fixed { IsFixedOf (graph_of_mine task.now.mine) task.now.fixed }
+    ensures shown { IfOk result (λ pit. ListsPit asked.now.pit task.now.mine (fixed_of task.now.fixed.lists) pit.items) }
+    ensures journaled { IfOk result (λ _. PutsJournal IsSettled asked.now.mode (task_of task.now) (chosen J.progress outputs.old.journal outputs.new.journal) (Ok tt)) }
+    ensures certified { IfOk result (λ _. PutsCertificate (task_of task.now) (chosen C.progress outputs.old.certificate outputs.new.certificate) (Ok tt)) }
+    ensures within { IfOk result (λ _. OfSearched asked.now.pit task.now.mine (fixed_of task.now.fixed.lists) (EndsWithin asked.now.mode)) }
+    ensures refused { IfErr result (λ e. RefusesPit asked.now.mode asked.now.pit (task_of task.now) e.refusal e (chosen J.progress outputs.old.journal outputs.new.journal) (chosen C.progress outputs.old.certificate outputs.new.certificate)) }
+    ensures no_pit { outputs.new.out ≡ outputs.old.out }
+{
+    match asked.pit {
+        Direction::Least => least_pit(rt, alloc, task, &asked.mode, outputs),
+        Direction::Greatest => greatest_pit(rt, alloc, task, &asked.mode),
+    }
+}
+
+/// Writes the text of a pit, whichever it is.
+pub(crate) fn put_pit<W: OutBytes>(out: &mut W, task: &Task, pit: &[u32]) -> Result<(), Fault>
+    requires countable { (W.progress out.old).failures < 2 ^ 63 }
+    requires listed { (set : ℕ → Bool) × (pit.now ≡ members task.now.mine.blocks set) }
+    ensures written { (direction : AnyDirection) → ListsPit direction task.now.mine (fixed_of task.now.fixed.lists) pit.now → WritesPit direction (task_of task.now) (W.progress out.old) (W.progress out.new) result }
+    ensures refused { IfErr result (λ e. e ≡ write_failed) }
+{
+    task.mine.law();
+    let worth = task.mine.worth(pit);
+    write_pit(out, task.mine.graph().n(), pit, worth)
+}
+
+/// Reads a model, then a precedence file, then the file of fixed blocks, where there is one, and writes the text of the pit,
+/// whatever the mode: of the smallest closed set of greatest worth, or of the largest, as is asked for, among the closed sets
+/// that hold each block forced in and none that is barred. Where there is a writer for the journal, which mode shared alone may
+/// have, a journal that ends at the least pit is written before it: `run_replay` comes to the same pit. Where there is one for a
+/// certificate, the certificate that shows the pit is written behind the journal: `run_check` answers yes to it. Neither may be
+/// there for the greatest pit.
 ///
-/// Refused by the first fault of the files (3 to 14), for want of memory (1), where a read failed (2) and where a worker
+/// Refused by the first fault of the files (3 to 14, 21), for want of memory (1), where a read failed (2) and where a worker
 /// could not be started (22), all with nothing written; where the budget is used up (20), with the whole journal written and
 /// nothing else; and where a write failed (18), with a beginning of these texts in their order.
 pub fn run_solve<
     R: Threads + Wait + Sync,
     M: InBytes,
     P: InBytes,
+    F: InBytes,
     J: OutBytes,
     C: OutBytes,
     W: OutBytes,
 >(
     rt: &R,
     alloc: Global,
-    model: &mut M,
-    prec: &mut P,
-    journal: &mut Option<J>,
-    certificate: &mut Option<C>,
-    out: &mut W,
-    mode: Mode,
+    files: &mut MineFiles<M, P, F>,
+    outputs: &mut SolveOutputs<J, C, W>,
+    asked: Asked,
 ) -> Result<Status, Fault>
-    requires model_countable { (M.progress model.old).failures < 2 ^ 63 }
-    requires model_bounded { (M.progress model.old).allowance ≤ 2 ^ 40 }
-    requires prec_countable { (P.progress prec.old).failures < 2 ^ 63 }
-    requires prec_bounded { (P.progress prec.old).allowance ≤ 2 ^ 40 }
-    requires journal_countable { IsCountable (progress_of J.progress journal.old) }
-    requires may { MayJournal mode (progress_of J.progress journal.old) }
-    requires certificate_countable { IsCountable (progress_of C.progress certificate.old) }
-    requires out_countable { (W.progress out.old).failures < 2 ^ 63 }
-    ensures done { IfOk result (IsDone
-        (reading (M.progress model.old) (M.progress model.new) (M.IsAtEnd model.new))
-        (reading (P.progress prec.old) (P.progress prec.new) (P.IsAtEnd prec.new))
-        (W.progress out.old) (W.progress out.new)) }
-    ensures journaled { IfOk result (λ _. OfWriterIfAny (chosen J.progress journal.old journal.new) (IsJournaled IsSettled mode
-        (reading (M.progress model.old) (M.progress model.new) (M.IsAtEnd model.new))
-        (reading (P.progress prec.old) (P.progress prec.new) (P.IsAtEnd prec.new)))) }
-    ensures certified { IfOk result (λ _. OfWriterIfAny (chosen C.progress certificate.old certificate.new) (IsCertified
-        (reading (M.progress model.old) (M.progress model.new) (M.IsAtEnd model.new))
-        (reading (P.progress prec.old) (P.progress prec.new) (P.IsAtEnd prec.new)))) }
-    ensures within { IfOk result (λ _. HoldsOfMine
-        (reading (M.progress model.old) (M.progress model.new) (M.IsAtEnd model.new))
-        (reading (P.progress prec.old) (P.progress prec.new) (P.IsAtEnd prec.new))
-        (EndsWithin mode)) }
-    ensures refused { IfErr result (λ e. RefusesRun mode e.refusal e
-        (reading (M.progress model.old) (M.progress model.new) (M.IsAtEnd model.new))
-        (reading (P.progress prec.old) (P.progress prec.new) (P.IsAtEnd prec.new))
-        (chosen J.progress journal.old journal.new)
-        (chosen C.progress certificate.old certificate.new)
-        (W.progress out.old) (W.progress out.new)) }
+    requires read { MayRead M.progress P.progress F.progress files.old }
+    requires write { MayWrite J.progress C.progress asked outputs.old }
+    requires out_countable { (W.progress outputs.old.out).failures < 2 ^ 63 }
+    ensures done { IfOk result (IsDone asked.pit
+        (files_of M.progress M.IsAtEnd P.progress P.IsAtEnd F.progress F.IsAtEnd files.old files.new)
+        (W.progress outputs.old.out) (W.progress outputs.new.out)) }
+    ensures journaled { IfOk result (λ _. OfWriterIfAny (chosen J.progress outputs.old.journal outputs.new.journal) (IsJournaled IsSettled asked.mode
+        (files_of M.progress M.IsAtEnd P.progress P.IsAtEnd F.progress F.IsAtEnd files.old files.new))) }
+    ensures certified { IfOk result (λ _. OfWriterIfAny (chosen C.progress outputs.old.certificate outputs.new.certificate) (IsCertified
+        (files_of M.progress M.IsAtEnd P.progress P.IsAtEnd F.progress F.IsAtEnd files.old files.new))) }
+    ensures within { IfOk result (λ _. HoldsOfSearched asked.pit
+        (files_of M.progress M.IsAtEnd P.progress P.IsAtEnd F.progress F.IsAtEnd files.old files.new)
+        (EndsWithin asked.mode)) }
+    ensures refused { IfErr result (λ e. RefusesRun asked e.refusal e
+        (files_of M.progress M.IsAtEnd P.progress P.IsAtEnd F.progress F.IsAtEnd files.old files.new)
+        (chosen J.progress outputs.old.journal outputs.new.journal)
+        (chosen C.progress outputs.old.certificate outputs.new.certificate)
+        (W.progress outputs.old.out) (W.progress outputs.new.out)) }
 {
-    let mine = read_mine(alloc, model, prec)?;
-    let pit = solve_mine(rt, alloc, &mine, &mode, journal, certificate)?;
-    put_pit(out, &mine, &pit)?;
+    let task = read_mine(alloc, files)?;
+    let pit = solve_mine(rt, alloc, &task, &asked, outputs)?;
+    put_pit(&mut outputs.out, &task, &pit)?;
     Ok(Status::Done)
 }

@@ -8,14 +8,16 @@ use Rattle.std.proofs.lemmas.List.{append-nil, drop_all, get_or-map, length-repl
 use Rattle.std.proofs.lemmas.List.FromFn.{get_or-range_with_len, length-range_with_len}
 use Rattle.pit_model.specs.Sum.{total, when}
 use Rattle.pit_model.specs.Graph.{Graph, first_of, second_of, IsGraph}
-use Rattle.pit_model.specs.Mine.{Instance, members, value, worth, IsPit}
+use Rattle.pit_model.specs.declared.direction.Direction.{Direction}
+use Rattle.pit_model.specs.Direction.{IsPitToward, ListsPit, nothing}
+use Rattle.pit_model.specs.Mine.{Instance, members, value, worth}
 use Rattle.pit_model.specs.Part.{IsPart}
 use Rattle.minelib_reader.specs.Number.{IsWithin}
 use Rattle.faults.specs.declared.fault.Fault.{Fault}
 use Rattle.faults.specs.declared.refusal.Refusal.{Refusal}
 use Rattle.faults.specs.declared.refusal.Refusal.TheVariants.{NoMemory}
 use Rattle.solver.specs.declared.mode.Mode.{Mode}
-use Rattle.solver.specs.Modes.{RefusesSolve}
+use Rattle.solver.specs.Searched.{RefusesSearch}
 use Rattle.pit_model.specs.Deposit.{Deposit, mine_at, IsPriced}
 use Rattle.pit_model.specs.Shells.{AreFactors, factor_of, IsJoined, IsOutside, IsRest, IsShell}
 use Rattle.pit_model.specs.declared.shell.Shell.{Shell}
@@ -24,7 +26,6 @@ use Rattle.pit_model.proofs.MemberSums.{summed-members}
 use Rattle.pit_model.proofs.Sums.{total-same}
 use Rattle.pit_model.proofs.Shells.{not_true, value_at_is, rest_gives_shell}
 use Rattle.shells.specs.Prices.{Prices, price_of, deposit_of, ArePrices}
-use Rattle.certificate.specs.Check.{ShowsPit}
 use Rattle.shells.specs.Grown.{marked, rest_at, IsGrown, RefusesShells}
 use Rattle.shells.proofs.PriceBounds.{each_small}
 
@@ -46,14 +47,14 @@ none_marked zero u = refl
 none_marked (suc n) zero = refl
 none_marked (suc n) (suc u) = none_marked n u
 
-pub starts : (prices : Prices) (factors : List ℕ) (graph part : Graph) (marks : List Bool) (blocks : List ℕ) → IsGraph graph.blocks graph.pairs → marks ≡ replicate graph.blocks false
-    → blocks ≡ range_with_len 0 graph.blocks → part ≡ graph → IsGrown (deposit_of prices graph) factors 0 marks blocks part
-starts prices factors graph part marks blocks is unmarked all same =
+pub starts : (direction : Direction) (prices : Prices) (factors : List ℕ) (graph part : Graph) (marks : List Bool) (blocks : List ℕ) → IsGraph graph.blocks graph.pairs → marks ≡ replicate graph.blocks false
+    → blocks ≡ range_with_len 0 graph.blocks → part ≡ graph → IsGrown direction (deposit_of prices graph) factors 0 marks blocks part
+starts direction prices factors graph part marks blocks is unmarked all same =
     let n = graph.blocks in
     let none : (u : ℕ) → marked (replicate n false) u ≡ false = none_marked n in
-    subst (λ (ms : List Bool). IsGrown (deposit_of prices graph) factors 0 ms blocks part) (sym unmarked)
-    (subst (λ (bs : List ℕ). IsGrown (deposit_of prices graph) factors 0 (replicate n false) bs part) (sym all)
-    (subst (λ (p : Graph). IsGrown (deposit_of prices graph) factors 0 (replicate n false) (range_with_len 0 n) p) (sym same)
+    subst (λ (ms : List Bool). IsGrown direction (deposit_of prices graph) factors 0 ms blocks part) (sym unmarked)
+    (subst (λ (bs : List ℕ). IsGrown direction (deposit_of prices graph) factors 0 (replicate n false) bs part) (sym all)
+    (subst (λ (p : Graph). IsGrown direction (deposit_of prices graph) factors 0 (replicate n false) (range_with_len 0 n) p) (sym same)
     (record {
       size = length-replicate n false;
       before = none;
@@ -130,28 +131,28 @@ joins_none deposit marks blocks found part outside none =
     joins deposit marks marks blocks found part outside (λ u h. h) (λ j l. absurd (omega arith)) (λ u h. inl h)
 
 -- the shell before, joined with what was found, is the pit of the whole
-pub grows : (prices : Prices) (graph part next : Graph) (factors : List ℕ) (k : ℕ) (old new : List Bool) (blocks others found : List ℕ)
+pub grows : (direction : Direction) (prices : Prices) (graph part next : Graph) (factors : List ℕ) (k : ℕ) (old new : List Bool) (blocks others found : List ℕ)
     → IsPriced (deposit_of prices graph) → AreFactors factors → k < length factors
-    → IsGrown (deposit_of prices graph) factors k old blocks part
-    → (shown : ShowsPit (rest_at prices (factor_of factors k) blocks part) found)
+    → IsGrown direction (deposit_of prices graph) factors k old blocks part
+    → (shown : ListsPit direction (rest_at prices (factor_of factors k) blocks part) nothing found)
     → ((test : ℕ → Bool) → found ≡ members (length blocks) test → IsJoined (marked old) blocks test (marked new))
     → length new ≡ graph.blocks → IsOutside (deposit_of prices graph) (marked new) others next
-    → IsGrown (deposit_of prices graph) factors (suc k) new others next
-grows prices graph part next factors k old new blocks others found priced are known grown shown joined size outside =
+    → IsGrown direction (deposit_of prices graph) factors (suc k) new others next
+grows direction prices graph part next factors k old new blocks others found priced are known grown shown joined size outside =
     let count = grown.outside.is_part.count in
     record {
       size = size;
-      before = rest_gives_shell (deposit_of prices graph) factors k (marked old) blocks part shown.set (marked new) priced are.rising known grown.before grown.outside shown.is_pit
+      before = rest_gives_shell direction (deposit_of prices graph) factors k (marked old) blocks part shown.set (marked new) priced are.rising known grown.before grown.outside shown.is_pit
           (joined shown.set (shown.listed ∙ ap (λ n. members n shown.set) count));
       outside = outside;
     }
 
 -- the marked blocks and their worth are the shell
-pub is_shell : (prices : Prices) (graph next : Graph) (factors : List ℕ) (k : ℕ) (marks : List Bool) (others : List ℕ) (shell : Shell)
-    → IsGrown (deposit_of prices graph) factors (suc k) marks others next → shell.factor ≡ factor_of factors k
+pub is_shell : (direction : Direction) (prices : Prices) (graph next : Graph) (factors : List ℕ) (k : ℕ) (marks : List Bool) (others : List ℕ) (shell : Shell)
+    → IsGrown direction (deposit_of prices graph) factors (suc k) marks others next → shell.factor ≡ factor_of factors k
     → shell.pit.items ≡ members (length marks) (marked marks) → shell.worth ≡ total (length shell.pit.items) (λ i. price_of prices (factor_of factors k) (get_or shell.pit.items i 0))
-    → IsShell (deposit_of prices graph) shell
-is_shell prices graph next factors k marks others shell grown factor pit sum =
+    → IsShell direction (deposit_of prices graph) shell
+is_shell direction prices graph next factors k marks others shell grown factor pit sum =
     let deposit = deposit_of prices graph in
     let listed : shell.pit.items ≡ members graph.blocks (marked marks) = pit ∙ ap (λ n. members n (marked marks)) grown.size in
     let worth_is : shell.worth ≡ worth (mine_at deposit (factor_of factors k)) (marked marks) =
@@ -162,13 +163,13 @@ is_shell prices graph next factors k marks others shell grown factor pit sum =
     record {
       set = marked marks;
       listed = listed;
-      is_pit = subst (λ f. IsPit (mine_at deposit f) (marked marks)) (sym factor) grown.before;
+      is_pit = subst (λ f. IsPitToward direction (mine_at deposit f) nothing (marked marks)) (sym factor) grown.before;
       worth_is = worth_is ∙ ap (λ f. worth (mine_at deposit f) (marked marks)) (sym factor);
     }
 
-pub is_rest : (prices : Prices) (graph part : Graph) (factors : List ℕ) (k : ℕ) (marks : List Bool) (blocks : List ℕ)
-    → IsGrown (deposit_of prices graph) factors k marks blocks part → IsRest (deposit_of prices graph) factors k (rest_at prices (factor_of factors k) blocks part)
-is_rest prices graph part factors k marks blocks grown = record {
+pub is_rest : (direction : Direction) (prices : Prices) (graph part : Graph) (factors : List ℕ) (k : ℕ) (marks : List Bool) (blocks : List ℕ)
+    → IsGrown direction (deposit_of prices graph) factors k marks blocks part → IsRest direction (deposit_of prices graph) factors k (rest_at prices (factor_of factors k) blocks part)
+is_rest direction prices graph part factors k marks blocks grown = record {
   before = marked marks;
   is_before = grown.before;
   blocks = blocks;
@@ -208,8 +209,8 @@ same_instance i prices factor blocks part same_n same_v same_p =
     let with_p : List (ℕ × ℕ) → Instance = λ ps. record { blocks = part.blocks; values = map (price_of prices factor) blocks; pairs = ps } in
     ap with_n same_n ∙ ap with_v same_v ∙ ap with_p same_p
 
-pub found_below : (prices : Prices) (factor : ℕ) (blocks found : List ℕ) (part : Graph) → part.blocks ≡ length blocks → ShowsPit (rest_at prices factor blocks part) found → (j : ℕ) → j < length found → get_or found j 0 < length blocks
-found_below prices factor blocks found part count shown j l =
+pub found_below : (direction : Direction) (prices : Prices) (factor : ℕ) (blocks found : List ℕ) (part : Graph) → part.blocks ≡ length blocks → ListsPit direction (rest_at prices factor blocks part) nothing found → (j : ℕ) → j < length found → get_or found j 0 < length blocks
+found_below direction prices factor blocks found part count shown j l =
     let each = members_each part.blocks shown.set j (subst (λ (xs : List ℕ). j < length xs) shown.listed l) in
     let at : get_or found j 0 ≡ get_or (members part.blocks shown.set) j 0 = ap (λ (xs : List ℕ). get_or xs j 0) shown.listed in
     let below = each.0 in
@@ -226,8 +227,8 @@ marked_few n marks pit is size =
     let same = ap (λ (xs : List ℕ). length xs) is in
     omega arith
 
--- a refusal of the rest's solve is one of the shells
-pub solve_refuses : (mode : Mode) (deposit : Deposit) (factors : List ℕ) (k : ℕ) (rest : Instance) (r : Refusal) (e : Fault) → k < length factors → IsRest deposit factors k rest
-    → RefusesSolve mode rest r e → RefusesShells mode deposit factors r e
-solve_refuses mode deposit factors k rest NoMemory e l is h = h
-solve_refuses mode deposit factors k rest _ e l is h = (k, l, (rest, is, h))
+-- a refusal of the search on the rest is one of the shells
+pub search_refuses : (mode : Mode) (direction : Direction) (deposit : Deposit) (factors : List ℕ) (k : ℕ) (rest : Instance) (r : Refusal) (e : Fault) → k < length factors → IsRest direction deposit factors k rest
+    → RefusesSearch mode direction rest nothing r e → RefusesShells mode direction deposit factors r e
+search_refuses mode direction deposit factors k rest NoMemory e l is h = h
+search_refuses mode direction deposit factors k rest _ e l is h = (k, l, (rest, is, h))

@@ -1,21 +1,26 @@
 -- What is found among the blocks of the outermost shell is enough. That shell is closed, and a closed set loses nothing at a
 -- lesser factor by being cut down to it: what it would lose, the outermost shell would gain. So a best closed set may be
 -- looked for inside, where closed sets and their worth are those of the part.
-use Rattle.std.proofs.Common.{◌≡◌, ℕ, ◌+◌, ◌<◌, ◌≤◌, ◌&&◌, ◌||◌, Bool, true, false, refl, sym, ap, subst, ◌∙◌, arith, ⊎_elim, List, [], ◌∷◌, ◌++◌, get_or, length}
+use Rattle.std.proofs.Common.{◌≡◌, ℕ, ◌<◌, ◌≤◌, ◌&&◌, ◌||◌, Bool, true, false, refl, sym, ap, subst, ◌∙◌, arith, ⊎_elim, List, [], get_or, length}
 use Rattle.std.specs.Prelude.{ℤ, pos, ◌-ℤ◌, ◌*ℤ◌, ◌≤ℤ◌}
 use Rattle.std.proofs.lemmas.Bool.{and_from, and_parts, cases_Bool, cases_eq, cases_lt, or_left, or_right, true≢false}
 use Rattle.std.proofs.lemmas.Int.{ints}
-use Rattle.std.proofs.lemmas.List.{get_or_append_left, get_or_at, get_or-map, length_push}
+use Rattle.std.proofs.lemmas.List.{get_or-map}
 use Rattle.pit_model.specs.Sum.{total, when}
 use Rattle.pit_model.specs.Graph.{Graph, first_of, second_of, AreInRange}
-use Rattle.pit_model.specs.Mine.{IsClosed, IsPit, members, value, worth}
+use Rattle.pit_model.specs.Mine.{Instance, IsClosed, members, value, worth}
 use Rattle.pit_model.specs.Deposit.{IsPriced, mine_at}
 use Rattle.pit_model.specs.Shells.{IsShell}
+use Rattle.pit_model.specs.declared.direction.Direction.{Direction}
+use Rattle.pit_model.specs.declared.direction.Direction.TheVariants.{Least, Greatest}
+use Rattle.pit_model.specs.Direction.{IsPitToward, nothing}
 use Rattle.pit_model.specs.declared.shell.Shell.{Shell}
+use Rattle.pit_model.proofs.Fixed.{closed_is_allowed}
 use Rattle.pit_model.proofs.Members.{members_each, members_place, members_rise}
 use Rattle.pit_model.proofs.MemberSums.{summed, summed-members}
 use Rattle.pit_model.proofs.Shells.{gains, value_at_is, values_rise}
 use Rattle.pit_model.proofs.Sums.{total-same}
+use Rattle.pit_model.proofs.Turned.{nothing_fixed}
 use Rattle.shells.specs.Prices.{Prices, deposit_of}
 use Rattle.shells.specs.Outermost.{AreLifted, IsLiftedShell, IsOutermost}
 
@@ -25,8 +30,23 @@ lies_inside true d x h = refl
 lies_inside false true x h = absurd (true≢false (sym (h refl)))
 lies_inside false false x h = refl
 
+-- toward each direction a pit is closed, and no closed set is worth more
+closed_toward : (direction : Direction) (mine : Instance) (set : ℕ → Bool) → IsPitToward direction mine nothing set → IsClosed mine set
+closed_toward Least mine set pit = pit.allowed.closed
+closed_toward Greatest mine set pit = pit.allowed.closed
+
+best_toward : (direction : Direction) (mine : Instance) (set : ℕ → Bool) → IsPitToward direction mine nothing set → (other : ℕ → Bool) → IsClosed mine other → worth mine other ≤ℤ worth mine set
+best_toward Least mine set pit other closed = pit.best other (closed_is_allowed mine nothing nothing_fixed other closed)
+best_toward Greatest mine set pit other closed = pit.best other (closed_is_allowed mine nothing nothing_fixed other closed)
+
 -- the part on the outermost shell
-module _ (prices inner : Prices) (graph part : Graph) (lesser greater : ℕ) (blocks : List ℕ) (priced : IsPriced (deposit_of prices graph)) (le : lesser ≤ greater) (outer : IsOutermost prices graph greater blocks inner part) (range : AreInRange part.pairs part.blocks) where
+module _ (direction : Direction) (prices inner : Prices) (graph part : Graph) (lesser greater : ℕ) (blocks : List ℕ) (priced : IsPriced (deposit_of prices graph)) (le : lesser ≤ greater) (outer : IsOutermost direction prices graph greater blocks inner part) (range : AreInRange part.pairs part.blocks) where
+  outer_closed : IsClosed (mine_at (deposit_of prices graph) greater) outer.set
+  outer_closed = closed_toward direction (mine_at (deposit_of prices graph) greater) outer.set outer.is_pit
+
+  outer_best : (other : ℕ → Bool) → IsClosed (mine_at (deposit_of prices graph) greater) other → worth (mine_at (deposit_of prices graph) greater) other ≤ℤ worth (mine_at (deposit_of prices graph) greater) outer.set
+  outer_best = best_toward direction (mine_at (deposit_of prices graph) greater) outer.set outer.is_pit
+
   -- a block of the part
   each : (i : ℕ) → i < length blocks → (get_or blocks i 0 < graph.blocks) × (outer.set (get_or blocks i 0) ≡ true)
   each i l =
@@ -72,17 +92,25 @@ module _ (prices inner : Prices) (graph part : Graph) (lesser greater : ℕ) (bl
     cut_closed : IsClosed (mine_at (deposit_of prices graph) lesser) (λ u. C u && outer.set u)
     cut_closed k l h =
         let here = and_parts (C (first_of graph.pairs k)) (outer.set (first_of graph.pairs k)) h in
-        and_from _ _ (closed k l here.0) (outer.is_pit.closed k l here.1)
+        and_from _ _ (closed k l here.0) (outer_closed k l here.1)
 
     wide_closed : IsClosed (mine_at (deposit_of prices graph) greater) (λ u. C u || outer.set u)
     wide_closed k l h = ⊎_elim
         (λ (a : C (first_of graph.pairs k) ≡ true). or_left _ _ (closed k l a))
-        (λ (a : C (first_of graph.pairs k) ≡ false). or_right _ _ (outer.is_pit.closed k l (ap (λ b. b || outer.set (first_of graph.pairs k)) (sym a) ∙ h)))
+        (λ (a : C (first_of graph.pairs k) ≡ false). or_right _ _ (outer_closed k l (ap (λ b. b || outer.set (first_of graph.pairs k)) (sym a) ∙ h)))
         (cases_Bool (C (first_of graph.pairs k)))
+
+    gained : worth (mine_at (deposit_of prices graph) lesser) C ≡ worth (mine_at (deposit_of prices graph) lesser) (λ u. C u && outer.set u)
+        → worth (mine_at (deposit_of prices graph) greater) (λ u. C u || outer.set u) ≡ worth (mine_at (deposit_of prices graph) greater) outer.set
+    gained same =
+        let best = outer_best (λ u. C u || outer.set u) wide_closed in
+        let more = gains graph.blocks (value (mine_at (deposit_of prices graph) lesser)) (value (mine_at (deposit_of prices graph) greater)) C outer.set
+        (λ u l. values_rise (deposit_of prices graph) lesser greater u priced le l) in
+        omega (arith, ints)
 
     no_loss : worth (mine_at (deposit_of prices graph) lesser) C ≤ℤ worth (mine_at (deposit_of prices graph) lesser) (λ u. C u && outer.set u)
     no_loss =
-        let best = outer.is_pit.best (λ u. C u || outer.set u) wide_closed in
+        let best = outer_best (λ u. C u || outer.set u) wide_closed in
         let more = gains graph.blocks (value (mine_at (deposit_of prices graph) lesser)) (value (mine_at (deposit_of prices graph) greater)) C outer.set
         (λ u l. values_rise (deposit_of prices graph) lesser greater u priced le l) in
         omega (arith, ints)
@@ -91,18 +119,24 @@ module _ (prices inner : Prices) (graph part : Graph) (lesser greater : ℕ) (bl
     cut_worth = worth_inside (λ u. C u && outer.set u) (λ u l h. (and_parts (C u) (outer.set u) h).1)
 
   -- a set inside that is the pit of the part
-  module _ (found after : ℕ → Bool) (pit : IsPit (mine_at (deposit_of inner part) lesser) found)
+  module _ (found after : ℕ → Bool) (pit : IsPitToward direction (mine_at (deposit_of inner part) lesser) nothing found)
       (adds : (i : ℕ) → i < length blocks → after (get_or blocks i 0) ≡ found i) (only : (u : ℕ) → after u ≡ true → outer.set u ≡ true) where
-    after_closed : IsClosed (mine_at (deposit_of prices graph) lesser) after
+    found_closed : IsClosed (mine_at (deposit_of inner part) lesser) found
+    found_closed = closed_toward direction (mine_at (deposit_of inner part) lesser) found pit
+
+    found_best : (other : ℕ → Bool) → IsClosed (mine_at (deposit_of inner part) lesser) other → worth (mine_at (deposit_of inner part) lesser) other ≤ℤ worth (mine_at (deposit_of inner part) lesser) found
+    found_best = best_toward direction (mine_at (deposit_of inner part) lesser) found pit
+
+    pub after_closed : IsClosed (mine_at (deposit_of prices graph) lesser) after
     after_closed k l h =
         let first = only (first_of graph.pairs k) h in
-        let there = outer.is_part.all k l first (outer.is_pit.closed k l first) in
+        let there = outer.is_part.all k l first (outer_closed k l first) in
         let r = range there.0 there.1 in
         let low = r.0 in
         let high = r.1 in
         let count = outer.is_part.count in
         let chosen : found (first_of part.pairs there.0) ≡ true = sym (adds (first_of part.pairs there.0) (omega arith)) ∙ ap after there.2.0 ∙ h in
-        sym (ap after there.2.1) ∙ adds (second_of part.pairs there.0) (omega arith) ∙ pit.closed there.0 there.1 chosen
+        sym (ap after there.2.1) ∙ adds (second_of part.pairs there.0) (omega arith) ∙ found_closed there.0 there.1 chosen
 
     pub after_worth : worth (mine_at (deposit_of prices graph) lesser) after ≡ worth (mine_at (deposit_of inner part) lesser) found
     after_worth =
@@ -111,36 +145,86 @@ module _ (prices inner : Prices) (graph part : Graph) (lesser greater : ℕ) (bl
         worth_inside after (λ u l h. only u h)
         ∙ total-same part.blocks (λ i. when (after (get_or blocks i 0)) (w i)) (λ i. when (found i) (w i)) (λ i l. ap (λ b. when b (w i)) (adds i (omega arith)))
 
-    after_best : (C : ℕ → Bool) → IsClosed (mine_at (deposit_of prices graph) lesser) C → worth (mine_at (deposit_of prices graph) lesser) C ≤ℤ worth (mine_at (deposit_of prices graph) lesser) after
+    pub after_best : (C : ℕ → Bool) → IsClosed (mine_at (deposit_of prices graph) lesser) C → worth (mine_at (deposit_of prices graph) lesser) C ≤ℤ worth (mine_at (deposit_of prices graph) lesser) after
     after_best C closed =
         let one = no_loss C closed in
         let two = cut_worth C closed in
-        let three = pit.best (λ i. C (get_or blocks i 0) && outer.set (get_or blocks i 0)) (part_closed (λ u. C u && outer.set u) (cut_closed C closed)) in
+        let three = found_best (λ i. C (get_or blocks i 0) && outer.set (get_or blocks i 0)) (part_closed (λ u. C u && outer.set u) (cut_closed C closed)) in
         let four = after_worth in
         omega (arith, ints)
 
-    after_smallest : (C : ℕ → Bool) → IsClosed (mine_at (deposit_of prices graph) lesser) C → worth (mine_at (deposit_of prices graph) lesser) C ≡ worth (mine_at (deposit_of prices graph) lesser) after
-        → (u : ℕ) → u < graph.blocks → after u ≡ true → C u ≡ true
-    after_smallest C closed same u l h =
-        let cut : ℕ → Bool = λ i. C (get_or blocks i 0) && outer.set (get_or blocks i 0) in
+    -- what is worth as much, cut down to the outermost shell, is closed on the part and worth as much there
+    cut_is_best : (C : ℕ → Bool) → IsClosed (mine_at (deposit_of prices graph) lesser) C → worth (mine_at (deposit_of prices graph) lesser) C ≡ worth (mine_at (deposit_of prices graph) lesser) after
+        → IsClosed (mine_at (deposit_of inner part) lesser) (λ i. C (get_or blocks i 0) && outer.set (get_or blocks i 0))
+        × (worth (mine_at (deposit_of inner part) lesser) (λ i. C (get_or blocks i 0) && outer.set (get_or blocks i 0)) ≡ worth (mine_at (deposit_of inner part) lesser) found)
+    cut_is_best C closed same =
         let cut_is : IsClosed (mine_at (deposit_of inner part) lesser) (λ i. C (get_or blocks i 0) && outer.set (get_or blocks i 0)) = part_closed (λ v. C v && outer.set v) (cut_closed C closed) in
         let one = no_loss C closed in
         let two = cut_worth C closed in
-        let three = pit.best (λ i. C (get_or blocks i 0) && outer.set (get_or blocks i 0)) cut_is in
+        let three = found_best (λ i. C (get_or blocks i 0) && outer.set (get_or blocks i 0)) cut_is in
         let four = after_worth in
-        let equal : worth (mine_at (deposit_of inner part) lesser) (λ i. C (get_or blocks i 0) && outer.set (get_or blocks i 0)) ≡ worth (mine_at (deposit_of inner part) lesser) found = omega (arith, ints) in
-        let place = members_place graph.blocks outer.set u l (only u h) in
+        (cut_is, omega (arith, ints))
+
+    -- a block of the outermost shell is one of the part
+    placed : (u : ℕ) → u < graph.blocks → outer.set u ≡ true → (i : ℕ) × (i < length blocks) × (get_or blocks i 0 ≡ u)
+    placed u l h =
+        let place = members_place graph.blocks outer.set u l h in
         let listed = outer.is_part.blocks_are in
+        (place.0, subst (λ (xs : List ℕ). place.0 < length xs) (sym listed) place.1, ap (λ (xs : List ℕ). get_or xs place.0 0) listed ∙ place.2)
+
+    pub after_smallest : ((other : ℕ → Bool) → IsClosed (mine_at (deposit_of inner part) lesser) other → worth (mine_at (deposit_of inner part) lesser) other ≡ worth (mine_at (deposit_of inner part) lesser) found
+        → (i : ℕ) → i < part.blocks → found i ≡ true → other i ≡ true)
+        → (C : ℕ → Bool) → IsClosed (mine_at (deposit_of prices graph) lesser) C → worth (mine_at (deposit_of prices graph) lesser) C ≡ worth (mine_at (deposit_of prices graph) lesser) after
+        → (u : ℕ) → u < graph.blocks → after u ≡ true → C u ≡ true
+    after_smallest smallest C closed same u l h =
+        let cut = cut_is_best C closed same in
+        let at = placed u l (only u h) in
         let count = outer.is_part.count in
-        let i = place.0 in
-        let there : i < length blocks = subst (λ (xs : List ℕ). i < length xs) (sym listed) place.1 in
-        let at : get_or blocks i 0 ≡ u = ap (λ (xs : List ℕ). get_or xs i 0) listed ∙ place.2 in
-        let chosen = pit.smallest (λ j. C (get_or blocks j 0) && outer.set (get_or blocks j 0)) cut_is equal i (omega arith) (sym (adds i there) ∙ ap after at ∙ h) in
-        sym (ap C at) ∙ (and_parts (C (get_or blocks i 0)) (outer.set (get_or blocks i 0)) chosen).0
+        let inside = at.1 in
+        let chosen = smallest (λ j. C (get_or blocks j 0) && outer.set (get_or blocks j 0)) cut.0 cut.1 at.0 (omega arith) (sym (adds at.0 at.1) ∙ ap after at.2 ∙ h) in
+        sym (ap C at.2) ∙ (and_parts (C (get_or blocks at.0 0)) (outer.set (get_or blocks at.0 0)) chosen).0
 
-    pub after_is_pit : IsPit (mine_at (deposit_of prices graph) lesser) after
-    after_is_pit = record { closed = after_closed; best = after_best; smallest = after_smallest }
+    -- where the outermost shell is the largest too, so is what was found: a set that is worth as much lies in that shell
+    pub after_largest : ((other : ℕ → Bool) → IsClosed (mine_at (deposit_of inner part) lesser) other → worth (mine_at (deposit_of inner part) lesser) other ≡ worth (mine_at (deposit_of inner part) lesser) found
+        → (i : ℕ) → i < part.blocks → other i ≡ true → found i ≡ true)
+        → ((other : ℕ → Bool) → IsClosed (mine_at (deposit_of prices graph) greater) other → worth (mine_at (deposit_of prices graph) greater) other ≡ worth (mine_at (deposit_of prices graph) greater) outer.set
+        → (v : ℕ) → v < graph.blocks → other v ≡ true → outer.set v ≡ true)
+        → (C : ℕ → Bool) → IsClosed (mine_at (deposit_of prices graph) lesser) C → worth (mine_at (deposit_of prices graph) lesser) C ≡ worth (mine_at (deposit_of prices graph) lesser) after
+        → (u : ℕ) → u < graph.blocks → C u ≡ true → after u ≡ true
+    after_largest largest outer_largest C closed same u l h =
+        let cut = cut_is_best C closed same in
+        let two = cut_worth C closed in
+        let four = after_worth in
+        let equal = cut.1 in
+        let kept : worth (mine_at (deposit_of prices graph) lesser) C ≡ worth (mine_at (deposit_of prices graph) lesser) (λ v. C v && outer.set v) = same ∙ four ∙ sym equal ∙ sym two in
+        let lies : outer.set u ≡ true = outer_largest (λ v. C v || outer.set v) (wide_closed C closed) (gained C closed kept) u l (or_left (C u) (outer.set u) h) in
+        let at = placed u l lies in
+        let count = outer.is_part.count in
+        let inside = at.1 in
+        let held : (C (get_or blocks at.0 0) && outer.set (get_or blocks at.0 0)) ≡ true = and_from _ _ (ap C at.2 ∙ h) (ap outer.set at.2 ∙ lies) in
+        let chosen = largest (λ j. C (get_or blocks j 0) && outer.set (get_or blocks j 0)) cut.0 cut.1 at.0 (omega arith) held in
+        sym (ap after at.2) ∙ adds at.0 at.1 ∙ chosen
 
+-- the pit of the part is that of the whole, toward each direction
+after_is_pit : (direction : Direction) (prices inner : Prices) (graph part : Graph) (lesser greater : ℕ) (blocks : List ℕ) (priced : IsPriced (deposit_of prices graph)) (le : lesser ≤ greater) (outer : IsOutermost direction prices graph greater blocks inner part) (range : AreInRange part.pairs part.blocks)
+    (found after : ℕ → Bool) (pit : IsPitToward direction (mine_at (deposit_of inner part) lesser) nothing found)
+    (adds : (i : ℕ) → i < length blocks → after (get_or blocks i 0) ≡ found i) (only : (u : ℕ) → after u ≡ true → outer.set u ≡ true)
+    → IsPitToward direction (mine_at (deposit_of prices graph) lesser) nothing after
+after_is_pit Least prices inner graph part lesser greater blocks priced le outer range found after pit adds only = record {
+  allowed = closed_is_allowed (mine_at (deposit_of prices graph) lesser) nothing nothing_fixed after (after_closed Least prices inner graph part lesser greater blocks priced le outer range found after pit adds only);
+  best = λ C ok. after_best Least prices inner graph part lesser greater blocks priced le outer range found after pit adds only C ok.closed;
+  smallest = λ C ok same. after_smallest Least prices inner graph part lesser greater blocks priced le outer range found after pit adds only
+      (λ other closed. pit.smallest other (closed_is_allowed (mine_at (deposit_of inner part) lesser) nothing nothing_fixed other closed)) C ok.closed same;
+}
+after_is_pit Greatest prices inner graph part lesser greater blocks priced le outer range found after pit adds only = record {
+  allowed = closed_is_allowed (mine_at (deposit_of prices graph) lesser) nothing nothing_fixed after (after_closed Greatest prices inner graph part lesser greater blocks priced le outer range found after pit adds only);
+  best = λ C ok. after_best Greatest prices inner graph part lesser greater blocks priced le outer range found after pit adds only C ok.closed;
+  largest = λ C ok same. after_largest Greatest prices inner graph part lesser greater blocks priced le outer range found after pit adds only
+      (λ other closed. pit.largest other (closed_is_allowed (mine_at (deposit_of inner part) lesser) nothing nothing_fixed other closed))
+      (λ other closed. outer.is_pit.largest other (closed_is_allowed (mine_at (deposit_of prices graph) greater) nothing nothing_fixed other closed)) C ok.closed same;
+}
+
+module _ (direction : Direction) (prices inner : Prices) (graph part : Graph) (lesser greater : ℕ) (blocks : List ℕ) (priced : IsPriced (deposit_of prices graph)) (le : lesser ≤ greater) (outer : IsOutermost direction prices graph greater blocks inner part) (range : AreInRange part.pairs part.blocks) where
   -- the blocks of the part stand apart
   apart : (i j : ℕ) → i < length blocks → j < length blocks → get_or blocks i 0 ≡ get_or blocks j 0 → i ≡ j
   apart i j l m same =
@@ -155,7 +239,7 @@ module _ (prices inner : Prices) (graph part : Graph) (lesser greater : ℕ) (bl
       (cases_eq i j)
 
   -- a shell of the part, by the numbers of the whole
-  module _ (shell lifted : Shell) (is : IsShell (deposit_of inner part) shell) (factor : shell.factor ≡ lesser) (by : IsLiftedShell graph.blocks blocks shell lifted) where
+  module _ (shell lifted : Shell) (is : IsShell direction (deposit_of inner part) shell) (factor : shell.factor ≡ lesser) (by : IsLiftedShell graph.blocks blocks shell lifted) where
     listed_at : (j : ℕ) → j < length shell.pit.items → (get_or shell.pit.items j 0 < length blocks) × (is.set (get_or shell.pit.items j 0) ≡ true)
     listed_at j l =
         let at = members_each part.blocks is.set j (subst (λ (xs : List ℕ). j < length xs) is.listed l) in
@@ -185,20 +269,22 @@ module _ (prices inner : Prices) (graph part : Graph) (lesser greater : ℕ) (bl
     lies : (u : ℕ) → by.pit.set u ≡ true → outer.set u ≡ true
     lies u h =
         let some = by.pit.only u h in
-        sym (ap outer.set some.2) ∙ (each (get_or shell.pit.items some.0 0) (listed_at some.0 some.1).0).1
+        sym (ap outer.set some.2) ∙ (each direction prices inner graph part lesser greater blocks priced le outer range (get_or shell.pit.items some.0 0) (listed_at some.0 some.1).0).1
 
-    inner_pit : IsPit (mine_at (deposit_of inner part) lesser) is.set
-    inner_pit = subst (λ f. IsPit (mine_at (deposit_of inner part) f) is.set) factor is.is_pit
+    inner_pit : IsPitToward direction (mine_at (deposit_of inner part) lesser) nothing is.set
+    inner_pit = subst (λ f. IsPitToward direction (mine_at (deposit_of inner part) f) nothing is.set) factor is.is_pit
 
-    pub lifted_is_shell : IsShell (deposit_of prices graph) lifted
+    pub lifted_is_shell : IsShell direction (deposit_of prices graph) lifted
     lifted_is_shell =
         let same : lifted.factor ≡ lesser = by.factor ∙ factor in
         record {
           set = by.pit.set;
           listed = by.pit.listed;
-          is_pit = subst (λ f. IsPit (mine_at (deposit_of prices graph) f) by.pit.set) (sym same) (after_is_pit is.set by.pit.set inner_pit stands lies);
+          is_pit = subst (λ f. IsPitToward direction (mine_at (deposit_of prices graph) f) nothing by.pit.set) (sym same)
+              (after_is_pit direction prices inner graph part lesser greater blocks priced le outer range is.set by.pit.set inner_pit stands lies);
           worth_is = by.worth ∙ is.worth_is ∙ ap (λ f. worth (mine_at (deposit_of inner part) f) is.set) factor
-              ∙ sym (after_worth is.set by.pit.set inner_pit stands lies) ∙ ap (λ f. worth (mine_at (deposit_of prices graph) f) by.pit.set) (sym same);
+              ∙ sym (after_worth direction prices inner graph part lesser greater blocks priced le outer range is.set by.pit.set inner_pit stands lies)
+              ∙ ap (λ f. worth (mine_at (deposit_of prices graph) f) by.pit.set) (sym same);
         }
 
 -- one shell more

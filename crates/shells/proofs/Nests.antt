@@ -5,6 +5,7 @@ use Rattle.std.specs.List.Sorted.{IsStrictlyIncreasing}
 use Rattle.std.proofs.lemmas.Bool.{cases_eq}
 use Rattle.std.proofs.lemmas.List.{get_or_default, get_or-map, length-map, map_push, take_all, take_more}
 use Rattle.std.proofs.lemmas.List.Kept.{AllPairs-from_increasing}
+use Rattle.pit_model.specs.declared.direction.Direction.{Direction}
 use Rattle.pit_model.specs.Mine.{members}
 use Rattle.pit_model.specs.Deposit.{Deposit, IsPriced}
 use Rattle.pit_model.specs.Shells.{AreFactors, AreShells, IsShell, IsWithin}
@@ -25,15 +26,15 @@ member_listed n set u l h =
     let place = members_place n set u l h in
     (place.0, place.1, get_or_default (members n set) place.0 u 0 place.1 ∙ place.2)
 
-within : (deposit : Deposit) (inner outer : Shell) → IsPriced deposit → inner.factor ≤ outer.factor → IsShell deposit inner → IsShell deposit outer → IsWithin inner outer
-within deposit inner outer priced le a b u held =
+within : (direction : Direction) (deposit : Deposit) (inner outer : Shell) → IsPriced deposit → inner.factor ≤ outer.factor → IsShell direction deposit inner → IsShell direction deposit outer → IsWithin inner outer
+within direction deposit inner outer priced le a b u held =
     let at = listed_member deposit.blocks a.set u (subst (λ (xs : List ℕ). Contains xs u) a.listed held) in
-    let there = shells_nest deposit inner.factor outer.factor a.set b.set priced le a.is_pit b.is_pit u at.0 at.1 in
+    let there = shells_nest direction deposit inner.factor outer.factor a.set b.set priced le a.is_pit b.is_pit u at.0 at.1 in
     subst (λ (xs : List ℕ). Contains xs u) (sym b.listed) (member_listed deposit.blocks b.set u at.0 there)
 
-pub nests : (deposit : Deposit) (factors : List ℕ) (shells : List Shell) → IsPriced deposit → IsStrictlyIncreasing factors → map (λ shell. shell.factor) shells ≡ factors
-    → All (IsShell deposit) shells → AllPairs IsWithin shells
-nests deposit factors shells priced rising named each i j d low inside =
+pub nests : (direction : Direction) (deposit : Deposit) (factors : List ℕ) (shells : List Shell) → IsPriced deposit → IsStrictlyIncreasing factors → map (λ shell. shell.factor) shells ≡ factors
+    → All (IsShell direction deposit) shells → AllPairs IsWithin shells
+nests direction deposit factors shells priced rising named each i j d low inside =
     let factor : (k : ℕ) → k < length shells → (get_or shells k d).factor ≡ get_or factors k 0 =
     λ k l. sym (get_or-map (λ (shell : Shell). shell.factor) shells k d 0 l) ∙ ap (λ (xs : List ℕ). get_or xs k 0) named in
     let size = length-map shells (λ (shell : Shell). shell.factor) in
@@ -41,16 +42,16 @@ nests deposit factors shells priced rising named each i j d low inside =
     let less = AllPairs-from_increasing factors rising i j 0 low (omega arith) in
     let first = factor i (omega arith) in
     let second = factor j inside in
-    within deposit (get_or shells i d) (get_or shells j d) priced (omega arith) (each i d (omega arith)) (each j d inside)
+    within direction deposit (get_or shells i d) (get_or shells j d) priced (omega arith) (each i d (omega arith)) (each j d inside)
 
-pub are_shells : (deposit : Deposit) (factors : List ℕ) (shells : List Shell) (k : ℕ) → IsPriced deposit → AreFactors factors → length factors ≤ k
-    → map (λ shell. shell.factor) shells ≡ take k factors → All (IsShell deposit) shells → AreShells deposit factors shells
-are_shells deposit factors shells k priced are all named each =
+pub are_shells : (direction : Direction) (deposit : Deposit) (factors : List ℕ) (shells : List Shell) (k : ℕ) → IsPriced deposit → AreFactors factors → length factors ≤ k
+    → map (λ shell. shell.factor) shells ≡ take k factors → All (IsShell direction deposit) shells → AreShells direction deposit factors shells
+are_shells direction deposit factors shells k priced are all named each =
     let whole = named ∙ take_all k factors all in
     record {
       factors_are = whole;
       each = each;
-      nested = nests deposit factors shells priced are.rising whole each;
+      nested = nests direction deposit factors shells priced are.rising whole each;
     }
 
 -- one shell more

@@ -9,13 +9,14 @@ use Rattle.pit_model.specs.Graph.{Graph, AreInRange}
 use Rattle.pit_model.specs.Mine.{members}
 use Rattle.pit_model.specs.Part.{IsPart}
 use Rattle.pit_model.specs.Deposit.{IsPriced}
+use Rattle.pit_model.specs.declared.direction.Direction.{Direction}
+use Rattle.pit_model.specs.Direction.{ListsPit, nothing}
 use Rattle.pit_model.specs.Shells.{AreFactors, AreShells, IsShell}
 use Rattle.pit_model.specs.declared.shell.Shell.{Shell}
 use Rattle.pit_model.proofs.Members.{members_each}
 use Rattle.pit_model.proofs.Shells.{rest_gives_shell}
 use Rattle.mine_graph.proofs.Renumbering.{part_ext}
 use Rattle.shells.specs.Prices.{Prices, deposit_of}
-use Rattle.certificate.specs.Check.{ShowsPit}
 use Rattle.shells.specs.Grown.{marked, rest_at, IsGrown}
 use Rattle.shells.specs.Outermost.{amounts_of, AreLifted, IsOutermost, IsPlacedIn}
 use Rattle.shells.proofs.Joining.{joins}
@@ -26,38 +27,38 @@ twice_not : (b : Bool) → not (not b) ≡ b
 twice_not true = refl
 twice_not false = refl
 
-pub is_outermost : (prices inner : Prices) (graph whole part other : Graph) (factor : ℕ) (old new ms : List Bool) (all found blocks : List ℕ)
-    → IsPriced (deposit_of prices graph) → AreInRange graph.pairs graph.blocks → IsGrown (deposit_of prices graph) (factor ∷ []) 0 old all whole
-    → ShowsPit (rest_at prices factor all whole) found
+pub is_outermost : (direction : Direction) (prices inner : Prices) (graph whole part other : Graph) (factor : ℕ) (old new ms : List Bool) (all found blocks : List ℕ)
+    → IsPriced (deposit_of prices graph) → AreInRange graph.pairs graph.blocks → IsGrown direction (deposit_of prices graph) (factor ∷ []) 0 old all whole
+    → ListsPit direction (rest_at prices factor all whole) nothing found
     → ((u : ℕ) → marked old u ≡ true → marked new u ≡ true)
     → ((j : ℕ) → j < length found → marked new (get_or all (get_or found j 0) 0) ≡ true)
     → ((u : ℕ) → marked new u ≡ true → (marked old u ≡ true) ⊎ ((j : ℕ) × (j < length found) × (get_or all (get_or found j 0) 0 ≡ u)))
     → ms ≡ map not new → length new ≡ graph.blocks → IsPart graph (λ u. not (get_or ms u false)) blocks part → other ≡ part
     → inner.revenues ≡ amounts_of prices.revenues blocks → inner.costs ≡ amounts_of prices.costs blocks
-    → IsOutermost prices graph factor blocks inner other
-is_outermost prices inner graph whole part other factor old new ms all found blocks priced range grown shown keeps adds only mapped size is same revenues costs =
+    → IsOutermost direction prices graph factor blocks inner other
+is_outermost direction prices inner graph whole part other factor old new ms all found blocks priced range grown shown keeps adds only mapped size is same revenues costs =
     let count = grown.outside.is_part.count in
     let joined = joins (deposit_of prices graph) old new all found whole grown.outside keeps adds only shown.set (shown.listed ∙ ap (λ n. members n shown.set) count) in
     let unmarked : (u : ℕ) → u < graph.blocks → not (get_or ms u false) ≡ marked new u = λ u l.
     ap (λ (xs : List Bool). not (get_or xs u false)) mapped ∙ ap not (get_or-map not new u false false (omega arith)) ∙ twice_not (marked new u) in
     record {
       set = marked new;
-      is_pit = rest_gives_shell (deposit_of prices graph) (factor ∷ []) 0 (marked old) all whole shown.set (marked new) priced (λ k l. absurd (omega arith)) (omega arith) grown.before grown.outside shown.is_pit joined;
+      is_pit = rest_gives_shell direction (deposit_of prices graph) (factor ∷ []) 0 (marked old) all whole shown.set (marked new) priced (λ k l. absurd (omega arith)) (omega arith) grown.before grown.outside shown.is_pit joined;
       is_part = subst (λ (h : Graph). IsPart graph (marked new) blocks h) (sym same) (part_ext graph part (λ u. not (get_or ms u false)) (marked new) blocks range unmarked is);
       revenues = revenues;
       costs = costs;
     }
 
-pub outer_blocks : (prices inner : Prices) (graph part : Graph) (factor : ℕ) (blocks : List ℕ) → IsOutermost prices graph factor blocks inner part → (i : ℕ) → i < length blocks → get_or blocks i 0 < graph.blocks
-outer_blocks prices inner graph part factor blocks outer i l =
+pub outer_blocks : (direction : Direction) (prices inner : Prices) (graph part : Graph) (factor : ℕ) (blocks : List ℕ) → IsOutermost direction prices graph factor blocks inner part → (i : ℕ) → i < length blocks → get_or blocks i 0 < graph.blocks
+outer_blocks direction prices inner graph part factor blocks outer i l =
     let listed = outer.is_part.blocks_are in
     let at = members_each graph.blocks outer.set i (subst (λ (xs : List ℕ). i < length xs) listed l) in
     let here : get_or blocks i 0 ≡ get_or (members graph.blocks outer.set) i 0 = ap (λ (xs : List ℕ). get_or xs i 0) listed in
     let below = at.0 in
     omega arith
 
-pub pits_placed : (prices inner : Prices) (graph part : Graph) (factor : ℕ) (blocks : List ℕ) (shells : List Shell) → IsOutermost prices graph factor blocks inner part → All (IsShell (deposit_of inner part)) shells → All (IsPlacedIn blocks) shells
-pits_placed prices inner graph part factor blocks shells outer each k d l j m =
+pub pits_placed : (direction : Direction) (prices inner : Prices) (graph part : Graph) (factor : ℕ) (blocks : List ℕ) (shells : List Shell) → IsOutermost direction prices graph factor blocks inner part → All (IsShell direction (deposit_of inner part)) shells → All (IsPlacedIn blocks) shells
+pits_placed direction prices inner graph part factor blocks shells outer each k d l j m =
     let is = each k d l in
     let at = members_each part.blocks is.set j (subst (λ (xs : List ℕ). j < length xs) is.listed m) in
     let here : get_or (get_or shells k d).pit.items j 0 ≡ get_or (members part.blocks is.set) j 0 = ap (λ (xs : List ℕ). get_or xs j 0) is.listed in
@@ -87,16 +88,16 @@ last_is_most factors k are l = ⊎_elim
     (λ (ne : k ≡ length factors - 1 → ⊥). let less = AllPairs-from_increasing factors are.rising k (length factors - 1) 0 (omega arith) (omega arith) in omega arith)
     (cases_eq k (length factors - 1))
 
-pub lifted_are_shells : (prices inner : Prices) (graph part : Graph) (greatest : ℕ) (blocks factors : List ℕ) (shells lifted : List Shell) → IsPriced (deposit_of prices graph) → AreFactors factors
-    → IsOutermost prices graph greatest blocks inner part → AreInRange part.pairs part.blocks → greatest ≡ get_or factors (length factors - 1) 0
-    → AreShells (deposit_of inner part) factors shells → AreLifted graph.blocks blocks shells lifted (length shells) → AreShells (deposit_of prices graph) factors lifted
-lifted_are_shells prices inner graph part greatest blocks factors shells lifted priced are outer range last found by =
+pub lifted_are_shells : (direction : Direction) (prices inner : Prices) (graph part : Graph) (greatest : ℕ) (blocks factors : List ℕ) (shells lifted : List Shell) → IsPriced (deposit_of prices graph) → AreFactors factors
+    → IsOutermost direction prices graph greatest blocks inner part → AreInRange part.pairs part.blocks → greatest ≡ get_or factors (length factors - 1) 0
+    → AreShells direction (deposit_of inner part) factors shells → AreLifted graph.blocks blocks shells lifted (length shells) → AreShells direction (deposit_of prices graph) factors lifted
+lifted_are_shells direction prices inner graph part greatest blocks factors shells lifted priced are outer range last found by =
     let named : factors_in lifted ≡ factors = named_same graph.blocks blocks shells lifted by ∙ found.factors_are in
     let size = by.size in
     let count : length shells ≡ length factors = sym (length-map shells (λ (shell : Shell). shell.factor)) ∙ ap (λ (xs : List ℕ). length xs) found.factors_are in
-    are_shells (deposit_of prices graph) factors lifted (length factors) priced are (omega arith) (named ∙ sym (take_all (length factors) factors (omega arith)))
+    are_shells direction (deposit_of prices graph) factors lifted (length factors) priced are (omega arith) (named ∙ sym (take_all (length factors) factors (omega arith)))
     (λ i d l.
     let there : i < length shells = omega arith in
     let factor : (get_or shells i d).factor ≡ get_or factors i 0 = sym (get_or-map (λ (shell : Shell). shell.factor) shells i d 0 there) ∙ ap (λ (xs : List ℕ). get_or xs i 0) found.factors_are in
     let most = last_is_most factors i are (omega arith) in
-    lifted_is_shell prices inner graph part (get_or shells i d).factor greatest blocks priced (omega arith) outer range (get_or shells i d) (get_or lifted i d) (found.each i d there) refl (by.each i d there))
+    lifted_is_shell direction prices inner graph part (get_or shells i d).factor greatest blocks priced (omega arith) outer range (get_or shells i d) (get_or lifted i d) (found.each i d there) refl (by.each i d there))

@@ -2,7 +2,9 @@
 use Rattle.std.specs.Prelude.{◌≡◌, ℕ, ◌<◌, ℤ, pos, true, Bool, List, length, get_or, map}
 use Rattle.pit_model.specs.declared.shell.Shell.{Shell}
 use Rattle.pit_model.specs.Graph.{Graph}
-use Rattle.pit_model.specs.Mine.{members, IsPit}
+use Rattle.pit_model.specs.Mine.{members}
+use Rattle.pit_model.specs.declared.direction.Direction.{Direction}
+use Rattle.pit_model.specs.Direction.{IsPitToward, nothing}
 use Rattle.pit_model.specs.Part.{IsPart}
 use Rattle.pit_model.specs.Deposit.{mine_at}
 use Rattle.shells.specs.Prices.{Prices, deposit_of}
@@ -11,10 +13,10 @@ use Rattle.shells.specs.Prices.{Prices, deposit_of}
 abbrev pub amounts_of : List ℤ → List ℕ → List ℤ
 amounts_of amounts blocks = map (λ u. get_or amounts u (pos 0)) blocks
 
--- the part of a deposit on the pit at a factor
-pub record IsOutermost (prices : Prices) (graph : Graph) (factor : ℕ) (blocks : List ℕ) (inner : Prices) (part : Graph) : Type 0 where
+-- the part of a deposit on the pit toward a direction at a factor
+pub record IsOutermost (direction : Direction) (prices : Prices) (graph : Graph) (factor : ℕ) (blocks : List ℕ) (inner : Prices) (part : Graph) : Type 0 where
   pub set : ℕ → Bool
-  pub is_pit : IsPit (mine_at (deposit_of prices graph) factor) set
+  pub is_pit : IsPitToward direction (mine_at (deposit_of prices graph) factor) nothing set
   pub is_part : IsPart graph set blocks part
   pub revenues : inner.revenues ≡ amounts_of prices.revenues blocks
   pub costs : inner.costs ≡ amounts_of prices.costs blocks

@@ -1,5 +1,5 @@
 -- What two columns of a table of blocks say: the revenue and the cost of each block.
-use Rattle.std.specs.Prelude.{◌⊎◌, ◌≤◌, ◌^◌, ℕ, ℤ, pos, List, length, get_or}
+use Rattle.std.specs.Prelude.{◌⊎◌, ◌≤◌, ℕ, ℤ, pos, List, length, get_or}
 use Rattle.pit_model.specs.Size.{most_blocks}
 use Rattle.faults.specs.declared.fault.Fault.{Fault}
 use Rattle.minelib_reader.specs.Table.{Table}

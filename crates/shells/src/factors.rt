@@ -1,5 +1,5 @@
 //! Price factors in per mille, rising. A list of them is handed in, or read from a text of whole numbers between commas.
-ghost use Rattle.std.specs.Prelude.{◌≡◌, ◌<◌, ℕ, map, length, get_or, Some, IfOk, IfErr, IfSome, IfNone};
+ghost use Rattle.std.specs.Prelude.{◌≡◌, ◌<◌, ℕ, map, length, Some, IfOk, IfErr, IfSome, IfNone};
 ghost use Rattle.minelib_reader.specs.Answer.{FailsAt};
 ghost use Rattle.pit_model.specs.Shells.{AreFactors, factor_of};
 ghost use Rattle.shells.specs.FactorList.{numbers_of, IsFirstItemFault, SpellsFactors};

@@ -1,23 +1,21 @@
 //! Shells that grow from factor to factor: a factor is solved on the rest alone, the blocks outside the shell before, and
-//! what is found there is joined with that shell (pits nest by factor: Lerchs and Grossmann 1965).
-ghost use Rattle.std.specs.Prelude.{◌≡◌, ◌<◌, ◌≤◌, ◌⊎◌, ◌^◌, ℕ, suc, true, Bool, List, length, get_or, IfOk, IfErr};
+//! what is found there is joined with that shell (toward each direction pits nest by factor: Lerchs and Grossmann 1965).
+ghost use Rattle.std.specs.Prelude.{◌≡◌, ◌<◌, ◌≤◌, ◌⊎◌, ℕ, suc, true, Bool, List, length, get_or, IfOk, IfErr};
 ghost use Rattle.std.specs.List.{range_with_len};
 ghost use Rattle.faults.specs.Refused.{no_memory};
-ghost use Rattle.pit_model.specs.Mine.{members, IsPit};
-ghost use Rattle.pit_model.specs.Deposit.{mine_on};
+ghost use Rattle.pit_model.specs.Mine.{members};
 ghost use Rattle.pit_model.specs.Shells.{factor_of, IsJoined, IsOutside, IsShell};
-ghost use Rattle.certificate.specs.Check.{ShowsPit};
-ghost use Rattle.solver.specs.Modes.{EndsWithin, RefusesSolve};
+ghost use Rattle.pit_model.specs.declared.direction.Direction.{Direction as AnyDirection};
 ghost use Rattle.shells.specs.Prices.{deposit_of, Prices};
 ghost use Rattle.shells.specs.Grown.{marked, rest_at, IsGrown, RefusesShells, RestEndsWithin};
 ghost use Rattle.pit_model.specs.Size.{most_blocks};
 
 use crate::columns::Columns;
-use crate::factors::Factors;
+use crate::plan::Plan;
 use faults::Fault;
 use mine_graph::{Graph, Instance};
 use pit_model::Shell;
-use solver::{Gate, Mode, find_pit};
+use solver::{Gate, find_pit_toward};
 use std::alloc::{AllocError, Global};
 use std::sync::{Arc, Wait};
 use std::thread::Threads;
@@ -31,14 +29,6 @@ pub struct Growing {
     pub graph: Arc<Graph>,
 }
 
-/// A mine with the revenues and the costs of its blocks, and the factors at which its shells are wanted.
-#[derive(Clone, Copy)]
-pub struct Priced<'a> {
-    pub columns: &'a Columns,
-    pub graph: &'a Graph,
-    pub factors: &'a Factors,
-}
-
 /// The numbers of all blocks.
 fn all_blocks(alloc: Global, n: u32) -> Result<Vec<u32>, AllocError>
     ensures { IfOk result (λ v. v.items ≡ range_with_len 0 n) }
@@ -48,7 +38,7 @@ fn all_blocks(alloc: Global, n: u32) -> Result<Vec<u32>, AllocError>
 
 /// Nothing is taken yet, and all blocks are left. The graph itself is not copied. Refused for want of memory alone.
 pub fn start(alloc: Global, graph: &Arc<Graph>) -> Result<Growing, AllocError>
-    ensures { IfOk result (λ g. (prices : Prices) (factors : List ℕ) → IsGrown (deposit_of prices graph.now.value) factors 0 g.marks.items g.blocks.items g.graph.value) }
+    ensures { IfOk result (λ g. (direction : AnyDirection) (prices : Prices) (factors : List ℕ) → IsGrown direction (deposit_of prices graph.now.value) factors 0 g.marks.items g.blocks.items g.graph.value) }
 {
     graph.law();
     let n = graph.n();
@@ -62,28 +52,24 @@ pub fn start(alloc: Global, graph: &Arc<Graph>) -> Result<Growing, AllocError>
     })
 }
 
-/// The pit of the rest at a factor, by the rest's own numbers.
-pub fn solve_rest<G: Gate + Sync, R: Threads + Wait + Sync>(
-    rt: &R,
+/// The rest as an instance at a factor.
+pub fn rest_instance(
     alloc: Global,
     columns: &Columns,
     growing: &Growing,
     factor: u32,
-    mode: &Mode,
-    gate: &G,
-) -> Result<Vec<u32>, Fault>
+) -> Result<Instance, Fault>
     requires factor { factor ≤ 100000 }
     requires rows { (i : ℕ) → i < length growing.now.blocks.items → get_or growing.now.blocks.items i 0 < length columns.now.revenues }
     requires count { growing.now.graph.value.blocks ≡ length growing.now.blocks.items }
-    ensures found { IfOk result (λ pit. ShowsPit (rest_at columns.now factor growing.now.blocks.items growing.now.graph.value) pit.items) }
-    ensures within { IfOk result (λ _. EndsWithin mode.now (rest_at columns.now factor growing.now.blocks.items growing.now.graph.value)) }
-    ensures refused { IfErr result (λ e. RefusesSolve mode.now (rest_at columns.now factor growing.now.blocks.items growing.now.graph.value) e.refusal e) }
+    ensures is { IfOk result (λ rest. rest ≡ rest_at columns.now factor growing.now.blocks.items growing.now.graph.value) }
+    ensures refused { IfErr result (λ e. e ≡ no_memory) }
 {
     columns.law();
     let values = columns.values(alloc, &growing.blocks, factor)?;
     let graph = Arc::try_clone(&growing.graph)?;
     let rest = Instance::new(graph, values);
-    find_pit(rt, alloc, &rest, mode, gate)
+    Ok(rest)
 }
 
 /// Marks the blocks of the rest that were found, by their numbers there.
@@ -140,31 +126,33 @@ fn join(alloc: Global, graph: &Graph, growing: &mut Growing, found: &[u32]) -> R
 pub fn next_shell<G: Gate + Sync, R: Threads + Wait + Sync>(
     rt: &R,
     alloc: Global,
-    priced: &Priced<'_>,
+    plan: &Plan<'_>,
     k: usize,
     growing: &mut Growing,
-    mode: &Mode,
     gate: &G,
 ) -> Result<Shell, Fault>
-    requires rows { length priced.now.columns.now.revenues ≡ priced.now.graph.now.blocks }
-    requires known { k < length priced.now.factors.now }
-    requires grown { IsGrown (deposit_of priced.now.columns.now priced.now.graph.now) priced.now.factors.now k growing.old.marks.items growing.old.blocks.items growing.old.graph.value }
-    ensures grown { IfOk result (λ _. IsGrown (deposit_of priced.now.columns.now priced.now.graph.now) priced.now.factors.now (suc k) growing.new.marks.items growing.new.blocks.items growing.new.graph.value) }
-    ensures shell { IfOk result (IsShell (deposit_of priced.now.columns.now priced.now.graph.now)) }
-    ensures factor { IfOk result (λ shell. shell.factor ≡ factor_of priced.now.factors.now k) }
-    ensures within { IfOk result (λ _. RestEndsWithin mode.now (deposit_of priced.now.columns.now priced.now.graph.now) priced.now.factors.now k) }
-    ensures refused { IfErr result (λ e. RefusesShells mode.now (deposit_of priced.now.columns.now priced.now.graph.now) priced.now.factors.now e.refusal e) }
+    requires rows { length plan.now.columns.now.revenues ≡ plan.now.graph.now.value.blocks }
+    requires known { k < length plan.now.factors.now }
+    requires grown { IsGrown plan.now.direction (deposit_of plan.now.columns.now plan.now.graph.now.value) plan.now.factors.now k growing.old.marks.items growing.old.blocks.items growing.old.graph.value }
+    ensures grown { IfOk result (λ _. IsGrown plan.now.direction (deposit_of plan.now.columns.now plan.now.graph.now.value) plan.now.factors.now (suc k) growing.new.marks.items growing.new.blocks.items growing.new.graph.value) }
+    ensures shell { IfOk result (IsShell plan.now.direction (deposit_of plan.now.columns.now plan.now.graph.now.value)) }
+    ensures factor { IfOk result (λ shell. shell.factor ≡ factor_of plan.now.factors.now k) }
+    ensures within { IfOk result (λ _. RestEndsWithin plan.now.mode.now plan.now.direction (deposit_of plan.now.columns.now plan.now.graph.now.value) plan.now.factors.now k) }
+    ensures refused { IfErr result (λ e. RefusesShells plan.now.mode.now plan.now.direction (deposit_of plan.now.columns.now plan.now.graph.now.value) plan.now.factors.now e.refusal e) }
 {
-    let Priced {
+    let Plan {
         columns,
         graph,
         factors,
-    } = *priced;
+        mode,
+        direction,
+    } = *plan;
     factors.law();
     columns.law();
     graph.law();
     let factor = factors.get(k);
-    let found = solve_rest(rt, alloc, columns, growing, factor, mode, gate)?;
+    let rest = rest_instance(alloc, columns, growing, factor)?;
+    let found = find_pit_toward(rt, alloc, &rest, direction, mode, gate)?;
     join(alloc, graph, growing, &found)?;
     let pit = marked_blocks(alloc, &growing.marks)?;
     let worth = columns.worth(&pit, factor);

@@ -7,8 +7,9 @@ mod growing;
 mod items;
 mod nesting;
 mod outermost;
+mod plan;
 
 pub use columns::Columns;
 pub use factors::Factors;
 pub use nesting::shells;
-pub use pit_model::{Shell, ShellList};
+pub use pit_model::{Direction, Shell, ShellList};

@@ -7,11 +7,12 @@ ghost use Rattle.shells.specs.Grown.{EachEndsWithin, IsFree, RefusesShells};
 
 use crate::columns::Columns;
 use crate::factors::Factors;
-use crate::growing::{Priced, next_shell, start};
+use crate::growing::{next_shell, start};
 use crate::outermost::{is_free, lift_all, outermost_shell};
+use crate::plan::Plan;
 use faults::Fault;
 use mine_graph::Graph;
-use pit_model::{Shell, ShellList};
+use pit_model::{Direction, Shell, ShellList};
 use solver::{Gate, Mode};
 use std::alloc::Global;
 use std::sync::{Arc, Wait};
@@ -21,29 +22,21 @@ use std::thread::Threads;
 fn each_shell<G: Gate + Sync, R: Threads + Wait + Sync>(
     rt: &R,
     alloc: Global,
-    columns: &Columns,
-    graph: &Arc<Graph>,
-    factors: &Factors,
-    mode: &Mode,
+    plan: &Plan<'_>,
     gate: &G,
 ) -> Result<Vec<Shell>, Fault>
-    requires { length columns.now.revenues ≡ graph.now.value.blocks }
-    ensures shells { IfOk result (λ list. AreShells (deposit_of columns.now graph.now.value) factors.now list.items) }
-    ensures within { IfOk result (λ _. EachEndsWithin mode.now (deposit_of columns.now graph.now.value) factors.now) }
-    ensures refused { IfErr result (λ e. RefusesShells mode.now (deposit_of columns.now graph.now.value) factors.now e.refusal e) }
+    requires { length plan.now.columns.now.revenues ≡ plan.now.graph.now.value.blocks }
+    ensures shells { IfOk result (λ list. AreShells plan.now.direction (deposit_of plan.now.columns.now plan.now.graph.now.value) plan.now.factors.now list.items) }
+    ensures within { IfOk result (λ _. EachEndsWithin plan.now.mode.now plan.now.direction (deposit_of plan.now.columns.now plan.now.graph.now.value) plan.now.factors.now) }
+    ensures refused { IfErr result (λ e. RefusesShells plan.now.mode.now plan.now.direction (deposit_of plan.now.columns.now plan.now.graph.now.value) plan.now.factors.now e.refusal e) }
 {
-    factors.law();
-    columns.law();
-    graph.law();
-    let mut growing = start(alloc, graph)?;
+    plan.factors.law();
+    plan.columns.law();
+    plan.graph.law();
+    let mut growing = start(alloc, plan.graph)?;
     let mut list = Vec::new(alloc);
-    let priced = Priced {
-        columns,
-        graph,
-        factors,
-    };
-    for k in 0..factors.len() {
-        let shell = next_shell(rt, alloc, &priced, k, &mut growing, mode, gate)?;
+    for k in 0..plan.factors.len() {
+        let shell = next_shell(rt, alloc, plan, k, &mut growing, gate)?;
         list.push(shell)?;
     }
     Ok(list)
@@ -53,26 +46,37 @@ fn each_shell<G: Gate + Sync, R: Threads + Wait + Sync>(
 fn shells_within<G: Gate + Sync, R: Threads + Wait + Sync>(
     rt: &R,
     alloc: Global,
-    columns: &Columns,
-    graph: &Arc<Graph>,
-    factors: &Factors,
-    mode: &Mode,
+    plan: &Plan<'_>,
     gate: &G,
 ) -> Result<Vec<Shell>, Fault>
-    requires rows { length columns.now.revenues ≡ graph.now.value.blocks }
-    requires some { 0 < length factors.now }
-    requires free { IsFree mode.now }
-    ensures shells { IfOk result (λ list. AreShells (deposit_of columns.now graph.now.value) factors.now list.items) }
+    requires rows { length plan.now.columns.now.revenues ≡ plan.now.graph.now.value.blocks }
+    requires some { 0 < length plan.now.factors.now }
+    requires free { IsFree plan.now.mode.now }
+    ensures shells { IfOk result (λ list. AreShells plan.now.direction (deposit_of plan.now.columns.now plan.now.graph.now.value) plan.now.factors.now list.items) }
     ensures refused { IfErr result (λ e. e ≡ no_memory) }
 {
+    let Plan {
+        columns,
+        graph,
+        factors,
+        mode,
+        direction,
+    } = *plan;
     factors.law();
     columns.law();
     graph.law();
     let greatest = factors.get(factors.len() - 1);
-    let outer = outermost_shell(rt, alloc, columns, graph, greatest, mode, gate)?;
+    let outer = outermost_shell(rt, alloc, plan, greatest, gate)?;
     outer.columns.law();
     outer.graph.law();
-    let inner = each_shell(rt, alloc, &outer.columns, &outer.graph, factors, mode, gate)?;
+    let within = Plan {
+        columns: &outer.columns,
+        graph: &outer.graph,
+        factors,
+        mode,
+        direction,
+    };
+    let inner = each_shell(rt, alloc, &within, gate)?;
     Ok(lift_all(alloc, graph.n(), &outer.blocks, &inner)?)
 }
 
@@ -80,26 +84,24 @@ fn shells_within<G: Gate + Sync, R: Threads + Wait + Sync>(
 fn all_shells<G: Gate + Sync, R: Threads + Wait + Sync>(
     rt: &R,
     alloc: Global,
-    columns: &Columns,
-    graph: &Arc<Graph>,
-    factors: &Factors,
-    mode: &Mode,
+    plan: &Plan<'_>,
     gate: &G,
 ) -> Result<Vec<Shell>, Fault>
-    requires { length columns.now.revenues ≡ graph.now.value.blocks }
-    ensures shells { IfOk result (λ list. AreShells (deposit_of columns.now graph.now.value) factors.now list.items) }
-    ensures within { IfOk result (λ _. EachEndsWithin mode.now (deposit_of columns.now graph.now.value) factors.now) }
-    ensures refused { IfErr result (λ e. RefusesShells mode.now (deposit_of columns.now graph.now.value) factors.now e.refusal e) }
+    requires { length plan.now.columns.now.revenues ≡ plan.now.graph.now.value.blocks }
+    ensures shells { IfOk result (λ list. AreShells plan.now.direction (deposit_of plan.now.columns.now plan.now.graph.now.value) plan.now.factors.now list.items) }
+    ensures within { IfOk result (λ _. EachEndsWithin plan.now.mode.now plan.now.direction (deposit_of plan.now.columns.now plan.now.graph.now.value) plan.now.factors.now) }
+    ensures refused { IfErr result (λ e. RefusesShells plan.now.mode.now plan.now.direction (deposit_of plan.now.columns.now plan.now.graph.now.value) plan.now.factors.now e.refusal e) }
 {
-    if factors.len() < 2 || !is_free(mode) {
-        return each_shell(rt, alloc, columns, graph, factors, mode, gate);
+    if plan.factors.len() < 2 || !is_free(plan.mode) {
+        return each_shell(rt, alloc, plan, gate);
     }
-    shells_within(rt, alloc, columns, graph, factors, mode, gate)
+    shells_within(rt, alloc, plan, gate)
 }
 
-/// The shells of a mine with these revenues and costs: for each factor its pit, with the pit's worth in the factor's own
-/// values, in billionths. Each lies within all later ones. A factor is solved on what the shell before leaves; a budget of
-/// mergers counts anew for each. The gate is told of the steps of workers.
+/// The shells of a mine with these revenues and costs toward a direction: for each factor its least or its greatest pit, with
+/// the pit's worth in the factor's own values, in billionths. Each lies within all later ones. A factor is solved on what the
+/// shell before leaves, for the greatest pit on that rest turned round; a budget of mergers counts anew for each. The gate is
+/// told of the steps of workers.
 ///
 /// Refused for want of memory (1), where the budget is used up with a merger arc left on some factor's rest (20), and where
 /// a worker could not be started (22).
@@ -111,14 +113,22 @@ pub fn shells<G: Gate + Sync, R: Threads + Wait + Sync>(
     factors: &Factors,
     mode: &Mode,
     gate: &G,
+    direction: Direction,
 ) -> Result<ShellList, Fault>
     requires { length columns.now.revenues ≡ graph.now.value.blocks }
     ensures blocks { IfOk result (λ list. list.n ≡ graph.now.value.blocks) }
-    ensures shells { IfOk result (λ list. AreShells (deposit_of columns.now graph.now.value) factors.now list.shells.items) }
-    ensures within { IfOk result (λ _. EachEndsWithin mode.now (deposit_of columns.now graph.now.value) factors.now) }
-    ensures refused { IfErr result (λ e. RefusesShells mode.now (deposit_of columns.now graph.now.value) factors.now e.refusal e) }
+    ensures shells { IfOk result (λ list. AreShells direction (deposit_of columns.now graph.now.value) factors.now list.shells.items) }
+    ensures within { IfOk result (λ _. EachEndsWithin mode.now direction (deposit_of columns.now graph.now.value) factors.now) }
+    ensures refused { IfErr result (λ e. RefusesShells mode.now direction (deposit_of columns.now graph.now.value) factors.now e.refusal e) }
 {
-    let shells = all_shells(rt, alloc, columns, graph, factors, mode, gate)?;
+    let plan = Plan {
+        columns,
+        graph,
+        factors,
+        mode,
+        direction,
+    };
+    let shells = all_shells(rt, alloc, &plan, gate)?;
     Ok(ShellList {
         n: graph.n(),
         shells,

@@ -1,6 +1,6 @@
 //! The outermost shell as a deposit of its own. All shells lie within that of the greatest factor (Lerchs and Grossmann
 //! 1965), and it is closed: so where no budget counts mergers, it is found first, and the others among its blocks alone.
-ghost use Rattle.std.specs.Prelude.{◌≡◌, ◌<◌, ◌≤◌, ◌^◌, ℕ, not, map, length, get_or, IsTrue, IfOk, IfErr};
+ghost use Rattle.std.specs.Prelude.{◌≡◌, ◌<◌, ◌≤◌, ℕ, not, map, length, get_or, IsTrue, IfOk, IfErr};
 ghost use Rattle.faults.specs.Refused.{no_memory};
 ghost use Rattle.shells.specs.Grown.{IsFree};
 ghost use Rattle.shells.specs.Outermost.{IsOutermost, IsLiftedShell, AreLifted, IsPlacedIn};
@@ -8,11 +8,12 @@ ghost use Rattle.std.specs.List.{All};
 ghost use Rattle.pit_model.specs.Size.{most_blocks};
 
 use crate::columns::Columns;
-use crate::growing::{mark, marked_blocks, solve_rest, start};
+use crate::growing::{mark, marked_blocks, rest_instance, start};
+use crate::plan::Plan;
 use faults::Fault;
 use mine_graph::Graph;
 use pit_model::Shell;
-use solver::{Gate, Mode};
+use solver::{Gate, Mode, find_pit_toward};
 use std::alloc::{AllocError, Global};
 use std::sync::{Arc, Wait};
 use std::thread::Threads;
@@ -44,26 +45,32 @@ fn turned(alloc: Global, marks: &[bool]) -> Result<Vec<bool>, AllocError>
     marks.iter().map(|&mark| !mark).collect(alloc)
 }
 
-/// The pit at a factor, as a deposit of its own. Refused for want of memory alone.
+/// The pit at a factor toward the plan's direction, as a deposit of its own. Refused for want of memory alone.
 pub fn outermost_shell<G: Gate + Sync, R: Threads + Wait + Sync>(
     rt: &R,
     alloc: Global,
-    columns: &Columns,
-    graph: &Arc<Graph>,
+    plan: &Plan<'_>,
     factor: u32,
-    mode: &Mode,
     gate: &G,
 ) -> Result<Outermost, Fault>
-    requires rows { length columns.now.revenues ≡ graph.now.value.blocks }
+    requires rows { length plan.now.columns.now.revenues ≡ plan.now.graph.now.value.blocks }
     requires factor { factor ≤ 100000 }
-    requires free { IsFree mode.now }
-    ensures is { IfOk result (λ o. IsOutermost columns.now graph.now.value factor o.blocks.items o.columns o.graph.value) }
+    requires free { IsFree plan.now.mode.now }
+    ensures is { IfOk result (λ o. IsOutermost plan.now.direction plan.now.columns.now plan.now.graph.now.value factor o.blocks.items o.columns o.graph.value) }
     ensures refused { IfErr result (λ e. e ≡ no_memory) }
 {
+    let Plan {
+        columns,
+        graph,
+        mode,
+        direction,
+        ..
+    } = *plan;
     columns.law();
     graph.law();
     let mut whole = start(alloc, graph)?;
-    let found = solve_rest(rt, alloc, columns, &whole, factor, mode, gate)?;
+    let rest = rest_instance(alloc, columns, &whole, factor)?;
+    let found = find_pit_toward(rt, alloc, &rest, direction, mode, gate)?;
     mark(&mut whole.marks, &whole.blocks, &found);
     let outside = turned(alloc, &whole.marks)?;
     let part = graph.without(&outside)?;

@@ -2,9 +2,13 @@
 #![tactic(auto)]
 
 mod by_mode;
+mod greatest;
 mod mode;
+mod with_fixed;
 
 pub use by_mode::{find_certificate, find_pit, solve};
 pub use crew::{Entry, Gate, OpenGate, Verdict, solve_shared};
+pub use greatest::{PitOutcome, find_pit_toward, solve_greatest};
 pub use merging::{Outcome, solve_parts, solve_single};
 pub use mode::Mode;
+pub use with_fixed::{find_fixed_pit, solve_fixed};

@@ -9,6 +9,8 @@ mod certificate_tests;
 #[cfg(test)]
 mod fault_tests;
 #[cfg(test)]
+mod fixed_tests;
+#[cfg(test)]
 mod forest_tests;
 #[cfg(test)]
 mod graph_tests;
@@ -32,6 +34,8 @@ mod parts_tests;
 mod random_tests;
 #[cfg(test)]
 mod reader_tests;
+#[cfg(test)]
+mod settled_tests;
 #[cfg(test)]
 mod stream_tests;
 #[cfg(test)]

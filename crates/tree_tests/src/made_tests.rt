@@ -1,5 +1,6 @@
 //! The worked mines, solved: the certificate of the last tree, written and read again, is answered yes.
 use crate::mines::instance_of;
+use crate::text_tests::nothing_fixed;
 use certificate::{check, of_tree, parse_certificate, write};
 use faults::Fault;
 use minelib_reader::MemoryWriter;
@@ -26,13 +27,14 @@ fn is_shown(alloc: Global, tree: &NormTree) -> Result<bool, Fault> {
         return Ok(false);
     };
     let mut written = MemoryWriter::new(alloc, 1000);
-    write(&mut written, tree.instance().graph(), &certificate)?;
+    let none = nothing_fixed(tree.instance().graph());
+    write(&mut written, tree.instance().graph(), &none, &certificate)?;
     let text = written.text.as_slice();
     if text.len() > 1000 {
         return Ok(false);
     }
-    let read = parse_certificate(alloc, text, tree.instance().graph())?;
-    check(alloc, tree.instance(), &read)
+    let read = parse_certificate(alloc, text, tree.instance().graph(), &none)?;
+    check(alloc, tree.instance(), &none, &read)
 }
 
 /// Whether the mine's certificate is made, written, read and answered yes.

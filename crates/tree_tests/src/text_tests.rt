@@ -1,10 +1,12 @@
 //! Certificates as texts, on four blocks of worth 1, -2, 5, -2, of which block 0 needs 1 and 3, and block 2 needs 1; and on
 //! two of worth -5 and 5. What is answered was worked out by hand.
 ghost use Rattle.std.specs.Prelude.{◌≡◌, ◌≤◌, ◌<◌, ℕ, ℤ, pos, neg_ℤ, ◌^◌, ◌≤ℤ◌, get_or, length, IfOk};
+ghost use Rattle.pit_model.specs.Fixed.{graph_of_mine};
+ghost use Rattle.mine_graph.specs.FixedBlocks.{IsFixedOf};
 
 use certificate::{Certificate, check, parse_certificate, read, write};
 use faults::Fault;
-use mine_graph::{Graph, Instance};
+use mine_graph::{Fixed, Graph, Instance};
 use minelib_reader::{MemoryReader, MemoryWriter};
 use report::write_fault;
 use std::alloc::Global;
@@ -14,7 +16,7 @@ use std::test::*;
 const FLOW: &[u8] =
     b"PITCERT 1\nBLOCKS: 4\nARCS: 3\nIN: 2\n1\n2\nFLOW: 2\n0 3 1000000\n2 1 5000000\n";
 
-fn four_blocks(alloc: Global) -> Result<Instance, Fault> {
+pub(crate) fn four_blocks(alloc: Global) -> Result<Instance, Fault> {
     let pairs = vec![in alloc; (0, 1), (0, 3), (2, 1)]?;
     let graph = Arc::new(alloc, Graph::new(alloc, 4, pairs)?)?;
     let values = vec![in alloc; 1_000_000, -2_000_000, 5_000_000, -2_000_000]?;
@@ -28,20 +30,54 @@ fn two_blocks(alloc: Global) -> Result<Instance, Fault> {
     Ok(Instance::new(graph, values))
 }
 
-/// Whether the certificate that a text spells shows the pit of the mine.
-fn answer(alloc: Global, mine: &Instance, text: &[u8]) -> Result<bool, Fault>
-    requires { length text.now ≤ 2 ^ 40 }
+/// Nothing is fixed, of this graph.
+pub(crate) fn nothing_fixed(graph: &Graph) -> Fixed
+    ensures { IsFixedOf graph.now result }
 {
-    let certificate = read(alloc, &mut MemoryReader::new(text), mine.graph())?;
-    check(alloc, mine, &certificate)
+    graph.law();
+    Fixed::none()
 }
 
-/// The text of the fault of a text, and nothing where it is read.
+/// Whether the pit and the flow of a text that names no fixed block show the pit of the mine where these blocks are fixed.
+pub(crate) fn fixed_answer(
+    alloc: Global,
+    mine: &Instance,
+    fixed: &Fixed,
+    text: &[u8],
+) -> Result<bool, Fault>
+    requires fixed { IsFixedOf (graph_of_mine mine.now) fixed.now }
+    requires small { length text.now ≤ 2 ^ 40 }
+{
+    let mut reader = MemoryReader::new(text);
+    let certificate = read(alloc, &mut reader, mine.graph(), &Fixed::none())?;
+    check(alloc, mine, fixed, &certificate)
+}
+
+/// The same where nothing is fixed.
+pub(crate) fn answer(alloc: Global, mine: &Instance, text: &[u8]) -> Result<bool, Fault>
+    requires { length text.now ≤ 2 ^ 40 }
+{
+    fixed_answer(alloc, mine, &Fixed::none(), text)
+}
+
+/// The text of the fault of a text where nothing is fixed, and nothing where it is read.
 fn fault_text(alloc: Global, mine: &Instance, text: &[u8]) -> Result<Vec<u8>, Fault>
     requires { length text.now ≤ 2 ^ 40 }
 {
+    fixed_fault_text(alloc, mine, &Fixed::none(), text)
+}
+
+/// The text of the fault of a text with these fixed blocks, and nothing where it is read.
+pub(crate) fn fixed_fault_text(
+    alloc: Global,
+    mine: &Instance,
+    fixed: &Fixed,
+    text: &[u8],
+) -> Result<Vec<u8>, Fault>
+    requires { length text.now ≤ 2 ^ 40 }
+{
     let mut written = MemoryWriter::new(alloc, 1000);
-    if let Err(fault) = parse_certificate(alloc, text, mine.graph()) {
+    if let Err(fault) = parse_certificate(alloc, text, mine.graph(), fixed) {
         write_fault(&mut written, &fault)?;
     }
     Ok(written.text)
@@ -101,16 +137,18 @@ fn a_set_without_excess_is_no_pit(rt: HostRuntime) -> Result<(), Fail> {
 #[test]
 fn writes_what_was_read(rt: HostRuntime) -> Result<(), Fail> {
     let mine = four_blocks(rt.alloc())?;
+    let none = nothing_fixed(mine.graph());
     let certificate = parse_certificate(
         rt.alloc(),
         b"PITCERT  1\r\n\nBLOCKS: 04\nARCS:\t3\nIN: 2\n1\n2\nFLOW: 2\n0 3 1000000\n2 1 5000000",
         mine.graph(),
+        &none,
     )?;
     let mut written = MemoryWriter::new(rt.alloc(), 1000);
-    write(&mut written, mine.graph(), &certificate)?;
+    write(&mut written, mine.graph(), &none, &certificate)?;
     assert_eq!(rt; written.text.as_slice(), FLOW);
     let mut short = MemoryWriter::new(rt.alloc(), 11);
-    assert!(rt; write(&mut short, mine.graph(), &certificate).is_err());
+    assert!(rt; write(&mut short, mine.graph(), &none, &certificate).is_err());
     assert_eq!(rt; short.text.as_slice(), b"PITCERT 1\nB".as_slice());
     Ok(())
 }
@@ -120,7 +158,7 @@ fn refuses_heads(rt: HostRuntime) -> Result<(), Fail> {
     let mine = four_blocks(rt.alloc())?;
     for (text, wanted) in [
         (
-            "PITCERT 2\n",
+            "PITCERT 3\n",
             "error 3: wrong header in certificate line 1\n",
         ),
         (

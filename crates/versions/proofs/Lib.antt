@@ -2,3 +2,4 @@ mod Lists
 mod Cells
 mod StepLaws
 mod Copies
+mod Same

@@ -1,6 +1,5 @@
 -- Beginnings of the list, and its last link.
 use Rattle.std.proofs.Common.{◌≡◌, ℕ, ◌+◌, ◌*◌, ◌≤◌, ◌<◌, List, [], ◌∷◌, ◌++◌, map, length, refl, ap, sym, ◌∙◌, subst, arith, length-append, append_assoc}
-use Rattle.std.proofs.lemmas.List.{length-map}
 use mathlib.Core.List.{IsPrefix}
 use Rattle.versions.specs.declared.link.Link.{Link}
 use Rattle.versions.specs.ArcList.{arcs_of, last_of, last_after, word_of}

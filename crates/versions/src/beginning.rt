@@ -1,7 +1,8 @@
 //! A beginning of the list of arcs, as someone saw it: so many arcs, and the last of them.
 //! What is known of the arcs before is known in the proofs alone, so a beginning takes two numbers.
-ghost use Rattle.std.specs.Prelude.{◌≡◌, [], ◌∷◌, ◌++◌, length, IsTrue, IfSome};
+ghost use Rattle.std.specs.Prelude.{◌≡◌, [], ◌∷◌, ◌++◌, IsTrue, IfSome};
 ghost use mathlib.Core.List.{IsPrefix};
+ghost use Rattle.versions.specs.Published.{are_same};
 
 use crate::head::{Head, MOST, UNIT};
 use crate::link::Link;
@@ -55,16 +56,33 @@ impl<V: Origin> Beginning<V> {
         true
     }
 
-    /// The other, where it has this one arc more.
-    pub fn caught_up(&self, other: &Beginning<V>, arc: u32) -> Option<Beginning<V>>
-        ensures { IfSome result (λ b. b ≡ self.now ++ arc ∷ []) }
+    /// Whether the other is the same.
+    pub fn is_same(&self, other: &Beginning<V>) -> bool
+        ensures exact { result ≡ are_same self.now other.now }
+        ensures same { IsTrue result → other.now ≡ self.now }
     {
         let mut both = self.seen.again();
         both.learn(&other.seen);
-        if other.count == 0 || other.count - 1 != self.count || other.last != arc {
-            return None;
+        if self.count != other.count {
+            return false;
         }
-        Some(other.again())
+        true
+    }
+
+    /// Whether the other is this with the arc.
+    pub fn is_followed(&self, other: &Beginning<V>, arc: u32) -> bool
+        ensures exact { result ≡ are_same (self.now ++ arc ∷ []) other.now }
+        ensures same { IsTrue result → other.now ≡ self.now ++ arc ∷ [] }
+    {
+        let mut both = self.seen.again();
+        both.learn(&other.seen);
+        if other.count == 0 || other.count - 1 != self.count {
+            return false;
+        }
+        if other.last != arc {
+            return false;
+        }
+        true
     }
 
     /// This with the arc, where that is the whole list by now: one load, and no memory.

@@ -9,6 +9,7 @@ mod origin;
 mod publisher;
 mod scribe;
 mod steps;
+mod taken;
 mod tree_copy;
 
 pub use look::{LookSeat, LookSeats, Version};

@@ -114,7 +114,8 @@ impl<V: Origin> LookSeat<V> {
             Ok(reading) => reading,
             Err(reader) => return Err(LookSeat { reader, list }),
         };
-        match reading.get().list() {
+        let told = reading.get().arcs().told().map(|told| told.again());
+        match told {
             Some(seen) if list.begins(&seen) => Ok(Version {
                 reading,
                 list: seen,

@@ -11,6 +11,7 @@ use crate::head::MOST;
 use crate::look::{LookSeat, LookSeats};
 use crate::origin::Origin;
 use crate::scribe::{Scribe, UnnamedList};
+use crate::taken::Addition;
 use crate::tree_copy::TreeCopy;
 use core::mem::replace_with;
 use crossbeam_utils::rule::Unruled;
@@ -22,13 +23,13 @@ use std::alloc::{AllocError, Global};
 use std::marker::Model;
 use std::sync::Wait;
 
-type Copies<V> = Writer<TreeCopy<V>, u32, (), Unruled>;
+type Copies<V> = Writer<TreeCopy<V>, Addition<V>, (), Unruled>;
 
 /// To a contract it is the arcs that were merged over, all of which are published. It is not `Drop`, since its end waits for
 /// readers: end it by `into_tree`.
 pub struct Publisher<V: Origin>
 where
-    TreeCopy<V>: Absorb<u32, State = TreeCopy<V>>,
+    TreeCopy<V>: Absorb<Addition<V>, State = TreeCopy<V>>,
 {
     scribe: Scribe<V>,
     copies: Copies<V>,
@@ -36,7 +37,7 @@ where
 
 impl<V: Origin> Model for Publisher<V>
 where
-    TreeCopy<V>: Absorb<u32, State = TreeCopy<V>>,
+    TreeCopy<V>: Absorb<Addition<V>, State = TreeCopy<V>>,
 {
     ghost use Rattle.std.specs.Prelude.{ℕ, List, drop};
     ghost use Rattle.versions.specs.Published.{IsPublished};
@@ -129,7 +130,8 @@ impl<V: Origin> Publisher<V> {
         if self.scribe.count() >= MOST {
             return Err(Fault::from(AllocError));
         }
-        match self.copies.append(arc) {
+        let addition = Addition::new(self.scribe.whole(), arc);
+        match self.copies.append(addition) {
             Ok(()) => {}
             Err(_) => return Err(Fault::from(AllocError)),
         }

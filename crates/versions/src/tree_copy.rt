@@ -1,38 +1,38 @@
-//! One of the two copies of the tree (left-right: Ramalhete and Correia 2013), with the beginning of the list that it is
-//! the version of. It takes in an arc by merging over it, which never fails and takes no memory.
-ghost use Rattle.std.specs.Prelude.{◌≡◌, [], ◌∷◌, ◌++◌, IfSome, IsOk, MatchResult};
-ghost use Rattle.pit_model.specs.Tree.{MineTree, is_merger, is_strong, opening};
+//! One of the two copies of the tree (left-right: Ramalhete and Correia 2013), with the arcs that it is the version of. It takes
+//! in an arc by merging over it, which never fails and takes no memory.
+ghost use Rattle.std.specs.Prelude.{◌≡◌, []};
+ghost use Rattle.pit_model.specs.Tree.{opening};
 ghost use Rattle.pit_model.specs.Version.{IsVersion};
-ghost use Rattle.versions.specs.Published.{taken_in, GoesOn};
+ghost use Rattle.versions.specs.Published.{copied, taken_in};
 
 use crate::beginning::Beginning;
 use crate::head::Head;
 use crate::origin::Origin;
+use crate::taken::{Addition, TakenIn};
 use left_right::Absorb;
 use norm_tree::NormTree;
 use std::alloc::{AllocError, Global};
 use std::marker::Model;
 use std::sync::Arc;
 
-/// To a contract it is the instance and the tree.
+/// To a contract it is the instance, the tree and the arcs.
 #[derive(Drop)]
 pub struct TreeCopy<V: Origin> {
     tree: NormTree,
     head: Arc<Head<V>, Global>,
-    /// None where it could not be told, as in no run.
-    list: Option<Beginning<V>>,
+    arcs: TakenIn<V>,
 }
 
 impl<V: Origin> Model for TreeCopy<V> {
-    ghost use Rattle.std.specs.Prelude.{◌≡◌, IfSome};
-    ghost use Rattle.pit_model.specs.Tree.{MineTree};
+    ghost use Rattle.std.specs.Prelude.{◌≡◌};
     ghost use Rattle.pit_model.specs.Version.{IsVersion};
+    ghost use Rattle.versions.specs.Published.{Copied, copied};
 
-    ghost Value = { MineTree };
+    ghost Value = { Copied };
 
-    ghost view = { λ c. c.tree };
+    ghost view = { λ c. copied c.tree c.arcs };
 
-    ghost invariant = { λ c. (c.tree.mine ≡ V.mine) × IfSome c.list (λ arcs. IsVersion V.mine c.tree.tree arcs) };
+    ghost invariant = { λ c. (c.tree.mine ≡ V.mine) × IsVersion V.mine c.tree.tree c.arcs };
 }
 
 impl<V: Origin> TreeCopy<V> {
@@ -41,77 +41,47 @@ impl<V: Origin> TreeCopy<V> {
         requires mine { tree.mine ≡ V.mine }
         requires opening { tree.tree ≡ opening tree.mine }
         requires empty { list ≡ [] }
-        ensures { result ≡ tree }
+        ensures { result ≡ copied tree [] }
     {
         TreeCopy {
             tree,
             head,
-            list: Some(list),
+            arcs: TakenIn::new(list),
         }
     }
 
     /// The tree.
     pub fn tree(&self) -> &NormTree
-        ensures same { result.now ≡ self.now }
+        ensures same { result.now ≡ record { mine = self.now.mine; tree = self.now.tree } }
         ensures mine { self.now.mine ≡ V.mine }
     {
-        let _ = &self.list;
+        let _ = &self.arcs;
         &self.tree
     }
 
-    /// The arcs that were taken in. In each run they are known.
-    pub fn list(&self) -> Option<Beginning<V>>
-        ensures { IfSome result (λ arcs. IsVersion V.mine self.now.tree arcs) }
+    /// The arcs that were taken in.
+    pub fn arcs(&self) -> &TakenIn<V>
+        ensures same { result.now ≡ self.now.arcs }
+        ensures version { IsVersion V.mine self.now.tree self.now.arcs }
     {
         let _ = &self.tree;
-        match &self.list {
-            Some(list) => Some(list.again()),
-            None => None,
-        }
+        &self.arcs
     }
 
     /// The tree, for good.
     pub fn into_tree(self) -> NormTree
-        ensures { result ≡ self }
+        ensures { result ≡ record { mine = self.mine; tree = self.tree } }
     {
         let TreeCopy {
             tree,
             head: _,
-            list: _,
+            arcs: _,
         } = self;
         tree
     }
 }
 
-// The list with one arc more, where that is the whole list by now.
-fn followed<V: Origin>(
-    list: &Option<Beginning<V>>,
-    head: &Head<V>,
-    arc: u32,
-) -> Option<Beginning<V>>
-    ensures { GoesOn list.now result arc }
-{
-    match list {
-        Some(list) => list.followed(head, arc),
-        None => None,
-    }
-}
-
-// The other's list, where it has this one arc more.
-fn caught_up<V: Origin>(
-    list: &Option<Beginning<V>>,
-    other: &Option<Beginning<V>>,
-    arc: u32,
-) -> Option<Beginning<V>>
-    ensures { GoesOn list.now result arc }
-{
-    match (list, other) {
-        (Some(list), Some(other)) => list.caught_up(other, arc),
-        _ => None,
-    }
-}
-
-impl<V: Origin> Absorb<u32> for TreeCopy<V> {
+impl<V: Origin> Absorb<Addition<V>> for TreeCopy<V> {
     type State = TreeCopy<V>;
 
     ghost state = { λ c. c };
@@ -120,22 +90,13 @@ impl<V: Origin> Absorb<u32> for TreeCopy<V> {
 
     ghost never_fails = { Unit {0} };
 
-    // The readers do not see this arc yet: the list's word tells of it.
-    fn absorb_first(&mut self, operation: &u32, _other: &TreeCopy<V>) -> Result<(), AllocError> {
-        let arc = *operation;
-        if self.tree.try_merge(arc) {
-            self.list = followed(&self.list, &self.head, arc);
-        }
-        Ok(())
-    }
-
-    // The other copy, which readers see, has this arc: its list tells of it.
-    fn absorb_second(&mut self, operation: u32, other: &TreeCopy<V>) -> Result<(), u32>
-        ensures absorbed { MatchResult result (λ _. self.new ≡ taken_in self.old operation) (λ arc. (arc ≡ operation) × (self.new ≡ self.old)) }
-        ensures succeeds { Unit {0} → IsOk result }
-    {
-        if self.tree.try_merge(operation) {
-            self.list = caught_up(&self.list, &other.list, operation);
+    fn absorb_first(
+        &mut self,
+        operation: &Addition<V>,
+        _other: &TreeCopy<V>,
+    ) -> Result<(), AllocError> {
+        if self.arcs.are(operation.before()) && self.tree.try_merge(operation.arc()) {
+            self.arcs.grow(&self.head, operation);
         }
         Ok(())
     }

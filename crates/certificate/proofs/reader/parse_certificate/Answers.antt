@@ -16,26 +16,30 @@ use Rattle.certificate.proofs.reader.parse_certificate.Goals as goal
 pub returns-clause-spelled : goal.returns-clause-spelled
 returns-clause-spelled c =
     let g = c.args.graph.now in
+    let lists = c.args.fixed.now.lists in
     let text = c.args.text.now in
-    value_told (λ m. pit_and_flow m.pit.items m.flow.items) c.parse_lines.result (certificate_of g text) (SpellsCertificate g text)
-    (spelled g (count_of_lines text) (rows_of text)) c.parse_lines.ensures.exact
+    value_told (λ m. pit_and_flow m.pit.items m.flow.items) c.parse_lines.result (certificate_of g lists text) (SpellsCertificate g lists text)
+    (spelled g lists (count_of_lines text) (rows_of text)) c.parse_lines.ensures.exact
 
 pub returns-clause-read : goal.returns-clause-read
 returns-clause-read c m s =
     let g = c.args.graph.now in
+    let lists = c.args.fixed.now.lists in
     let text = c.args.text.now in
-    subst (λ f. Gives (λ m. pit_and_flow m.pit.items m.flow.items) c.parse_lines.result f) (reads g (count_of_lines text) (rows_of text) m c.law.ensures.graph.rising s) c.parse_lines.ensures.exact
+    subst (λ f. Gives (λ m. pit_and_flow m.pit.items m.flow.items) c.parse_lines.result f) (reads g lists (count_of_lines text) (rows_of text) m c.law.ensures.graph.rising s) c.parse_lines.ensures.exact
 
 pub returns-clause-first_fault : goal.returns-clause-first_fault
 returns-clause-first_fault c =
     let g = c.args.graph.now in
+    let lists = c.args.fixed.now.lists in
     let text = c.args.text.now in
-    fault_told (λ m. pit_and_flow m.pit.items m.flow.items) c.parse_lines.result (certificate_of g text) (IsFirstCertificateFault g text)
-    (fails_first (step g) (end (count_of_lines text)) (first_state g) (rows_of text)) c.parse_lines.ensures.exact
+    fault_told (λ m. pit_and_flow m.pit.items m.flow.items) c.parse_lines.result (certificate_of g lists text) (IsFirstCertificateFault g lists text)
+    (fails_first (step g lists) (end (count_of_lines text)) (first_state g) (rows_of text)) c.parse_lines.ensures.exact
 
 pub returns-clause-candidate : goal.returns-clause-candidate
 returns-clause-candidate c =
     let g = c.args.graph.now in
+    let lists = c.args.fixed.now.lists in
     let text = c.args.text.now in
-    value_told (λ m. pit_and_flow m.pit.items m.flow.items) c.parse_lines.result (certificate_of g text) (λ m. IsCandidate g.blocks (length g.pairs) m.pit m.flow)
-    (λ m e. lawful g (rows_of text) m (spelled g (count_of_lines text) (rows_of text) m e)) c.parse_lines.ensures.exact
+    value_told (λ m. pit_and_flow m.pit.items m.flow.items) c.parse_lines.result (certificate_of g lists text) (λ m. IsCandidate g.blocks (length g.pairs) m.pit m.flow)
+    (λ m e. lawful g lists (rows_of text) m (spelled g lists (count_of_lines text) (rows_of text) m e)) c.parse_lines.ensures.exact

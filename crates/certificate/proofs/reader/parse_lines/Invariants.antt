@@ -6,9 +6,9 @@ use Rattle.certificate.proofs.reader.parse_lines.Given as goal
 
 abbrev pub invariant-loop-row : goal.invariant-loop-row
 invariant-loop-row l = record {
-  read : certificate_from l.graph (count_of_lines l.text) (state l.due l.pit.items l.flow.items) (rows_at l.rows.number l.rows.rest.now) ≡ certificate_of l.graph l.text;
+  read : certificate_from l.graph l.fixed.lists (count_of_lines l.text) (state l.due l.found.pit.items l.found.flow.items) (rows_at l.rows.number l.rows.rest.now) ≡ certificate_of l.graph l.fixed.lists l.text;
   count : lines_at l.rows.number l.rows.rest.now ≡ count_of_lines l.text;
-  counted : length l.flow.items ≡ length l.graph.pairs;
+  counted : length l.found.flow.items ≡ length l.graph.pairs;
 }
 
 abbrev pub decreases-loop-row : goal.decreases-loop-row

@@ -1,14 +1,23 @@
--- The pieces of the head, one after the other.
-use Rattle.report.proofs.PutLemmas.{puts_then}
-use Rattle.certificate.specs.CertificateText.{certificate_head}
+-- Format 2: its title and the counts of the graph, and both lists, one after the other.
+use Rattle.std.proofs.Common.{◌≡◌, ◌∙◌, ◌++◌, Bool, false, List, ℕ, length, ap, sym}
+use Rattle.std.specs.Prelude.{codes, if◌then◌else◌}
+use Rattle.report.proofs.PutLemmas.{puts_then, puts_as}
+use Rattle.certificate.specs.declared.due.Kind.TheVariants.{Forced, Barred}
+use Rattle.certificate.specs.CertificateLines.{fixes_nothing, word_of}
+use Rattle.certificate.specs.CertificateText.{graph_head, list_text}
 use Rattle.certificate.proofs.writer.put_head.Goals as goal
 
 pub returns-clause-puts : goal.returns-clause-puts
-unfolding certificate_head
 returns-clause-puts g c =
-    let two = puts_then _ _ _ _ _ _ _ _ c.put.ensures.puts c.put_number.ensures.puts in
-    let three = puts_then _ _ _ _ _ _ _ _ two c.put-2.ensures.puts in
-    let four = puts_then _ _ _ _ _ _ _ _ three c.put_number-2.ensures.puts in
-    let five = puts_then _ _ _ _ _ _ _ _ four c.put-3.ensures.puts in
-    let six = puts_then _ _ _ _ _ _ _ _ five c.put_number-3.ensures.puts in
-    puts_then _ _ _ _ _ _ _ _ six c.end_line.ensures.puts
+    let graph = c.args.graph.now in
+    let lists = c.args.fixed.now.lists in
+    let some : fixes_nothing lists ≡ false = sym c.fixes_nothing.ensures ∙ c.if-fixes_nothing.false in
+    let forced : list_text c.word_of.result.now c.forced.result.now ≡ list_text (word_of Forced) lists.forced =
+    ap (λ (word : List ℕ). list_text word c.forced.result.now) c.word_of.ensures ∙ ap (list_text (word_of Forced)) c.forced.ensures in
+    let barred : list_text c.word_of-2.result.now c.barred.result.now ≡ list_text (word_of Barred) lists.barred =
+    ap (λ (word : List ℕ). list_text word c.barred.result.now) c.word_of-2.ensures ∙ ap (list_text (word_of Barred)) c.barred.ensures in
+    let two = puts_then _ _ _ _ _ _ _ _ c.put_graph_head-2.ensures.puts (puts_as forced c.put_list.ensures.puts) in
+    let three = puts_then _ _ _ _ _ _ _ _ two (puts_as barred c.put_list-2.ensures.puts) in
+    let first : List ℕ = graph_head (codes "1") graph.blocks (length graph.pairs) in
+    let second : List ℕ = graph_head (codes "2") graph.blocks (length graph.pairs) ++ list_text (word_of Forced) lists.forced ++ list_text (word_of Barred) lists.barred in
+    puts_as (ap (λ (none : Bool). if none then first else second) (sym some)) three

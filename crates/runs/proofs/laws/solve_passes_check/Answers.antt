@@ -1,11 +1,9 @@
-use Rattle.runs.specs.Solve.{reading}
+use Rattle.runs.specs.Solve.{files_of, reading}
 use Rattle.runs.proofs.Uniqueness.{passes_check}
 use Rattle.runs.proofs.laws.solve_passes_check.Goals as goal
 
 pub returns : goal.returns
-returns g c model model_end prec prec_end other_model other_model_end other_prec other_prec_end certificate certificate_end = passes_check
-    (reading (g.M.InBytes.progress model) (g.M.InBytes.progress model_end) (g.M.InBytes.IsAtEnd model_end))
-    (reading (g.P.InBytes.progress prec) (g.P.InBytes.progress prec_end) (g.P.InBytes.IsAtEnd prec_end))
-    (reading (g.N.InBytes.progress other_model) (g.N.InBytes.progress other_model_end) (g.N.InBytes.IsAtEnd other_model_end))
-    (reading (g.Q.InBytes.progress other_prec) (g.Q.InBytes.progress other_prec_end) (g.Q.InBytes.IsAtEnd other_prec_end))
+returns g c files files_end other other_end certificate certificate_end = passes_check
+    (files_of g.M.InBytes.progress g.M.InBytes.IsAtEnd g.P.InBytes.progress g.P.InBytes.IsAtEnd g.F.InBytes.progress g.F.InBytes.IsAtEnd files files_end)
+    (files_of g.N.InBytes.progress g.N.InBytes.IsAtEnd g.Q.InBytes.progress g.Q.InBytes.IsAtEnd g.G.InBytes.progress g.G.InBytes.IsAtEnd other other_end)
     (reading (g.C.InBytes.progress certificate) (g.C.InBytes.progress certificate_end) (g.C.InBytes.IsAtEnd certificate_end))

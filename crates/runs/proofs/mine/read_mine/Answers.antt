@@ -1,36 +1,89 @@
 -- Each exit by a refused step: what the step said of its refusal is said of the mine.
-use Rattle.std.proofs.Common.{refl}
+use Rattle.std.proofs.Common.{◌≡◌, ℕ, List, ap, refl, subst, sym, ◌∙◌}
+use Rattle.std.specs.Arc.{arc_value}
 use Rattle.std.proofs.lemmas.Result.{err_from_is_err_and}
 use Rattle.minelib_reader.specs.Upit.{upit}
-use Rattle.runs.specs.Solve.{reading}
-use Rattle.runs.proofs.Refusing.{model_refused, prec_refused, pairs_refused}
+use Rattle.minelib_reader.specs.Fixed.{fixed_lists}
+use Rattle.pit_model.specs.Graph.{Graph, AreSamePairs}
+use Rattle.pit_model.specs.Fixed.{graph_of_mine}
+use Rattle.mine_graph.specs.FixedBlocks.{RefusesFixed}
+use Rattle.merging.proofs.SolvedPart.{graph_is}
+use Rattle.runs.specs.Solve.{FixedMine, HoldsMine, files_of}
+use Rattle.runs.proofs.Refusing.{model_refused, prec_refused, fixed_refused, pairs_refused, blocks_refused, memory_refused, still}
 use Rattle.runs.proofs.mine.read_mine.Goals as goal
 
-pub returns-in_err-mine-clause-refused : goal.returns-in_err-mine-clause-refused
-returns-in_err-mine-clause-refused g c =
+pub returns-in_err-model-clause-refused : goal.returns-in_err-model-clause-refused
+returns-in_err-model-clause-refused g c =
     let p = err_from_is_err_and c.from_residual.result c.from_residual.ensures.1 in
-    let e = c.in_err-mine.field-0.0 in
-    let model = reading (g.M.InBytes.progress c.args.model.now) (g.M.InBytes.progress c.read_upit.new.reader) (g.M.InBytes.IsAtEnd c.read_upit.new.reader) in
-    let prec = reading (g.P.InBytes.progress c.args.prec.now) (g.P.InBytes.progress c.args.prec.now) (g.P.InBytes.IsAtEnd c.args.prec.now) in
-    rw (p.1, p.2) (model_refused e.refusal e model prec refl refl c.in_err-mine.ensures.answers)
+    let e = c.in_err-model.field-0.0 in
+    let now = c.args.files.now in
+    let files = files_of g.M.InBytes.progress g.M.InBytes.IsAtEnd g.P.InBytes.progress g.P.InBytes.IsAtEnd g.F.InBytes.progress g.F.InBytes.IsAtEnd c.args.files.now (record { model = c.read_upit.new.reader; prec = now.prec; fixed = now.fixed }) in
+    rw (p.1, p.2) (model_refused e.refusal e files refl refl (still g.F.InBytes.progress g.F.InBytes.IsAtEnd now.fixed) c.in_err-model.ensures.answers)
 
 pub returns-in_err-pairs-clause-refused : goal.returns-in_err-pairs-clause-refused
 returns-in_err-pairs-clause-refused g c =
     let p = err_from_is_err_and c.from_residual-in_err-pairs.result c.from_residual-in_err-pairs.ensures.1 in
     let e = c.in_err-pairs.field-0.0 in
-    let model = reading (g.M.InBytes.progress c.args.model.now) (g.M.InBytes.progress c.read_upit.new.reader) (g.M.InBytes.IsAtEnd c.read_upit.new.reader) in
-    let prec = reading (g.P.InBytes.progress c.args.prec.now) (g.P.InBytes.progress c.read_prec.new.reader) (g.P.InBytes.IsAtEnd c.read_prec.new.reader) in
-    let given = c.in_ok-mine.ensures.answers in
-    rw (p.1, p.2) (prec_refused e.refusal e model prec (upit c.in_ok-mine.mine.n c.in_ok-mine.mine.values.items) given.0 refl given.1 given.2 c.in_err-pairs.ensures.answers)
+    let now = c.args.files.now in
+    let files = files_of g.M.InBytes.progress g.M.InBytes.IsAtEnd g.P.InBytes.progress g.P.InBytes.IsAtEnd g.F.InBytes.progress g.F.InBytes.IsAtEnd c.args.files.now (record { model = c.read_upit.new.reader; prec = c.read_prec.new.reader; fixed = now.fixed }) in
+    let m = c.in_ok-model.ensures.answers in
+    rw (p.1, p.2) (prec_refused e.refusal e files (upit c.in_ok-model.model.n c.in_ok-model.model.values.items) m.0 refl (still g.F.InBytes.progress g.F.InBytes.IsAtEnd now.fixed) m.1 m.2 c.in_err-pairs.ensures.answers)
+
+pub returns-in_err-forced-clause-refused : goal.returns-in_err-forced-clause-refused
+returns-in_err-forced-clause-refused g c =
+    let p = err_from_is_err_and c.from_residual-in_err-forced.result c.from_residual-in_err-forced.ensures.1 in
+    let e = c.in_err-forced.field-0.0 in
+    let files = files_of g.M.InBytes.progress g.M.InBytes.IsAtEnd g.P.InBytes.progress g.P.InBytes.IsAtEnd g.F.InBytes.progress g.F.InBytes.IsAtEnd c.args.files.now (record { model = c.read_upit.new.reader; prec = c.read_prec.new.reader; fixed = c.read_lists.new.fixed }) in
+    let m = c.in_ok-model.ensures.answers in
+    let q = c.in_ok-pairs.ensures.answers in
+    rw (p.1, p.2) (fixed_refused e.refusal e files (upit c.in_ok-model.model.n c.in_ok-model.model.values.items) c.in_ok-pairs.pairs.items refl
+    (record { model_text = m.0; prec_text = q.0; model_given = m.1; prec_given = q.1; model_spelled = m.2; prec_spelled = q.2 })
+    c.in_err-forced.ensures.refused)
 
 pub returns-in_err-graph-clause-refused : goal.returns-in_err-graph-clause-refused
 returns-in_err-graph-clause-refused g c =
     let p = err_from_is_err_and c.from_residual-in_err-graph.result c.from_residual-in_err-graph.ensures.1 in
     let e = c.in_err-graph.field-0.0 in
-    let model = reading (g.M.InBytes.progress c.args.model.now) (g.M.InBytes.progress c.read_upit.new.reader) (g.M.InBytes.IsAtEnd c.read_upit.new.reader) in
-    let prec = reading (g.P.InBytes.progress c.args.prec.now) (g.P.InBytes.progress c.read_prec.new.reader) (g.P.InBytes.IsAtEnd c.read_prec.new.reader) in
-    let m = c.in_ok-mine.ensures.answers in
+    let files = files_of g.M.InBytes.progress g.M.InBytes.IsAtEnd g.P.InBytes.progress g.P.InBytes.IsAtEnd g.F.InBytes.progress g.F.InBytes.IsAtEnd c.args.files.now (record { model = c.read_upit.new.reader; prec = c.read_prec.new.reader; fixed = c.read_lists.new.fixed }) in
+    let m = c.in_ok-model.ensures.answers in
     let q = c.in_ok-pairs.ensures.answers in
-    rw (p.1, p.2) (pairs_refused e.refusal e model prec (upit c.in_ok-mine.mine.n c.in_ok-mine.mine.values.items) c.in_ok-pairs.pairs.items
+    rw (p.1, p.2) (pairs_refused e.refusal e files (upit c.in_ok-model.model.n c.in_ok-model.model.values.items) c.in_ok-pairs.pairs.items _
     (record { model_text = m.0; prec_text = q.0; model_given = m.1; prec_given = q.1; model_spelled = m.2; prec_spelled = q.2 })
-    c.in_err-graph.ensures.refused c.in_err-graph.ensures.refused)
+    c.in_ok-forced.ensures.given c.in_err-graph.ensures.refused c.in_err-graph.ensures.refused)
+
+pub returns-in_err-new-clause-refused : goal.returns-in_err-new-clause-refused
+returns-in_err-new-clause-refused g c =
+    let files = files_of g.M.InBytes.progress g.M.InBytes.IsAtEnd g.P.InBytes.progress g.P.InBytes.IsAtEnd g.F.InBytes.progress g.F.InBytes.IsAtEnd c.args.files.now (record { model = c.read_upit.new.reader; prec = c.read_prec.new.reader; fixed = c.read_lists.new.fixed }) in
+    let m = c.in_ok-model.ensures.answers in
+    let q = c.in_ok-pairs.ensures.answers in
+    let p = err_from_is_err_and c.from_residual-in_err-new.result c.from_residual-in_err-new.ensures.1 in
+    rw (p.1, p.2) (memory_refused files (upit c.in_ok-model.model.n c.in_ok-model.model.values.items) c.in_ok-pairs.pairs.items _
+    (record { model_text = m.0; prec_text = q.0; model_given = m.1; prec_given = q.1; model_spelled = m.2; prec_spelled = q.2 })
+    c.in_ok-forced.ensures.given)
+
+pub returns-in_err-fixed-clause-refused : goal.returns-in_err-fixed-clause-refused
+returns-in_err-fixed-clause-refused g c =
+    let p = err_from_is_err_and c.from_residual-in_err-fixed.result c.from_residual-in_err-fixed.ensures.1 in
+    let e = c.in_err-fixed.field-0.0 in
+    let files = files_of g.M.InBytes.progress g.M.InBytes.IsAtEnd g.P.InBytes.progress g.P.InBytes.IsAtEnd g.F.InBytes.progress g.F.InBytes.IsAtEnd c.args.files.now (record { model = c.read_upit.new.reader; prec = c.read_prec.new.reader; fixed = c.read_lists.new.fixed }) in
+    let m = c.in_ok-model.ensures.answers in
+    let q = c.in_ok-pairs.ensures.answers in
+    let mine = c.new-mine.result in
+    let pairs = c.in_ok-pairs.pairs.items in
+    let lists = fixed_lists c.in_ok-forced.forced.items c.in_ok-forced.barred.items in
+    let task : FixedMine = record { mine = mine; lists = lists } in
+    let held : arc_value c.in_ok-new.field-0 ≡ c.in_ok-graph.graph = c.in_ok-new.ensures.ok in
+    let whole : c.deref.result.now ≡ graph_of_mine mine = c.deref.ensures ∙ graph_is (arc_value c.graph.result.now) mine c.graph.ensures.blocks c.graph.ensures.pairs in
+    let holds : HoldsMine files task = record {
+      upit = upit c.in_ok-model.model.n c.in_ok-model.model.values.items;
+      pairs = pairs;
+      given = record { model_text = m.0; prec_text = q.0; model_given = m.1; prec_given = q.1; model_spelled = m.2; prec_spelled = q.2 };
+      fixed_given = c.in_ok-forced.ensures.given;
+      blocks = c.new-mine.ensures.blocks ∙ ap (λ (h : Graph). h.blocks) held ∙ c.in_ok-graph.ensures.blocks;
+      values = c.new-mine.ensures.values;
+      same = subst (λ (qs : List (ℕ × ℕ)). AreSamePairs pairs qs) (sym (c.new-mine.ensures.pairs ∙ ap (λ (h : Graph). h.pairs) held)) c.in_ok-graph.ensures.same;
+      acyclic = c.in_ok-graph.ensures.acyclic;
+      instance = c.law.ensures;
+    } in
+    let refused = subst (λ (h : Graph). RefusesFixed h lists e.refusal e) whole c.in_err-fixed.ensures.refused in
+    rw (p.1, p.2) (blocks_refused e.refusal e files task (record { holds = holds; ordered = c.law.ensures.graph }) refused)

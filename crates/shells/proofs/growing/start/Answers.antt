@@ -5,8 +5,8 @@ use Rattle.shells.proofs.Joining.{starts}
 use Rattle.shells.proofs.growing.start.Goals as goal
 
 pub returns : goal.returns
-returns c prices factors =
+returns c direction prices factors =
     let graph = c.args.graph.now.value in
     let marks : c.in_ok-marks.marks.items ≡ replicate graph.blocks false = search rules in
     let count : c.n-n.result ≡ graph.blocks = search rules in
-    starts prices factors graph c.in_ok-graph.graph.value c.in_ok-marks.marks.items c.in_ok-blocks.blocks.items (rw c.deref.ensures at c.law.ensures.graph) marks (c.in_ok-blocks.ensures ∙ ap (range_with_len 0) count) c.in_ok-graph.ensures
+    starts direction prices factors graph c.in_ok-graph.graph.value c.in_ok-marks.marks.items c.in_ok-blocks.blocks.items (rw c.deref.ensures at c.law.ensures.graph) marks (c.in_ok-blocks.ensures ∙ ap (range_with_len 0) count) c.in_ok-graph.ensures

@@ -3,7 +3,6 @@ use Rattle.std.proofs.Common.{◌≡◌, ◌∙◌, ◌<◌, ◌≤◌, ◌+◌,
 use Rattle.std.specs.List.{All}
 use Rattle.std.proofs.lemmas.List.Elements.{All-push}
 use Rattle.pit_model.specs.declared.shell.Shell.{Shell}
-use Rattle.pit_model.specs.Graph.{Graph}
 use Rattle.pit_model.specs.Shells.{IsShell}
 use Rattle.shells.specs.Prices.{deposit_of}
 use Rattle.shells.specs.Grown.{IsGrown, RestEndsWithin}
@@ -13,39 +12,39 @@ use Rattle.shells.proofs.nesting.each_shell.Goals as goal
 
 pub loop-k-init : goal.loop-k-init
 loop-k-init g c =
+    let plan = c.args.plan.now in
     let none = c.new-list.ensures.items in
     record {
-      grown = c.in_ok-growing.ensures c.args.columns.now c.args.factors.now;
-      each = subst (λ (xs : List Shell). All (IsShell (deposit_of c.args.columns.now c.args.graph.now.value)) xs) (sym none) (λ j d l. absurd (omega arith));
+      grown = c.in_ok-growing.ensures plan.direction plan.columns.now plan.factors.now;
+      each = subst (λ (xs : List Shell). All (IsShell plan.direction (deposit_of plan.columns.now plan.graph.now.value)) xs) (sym none) (λ j d l. absurd (omega arith));
       named = ap (λ (xs : List Shell). map (λ (s : Shell). s.factor) xs) none;
       within = λ j l. absurd (omega arith);
     }
 
 pub loop-k-preserved : goal.loop-k-preserved
 loop-k-preserved g c =
-    let columns = c.args.columns.now in
-    let factors = c.args.factors.now in
+    let plan = c.args.plan.now in
+    let deposit = deposit_of plan.columns.now plan.graph.now.value in
+    let factors = plan.factors.now in
     let k = c.loop-k.k in
     let next = c.next_shell.new.growing in
     let invariant = c.loop-k.invariant in
     let e : suc k ≡ k + 1 = omega arith in
     let inside : k < length factors = search rules in
-    let here = c.deref-2.ensures in
-    let grown = subst (λ (h : Graph). IsGrown (deposit_of columns h) factors (suc k) next.marks.items next.blocks.items next.graph.value) here c.in_ok-shell.ensures.grown in
-    let shell = subst (λ (h : Graph). IsShell (deposit_of columns h) c.in_ok-shell.shell) here c.in_ok-shell.ensures.shell in
-    let within = subst (λ (h : Graph). RestEndsWithin c.args.mode.now (deposit_of columns h) factors k) here c.in_ok-shell.ensures.within in
+    let shell = c.in_ok-shell.ensures in
     let items = c.in_ok-push.ensures.items in
     record {
-      grown = subst (λ n. IsGrown (deposit_of columns c.args.graph.now.value) factors n next.marks.items next.blocks.items next.graph.value) e grown;
-      each = subst (λ (xs : List Shell). All (IsShell (deposit_of columns c.args.graph.now.value)) xs) (sym items) (All-push (IsShell (deposit_of columns c.args.graph.now.value)) c.loop-k.list.items c.in_ok-shell.shell invariant.each shell);
-      named = ap (λ (xs : List Shell). map (λ (s : Shell). s.factor) xs) items ∙ one_more_named factors c.loop-k.list.items c.in_ok-shell.shell k inside invariant.named c.in_ok-shell.ensures.factor;
-      within = each_below (RestEndsWithin c.args.mode.now (deposit_of columns c.args.graph.now.value) factors) k invariant.within within;
+      grown = subst (λ n. IsGrown plan.direction (deposit_of plan.columns.now plan.graph.now.value) factors n next.marks.items next.blocks.items next.graph.value) e shell.grown;
+      each = subst (λ (xs : List Shell). All (IsShell plan.direction (deposit_of plan.columns.now plan.graph.now.value)) xs) (sym items)
+          (All-push (IsShell plan.direction deposit) c.loop-k.list.items c.in_ok-shell.shell invariant.each shell.shell);
+      named = ap (λ (xs : List Shell). map (λ (s : Shell). s.factor) xs) items ∙ one_more_named factors c.loop-k.list.items c.in_ok-shell.shell k inside invariant.named shell.factor;
+      within = each_below (RestEndsWithin plan.mode.now plan.direction deposit factors) k invariant.within shell.within;
     }
 
 pub returns-clause-shells : goal.returns-clause-shells
 returns-clause-shells g c =
-    let columns = c.args.columns.now in
-    let factors = c.args.factors.now in
-    let graph = c.args.graph.now.value in
+    let plan = c.args.plan.now in
+    let factors = plan.factors.now in
     let all : length factors ≤ c.loop-k.k = search rules in
-    are_shells (deposit_of columns graph) factors c.loop-k.list.items c.loop-k.k (is_priced columns graph c.law-2.ensures c.requires) c.law.ensures all c.loop-k.invariant.named c.loop-k.invariant.each
+    are_shells plan.direction (deposit_of plan.columns.now plan.graph.now.value) factors c.loop-k.list.items c.loop-k.k (is_priced plan.columns.now plan.graph.now.value c.law-2.ensures c.requires) c.law.ensures all
+    c.loop-k.invariant.named c.loop-k.invariant.each

@@ -1,0 +1,98 @@
+//! The rest of a mine with fixed blocks as an instance of its own, and what is found there by the numbers of the whole.
+ghost use Rattle.std.specs.Prelude.{◌≡◌, ◌<◌, ◌≤◌, ◌^◌, ℕ, Bool, length, get_or, IfOk, IfErr};
+ghost use Rattle.faults.specs.Refused.{no_memory};
+ghost use Rattle.pit_model.specs.Fixed.{IsFixedRest, fixed_of, graph_of_mine};
+ghost use Rattle.pit_model.specs.Mine.{arcs, members};
+ghost use Rattle.pit_model.specs.Size.{most_blocks};
+ghost use Rattle.certificate.specs.Certificate.{IsCertificateOf, IsFixedCertificateOf};
+ghost use Rattle.certificate.specs.Check.{amount, has};
+ghost use Rattle.mine_graph.specs.FixedBlocks.{IsFixedOf, dug_in, left_in};
+ghost use Rattle.merging.specs.Rest.{IsRestIn, ListsJoined};
+
+use crate::joined::{carry_flow, mark_pit, marked};
+use crate::parts::values_of;
+use certificate::Certificate;
+use faults::Fault;
+use mine_graph::{Fixed, Graph, Instance};
+use std::alloc::{AllocError, Global};
+use std::sync::Arc;
+
+/// The open blocks of a mine, rising, and the instance on them, in which block i is `blocks[i]`.
+#[derive(Drop)]
+pub struct Rest {
+    pub blocks: Vec<u32>,
+    pub mine: Instance,
+}
+
+/// A mark for each block: whether it must be dug.
+fn dug_marks(alloc: Global, fixed: &Fixed, n: u32) -> Result<Vec<bool>, AllocError>
+    ensures count { IfOk result (λ v. length v.items ≡ n) }
+    ensures marks { IfOk result (λ v. (u : ℕ) → u < n → has v.items u ≡ dug_in fixed.now u) }
+{
+    (0..n).map(|u| fixed.is_dug(u)).collect(alloc)
+}
+
+impl Rest {
+    /// The open blocks of a mine as an instance of its own. Refused for want of memory alone.
+    pub fn of(alloc: Global, mine: &Instance, fixed: &Fixed) -> Result<Rest, Fault>
+        requires { IsFixedOf (graph_of_mine mine.now) fixed.now }
+        ensures rest { IfOk result (IsRestIn mine.now fixed.now) }
+        ensures refused { IfErr result (λ e. e ≡ no_memory) }
+    {
+        mine.law();
+        let part = fixed.rest(mine.graph())?;
+        part.graph.law();
+        let values = values_of(alloc, mine, &part.blocks)?;
+        let rest = Instance::new(Arc::new(alloc, part.graph)?, values);
+        Ok(Rest {
+            blocks: part.blocks,
+            mine: rest,
+        })
+    }
+
+    /// The blocks that must be dug with those that were found on the rest, by the numbers of the whole, rising. Refused for
+    /// want of memory alone.
+    pub fn joined(
+        &self,
+        alloc: Global,
+        mine: &Instance,
+        fixed: &Fixed,
+        found: &[u32],
+    ) -> Result<Vec<u32>, Fault>
+        requires fixed { IsFixedOf (graph_of_mine mine.now) fixed.now }
+        requires rest { IsRestIn mine.now fixed.now self.now }
+        requires found { (i : ℕ) → i < length found.now → get_or found.now i 0 < length self.now.blocks.items }
+        ensures joined { IfOk result (λ list. (set : ℕ → Bool) → found.now ≡ members (length self.now.blocks.items) set → ListsJoined mine.now.blocks fixed.now self.now.blocks.items set list.items) }
+        ensures refused { IfErr result (λ e. e ≡ no_memory) }
+    {
+        mine.law();
+        let mut marks = dug_marks(alloc, fixed, mine.graph().n())?;
+        mark_pit(&self.blocks, found, &mut marks);
+        Ok(marked(alloc, &marks)?)
+    }
+
+    /// A certificate of the rest by the numbers of the whole: with what must be dug, and with no flow on a pair of a block that
+    /// is not open. Refused for want of memory alone.
+    pub fn certificate(
+        &self,
+        alloc: Global,
+        mine: &Instance,
+        fixed: &Fixed,
+        found: &Certificate,
+    ) -> Result<Certificate, Fault>
+        requires fixed { IsFixedOf (graph_of_mine mine.now) fixed.now }
+        requires rest { IsRestIn mine.now fixed.now self.now }
+        requires found { IsCertificateOf self.now.mine found.now }
+        ensures certificate { IfOk result (IsFixedCertificateOf mine.now (fixed_of fixed.now.lists)) }
+        ensures refused { IfErr result (λ e. e ≡ no_memory) }
+    {
+        mine.law();
+        self.mine.law();
+        let whole: &Graph = mine.graph();
+        let part: &Graph = self.mine.graph();
+        let mut flow = vec![in alloc; 0i128; whole.arcs() as usize]?;
+        carry_flow(whole, &self.blocks, part, &found.flow, &mut flow);
+        let pit = self.joined(alloc, mine, fixed, &found.pit)?;
+        Ok(Certificate { pit, flow })
+    }
+}

@@ -1,0 +1,39 @@
+-- From the seeds on, one block of the queue after another; at the end of the queue the blocks are a closure.
+use Rattle.std.proofs.Common.{◌<◌, ◌≤◌, arith, sym, ◌∙◌, get_or, length}
+use Rattle.std.proofs.lemmas.List.{get_or_default}
+use Rattle.pit_model.specs.Fixed.{is_among}
+use Rattle.mine_graph.specs.Flood.{IsAt, pairs_along}
+use Rattle.mine_graph.proofs.Among.{among_at, among_here}
+use Rattle.mine_graph.proofs.Spreading.{none_marked, spread_none, spread_more, spread_all}
+use Rattle.mine_graph.proofs.flood.closure_of.Goals as goal
+use Rattle.mine_graph.proofs.flood.closure_of.Goals.{else-loop-head-test, then-loop-head-test+then-head-flood}
+
+pub loop-head-init : goal.loop-head-init
+loop-head-init c =
+    let seeds = c.args.seeds.now in
+    record {
+      state = spread_none (pairs_along c.args.way c.args.graph.now.pairs) (is_among seeds) (IsAt (λ x. get_or seeds x 0) 0 (length seeds)) (record { marks = c.in_ok-marks.marks; queue = c.in_ok-queue.queue; tail = 0 }) c.take_all.new.self
+          (λ u. none_marked c.n-n.result c.in_ok-marks.marks.items u (c.in_ok-marks.ensures.items_if_clones_equal (λ y e. e))) c.take_all.ensures (among_here seeds) (among_at seeds);
+      size = c.take_all.ensures.size ∙ sym c.in_ok-marks.marks.ok.0 ∙ c.in_ok-marks.ensures.len;
+      ahead = omega arith;
+    }
+
+pub loop-head-preserved : goal.loop-head-preserved
+loop-head-preserved c =
+    let ahead : c.loop-head.head < c.loop-head.flood.tail = omega (arith, c.loop-head.invariant.ahead) in
+    record {
+      state = spread_more (pairs_along c.args.way c.args.graph.now.pairs) (is_among c.args.seeds.now) c.loop-head.flood c.take_next.new.self c.loop-head.head c.index-block.result.now ahead (sym (c.index-block.ensures ∙ get_or_default c.loop-head.flood.queue.items c.loop-head.head c.index-block.result.now 0 (omega (arith, c.loop-head.invariant.state.trail.room))))
+          c.loop-head.invariant.state c.take_next.ensures;
+      size = c.take_next.ensures.size ∙ c.loop-head.invariant.size;
+      ahead = omega (arith, c.take_next.ensures.more);
+    }
+
+pub returns : goal.returns
+returns c =
+    let trail = c.loop-head.invariant.state.trail in
+    let size = c.loop-head.invariant.size in
+    let end : c.loop-head.flood.tail ≤ c.loop-head.head = elim c.loop-head-test.branch [
+      | else-loop-head-test w ↦ omega (arith, trail.room, trail.size)
+      | then-loop-head-test+then-head-flood w ↦ omega (arith, w.if-head-flood)
+    ] in
+    spread_all (pairs_along c.args.way c.args.graph.now.pairs) (is_among c.args.seeds.now) c.loop-head.flood c.loop-head.head end c.loop-head.invariant.state

@@ -1,0 +1,179 @@
+//! Blocks forced in and blocks barred. What forced blocks need, directly or through others, must be dug too; what needs barred
+//! ones so must be left. Which of the others are dug is open: `rest` is the graph of those.
+ghost use Rattle.std.specs.Prelude.{◌≡◌, ◌<◌, ◌↔◌, ◌&&◌, ◌||◌, ℕ, IsTrue, false, true, length, get_or, IfOk, IfErr, IfSome, IfNone};
+ghost use Rattle.std.specs.List.Sorted.{IsStrictlyIncreasing};
+ghost use Rattle.faults.specs.Refused.{no_memory};
+ghost use Rattle.pit_model.specs.Fixed.{AreFixable, IsFixedRest, fixed_of, is_among, is_open};
+ghost use Rattle.pit_model.specs.Cycle.{IsLeast};
+ghost use Rattle.pit_model.specs.Graph.{Graph as AnyGraph};
+ghost use Rattle.mine_graph.specs.FixedBlocks.{IsFixedOf, RefusesFixed, dug_in, left_in, lists_of, mark_of, no_lists};
+
+use crate::flood::{Way, closure_of};
+use crate::graph::Graph;
+use crate::part::Part;
+use faults::Fault;
+use std::alloc::{AllocError, Global};
+use std::marker::Model;
+
+/// The lists that were given, and a mark for each block that must be dug, and for each that must be left.
+#[derive(Drop)]
+struct Settled {
+    forced: Vec<u32>,
+    barred: Vec<u32>,
+    dug: Vec<bool>,
+    left: Vec<bool>,
+}
+
+/// Blocks of a graph that are forced in or barred. With none it is of every graph.
+#[derive(Drop)]
+pub struct Fixed {
+    settled: Option<Settled>,
+}
+
+impl Model for Fixed {
+    ghost use Rattle.mine_graph.specs.FixedBlocks.{FixedBlocks, seen_as};
+
+    ghost Value = { FixedBlocks };
+
+    ghost view = { λ f. seen_as f.settled };
+}
+
+/// The mark of a block; none outside the list.
+fn is_marked(marks: &[bool], u: u32) -> bool
+    ensures { result ≡ mark_of marks.now u }
+{
+    matches!(marks.get(u as usize), Some(true))
+}
+
+/// The first block of a rising list that has a mark.
+fn first_marked(blocks: &[u32], marks: &[bool]) -> Option<u32>
+    requires { IsStrictlyIncreasing blocks.now }
+    ensures some { IfSome result (IsLeast (λ u. is_among blocks.now u && mark_of marks.now u)) }
+    ensures none { IfNone result ((u : ℕ) → IsTrue (is_among blocks.now u) → mark_of marks.now u ≡ false) }
+{
+    for i in 0..blocks.len() {
+        if is_marked(marks, blocks[i]) {
+            return Some(blocks[i]);
+        }
+    }
+    None
+}
+
+/// A mark for each of n blocks: whether it must be dug or left.
+fn settled_marks(alloc: Global, n: u32, fixed: &Fixed) -> Result<Vec<bool>, AllocError>
+    ensures count { IfOk result (λ v. length v.items ≡ n) }
+    ensures marks { IfOk result (λ v. (u : ℕ) → u < n → mark_of v.items u ≡ (dug_in fixed.now u || left_in fixed.now u)) }
+{
+    (0..n)
+        .map(|u| fixed.is_dug(u) || fixed.is_left(u))
+        .collect(alloc)
+}
+
+impl Fixed {
+    /// The blocks of the first list forced in, and those of the second barred. Refused for want of memory, and by the least
+    /// barred block that must be dug (21). Time is linear in blocks and pairs.
+    pub fn new(
+        alloc: Global,
+        graph: &Graph,
+        forced: Vec<u32>,
+        barred: Vec<u32>,
+    ) -> Result<Fixed, Fault>
+        requires { AreFixable graph.now.blocks (lists_of forced.items barred.items) }
+        ensures lists { IfOk result (λ f. f.lists ≡ lists_of forced.items barred.items) }
+        ensures of_graph { IfOk result (IsFixedOf graph.now) }
+        ensures refused { IfErr result (λ e. RefusesFixed graph.now (lists_of forced.items barred.items) e.refusal e) }
+    {
+        graph.law();
+        let dug = closure_of(alloc, graph, Way::ToNeeds, &forced)?;
+        if let Some(block) = first_marked(&barred, &dug) {
+            return Err(Fault::clash(block));
+        }
+        let left = closure_of(alloc, graph, Way::ToUsers, &barred)?;
+        Ok(Fixed {
+            settled: Some(Settled {
+                forced,
+                barred,
+                dug,
+                left,
+            }),
+        })
+    }
+
+    /// No block is forced in, and none barred. It takes no memory.
+    pub fn none() -> Fixed
+        ensures lists { result.lists ≡ no_lists }
+        ensures of_any { (graph : AnyGraph) → IsFixedOf graph result }
+    {
+        Fixed { settled: None }
+    }
+
+    /// Whether both lists are empty.
+    pub fn is_none(&self) -> bool
+        ensures { IsTrue result ↔ (self.now.lists ≡ no_lists) }
+    {
+        match &self.settled {
+            None => true,
+            Some(s) => s.forced.is_empty() && s.barred.is_empty(),
+        }
+    }
+
+    /// The blocks forced in, rising, as they were given.
+    pub fn forced(&self) -> &[u32]
+        ensures { result.now ≡ self.now.lists.forced }
+    {
+        match &self.settled {
+            None => &[],
+            Some(s) => &s.forced,
+        }
+    }
+
+    /// The blocks barred, rising, as they were given.
+    pub fn barred(&self) -> &[u32]
+        ensures { result.now ≡ self.now.lists.barred }
+    {
+        match &self.settled {
+            None => &[],
+            Some(s) => &s.barred,
+        }
+    }
+
+    /// Whether a block must be dug: it is forced in, or a block that is needs it, directly or through others.
+    pub fn is_dug(&self, u: u32) -> bool
+        ensures { result ≡ dug_in self.now u }
+    {
+        match &self.settled {
+            None => false,
+            Some(s) => is_marked(&s.dug, u),
+        }
+    }
+
+    /// Whether a block must be left: it is barred, or needs a block that is, directly or through others.
+    pub fn is_left(&self, u: u32) -> bool
+        ensures { result ≡ left_in self.now u }
+    {
+        match &self.settled {
+            None => false,
+            Some(s) => is_marked(&s.left, u),
+        }
+    }
+
+    /// Whether a block is neither to be dug nor to be left.
+    pub fn is_open(&self, u: u32) -> bool
+        ensures { result ≡ is_open (dug_in self.now) (left_in self.now) u }
+    {
+        !self.is_dug(u) && !self.is_left(u)
+    }
+
+    /// The rest: the open blocks with the pairs among them. Refused for want of memory alone.
+    pub fn rest(&self, graph: &Graph) -> Result<Part, Fault>
+        requires { IsFixedOf graph.now self.now }
+        ensures rest { IfOk result (λ p. IsFixedRest graph.now (fixed_of self.now.lists) (dug_in self.now) (left_in self.now) p.blocks.items p.graph) }
+        ensures no_memory { IfErr result (λ e. e ≡ no_memory) }
+    {
+        graph.law();
+        let settled = settled_marks(graph.alloc(), graph.n(), self)?;
+        let rest = graph.without(&settled)?;
+        rest.graph.law();
+        Ok(rest)
+    }
+}

@@ -1,0 +1,122 @@
+//! The closure of some blocks along pairs: a queue takes in block after block, each once, and after each those that its pairs
+//! lead to. So time is linear in blocks and pairs.
+ghost use Rattle.std.specs.Prelude.{◌≡◌, ◌<◌, ◌≤◌, ℕ, length, get_or, IfOk};
+ghost use Rattle.std.specs.List.{All};
+ghost use Rattle.pit_model.specs.Graph.{first_of, second_of};
+ghost use Rattle.pit_model.specs.Fixed.{IsClosure, is_among};
+ghost use Rattle.mine_graph.specs.FixedBlocks.{mark_of};
+ghost use Rattle.mine_graph.specs.Flood.{IsAt, IsTrail, LeadsTo, TakesIn, pairs_along};
+
+use crate::graph::Graph;
+use std::alloc::{AllocError, Global};
+use std::ops::Range;
+
+/// Which way pairs lead: from a block to those that it needs, or to those that need it.
+#[derive(Clone, Copy)]
+pub enum Way {
+    ToNeeds,
+    ToUsers,
+}
+
+/// The blocks that were taken in: each has a mark, and they stand in the first `tail` places of the queue.
+#[derive(Drop)]
+struct Flood {
+    marks: Vec<bool>,
+    queue: Vec<u32>,
+    tail: usize,
+}
+
+impl Flood {
+    /// Takes in a block, where it is not in yet.
+    fn take_in(&mut self, block: u32)
+        requires below { block < length self.old.marks.items }
+        requires trail { IsTrail self.old }
+        ensures { TakesIn (λ u. block ≡ u) self.old self.new }
+    {
+        if !self.marks[block as usize] {
+            self.marks[block as usize] = true;
+            self.queue[self.tail] = block;
+            self.tail += 1;
+        }
+    }
+
+    /// Takes in the blocks of a list.
+    fn take_all(&mut self, blocks: &[u32])
+        requires below { All (λ u. u < length self.old.marks.items) blocks.now }
+        requires trail { IsTrail self.old }
+        ensures { TakesIn (IsAt (λ x. get_or blocks.now x 0) 0 (length blocks.now)) self.old self.new }
+    {
+        for i in 0..blocks.len() {
+            self.take_in(blocks[i]);
+        }
+    }
+
+    /// Takes in the blocks that are needed by the pairs of a row.
+    fn take_needs(&mut self, graph: &Graph, row: Range<u32>)
+        requires size { length self.old.marks.items ≡ graph.now.blocks }
+        requires order { row.start ≤ row.end }
+        requires inside { row.end ≤ length graph.now.pairs }
+        requires trail { IsTrail self.old }
+        ensures { TakesIn (IsAt (second_of graph.now.pairs) row.start row.end) self.old self.new }
+    {
+        graph.law();
+        for k in row.start..row.end {
+            self.take_in(graph.arc(k).1);
+        }
+    }
+
+    /// Takes in the blocks that need others, by the numbers of their pairs.
+    fn take_users(&mut self, graph: &Graph, users: &[u32])
+        requires size { length self.old.marks.items ≡ graph.now.blocks }
+        requires inside { All (λ k. k < length graph.now.pairs) users.now }
+        requires trail { IsTrail self.old }
+        ensures { TakesIn (IsAt (λ x. first_of graph.now.pairs (get_or users.now x 0)) 0 (length users.now)) self.old self.new }
+    {
+        graph.law();
+        for i in 0..users.len() {
+            self.take_in(graph.arc(users[i]).0);
+        }
+    }
+
+    /// Takes in the blocks that the pairs of a block lead to.
+    fn take_next(&mut self, graph: &Graph, way: Way, block: u32)
+        requires size { length self.old.marks.items ≡ graph.now.blocks }
+        requires below { block < graph.now.blocks }
+        requires trail { IsTrail self.old }
+        ensures { TakesIn (LeadsTo (pairs_along way graph.now.pairs) block) self.old self.new }
+    {
+        match way {
+            Way::ToNeeds => self.take_needs(graph, graph.arcs_of(block)),
+            Way::ToUsers => self.take_users(graph, graph.users(block)),
+        }
+    }
+}
+
+/// A mark for each block: whether it is one of the seeds, or pairs lead to it from one, directly or through others.
+pub fn closure_of(
+    alloc: Global,
+    graph: &Graph,
+    way: Way,
+    seeds: &[u32],
+) -> Result<Vec<bool>, AllocError>
+    requires { All (λ u. u < graph.now.blocks) seeds.now }
+    ensures { IfOk result (λ marks. IsClosure (pairs_along way graph.now.pairs) (is_among seeds.now) (mark_of marks.items)) }
+{
+    let n = graph.n() as usize;
+    let marks = vec![in alloc; false; n]?;
+    let queue = vec![in alloc; 0; n]?;
+    let mut flood = Flood {
+        marks,
+        queue,
+        tail: 0,
+    };
+    flood.take_all(seeds);
+    for head in 0..n {
+        if head == flood.tail {
+            break;
+        }
+        let block = flood.queue[head];
+        flood.take_next(graph, way, block);
+    }
+    Ok(flood.marks)
+}

@@ -1,0 +1,16 @@
+//! The mine: six blocks of waste, and below each one of ore that pays for it.
+use faults::Fault;
+use mine_graph::{Graph, Instance};
+use std::alloc::Global;
+use std::sync::Arc;
+
+/// Its arcs, each of which is a merger arc until it is merged over. They are so many that a journal grows among them.
+pub const ARCS: [u32; 6] = [0, 1, 2, 3, 4, 5];
+
+/// Refused for want of memory alone.
+pub fn mine(alloc: Global) -> Result<Instance, Fault> {
+    let pairs = vec![in alloc; (1, 0), (3, 2), (5, 4), (7, 6), (9, 8), (11, 10)]?;
+    let graph = Arc::new(alloc, Graph::new(alloc, 12, pairs)?)?;
+    let values = vec![in alloc; -3, 5, -3, 5, -3, 5, -3, 5, -3, 5, -3, 5]?;
+    Ok(Instance::new(graph, values))
+}

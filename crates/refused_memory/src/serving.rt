@@ -1,0 +1,62 @@
+//! Six workers ask for an arc each, and the holder serves the board.
+use crate::mine::ARCS;
+use crate::trial::Trial;
+use crate::witness::Witness;
+use faults::Fault;
+use proposals::{Board, WorkerSeat};
+use std::sync::Wait;
+use tree_lock::{Holder, Site, Verdict};
+
+/// One pass over the board answers all asks; where memory was refused to that, all is as after the asks that it answered, and a
+/// second pass answers the others.
+pub struct Serving;
+
+// Each worker asks for the arc of its place: whether all did.
+fn all_ask<S: Site>(board: &Board<S>, workers: &mut [WorkerSeat<S>]) -> bool {
+    let mut asked = true;
+    for (worker, arc) in workers.iter_mut().zip(ARCS.iter()) {
+        asked = *arc < board.arcs() && board.ask(worker, *arc) && asked;
+    }
+    asked
+}
+
+// Each worker collects its reply: whether each is that its arc was merged over.
+fn all_applied<S: Site>(board: &Board<S>, workers: &mut [WorkerSeat<S>]) -> bool {
+    let mut applied = true;
+    for (worker, arc) in workers.iter_mut().zip(ARCS.iter()) {
+        applied = match board.collect(worker) {
+            Some(reply) => reply.arc == *arc && reply.verdict == Verdict::Applied && applied,
+            None => false,
+        };
+    }
+    applied
+}
+
+impl Trial for Serving {
+    fn at<S: Site, R: Wait>(
+        &self,
+        rt: &R,
+        board: &Board<S>,
+        workers: &mut [WorkerSeat<S>],
+        holder: &mut Holder<S>,
+        witness: &mut Witness<'_, S>,
+    ) -> Result<(), Fault> {
+        witness.expect("there are six workers", workers.len() == ARCS.len());
+        witness.expect("each worker asks", all_ask(board, workers));
+        let mut answered = 0;
+        let mut served = holder.serve(rt, board);
+        if served.is_err() {
+            witness.seen.refused = witness.seen.refused.saturating_add(1);
+            answered = holder.journal().len();
+            witness.compare(holder, answered)?;
+            served = holder.serve(rt, board);
+        }
+        let all = answered + served? as usize == ARCS.len();
+        witness.expect("the passes answer each ask once", all);
+        witness.expect(
+            "each worker collects its reply",
+            all_applied(board, workers),
+        );
+        witness.compare(holder, ARCS.len())
+    }
+}

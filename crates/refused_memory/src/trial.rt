@@ -1,0 +1,85 @@
+//! A tree under a lock with a board of six workers, at which a trial decides arcs.
+ghost use Rattle.std.specs.Prelude.{◌≡◌};
+ghost use Rattle.pit_model.specs.Tree.{opening};
+
+use crate::witness::{Seen, Witness};
+use faults::Fault;
+use mine_graph::Instance;
+use norm_tree::NormTree;
+use proposals::{Board, UnnamedBoard, WorkerSeat};
+use std::alloc::Global;
+use std::marker::Brand;
+use std::sync::Wait;
+use tree_lock::{Holder, SharedTree, Site, UnnamedList};
+
+const WORKERS: u32 = 6;
+
+/// What is tried at a tree.
+pub trait Trial {
+    /// Refused for want of memory, where that is refused to the witness, or again to the call that the trial is of.
+    fn at<S: Site, R: Wait>(
+        &self,
+        rt: &R,
+        board: &Board<S>,
+        workers: &mut [WorkerSeat<S>],
+        holder: &mut Holder<S>,
+        witness: &mut Witness<'_, S>,
+    ) -> Result<(), Fault>;
+}
+
+// What a lock begins with, of which no type has the name yet.
+struct Beginning {
+    tree: NormTree,
+    list: UnnamedList,
+    unnamed: UnnamedBoard,
+}
+
+fn try_at<S: Site, T: Trial, R: Wait>(
+    rt: &R,
+    alloc: Global,
+    mine: &Instance,
+    begun: Beginning,
+    trial: &T,
+) -> Result<Seen, Fault>
+    requires opening { begun.tree.tree ≡ opening begun.tree.mine }
+    requires mine { begun.tree.mine ≡ S.mine }
+    requires book { begun.list ≡ S.book }
+    requires budget { S.budget ≡ None }
+    requires board { begun.unnamed ≡ S.board }
+    requires arcs { S.arcs ≡ 4294967295 }
+    requires workers { begun.unnamed.words ≡ S.workers }
+{
+    let Beginning {
+        tree,
+        list,
+        unnamed,
+    } = begun;
+    let (board, mut workers, seat) = Board::<S>::new(alloc, unnamed, u32::MAX)?;
+    let mut shared = SharedTree::<S>::new(alloc, list, tree, None, &board, seat)?;
+    let tried = match shared.look_seat() {
+        Ok(seat) => {
+            let mut witness = Witness::new(alloc, mine, seat);
+            trial
+                .at(rt, &board, &mut workers, shared.holder(), &mut witness)
+                .map(|_| witness.seen)
+        }
+        Err(fault) => Err(fault),
+    };
+    shared.into_holder().into_parts(rt);
+    tried
+}
+
+/// The trial at the opening tree of a mine. Refused for want of memory, and where a seat was.
+pub fn try_with<T: Trial, R: Wait>(
+    rt: &R,
+    alloc: Global,
+    mine: &Instance,
+    trial: &T,
+) -> Result<Seen, Fault> {
+    let begun = Beginning {
+        tree: NormTree::start(alloc, mine)?,
+        list: UnnamedList::new()?,
+        unnamed: UnnamedBoard::new(alloc, WORKERS)?,
+    };
+    try_at::<Brand, T, R>(rt, alloc, mine, begun, trial)
+}

@@ -1,0 +1,2 @@
+mod Marking
+pub mod Searching

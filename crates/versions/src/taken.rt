@@ -1,0 +1,106 @@
+//! The arcs that a copy of the tree has taken in. Each comes with the list before it, so that a copy knows its list whichever
+//! arcs it takes in at once; only of the last one has the list's word to tell.
+ghost use Rattle.std.specs.Prelude.{◌≡◌, [], ◌∷◌, ◌++◌, IfSome, IsTrue};
+ghost use Rattle.versions.specs.Published.{are_same};
+
+use crate::beginning::Beginning;
+use crate::head::Head;
+use crate::origin::Origin;
+use std::marker::Model;
+
+/// An arc that the copies are to take in, and the list before it. To a contract it is both.
+#[derive(Drop)]
+pub struct Addition<V: Origin> {
+    before: Beginning<V>,
+    arc: u32,
+}
+
+impl<V: Origin> Model for Addition<V> {
+    ghost use Rattle.std.specs.Prelude.{ℕ, List};
+
+    ghost Value = { List ℕ × ℕ };
+
+    ghost view = { λ a. (a.before, a.arc) };
+}
+
+impl<V: Origin> Addition<V> {
+    pub fn new(before: Beginning<V>, arc: u32) -> Addition<V>
+        ensures { result ≡ (before, arc) }
+    {
+        Addition { before, arc }
+    }
+
+    pub fn before(&self) -> &Beginning<V>
+        ensures { result.now ≡ self.now.0 }
+    {
+        &self.before
+    }
+
+    pub fn arc(&self) -> u32
+        ensures { result ≡ self.now.1 }
+    {
+        self.arc
+    }
+}
+
+/// To a contract it is the arcs.
+#[derive(Drop)]
+pub struct TakenIn<V: Origin> {
+    told: Beginning<V>,
+    /// An arc behind them of which the list's word did not tell when it was taken in, as in no run. The next addition tells of it.
+    last: Option<u32>,
+}
+
+impl<V: Origin> Model for TakenIn<V> {
+    ghost use Rattle.std.specs.Prelude.{ℕ, List};
+    ghost use Rattle.versions.specs.Published.{with_last};
+
+    ghost Value = { List ℕ };
+
+    ghost view = { λ t. with_last t.told t.last };
+}
+
+impl<V: Origin> TakenIn<V> {
+    pub fn new(told: Beginning<V>) -> TakenIn<V>
+        ensures { result ≡ told }
+    {
+        TakenIn { told, last: None }
+    }
+
+    /// Whether they are this list.
+    pub fn are(&self, list: &Beginning<V>) -> bool
+        ensures exact { result ≡ are_same self.now list.now }
+        ensures same { IsTrue result → list.now ≡ self.now }
+    {
+        match self.last {
+            None => self.told.is_same(list),
+            Some(arc) => self.told.is_followed(list, arc),
+        }
+    }
+
+    /// They are the addition's from then on.
+    pub fn grow(&mut self, head: &Head<V>, addition: &Addition<V>)
+        ensures { self.new ≡ addition.now.0 ++ addition.now.1 ∷ [] }
+    {
+        match addition.before.followed(head, addition.arc) {
+            Some(told) => {
+                self.told = told;
+                self.last = None;
+            }
+            None => {
+                self.told = addition.before.again();
+                self.last = Some(addition.arc);
+            }
+        }
+    }
+
+    /// They, as a beginning of the list, where it told of the last one, as in each run.
+    pub fn told(&self) -> Option<&Beginning<V>>
+        ensures { IfSome result (λ told. told.now ≡ self.now) }
+    {
+        match self.last {
+            None => Some(&self.told),
+            Some(_) => None,
+        }
+    }
+}

@@ -1,0 +1,119 @@
+"""Blocks that must be dug and blocks that may not be, as planners know them: by columns of the table, by the surface as mined, and
+by areas on the map. Cells without rock are never among them."""
+
+from __future__ import annotations
+
+from dataclasses import dataclass
+from pathlib import Path
+from typing import Optional
+
+import numpy as np
+import pandas as pd
+
+from . import text
+from .errors import PlanError
+from .grid import Grid
+from .project import Area, Project
+from .table import HEADER_ROWS, at_row, demand_columns, numbers_of, read_columns
+
+
+@dataclass(frozen=True)
+class FixedBlocks:
+    """Numbers of cells, rising, and what a planner should know of them.
+
+    forced  blocks that must be dug, with all that they need
+    barred  blocks that may not be dug, nor what needs them
+    """
+
+    forced: np.ndarray
+    barred: np.ndarray
+    notes: tuple[str, ...] = ()
+
+
+NOTHING = FixedBlocks(np.zeros(0, dtype=np.int64), np.zeros(0, dtype=np.int64))
+
+
+def of_table(frame: pd.DataFrame, grid: Grid, project: Project, source: str = "table") -> FixedBlocks:
+    """What `[fixed]` says of the rows of a checked table; nothing where there is no such section.
+
+    Raises PlanError where a file is not usable, and where a block would be both.
+    """
+    rules = project.fixed
+    if rules is None:
+        return NOTHING
+    rock = frame[project.table.tonnes].to_numpy() > 0
+    forced, barred = marked(frame, rules.forced) & rock, marked(frame, rules.barred) & rock
+    notes = []
+    if rules.surface is not None:
+        above, unknown = above_surface(grid, rules.surface)
+        forced |= above & rock
+        if unknown:
+            notes.append(f"{rules.surface}: {unknown:,} columns of blocks have no point and are taken as not mined")
+    for area in rules.areas:
+        barred |= in_area(grid, area) & rock
+    both = forced & barred
+    if both.any():
+        raise PlanError(f"{source} row {int(both.argmax()) + HEADER_ROWS}: the block must be dug and may not be dug")
+    notes.insert(0, f"{int(forced.sum()):,} blocks must be dug and {int(barred.sum()):,} may not be")
+    return FixedBlocks(np.sort(grid.rows[forced]), np.sort(grid.rows[barred]), tuple(notes))
+
+
+def marked(frame: pd.DataFrame, column: Optional[str]) -> np.ndarray:
+    """Which rows have a number above 0 in a column."""
+    return np.zeros(len(frame), dtype=bool) if column is None else frame[column].to_numpy() > 0
+
+
+def above_surface(grid: Grid, file: Path) -> tuple[np.ndarray, int]:
+    """Which rows have their centre above the surface, and how many columns of blocks have no point over them.
+
+    The surface over a column of blocks is the mean of the points that lie over it.
+    """
+    points = numbers_in(file, ("x", "y", "z"))
+    (x, y, _), (dx, dy, _), (_, rows, columns) = grid.origin, grid.size, grid.shape
+    column = np.floor((points[:, 0] - x) / dx + 0.5).astype(int)
+    row = np.floor((points[:, 1] - y) / dy + 0.5).astype(int)
+    inside = (column >= 0) & (column < columns) & (row >= 0) & (row < rows)
+    place = row[inside] * columns + column[inside]
+    count = np.bincount(place, minlength=rows * columns)
+    total = np.bincount(place, weights=points[inside, 2], minlength=rows * columns)
+    height = np.where(count > 0, total / np.maximum(count, 1), np.inf)
+    over = grid.rows % grid.per_level
+    return grid.centres(grid.rows)[2] > height[over], int(np.count_nonzero(count[np.unique(over)] == 0))
+
+
+def in_area(grid: Grid, area: Area) -> np.ndarray:
+    """Which rows have their centre in the barred side of an area."""
+    corners = numbers_in(area.polygon, ("x", "y"))
+    if len(corners) < 3:
+        raise PlanError(f"{area.polygon}: a polygon has three corners or more")
+    x, y, _ = grid.centres(grid.rows)
+    return within(x, y, corners) == (area.barred == "inside")
+
+
+def within(x: np.ndarray, y: np.ndarray, corners: np.ndarray) -> np.ndarray:
+    """Which points lie in a polygon: those from which a ray to the east crosses its sides an odd number of times."""
+    odd = np.zeros(len(x), dtype=bool)
+    for (ax, ay), (bx, by) in zip(corners, np.roll(corners, -1, axis=0)):
+        if ay != by:
+            crossed = (ay > y) != (by > y)
+            odd ^= crossed & (x < ax + (y - ay) * (bx - ax) / (by - ay))
+    return odd
+
+
+def numbers_in(file: Path, names: tuple[str, ...]) -> np.ndarray:
+    """Columns of a CSV file as numbers. Raises PlanError, with file, row and column, where one is missing or is no number."""
+    frame = read_columns(file, ",", [], list(names))
+    demand_columns(frame, list(names), str(file))
+    columns = [numbers_of(frame[name], str(file), name) for name in names]
+    for name, numbers in zip(names, columns):
+        if np.isnan(numbers).any():
+            raise at_row(str(file), int(np.isnan(numbers).argmax()), name, "is empty")
+    return np.stack(columns, axis=1)
+
+
+def write(path: Path, fixed: FixedBlocks) -> None:
+    """The program's file of fixed blocks: `in id` and `out id`, ids rising."""
+    ids = np.concatenate([fixed.forced, fixed.barred])
+    words = np.array([b"in"] * len(fixed.forced) + [b"out"] * len(fixed.barred), dtype="S3")
+    order = np.argsort(ids, kind="stable")
+    path.write_bytes(text.lines([words[order].view(np.uint8).reshape(-1, 3), text.whole(ids[order])]))
