@@ -122,7 +122,7 @@ pub fn ores_below_waste(alloc: Global, copies: u32) -> Result<Instance, Fail> {
 // What a block of the cross section is worth: ore below, waste above and at the sides.
 fn worth(depth: u32, place: u32, random: u64) -> i128 {
     let noise = (random >> 40) as i128 % 97;
-    if depth > 20 && place > 40 && place < 160 {
+    if depth > 10 && place > 20 && place < 80 {
         noise - 20
     } else {
         -(noise % 25)
@@ -131,29 +131,29 @@ fn worth(depth: u32, place: u32, random: u64) -> i128 {
 
 // The line of a block that needs the three above it, or the two at a side.
 fn prec_line(alloc: Global, block: u32, place: u32) -> Result<String, Fail> {
-    let above = block.saturating_sub(200);
+    let above = block.saturating_sub(100);
     let left = above.saturating_sub(1);
     let right = above.saturating_add(1);
     Ok(match place {
         0 => format!(in alloc; "{block} 2 {above} {right}\n")?,
-        199 => format!(in alloc; "{block} 2 {left} {above}\n")?,
+        99 => format!(in alloc; "{block} 2 {left} {above}\n")?,
         _ => format!(in alloc; "{block} 3 {left} {above} {right}\n")?,
     })
 }
 
-/// A mine in cross section: 200 blocks wide and 100 deep.
+/// A mine in cross section: 100 blocks wide and 50 deep.
 pub fn cross_section(alloc: Global, seed: u64) -> Result<Instance, Fail> {
     let mut model = String::from_str(
         alloc,
-        "NAME: t\nTYPE: UPIT\nNBLOCKS: 20000\nOBJECTIVE_FUNCTION:\n",
+        "NAME: t\nTYPE: UPIT\nNBLOCKS: 5000\nOBJECTIVE_FUNCTION:\n",
     )?;
     let mut prec = String::new(alloc);
     let mut random = seed;
-    for block in 0..20_000u32 {
+    for block in 0..5_000u32 {
         random = random
             .wrapping_mul(6_364_136_223_846_793_005)
             .wrapping_add(1_442_695_040_888_963_407);
-        let (depth, place) = (block / 200, block % 200);
+        let (depth, place) = (block / 100, block % 100);
         let worth = worth(depth, place, random);
         model.push_str(&format!(in alloc; "{block} {worth}\n")?)?;
         if depth > 0 {

@@ -1,4 +1,4 @@
-//! Eight workers, an arc at a time, over mines of 20,000 blocks: whatever the schedule, they find the pit that one thread
+//! Eight workers, an arc at a time, over mines of 5,000 blocks: whatever the schedule, they find the pit that one thread
 //! finds, by a journal that one thread can follow.
 use crate::failures::first_failure;
 use crate::mines::cross_section;

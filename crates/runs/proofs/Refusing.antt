@@ -117,7 +117,7 @@ pit_refused asked WriteFailed e files task journal certificate out holds h = ⊎
     h
 pit_refused asked NoMemory e files task journal certificate out holds h =
     ((h.0, holds.given.model_given.failures, holds.given.prec_given.failures, given_fixed files.fixed holds.upit.n task.lists holds.fixed_given), record { no_journal = h.1; no_certificate = h.2; no_pit = refl })
-pit_refused asked NoSeat e files task journal certificate out holds h = (h.0.0, h.0.1, record { no_journal = h.1; no_certificate = h.2; no_pit = refl })
+pit_refused asked NoSeat e files task journal certificate out holds h = (h.0.0, h.0.1, (task, holds), record { no_journal = h.1; no_certificate = h.2; no_pit = refl })
 pit_refused asked (Exhausted count) e files task journal certificate out holds h =
     (h.0.0, (task, holds, h.0.1), journaled (AtBudget count) asked.mode files task journal holds h.1, h.2, refl)
 pit_refused asked _ e files task journal certificate out holds h = absurd h.0

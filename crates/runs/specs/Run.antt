@@ -74,7 +74,8 @@ EndsJournaled mode task journal outcome = EndsSolve mode task outcome × PutsJou
 -- journal was written
 abbrev pub RefusesRun : Asked → Refusal → Fault → Files → Chosen → Chosen → Progress → Progress → Type 0
 RefusesRun asked WriteFailed fault files journal certificate before after = (fault ≡ write_failed) × WasCutShort asked files journal certificate before after
-RefusesRun asked NoSeat fault files journal certificate before after = (fault ≡ no_seat) × IsShared asked.mode × IsUnwritten journal certificate before after
+RefusesRun asked NoSeat fault files journal certificate before after =
+    (fault ≡ no_seat) × IsShared asked.mode × ((task : FixedMine) × HoldsMine files task) × IsUnwritten journal certificate before after
 RefusesRun asked (Exhausted count) fault files journal certificate before after =
     (fault ≡ exhausted count) × HoldsOfSearched asked.pit files (λ searched. RunsOut asked.mode searched count)
     × OfWriterIfAny journal (IsJournaled (AtBudget count) asked.mode files) × IsLeft certificate × (after ≡ before)
