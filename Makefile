@@ -7,7 +7,7 @@ PREFIX = /usr/local
 
 all: build demo
 
-# A first answer in about a minute. Nothing is proved: the sources are compiled and run as they are.
+# A first answer in a minute or two. Nothing is proved: the sources are compiled and run as they are.
 try:
 	@echo "unproved run on $(SMALL_MINE):"
 	@mkdir -p build
@@ -25,10 +25,12 @@ demo:
 	head -n 8 build/pit.txt
 	cmp build/pit.txt $(SMALL_MINE)/pit.txt
 
-# The program, its manual page and the completions, below PREFIX. DESTDIR stands before it, for whoever makes a package.
+# The program, its manual page, the completions and what was built, below PREFIX. DESTDIR stands before it, for whoever makes a
+# package.
 install:
 	test -x $(PROGRAM) || $(MAKE) build
 	install -D -m 755 $(PROGRAM) $(DESTDIR)$(PREFIX)/bin/pitshell
+	test ! -e $(PROGRAM).version || install -D -m 644 $(PROGRAM).version $(DESTDIR)$(PREFIX)/share/doc/pitshell/version
 	install -D -m 644 man/pitshell.1 $(DESTDIR)$(PREFIX)/share/man/man1/pitshell.1
 	install -D -m 644 completions/pitshell.bash $(DESTDIR)$(PREFIX)/share/bash-completion/completions/pitshell
 	install -D -m 644 completions/_pitshell $(DESTDIR)$(PREFIX)/share/zsh/site-functions/_pitshell
@@ -39,8 +41,7 @@ test: setup
 	tools/uncited.py
 	tools/named.py
 	rt ci
-	mkdir -p build
-	cp crates/pitshell/out/pitshell build/pitshell || $(MAKE) build
+	tools/build.py --copy || $(MAKE) build
 	$(MAKE) test-program test-plan
 
 # The tests of the built program and of the tools beside it alone.
@@ -53,17 +54,17 @@ test-plan: setup
 	test -x build/pitshell || $(MAKE) build
 	/usr/bin/python3 -m pytest python/tests -q -p no:cacheprovider
 
-# Lets each request for memory, each thread, each read and each write of every row go wrong in turn, and changes each byte of a
-# certificate to each other byte; tests/test_sweeps.py and tests/test_hostile_files.py do a part of it.
+# Lets each request for memory, each thread, each read and each write of every row go wrong in turn, and changes each byte of
+# certificates, journals and fixed files to each other byte; tests/test_sweeps.py and tests/test_hostile_files.py do a part of it.
 sweep:
 	test -x build/pitshell || $(MAKE) build
 	tests/sweeps.py --results bench/results/sweeps.md
-	tools/compare_checks.py
+	tools/compare_bent.py --results bench/results/sweeps.md
 
-# A hundred runs with workers on random mines, each journal replayed by the program and by tools/replay_journal.py.
+# A thousand runs with workers on random mines, for half an hour or more, each journal replayed by the program and by tools/replay_journal.py.
 storm:
 	test -x build/pitshell || $(MAKE) build
-	tools/journal_storm.py --results bench/results/journal-storm.md
+	tools/journal_storm.py --runs 1000 --results bench/results/journal-storm.md
 
 # The program in its modes and other people's maximum flows beside it, at up to a million blocks; the
 # table goes to bench/results/. BENCH=--quick stops at 100,000 blocks. Peers whose packages are missing are left out.

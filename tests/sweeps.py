@@ -1,7 +1,7 @@
 #!/usr/bin/python3
 """Lets each request for memory, each read and each write of a run go wrong, one at a time, and compares all that the run leaves.
 
-    tests/sweeps.py [--results FILE]      every row in every mode; `make sweep`
+    tests/sweeps.py [--jobs 2] [--results FILE]      every row in every mode; `make sweep`
 
 The Nth request for memory or the Nth start of a thread is refused, the Nth read or write fails or moves a single byte, for each N
 until a run meets none; and signals interrupt each read or each write, so many times that it is made again, and so many that it
@@ -11,6 +11,7 @@ refusal and its source, and no output and no file. The shim is `fail_calls.c`, b
 
 import argparse
 import collections
+import concurrent.futures
 import dataclasses
 import itertools
 import os
@@ -18,6 +19,7 @@ import pathlib
 import subprocess
 import sys
 import tempfile
+import time
 from collections.abc import Callable
 
 from rows import Row, all_rows
@@ -200,21 +202,22 @@ def sweep(row: Row, shim: pathlib.Path, folder: pathlib.Path) -> Result:
 
 
 def table(totals: collections.Counter, rows: int, wrong: int) -> str:
-    lines = ["# Sweeps", "", f"`make sweep`: {rows} rows, {sum(totals.values()):,} runs, {wrong} wrong.", "", "| what goes wrong | runs |", "|---|---|"]
+    lines = ["# Sweeps", "", f"`make sweep`, {time.strftime('%Y-%m-%d')}: {rows} rows, {sum(totals.values()):,} runs, {wrong} wrong.", "", "| what goes wrong | runs |", "|---|---|"]
     return "\n".join(lines + [f"| {kind} | {count:,} |" for kind, count in totals.items()]) + "\n"
 
 
 def main() -> int:
     options = argparse.ArgumentParser(description=__doc__, formatter_class=argparse.RawDescriptionHelpFormatter)
+    options.add_argument("--jobs", type=int, default=2, help="how many rows are swept at once")
     options.add_argument("--results", type=pathlib.Path, help="where to write the counts")
     given = options.parse_args()
     totals, wrong = collections.Counter(), []
-    with tempfile.TemporaryDirectory() as name:
+    with tempfile.TemporaryDirectory() as name, concurrent.futures.ThreadPoolExecutor(given.jobs) as pool:
         shim = build_shim(pathlib.Path(name))
-        for place, row in enumerate(all_rows()):
-            folder = pathlib.Path(name) / str(place)
+        folders = [pathlib.Path(name) / str(place) for place in range(len(all_rows()))]
+        for folder in folders:
             folder.mkdir()
-            result = sweep(row, shim, folder)
+        for row, result in zip(all_rows(), pool.map(lambda row, folder: sweep(row, shim, folder), all_rows(), folders)):
             totals += result.runs
             wrong += result.wrong
             print(f"{row.name}: {sum(result.runs.values())} runs, {len(result.wrong)} wrong", flush=True)

@@ -1,5 +1,5 @@
-"""Files that were cut at any byte, and certificates changed in a byte: what is due was worked out by hand, or is the answer of the
-short check. `make sweep` changes each byte to each other byte (tools/compare_checks.py)."""
+"""Files that were cut at any byte, and certificates, journals and fixed files changed in a byte or a line: what is due was worked out
+by hand, or is the answer of a short reference. `make sweep` changes each byte to each other byte (tools/compare_bent.py)."""
 
 import pathlib
 import sys
@@ -7,11 +7,12 @@ import sys
 import pytest
 
 from conftest import PROGRAM, TOP, Mine
-from rows import FIXED, pit_of, two_ores
+from rows import FIXED, fixed_rows, pit_of, two_ores
 
 sys.path.insert(0, str(TOP / "tools"))
 
-from compare_checks import CASES, Case, bent_bytes, bent_lines, compared  # noqa: E402
+import fixed_pit  # noqa: E402
+from compare_bent import CASES, FIXED as FIXED_FILE, Bent, Case, bent_bytes, bent_lines, compared  # noqa: E402
 
 SOLVE = ["solve", "--model", "mine.upit", "--prec", "mine.prec"]
 SHELLS = ["shells", "--blocks", "mine.blocks", "--prec", "mine.prec", "--revenue", "0", "--cost", "1", "--factors", "300,400,1000"]
@@ -99,14 +100,22 @@ def test_a_fixed_file_cut_at_any_byte(mine: Mine) -> None:
         assert mine.run(*FIXED) == ((0, due, "") if due.startswith("PIT") else (1, "", due)), length
 
 
-# how many bent certificates lie between two that are tried here
-STRIDE = 7
+# one in so many of the texts that are bent in a byte is tried here; prime to 255, so that each place of a text meets other bytes
+STRIDE, FIXED_STRIDE = 13, 4
 
 
 @pytest.mark.parametrize("case", CASES.values(), ids=CASES)
-def test_a_certificate_changed_in_a_byte_or_a_line(case: Case, tmp_path: pathlib.Path) -> None:
+def test_a_text_changed_in_a_byte_or_a_line(case: Case, tmp_path: pathlib.Path) -> None:
     case.write(tmp_path)
-    bent = [*bent_lines(case.text), *list(bent_bytes(case.text))[::STRIDE]]
-    answers = [compared((PROGRAM, tmp_path, number, case, one)) for number, one in enumerate([case.text, *bent])]
+    stride = FIXED_STRIDE if case.kind is FIXED_FILE else STRIDE
+    texts = [case.text, *bent_lines(case.text), *list(bent_bytes(case.text))[::stride]]
+    answers = [compared(Bent(PROGRAM, tmp_path, number, case, text)) for number, text in enumerate(texts)]
     assert [difference for _, difference in answers if difference] == []
-    assert {"yes", "no"} <= {words for words, _ in answers}
+    assert len({words for words, _ in answers}) > 3
+
+
+def test_the_definition_on_mines_worked_out_by_hand() -> None:
+    """The reference for fixed files, on the rows whose pits were worked out by hand."""
+    for row in fixed_rows():
+        model, prec, fixed = (row.files[name].encode() for name in ("mine.upit", "mine.prec", "mine.fixed"))
+        assert fixed_pit.answer(model, prec, fixed) == (row.out, row.err, row.status), row.name

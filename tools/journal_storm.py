@@ -2,7 +2,7 @@
 """Runs `pitshell solve --mode shared --journal` on random mines and replays each journal twice: by `pitshell replay`, and by
 tools/replay_journal.py, which shares nothing with the program.
 
-    tools/journal_storm.py [--bin build/pitshell] [--runs 100] [--seed 1] [--results FILE]      by hand; `make storm`
+    tools/journal_storm.py [--bin build/pitshell] [--runs 100] [--minutes 60] [--seed 1] [--results FILE]      by hand; `make storm`
 
 Mines have 2,000 to 20,000 blocks, with slopes or with pairs at random; there are 1 to 64 workers, and in some runs a budget, or
 blocks that are forced in or barred. All three must give the same standard output, standard error and status; and without a budget
@@ -213,6 +213,7 @@ def main() -> int:
     parser = argparse.ArgumentParser(description=__doc__, formatter_class=argparse.RawDescriptionHelpFormatter)
     parser.add_argument("--bin", type=pathlib.Path, default=TOP / "build" / "pitshell")
     parser.add_argument("--runs", type=int, default=100)
+    parser.add_argument("--minutes", type=float, help="begin no run later than that many minutes after the first")
     parser.add_argument("--seed", type=int, default=1)
     parser.add_argument("--keep", type=pathlib.Path, help="where to keep the files of what differs")
     parser.add_argument("--results", type=pathlib.Path)
@@ -221,6 +222,8 @@ def main() -> int:
     with tempfile.TemporaryDirectory() as name:
         storm = Storm(given.bin.resolve(), pathlib.Path(name), given.keep)
         for number, run in zip(itertools.count(1), random_storm(given.runs, given.seed)):
+            if given.minutes and time.monotonic() - begun > 60 * given.minutes:
+                break
             storm.try_run(run)
             print(f"{number}: {run}: {storm.entries} entries so far, {len(storm.wrong)} wrong", flush=True)
     print("".join(f"{it}\n" for it in storm.wrong), end="")

@@ -1,0 +1,98 @@
+#!/usr/bin/env python3
+"""Plants bodies that always give up, one at a time, and looks whether a test of the crates tells them from the right ones.
+
+    tools/giving_up.py [--only WORD] [--results FILE]      by hand; a minute a body
+
+A contract promises neither memory nor threads, so a call that always answers `no memory` or `no seat` meets it: the prover lets such
+a body pass, and only a test refuses it. The tests are run unproved, over a copy of the crates. A body that no test refuses is named,
+and the status is 1.
+"""
+
+import argparse
+import pathlib
+import re
+import shutil
+import subprocess
+import sys
+import tempfile
+from typing import NamedTuple
+
+from crates import TOP
+
+NO_MEMORY = "faults::Fault::from(std::alloc::AllocError)"
+NO_SEAT = "faults::Fault::no_seat()"
+
+
+class Planted(NamedTuple):
+    """A call by its file and the first words of its head, how it gives up, and the crate whose tests are to tell."""
+
+    file: str
+    head: str
+    fault: str
+    tests: str
+
+    @property
+    def name(self) -> str:
+        call = self.head.removeprefix("pub fn ")
+        return f"{self.file.split('/')[0]}: {call} always answers {'no seat' if self.fault == NO_SEAT else 'no memory'}"
+
+
+PLANTED = [
+    Planted("runs/src/solve.rt", "pub fn run_solve", NO_MEMORY, "run_tests"),
+    Planted("runs/src/nested.rt", "pub fn run_shells", NO_MEMORY, "run_tests"),
+    Planted("runs/src/check.rt", "pub fn run_check", NO_MEMORY, "run_tests"),
+    Planted("runs/src/replay.rt", "pub fn run_replay", NO_MEMORY, "run_tests"),
+    Planted("crew/src/shared.rt", "pub fn solve_shared", NO_SEAT, "run_tests"),
+    Planted("crew/src/shared.rt", "pub fn solve_shared", NO_SEAT, "lock_tests"),
+    Planted("merging/src/single.rt", "pub fn solve_single", NO_MEMORY, "lock_tests"),
+    Planted("merging/src/parts.rt", "pub fn solve_parts", NO_MEMORY, "lock_tests"),
+    Planted("tree_lock/src/holder.rt", "pub fn apply", NO_MEMORY, "lock_tests"),
+    Planted("tree_lock/src/serve.rt", "pub fn serve", NO_MEMORY, "lock_tests"),
+    Planted("tree_lock/src/shared.rt", "pub fn look_seat", NO_SEAT, "lock_tests"),
+    Planted("mine_graph/src/parts.rt", "pub fn parts", NO_MEMORY, "tree_tests"),
+]
+
+
+def plant(crates: pathlib.Path, body: Planted) -> None:
+    """Lets the call give up before all else: its body opens by a line with a brace alone, or at the end of a line."""
+    file = crates / body.file
+    text = file.read_text()
+    found = re.compile(rf"{re.escape(body.head)}\b.*?(?:^ *\{{| \{{)\n", re.MULTILINE | re.DOTALL).search(text)
+    assert found, f"{body.file} has no {body.head}"
+    file.write_text(f"{text[: found.end()]}if true {{ return Err({body.fault}); }}\n{text[found.end() :]}")
+
+
+def failed(crates: pathlib.Path, tests: str) -> str:
+    """The last verdict of the tests' run: how many passed and how many failed, or what went wrong before any ran."""
+    ran = subprocess.run(["rt", "try", "--test"], cwd=crates / tests, capture_output=True, text=True, errors="replace")
+    verdicts = re.findall(r"^test result: .*?(\d+ passed; \d+ failed)", ran.stdout + ran.stderr, re.MULTILINE)
+    return verdicts[-1] if verdicts else (ran.stdout + ran.stderr)[-400:]
+
+
+def main() -> int:
+    parser = argparse.ArgumentParser(description=__doc__, formatter_class=argparse.RawDescriptionHelpFormatter)
+    parser.add_argument("--only", default="", metavar="WORD", help="the bodies alone whose name has this word")
+    parser.add_argument("--results", type=pathlib.Path)
+    given = parser.parse_args()
+    rows = ["# Bodies that always give up", "", "`tools/giving_up.py`: the prover lets these bodies pass; a test must not.", "", "| body | tests of | told |", "|---|---|---|"]
+    unseen = []
+    with tempfile.TemporaryDirectory() as name:
+        crates = pathlib.Path(name) / "crates"
+        shutil.copytree(TOP / "crates", crates, ignore=shutil.ignore_patterns("out"))
+        shutil.copy(TOP / "crates.txt", name)
+        shutil.copy(TOP / "HANDLES", name)
+        for body in (it for it in PLANTED if given.only in it.name):
+            plant(crates, body)
+            told = failed(crates, body.tests)
+            shutil.copy(TOP / "crates" / body.file, crates / body.file)
+            rows.append(f"| {body.name} | {body.tests} | {told} |")
+            print(rows[-1], flush=True)
+            unseen += [body] if not re.search(r"; [1-9]\d* failed", told) else []
+    if given.results:
+        given.results.write_text("\n".join(rows) + "\n")
+    print("".join(f"no test refuses {body.name}\n" for body in unseen), end="")
+    return 1 if unseen else 0
+
+
+if __name__ == "__main__":
+    sys.exit(main())
