@@ -1,8 +1,11 @@
 """What the command line takes, what it refuses with status 2, and the words of help."""
 
+import shutil
+import subprocess
+
 import pytest
 
-from conftest import Mine
+from conftest import TOP, Mine
 
 SOLVE = ["solve", "--model", "mine.upit", "--prec", "mine.prec"]
 SHELLS = ["shells", "--blocks", "mine.blocks", "--prec", "mine.prec", "--revenue", "0", "--cost", "1", "--factors", "1000"]
@@ -92,5 +95,9 @@ def test_help_names_each_option(mine: Mine, subcommand: str, options: list[str])
     assert named <= {*options, "--help"}
 
 
-def test_version(mine: Mine) -> None:
-    assert mine.run("--version") == (0, "pitshell 0.1.0\n", "")
+def test_version_names_the_toolchain(mine: Mine) -> None:
+    toolchain = "rattle-kit-13b logic dac8208d650f15bf"
+    assert mine.run("--version") == (0, f"pitshell 0.1.0 ({toolchain})\n", "")
+    assert f"`{toolchain}`" in (TOP / "docs" / "PROOFS.md").read_text()
+    if shutil.which("rt"):
+        assert subprocess.run(["rt", "version"], capture_output=True, text=True, check=True).stdout.strip() == toolchain

@@ -106,6 +106,8 @@ def test_install_puts_all_in_place(tmp_path: pathlib.Path) -> None:
         "share/zsh/site-functions/_pitshell": COMPLETIONS / "_pitshell",
         "share/fish/vendor_completions.d/pitshell.fish": COMPLETIONS / "pitshell.fish",
     }
+    told = PROGRAM.with_suffix(".version")
+    places |= {"share/doc/pitshell/version": told} if told.exists() else {}
     assert {str(file.relative_to(below)) for file in below.rglob("*") if file.is_file()} == set(places)
     assert all(filecmp.cmp(below / place, file, shallow=False) for place, file in places.items())
     assert (below / "bin" / "pitshell").stat().st_mode & 0o111 == 0o111

@@ -1,9 +1,14 @@
 #!/usr/bin/env python3
-"""Proves the program and each crate below it, lowest first, with a line for each, and links it to build/pitshell.
+"""Proves the program and each crate below it, lowest first, with a line for each, and copies it to build/pitshell.
 
-What an earlier run proved and nothing changed since is taken from there. The output of a crate that is not proved is printed whole.
+    tools/build.py             what an earlier run proved and nothing changed since is taken from there
+    tools/build.py --copy      proves nothing: copies the program that the gate has just proved and linked
+
+The output of a crate that is not proved is printed whole. Beside the program, build/pitshell.version says what was built: the
+program's own line, the commit, and the SHA-256 of the program.
 """
-import pathlib
+import argparse
+import hashlib
 import re
 import shutil
 import subprocess
@@ -27,7 +32,23 @@ def prove(crate: str) -> tuple[bool, str]:
     return ran.returncode == 0, ran.stdout + ran.stderr
 
 
-def main() -> int:
+def commit() -> str:
+    """The commit that was built, with a word where files differ from it; the source may also lie outside of git."""
+    ran = subprocess.run(["git", "describe", "--always", "--dirty", "--abbrev=40"], cwd=TOP, capture_output=True, text=True)
+    return ran.stdout.strip() if ran.returncode == 0 else "unknown"
+
+
+def copy_program() -> None:
+    build = TOP / "build"
+    build.mkdir(exist_ok=True)
+    program = build / PROGRAM
+    shutil.copy2(TOP / "crates" / PROGRAM / "out" / PROGRAM, program)
+    said = subprocess.run([program, "--version"], capture_output=True, text=True, check=True).stdout
+    sha256 = hashlib.sha256(program.read_bytes()).hexdigest()
+    (build / f"{PROGRAM}.version").write_text(f"{said}commit {commit()}\nsha256 {sha256}\n")
+
+
+def prove_all() -> bool:
     order = in_order(PROGRAM)
     for place, crate in enumerate(order, 1):
         started = time.monotonic()
@@ -35,11 +56,17 @@ def main() -> int:
         proved, said = prove(crate)
         if not proved:
             print(f"not proved\n{said}")
-            return 1
+            return False
         print(f"{functions(said)}, {time.monotonic() - started:.0f} s, {len(order) - place} left", flush=True)
-    build = pathlib.Path(TOP / "build")
-    build.mkdir(exist_ok=True)
-    shutil.copy2(TOP / "crates" / PROGRAM / "out" / PROGRAM, build / PROGRAM)
+    return True
+
+
+def main() -> int:
+    parser = argparse.ArgumentParser(description=__doc__, formatter_class=argparse.RawDescriptionHelpFormatter)
+    parser.add_argument("--copy", action="store_true", help="copy what was proved before, and prove nothing")
+    if not parser.parse_args().copy and not prove_all():
+        return 1
+    copy_program()
     return 0
 
 

@@ -183,10 +183,10 @@ fn solve_command<'a>(alloc: Global) -> Result<Command<'a>, AllocError> {
         .required(false))
 }
 
-/// `pitshell` with its subcommands.
+/// `pitshell` with its subcommands. Its version names the toolchain that proves it, as `rt version` tells it.
 pub fn command<'a>(alloc: Global) -> Result<Command<'a>, AllocError> {
     Command::new(alloc, "pitshell")
-        .version("0.1.0")
+        .version("0.1.0 (rattle-kit-13b logic dac8208d650f15bf)")
         .about("Finds the ultimate pit of a mine, and proves it")
         .after_help(STATUSES)
         .subcommand_required(true)
