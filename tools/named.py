@@ -25,7 +25,7 @@ OTHERS = set("rt apt-get ulimit git pip".split())
 @functools.cache
 def tracked() -> list[pathlib.Path]:
     told = subprocess.run(["git", "ls-files", "-z", "--cached", "--others", "--exclude-standard"], cwd=TOP, capture_output=True, text=True, check=True)
-    return [TOP / name for name in told.stdout.split("\0") if name]
+    return [TOP / name for name in told.stdout.split("\0") if (TOP / name).is_file()]
 
 
 @functools.cache
