@@ -1,12 +1,12 @@
 -- What must be dug and what must be left is one set each, so the open blocks are one list, and the pairs among them in order too.
-use Rattle.std.proofs.Common.{◌≡◌, ℕ, ◌<◌, ◌≤◌, ◌||◌, Bool, true, false, refl, sym, ap, subst, ◌∙◌, arith, ⊎_elim, List, get_or, length}
+use Rattle.std.proofs.Common.{◌≡◌, ℕ, ◌<◌, ◌≤◌, ◌||◌, Bool, sym, ap, subst, ◌∙◌, arith, ⊎_elim, List, get_or, length}
 use Rattle.std.specs.Prelude.{map, IsTrue}
 use Rattle.std.proofs.lemmas.Bool.{cases_eq, cases_lt, true≢false}
 use Rattle.pit_model.specs.Graph.{Graph, IsGraph, first_of, second_of}
-use Rattle.pit_model.specs.Mine.{Instance, instance_of, members, value}
-use Rattle.pit_model.specs.Part.{IsPart, IsRenumbered}
+use Rattle.pit_model.specs.Mine.{instance_of, value}
+use Rattle.pit_model.specs.Part.{IsPart}
 use Rattle.pit_model.specs.Fixed.IsRestOf.{all_open, some_fixed}
-use Rattle.pit_model.specs.Fixed.{AreSettled, Fixed, IsFixedRest, IsNothingFixed, IsRestOf, graph_of_mine, is_open, mine_among}
+use Rattle.pit_model.specs.Fixed.{Fixed, IsNothingFixed, graph_of_mine, is_open}
 use Rattle.pit_model.specs.Uniqueness.{RestIsOne}
 use Rattle.pit_model.proofs.Members.{members_ext, members_rise}
 use Rattle.pit_model.proofs.Fixed.{closure_is_one}
@@ -14,7 +14,7 @@ use Rattle.pit_model.proofs.OneOrder.{rising_are_one}
 use Rattle.pit_model.proofs.Rest.{part_each}
 
 -- a block stands once in the list of a part
-part_once : (whole part : Graph) (set : ℕ → Bool) (blocks : List ℕ) → IsPart whole set blocks part → (i j : ℕ) → i < length blocks → j < length blocks
+pub part_once : (whole part : Graph) (set : ℕ → Bool) (blocks : List ℕ) → IsPart whole set blocks part → (i j : ℕ) → i < length blocks → j < length blocks
     → get_or blocks i 0 ≡ get_or blocks j 0 → i ≡ j
 part_once whole part set blocks is i j inside there same =
     let listed = is.blocks_are in
@@ -51,7 +51,7 @@ pair_in whole part other set test blocks is graph is_other other_graph k inside 
     (there.0, there.1, ap (λ (u : ℕ). (u, second_of other.pairs there.0)) one ∙ ap (λ (p : ℕ). (first_of part.pairs k, p)) two)
 
 -- the parts on one list of blocks are one graph
-one_part : (whole part other : Graph) (set test : ℕ → Bool) (blocks others : List ℕ) → blocks ≡ others → IsPart whole set blocks part → IsGraph part.blocks part.pairs
+pub one_part : (whole part other : Graph) (set test : ℕ → Bool) (blocks others : List ℕ) → blocks ≡ others → IsPart whole set blocks part → IsGraph part.blocks part.pairs
     → IsPart whole test others other → IsGraph other.blocks other.pairs → (part.blocks ≡ other.blocks) × (part.pairs ≡ other.pairs)
 one_part whole part other set test blocks others same is graph is_other other_graph =
     let here : IsPart whole test blocks other = subst (λ (xs : List ℕ). IsPart whole test xs other) (sym same) is_other in (

@@ -21,11 +21,11 @@ use Rattle.pit_model.specs.Uniqueness.{AreOneSet, ShellsAreOne, plain}
 use Rattle.pit_model.proofs.Fixed.{fixed_pit_is_one}
 use Rattle.pit_model.proofs.Turned.{greatest_is_one}
 
-abbrev Plain : Type 0
+abbrev pub Plain : Type 0
 Plain = ℕ × List ℕ × ℤ
 
 -- toward each direction two pits are one set
-pit_toward_is_one : (direction : Direction) (mine : Instance) (pit other : ℕ → Bool) → IsPitToward direction mine nothing pit → IsPitToward direction mine nothing other → AreOneSet mine pit other
+pub pit_toward_is_one : (direction : Direction) (mine : Instance) (pit other : ℕ → Bool) → IsPitToward direction mine nothing pit → IsPitToward direction mine nothing other → AreOneSet mine pit other
 pit_toward_is_one Least mine pit other is is_other = fixed_pit_is_one mine nothing pit other is is_other
 pit_toward_is_one Greatest mine pit other is is_other = greatest_is_one mine nothing pit other is is_other
 
@@ -48,22 +48,22 @@ same_list direction deposit (s ∷ ss) (t ∷ ts) each others at =
     ap (λ p. p ∷ map plain ss) here ∙ ap (λ ps. plain t ∷ ps) rest
 
 -- the parts of the text, of plain shells
-plain_line : Plain → List ℕ
+unfoldable pub plain_line : Plain → List ℕ
 plain_line p = decimal p.0 ++ codes " " ++ decimal (length p.1) ++ codes " " ++ with_decimals 9 p.2 ++ codes "\n"
 
-plain_has : ℕ → Plain → Bool
+unfoldable pub plain_has : ℕ → Plain → Bool
 plain_has u p = list_any (λ v. eqb v u) p.1
 
-plain_first : List Plain → ℕ → ℕ
+unfoldable pub plain_first : List Plain → ℕ → ℕ
 plain_first ps u = option_map_or (λ p. p.0) (find (plain_has u) ps) 0
 
-plain_block : List Plain → ℕ → List ℕ
+unfoldable pub plain_block : List Plain → ℕ → List ℕ
 plain_block ps u = decimal u ++ codes " " ++ decimal (plain_first ps u) ++ codes "\n"
 
-plain_last : List Plain → List ℕ
+unfoldable pub plain_last : List Plain → List ℕ
 plain_last ps = option_map_or (λ p. p.1) (slice_get ps (length ps - 1)) []
 
-plain_text : ℕ → List Plain → List ℕ
+unfoldable pub plain_text : ℕ → List Plain → List ℕ
 plain_text n ps = shells_head n (length ps) ++ flat_map plain_line ps ++ flat_map (plain_block ps) (plain_last ps)
 
 lines_are : (ss : List Shell) → flat_map shell_line ss ≡ flat_map plain_line (map plain ss)
@@ -94,7 +94,7 @@ last_is ss =
     ∙ ap (λ o. option_map_or (λ (p : Plain). p.1) o []) (sym (slice_get-map plain ss (length ss - 1)))
     ∙ ap (λ k. option_map_or (λ (p : Plain). p.1) (slice_get (map plain ss) (k - 1)) []) (sym (length-map ss plain))
 
-text_is : (n : ℕ) (ss : List Shell) → shells_text n ss ≡ plain_text n (map plain ss)
+pub text_is : (n : ℕ) (ss : List Shell) → shells_text n ss ≡ plain_text n (map plain ss)
 unfolding plain_text
 text_is n ss =
     ap (λ k. shells_head n k ++ flat_map shell_line ss ++ flat_map (block_line ss) (last_pit ss)) (sym (length-map ss plain))
