@@ -22,15 +22,21 @@ NOT_WRITTEN, NO_MEMORY, NO_SEAT = "error 18: write failed\n", "error 1: no memor
 OLD = "what stood there\n"
 
 
+def heed_signals() -> None:
+    """Whoever runs the tests in the background or past a hangup ignores these, and the program would inherit that."""
+    for sent in (signal.SIGINT, signal.SIGHUP):
+        signal.signal(sent, signal.SIG_DFL)
+
+
 def start(mine: Mine, *words: str, **more: object) -> subprocess.Popen:
-    """Starts the program. A shell that runs the tests in the background ignores an interrupt, and so would the program."""
+    """Starts the program, which ends at a signal whatever the tests do."""
     return subprocess.Popen(
         [PROGRAM, *words],
         cwd=mine.folder,
         text=True,
         stdout=subprocess.PIPE,
         stderr=subprocess.PIPE,
-        preexec_fn=lambda: signal.signal(signal.SIGINT, signal.SIG_DFL),
+        preexec_fn=heed_signals,
         **more,
     )
 
