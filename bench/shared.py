@@ -3,12 +3,13 @@
 
     bench/shared.py [--bin build/pitshell] [--blocks 50000 100000 500000] [--slopes 1:9] [--workers 1 2 4] [--runs 3]
 
-Times are seconds of a whole run less those of reading (the same files with one more precedence line, which is refused), best
-of so many. All pits of a mine have to be the same bytes. With `--counts`, as root and with Linux's `perf`, each crew runs
-once more with probes at the program's symbols: decisions under the lock (`Book::decide`), mergers (`NormTree::try_merge`,
-which each of the two copies of the tree makes), and turns of the driver (one for each sweep). A decision that is no merger
-was stale. The shares of time are `perf`'s samples: of merging, under the lock; of the workers' threads beside that; and of
-the driver's searches and the guide's renewal over `rayon`.
+Times are processor seconds of a whole run less those of reading (the same files with one more precedence line, which is
+refused), and seconds on the clock of the whole run; of so many runs the one with the least processor seconds. All pits of a
+mine have to be the same bytes. With `--counts`, as root and with Linux's `perf`, each crew runs once more with probes at the
+program's symbols: decisions under the lock (`Book::decide`), mergers (`NormTree::try_merge`, which each of the two copies of
+the tree makes), and turns of the driver (one for each sweep). A decision that is no merger was stale. The shares of time are
+`perf`'s samples: of merging, under the lock; of the workers' threads beside that; and of the driver's searches over `rayon`;
+what is left is the plan, which the caller's thread makes.
 """
 
 import argparse
@@ -73,22 +74,22 @@ def main():
     options.add_argument("--runs", type=int, default=3)
     options.add_argument("--counts", action="store_true")
     given = options.parse_args()
-    head = "| slopes | blocks | mode | solve s | ratio to parts | asks | stale | sweeps | merging | scanning | driver |"
-    lines = [head, "|---" * 11 + "|"]
+    head = "| slopes | blocks | mode | solve s | ratio to parts | whole, clock s | asks | stale | sweeps | merging | scanning | driver |"
+    lines = [head, "|---" * 12 + "|"]
     for slopes in given.slopes:
         for blocks in given.blocks:
             model, prec, _, broken = mine_files(blocks, slopes)
-            reading = best([given.bin, "solve", "--model", model, "--prec", broken], given.runs, status=1).elapsed
+            reading = best([given.bin, "solve", "--model", model, "--prec", broken], given.runs, status=1).processor
             parts = None
             for crew in [None, *given.workers]:
                 mode = ["--mode", "parts"] if crew is None else ["--mode", "shared", "--workers", str(crew)]
                 command = [given.bin, "solve", "--model", str(model), "--prec", str(prec), *mode]
                 whole = best(command, given.runs)
-                own, pit = whole.elapsed - reading, whole.written
+                own, pit = whole.processor - reading, whole.written
                 parts = parts or (own, pit)
                 if pit != parts[1]:
                     raise SystemExit(f"another pit at {blocks} blocks with {mode}")
-                row = f"| {slopes} | {blocks} | {' '.join(mode[1:])} | {own:.3f} | {own / parts[0]:.1f} "
+                row = f"| {slopes} | {blocks} | {' '.join(mode[1:])} | {own:.3f} | {own / parts[0]:.1f} | {whole.elapsed:.3f} "
                 if given.counts and crew is not None:
                     made, shares = counts_of(given.bin, command), shares_of(command)
                     asks, stale = made["decisions"], made["decisions"] - made["mergers"] // 2

@@ -2,10 +2,9 @@
 //! the lock decides what stands on the board. The driver makes what they left over.
 #![tactic(auto)]
 
-mod deepest_first;
 mod driver;
 mod gate;
-mod guide;
+mod route;
 mod shared;
 mod sweeps;
 mod worker;

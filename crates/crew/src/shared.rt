@@ -9,7 +9,7 @@ ghost use Rattle.crew.specs.Solved.{IsSolvedTogether};
 
 use crate::driver::end_of;
 use crate::gate::Gate;
-use crate::guide::Guide;
+use crate::route::Route;
 use crate::sweeps::Crew;
 use crate::worker::Worker;
 use faults::Fault;
@@ -74,7 +74,7 @@ fn solve_at<S: Site + Send + Sync, G: Gate + Sync, R: Threads + Wait + Sync>(
         list,
         unnamed,
     } = begun;
-    let guide = Guide::new(alloc, &tree)?;
+    let route = Route::opening(alloc, &tree, chunk)?;
     let arcs = tree.instance().graph().arcs();
     let (board, seats, holder_seat) = Board::<S>::new(alloc, unnamed, arcs)?;
     let shared = SharedTree::<S>::new(alloc, list, tree, budget, &board, holder_seat)?;
@@ -85,7 +85,7 @@ fn solve_at<S: Site + Send + Sync, G: Gate + Sync, R: Threads + Wait + Sync>(
             let mut crew = Crew {
                 board: &board,
                 workers,
-                guide,
+                route,
                 chunk,
                 gate,
             };

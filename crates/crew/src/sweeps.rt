@@ -1,30 +1,32 @@
-//! The sweeps of mode shared: in each, the workers go over all arcs, each in a thread of its own; between two of them the
+//! The sweeps of mode shared: in each, the workers go over a route, each in a thread of its own; between two of them the
 //! driver has the tree alone, and decides the first merger arc that they left.
 ghost use Rattle.std.specs.Prelude.{◌≡◌, true, IfOk, IfErr};
-ghost use Rattle.faults.specs.Refused.{no_seat, IsNoRoom};
+ghost use Rattle.faults.specs.Refused.{no_memory, no_seat, IsNoRoom};
 ghost use Rattle.pit_model.specs.Mine.{arcs};
 ghost use Rattle.std.specs.List.{All};
 ghost use Rattle.crew.specs.Solved.{HasMet, IsEnded};
 
 use crate::driver::is_ended;
 use crate::gate::Gate;
-use crate::guide::Guide;
+use crate::route::Route;
 use crate::worker::{Sweep, Worker};
 use faults::Fault;
+use norm_tree::NormTree;
 use proposals::{Board, DrawSeat, Draws, Lot, UnnamedDraws};
 use std::alloc::Global;
 use std::marker::Brand;
 use std::sync::Wait;
 use std::thread;
 use std::thread::Threads;
-use tree_lock::{Entry, Holder, SharedTree, Site, Verdict};
+use tree_lock::{Holder, SharedTree, Site};
 
 /// The workers with what they share beside the tree.
 #[derive(Drop)]
 pub struct Crew<'a, S: Site, G: Gate> {
     pub board: &'a Board<S>,
     pub workers: Vec<Worker<S>>,
-    pub guide: Guide,
+    /// What the next sweep goes over.
+    pub route: Route,
     /// How many arcs a worker draws at once.
     pub chunk: u32,
     pub gate: &'a G,
@@ -69,14 +71,6 @@ fn as_count(length: usize) -> u32 {
     length.min(u32::MAX as usize) as u32
 }
 
-// How many of the entries are mergers.
-fn count_applied(entries: &[Entry]) -> usize {
-    entries
-        .iter()
-        .filter(|entry| entry.verdict == Verdict::Applied)
-        .count()
-}
-
 // The seats of each meet the holder's.
 fn meet_all<S: Site>(board: &Board<S>, workers: &mut [Worker<S>], holder: &mut Holder<S>)
     ensures same { holder.new ≡ holder.old }
@@ -88,7 +82,7 @@ fn meet_all<S: Site>(board: &Board<S>, workers: &mut [Worker<S>], holder: &mut H
 }
 
 impl<'a, S: Site + Send + Sync, G: Gate + Sync> Crew<'a, S, G> {
-    // One sweep over all arcs, by this counter.
+    // One sweep, by this counter.
     fn sweep_by<L: Lot + Send + Sync, R: Threads + Wait + Sync>(
         &mut self,
         rt: &R,
@@ -105,8 +99,7 @@ impl<'a, S: Site + Send + Sync, G: Gate + Sync> Crew<'a, S, G> {
             board: self.board,
             shared,
             draws: &draws,
-            guide: &self.guide,
-            chunk: self.chunk,
+            route: &self.route,
             gate: self.gate,
         };
         run_workers(rt, &sweep, &mut self.workers, &mut draw_seats)?;
@@ -125,7 +118,7 @@ impl<'a, S: Site + Send + Sync, G: Gate + Sync> Crew<'a, S, G> {
         meet_all(self.board, &mut self.workers, holder);
     }
 
-    // One sweep over all arcs, with a counter of its own.
+    // One sweep, with a counter of its own.
     fn sweep<R: Threads + Wait + Sync>(
         &mut self,
         rt: &R,
@@ -135,16 +128,17 @@ impl<'a, S: Site + Send + Sync, G: Gate + Sync> Crew<'a, S, G> {
         requires { S.arcs ≡ arcs S.mine }
         ensures { IfErr result IsNoRoom }
     {
-        let chunks = self.guide.count().div_ceil(self.chunk.max(1) as usize);
-        let unnamed = UnnamedDraws::new(alloc, as_count(chunks), as_count(self.workers.len()))?;
+        let chunks = as_count(self.route.chunks());
+        let unnamed = UnnamedDraws::new(alloc, chunks, as_count(self.workers.len()))?;
         self.sweep_by::<Brand, R>(rt, alloc, shared, unnamed)
     }
 
-    // Takes the entries from this number on into account for the next sweep.
-    fn renew<R: Threads + Sync>(&mut self, rt: &R, holder: &Holder<S>, known: usize) {
-        let entries = holder.journal();
-        let mergers = count_applied(&entries[known.min(entries.len())..]);
-        self.guide.renew(rt, holder.tree(), mergers);
+    // Makes the route of the next sweep over the tree.
+    fn renew(&mut self, alloc: Global, tree: &NormTree) -> Result<(), Fault>
+        ensures { IfErr result (λ e. e ≡ no_memory) }
+    {
+        self.route = Route::over_mergers(alloc, tree, self.chunk)?;
+        Ok(())
     }
 
     // A sweep under the lock, and the driver's decision after it, when it has the holder for itself. It answers the holder, and
@@ -159,7 +153,6 @@ impl<'a, S: Site + Send + Sync, G: Gate + Sync> Crew<'a, S, G> {
         ensures ended { IfOk result (λ r. r.1 ≡ true → IsEnded r.0) }
         ensures refused { IfErr result IsNoRoom }
     {
-        let known = holder.journal().len();
         let shared = SharedTree::of_holder(holder);
         let swept = self.sweep(rt, alloc, &shared);
         let mut holder = shared.into_holder();
@@ -168,12 +161,13 @@ impl<'a, S: Site + Send + Sync, G: Gate + Sync> Crew<'a, S, G> {
             return Err(fault);
         }
         self.meet(&mut holder);
-        match is_ended(rt, &mut holder) {
-            Ok(true) => Ok((holder, true)),
-            Ok(false) => {
-                self.renew(rt, &holder, known);
-                Ok((holder, false))
-            }
+        let renewed = match is_ended(rt, &mut holder) {
+            Ok(true) => return Ok((holder, true)),
+            Ok(false) => self.renew(alloc, holder.tree()),
+            Err(fault) => Err(fault),
+        };
+        match renewed {
+            Ok(()) => Ok((holder, false)),
             Err(fault) => {
                 holder.into_parts(rt);
                 Err(fault)

@@ -1,14 +1,53 @@
 //! One worker of mode shared: in a sweep it draws chunks of arcs, looks at the published version, asks for a merger arc that
-//! it sees there, serves the board under the lock, and collects its reply.
-ghost use Rattle.std.specs.Prelude.{◌≡◌, ◌≤◌, ◌<◌, IfSome};
+//! it sees there, serves the board under the lock where nobody else did, and collects its reply.
+ghost use Rattle.std.specs.Prelude.{◌≡◌, ◌<◌, IsTrue};
 ghost use Rattle.pit_model.specs.Mine.{arcs};
 ghost use Rattle.crew.specs.Solved.{HasMet};
 
 use crate::gate::Gate;
-use crate::guide::{Guide, Sighting};
+use crate::route::Route;
 use proposals::{Board, DrawSeat, Draws, Lot, WorkerSeat};
-use std::sync::Wait;
+use std::sync::{MutexGuard, Wait};
 use tree_lock::{Holder, LookSeat, SharedTree, Site, Verdict};
+
+// So many asks of its own a worker serves before it lets go of the lock. Two that hand the lock over at each ask sleep and wake
+// one another each time, which takes longer than what is done with it.
+const ASKS_IN_TURN: u32 = 64;
+
+// The lock, while a worker has it, and how many asks more it may serve with it. It is not `Drop`: it ends by `end`, or by `left`
+// after the last ask.
+struct Turn<'a, S: Site> {
+    holder: MutexGuard<'a, Holder<S>>,
+    asks: u32,
+}
+
+impl<'a, S: Site> Turn<'a, S> {
+    fn begin(holder: MutexGuard<'a, Holder<S>>) -> Turn<'a, S> {
+        Turn {
+            holder,
+            asks: ASKS_IN_TURN,
+        }
+    }
+
+    // The same after an ask; None after the last, and then the lock is free.
+    fn left(self) -> Option<Turn<'a, S>> {
+        let Turn { holder, asks } = self;
+        if asks <= 1 {
+            MutexGuard::unlock(holder);
+            return None;
+        }
+        Some(Turn {
+            holder,
+            asks: asks - 1,
+        })
+    }
+
+    // Frees the lock.
+    fn end(self) {
+        let Turn { holder, asks: _ } = self;
+        MutexGuard::unlock(holder);
+    }
+}
 
 /// A worker's number, from 1, and its seats. The seat to look from is None while it is lent, and never between calls.
 #[derive(Drop)]
@@ -24,8 +63,7 @@ pub struct Sweep<'a, S: Site, G: Gate, L: Lot> {
     pub board: &'a Board<S>,
     pub shared: &'a SharedTree<S>,
     pub draws: &'a Draws<L>,
-    pub guide: &'a Guide,
-    pub chunk: u32,
+    pub route: &'a Route,
     pub gate: &'a G,
     ghost known: { S.arcs ≡ arcs S.mine },
 }
@@ -39,72 +77,94 @@ impl<S: Site> Worker<S> {
         }
     }
 
-    // The first place whose arc is worth an ask by the version that is published now, which shows a merger arc there. None also
-    // where there is no version. It does not look where nothing is wanted.
-    fn look(&mut self, guide: &Guide, place: usize, end: usize) -> Option<Sighting>
-        ensures within { IfSome result (λ found. (place ≤ found.place) × (found.place < end)) }
-        ensures known { IfSome result (λ found. found.arc < arcs S.mine) }
+    // Whether the version that is published now shows the arc as a merger arc; no where there is no version. It is left before
+    // an ask, so that whoever publishes waits for one test at most.
+    fn sees_merger(&mut self, arc: u32) -> bool
+        ensures { IsTrue result → arc < arcs S.mine }
     {
-        let Some(first) = guide.first_wanted(place, end) else {
-            return None;
-        };
         let Some(seat) = self.looks.take() else {
-            return None;
+            return false;
         };
         match seat.look() {
             Ok(version) => {
-                let found = guide.first_merger(&version, first, end);
+                let is_merger = version.is_merger(arc);
                 self.looks = Some(version.leave());
-                found
+                is_merger
             }
             Err(seat) => {
                 self.looks = Some(seat);
-                None
+                false
             }
         }
     }
 
-    // Asks for the arc, serves and collects. It answers whether the worker is to go on: not where the budget is used up, or
-    // memory was refused; an ask that was not answered then stays open.
-    fn propose<G: Gate, L: Lot, R: Wait>(
+    // Collects the reply to its ask, and answers whether the worker is to go on: not where the budget is used up. None where
+    // there is no reply.
+    fn collect<G: Gate, L: Lot>(&mut self, sweep: &Sweep<S, G, L>) -> Option<bool> {
+        let reply = sweep.board.collect(&mut self.asks)?;
+        sweep.gate.served(self.number);
+        Some(reply.verdict != Verdict::Spent)
+    }
+
+    // Serves the board with the lock, which it takes where it does not have it, and collects the reply to its ask. It answers
+    // whether the worker is to go on, and the lock where it keeps it. It is not to go on where memory was refused; an ask that
+    // was not answered then stays open.
+    fn serve<'a, G: Gate, L: Lot, R: Wait>(
         &mut self,
         rt: &R,
-        sweep: &Sweep<S, G, L>,
+        sweep: &Sweep<'a, S, G, L>,
+        turn: Option<Turn<'a, S>>,
+    ) -> (bool, Option<Turn<'a, S>>) {
+        let mut turn = match turn {
+            Some(turn) => turn,
+            None => Turn::begin(sweep.shared.lock(rt)),
+        };
+        let served = turn.holder.serve(rt, sweep.board);
+        let goes_on = match self.collect(sweep) {
+            Some(goes_on) => served.is_ok() && goes_on,
+            None => false,
+        };
+        (goes_on, turn.left())
+    }
+
+    // Asks for the arc, serves where nobody answered yet, and collects. It answers whether the worker is to go on, and the lock
+    // where it keeps it. It is not to go on where the budget is used up, or memory was refused.
+    fn propose<'a, G: Gate, L: Lot, R: Wait>(
+        &mut self,
+        rt: &R,
+        sweep: &Sweep<'a, S, G, L>,
+        turn: Option<Turn<'a, S>>,
         arc: u32,
-    ) -> bool
+    ) -> (bool, Option<Turn<'a, S>>)
         requires { arc < S.arcs }
     {
         sweep.board.ask(&mut self.asks, arc);
         sweep.gate.asked(self.number);
-        let served = sweep.shared.serve(rt, sweep.board);
-        match sweep.board.collect(&mut self.asks) {
-            Some(reply) => {
-                sweep.gate.served(self.number);
-                served.is_ok() && reply.verdict != Verdict::Spent
-            }
-            None => false,
+        match self.collect(sweep) {
+            Some(goes_on) => (goes_on, turn),
+            None => self.serve(rt, sweep, turn),
         }
     }
 
-    // Goes over a chunk, from the place on. It answers whether the worker is to go on.
-    fn go_over<G: Gate, L: Lot, R: Wait>(
+    // Goes over the arcs of a chunk, and frees the lock. It answers whether the worker is to go on.
+    fn go_over<'a, G: Gate, L: Lot, R: Wait>(
         &mut self,
         rt: &R,
-        sweep: &Sweep<S, G, L>,
-        start: usize,
-        end: usize,
+        sweep: &Sweep<'a, S, G, L>,
+        arcs: &[u32],
     ) -> bool {
-        let mut place = start;
-        'asks: while place < end {
-            let Some(found) = self.look(sweep.guide, place, end) else {
-                return true;
-            };
-            if !self.propose(rt, sweep, found.arc) {
-                return false;
+        let mut turn = None;
+        let mut goes_on = true;
+        for &arc in arcs {
+            if goes_on && self.sees_merger(arc) {
+                (goes_on, turn) = self.propose(rt, sweep, turn, arc);
             }
-            place = found.place + 1;
         }
-        true
+        match turn {
+            Some(turn) => turn.end(),
+            None => {}
+        }
+        goes_on
     }
 
     /// The worker's part of a sweep, until no chunk is left.
@@ -118,12 +178,7 @@ impl<S: Site> Worker<S> {
             let Some(number) = sweep.draws.draw(draw_seat) else {
                 return;
             };
-            let start = (number as usize).saturating_mul(sweep.chunk as usize);
-            let end = usize::min(
-                start.saturating_add(sweep.chunk as usize),
-                sweep.guide.count(),
-            );
-            if !self.go_over(rt, sweep, start, end) {
+            if !self.go_over(rt, sweep, sweep.route.chunk(number)) {
                 return;
             }
         }

@@ -215,15 +215,17 @@ fn the_driver_decides_once_after_the_last_sweep(rt: HostRuntime) -> Result<(), F
     Ok(())
 }
 
-/// In the first sweep no distance leads from an ore to the ore above it. The driver makes one of these mergers, and the distances
-/// grow, so that the workers make the others in the second sweep.
+/// Each copy is two mergers, of which the second is none before the first. By their plan the workers make all of them in one
+/// sweep, and ask for nothing else.
 #[test]
-fn distances_grow_between_two_sweeps(rt: HostRuntime) -> Result<(), Fail> {
+fn a_plan_leads_the_workers(rt: HostRuntime) -> Result<(), Fail> {
     let mine = ores_below_waste(rt.alloc(), 100)?;
-    let (outcome, journal) = solve_shared(&rt, rt.alloc(), &mine, 2, None, 7, &OpenGate)?;
-    assert_eq!(rt; pit_in(&outcome).map(|pit| pit.len()), Some(300));
-    assert_eq!(rt; mergers_in(&journal), 200);
-    assert_eq!(rt; of_driver(&journal), 1, "the driver decides once");
+    for workers in 1..4 {
+        let (outcome, journal) = solve_shared(&rt, rt.alloc(), &mine, workers, None, 7, &OpenGate)?;
+        assert_eq!(rt; pit_in(&outcome).map(|pit| pit.len()), Some(300));
+        assert_eq!(rt; (journal.len(), mergers_in(&journal)), (200, 200));
+        assert_eq!(rt; of_driver(&journal), 0, "the driver decides nothing");
+    }
     Ok(())
 }
 

@@ -1,14 +1,20 @@
 //! Solves with fixed blocks, and for the greatest pit, in each mode; all pits were worked out by hand.
 ghost use Rattle.std.specs.Prelude.{◌≡◌, IfOk};
+ghost use Rattle.mine_graph.specs.FixedBlocks.{IsFixedOf};
+ghost use Rattle.pit_model.specs.Fixed.{graph_of_mine};
 
 use crate::mode_tests::MODES;
 use faults::Fault;
 use merging::Outcome;
 use mine_graph::{Fixed, Graph, Instance};
-use solver::{OpenGate, PitOutcome, find_fixed_pit, solve_fixed, solve_greatest};
+use pit_model::Direction;
+use solver::{
+    FoundPit, Mode, OpenGate, PitOutcome, Search, find_fixed_pit, solve_fixed, solve_greatest,
+};
 use std::alloc::Global;
-use std::sync::Arc;
+use std::sync::{Arc, Wait};
 use std::test::*;
+use std::thread::Threads;
 
 // Blocks of worth -3, -4, 10 and 2, of which block 2 needs 0, and block 3 needs 0 and 1.
 fn four_blocks(alloc: Global) -> Result<Instance, Fault>
@@ -28,6 +34,24 @@ fn a_tie(alloc: Global) -> Result<Instance, Fault>
     let graph = Arc::new(alloc, Graph::new(alloc, 2, pairs)?)?;
     let values = vec![in alloc; -5_000_000, 5_000_000]?;
     Ok(Instance::new(graph, values))
+}
+
+// The least pit of a mine with fixed blocks.
+fn find_least<R: Threads + Wait + Sync>(
+    rt: &R,
+    alloc: Global,
+    mine: &Instance,
+    fixed: &Fixed,
+    mode: &Mode,
+) -> Result<FoundPit, Fault>
+    requires { IsFixedOf (graph_of_mine mine.now) fixed.now }
+{
+    let search = Search {
+        mode,
+        direction: Direction::Least,
+        gate: &OpenGate,
+    };
+    find_fixed_pit(rt, alloc, mine.share(alloc)?, fixed, &search)
 }
 
 // Whether the outcome is a pit of these blocks.
@@ -51,8 +75,13 @@ fn a_forced_block_is_dug_with_its_needs(rt: HostRuntime) -> Result<(), Fail> {
     let forced = vec![in rt.alloc(); 3]?;
     let fixed = Fixed::new(rt.alloc(), mine.graph(), forced, Vec::new(rt.alloc()))?;
     for mode in &MODES {
-        let pit = find_fixed_pit(&rt, rt.alloc(), &mine, &fixed, mode, &OpenGate)?;
-        assert_eq!(rt; pit.as_slice(), [0, 1, 2, 3].as_slice(), "{mode:?}");
+        let found = find_least(&rt, rt.alloc(), &mine, &fixed, mode)?;
+        assert_eq!(rt;
+            found.blocks.as_slice(),
+            [0, 1, 2, 3].as_slice(),
+            "{mode:?}"
+        );
+        assert_eq!(rt; found.worth, 5_000_000, "{mode:?}");
         let (outcome, _) = solve_fixed(&rt, rt.alloc(), &mine, &fixed, mode, &OpenGate)?;
         assert!(rt; is_pit(&outcome, &[0, 1, 2, 3]), "{mode:?}");
     }
@@ -65,8 +94,9 @@ fn what_needs_a_barred_block_is_left(rt: HostRuntime) -> Result<(), Fail> {
     let barred = vec![in rt.alloc(); 0]?;
     let fixed = Fixed::new(rt.alloc(), mine.graph(), Vec::new(rt.alloc()), barred)?;
     for mode in &MODES {
-        let pit = find_fixed_pit(&rt, rt.alloc(), &mine, &fixed, mode, &OpenGate)?;
-        assert!(rt; pit.is_empty(), "{mode:?}");
+        let found = find_least(&rt, rt.alloc(), &mine, &fixed, mode)?;
+        assert!(rt; found.blocks.is_empty(), "{mode:?}");
+        assert_eq!(rt; found.worth, 0, "{mode:?}");
         let (outcome, _) = solve_fixed(&rt, rt.alloc(), &mine, &fixed, mode, &OpenGate)?;
         assert!(rt; is_pit(&outcome, &[]), "{mode:?}");
     }

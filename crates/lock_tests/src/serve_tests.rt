@@ -5,7 +5,7 @@ use crate::mines::dug_whole;
 use crate::trial::{Trial, try_with};
 use faults::Fault;
 use proposals::{Board, WorkerSeat};
-use std::sync::Wait;
+use std::sync::{MutexGuard, Wait};
 use std::test::Fail;
 use tree_lock::{Entry, Holder, SharedTree, Site, Verdict};
 
@@ -136,6 +136,55 @@ fn asks_past_the_budget_are_spent(rt: HostRuntime) -> Result<(), Fail> {
         entry(2, 2, Verdict::Stale),
         entry(3, 2, Verdict::Stale),
     ];
+    assert_eq!(rt; ended.journal.as_slice(), journal.as_slice());
+    Ok(())
+}
+
+// A worker asks twice, and one who has the lock for both serves it twice: what fails of that.
+struct LockedPasses;
+
+impl Trial for LockedPasses {
+    type Seen = Option<&'static str>;
+
+    fn at<S: Site, R: Wait>(
+        &self,
+        rt: &R,
+        board: &Board<S>,
+        workers: &mut [WorkerSeat<S>],
+        shared: &mut SharedTree<S>,
+    ) -> Result<Option<&'static str>, Fault> {
+        let Some(worker) = workers.first_mut() else {
+            return Ok(Some("there is a worker"));
+        };
+        let mut holder = shared.lock(rt);
+        let mut answered = true;
+        for arc in 0..2 {
+            let asked = ask_for(board, worker, arc);
+            let served = holder.serve(rt, board).is_ok_and(|count: u32| count == 1);
+            let applied = match board.collect(worker) {
+                Some(reply) => reply.arc == arc && reply.verdict == Verdict::Applied,
+                None => false,
+            };
+            answered = answered && asked && served && applied;
+        }
+        MutexGuard::unlock(holder);
+        let served_after = shared.serve(rt, board)?;
+        Ok(first_failure(&[
+            ("each ask is served while the lock is kept", answered),
+            (
+                "the lock is free again, and no ask is left",
+                served_after == 0,
+            ),
+        ]))
+    }
+}
+
+#[test]
+fn one_lock_serves_two_asks(rt: HostRuntime) -> Result<(), Fail> {
+    let mine = dug_whole(rt.alloc())?;
+    let ended = try_with(&rt, rt.alloc(), &mine, 1, None, &LockedPasses)?;
+    assert_eq!(rt; ended.seen, None);
+    let journal = [entry(1, 0, Verdict::Applied), entry(1, 1, Verdict::Applied)];
     assert_eq!(rt; ended.journal.as_slice(), journal.as_slice());
     Ok(())
 }

@@ -1,8 +1,8 @@
 //! Eight workers, an arc at a time, over mines of 5,000 blocks: whatever the schedule, they find the pit that one thread
-//! finds, by a journal that one thread can follow.
+//! finds, by a journal that one thread can follow, and none asks for what another made stale.
 use crate::failures::first_failure;
 use crate::mines::cross_section;
-use crate::outcomes::{leads_to, pit_in};
+use crate::outcomes::{leads_to, mergers_in, pit_in};
 use solver::{OpenGate, Outcome, solve_shared, solve_single};
 use std::alloc::AllocGlobal;
 use std::sync::Wait;
@@ -25,9 +25,11 @@ fn storm<R: AllocGlobal + Threads + Wait + Sync>(
         let (outcome, journal) = solve_shared(rt, rt.alloc(), &mine, 8, None, 1, &OpenGate)?;
         let is_found = pit_in(&outcome) == Some(alone.pit.as_slice());
         let is_led = leads_to(rt.alloc(), &mine, &journal, &alone.pit)?;
+        let is_planned = mergers_in(&journal) == journal.len();
         let failed = first_failure(&[
             ("workers find the pit of one thread", is_found),
             ("one thread follows the journal to that pit", is_led),
+            ("no worker makes stale what another asks for", is_planned),
         ]);
         if failed.is_some() {
             return Ok(failed);

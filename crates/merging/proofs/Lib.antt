@@ -5,5 +5,6 @@ pub mod Gathered
 pub mod Joining
 pub mod Ordering
 pub mod Shown
+pub mod Planning
 pub mod SolvedPart
 pub mod Resting

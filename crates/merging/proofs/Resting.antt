@@ -1,22 +1,20 @@
 -- What is found on the open blocks of a mine, by the numbers of the whole: its blocks with those that must be dug, and its flow.
 use Rattle.std.proofs.Common.{rules, ◌≡◌, ℕ, ◌<◌, ◌≤◌, ◌||◌, ◌&&◌, Bool, true, false, not, refl, sym, ap, subst, ◌∙◌, arith, inl, inr, ⊎_elim, List, get_or, length}
-use Rattle.std.specs.Prelude.{◌⊎◌, ℤ, pos, ◌≤ℤ◌, replicate}
+use Rattle.std.specs.Prelude.{◌⊎◌, ℤ, pos, replicate}
 use Rattle.std.specs.List.{All}
 use Rattle.std.proofs.lemmas.Bool.{cases_Bool, cases_lt, and_parts, or_left, or_right, true≢false}
 use Rattle.std.proofs.lemmas.List.{get_or-replicate, get_or_past, length-replicate}
-use Rattle.pit_model.specs.Graph.{Graph, first_of, second_of, IsGraph}
 use Rattle.pit_model.specs.Limits.{Between, IsInstance}
 use Rattle.pit_model.specs.Mine.{Instance, arcs, source, target, members}
 use Rattle.pit_model.specs.Certificate.{Certifies}
-use Rattle.pit_model.specs.Fixed.{CertifiesOpen, IsFixedCertificate, IsFixedJoined, IsFixedRest, IsIdle, IsSameFlow, fixed_of, graph_of_mine, is_open, mine_among}
+use Rattle.pit_model.specs.Fixed.{CertifiesOpen, IsFixedCertificate, IsIdle, IsSameFlow, fixed_of, graph_of_mine, mine_among}
 use Rattle.pit_model.proofs.Fixed.{settled_are_apart}
 use Rattle.pit_model.proofs.Members.{members_below, members_each, members_ext, members_place, members_rise}
-use Rattle.pit_model.proofs.Rest.{part_each}
 use Rattle.pit_model.proofs.RestCertificates.{rest_certificate_is_open}
 use Rattle.pit_model.proofs.Simple.{instance_is_simple}
 use Rattle.mine_graph.specs.FixedBlocks.{FixedBlocks, IsFixedOf, dug_in, left_in}
-use Rattle.certificate.specs.Certificate.{IsCertificateOf, IsFixedCertificateOf}
-use Rattle.certificate.specs.Check.{IsCandidate, amount, has, most_amount}
+use Rattle.certificate.specs.Certificate.{IsCertificateOf}
+use Rattle.certificate.specs.Check.{IsCandidate, amount, has, most_amount, open_in}
 use Rattle.certificate.specs.declared.pit_with_flow.Certificate.{Certificate}
 use Rattle.merging.specs.Parts.{AreCarried, AreMarked, named}
 use Rattle.merging.specs.Rest.{IsRestIn, ListsJoined}
@@ -41,19 +39,16 @@ zeros flow n is a = ap (λ (xs : List ℤ). get_or xs a (pos 0)) is ∙ ⊎_elim
     (λ (far : n ≤ a). get_or_past (replicate n (pos 0)) a (pos 0) (let size = length-replicate n (pos 0) in omega arith))
     (cases_lt a n)
 
-module _ (mine : Instance) (fixed : FixedBlocks) (rest : Rest) (of : IsFixedOf (graph_of_mine mine) fixed) (is : IsRestIn mine fixed rest) where
-  abbrev blocks : List ℕ
-  blocks = rest.blocks.items
-
-  abbrev open_set : ℕ → Bool
-  open_set = is_open (dug_in fixed) (left_in fixed)
-
-  pub blocks_rise : Rises blocks
-  blocks_rise = subst Rises (sym is.is_rest.is_part.blocks_are) (members_rise mine.blocks open_set)
+module _ (n : ℕ) (fixed : FixedBlocks) (blocks : List ℕ) (are : blocks ≡ members n (open_in fixed)) where
+  blocks_rise : Rises blocks
+  blocks_rise = subst Rises (sym are) (members_rise n (open_in fixed))
 
   -- a block of the rest is open
-  pub is_open_block : (i : ℕ) → i < length blocks → (get_or blocks i 0 < mine.blocks) × (open_set (get_or blocks i 0) ≡ true)
-  is_open_block = part_each (graph_of_mine mine) (graph_of_mine rest.mine) open_set blocks is.is_rest.is_part
+  pub is_open_block : (i : ℕ) → i < length blocks → (get_or blocks i 0 < n) × (open_in fixed (get_or blocks i 0) ≡ true)
+  is_open_block i l =
+      let each = members_each n (open_in fixed) i (subst (λ (xs : List ℕ). i < length xs) are l) in
+      let same : get_or blocks i 0 ≡ get_or (members n (open_in fixed)) i 0 = ap (λ (xs : List ℕ). get_or xs i 0) are in
+      (subst (λ v. v < n) (sym same) each.0, ap (open_in fixed) same ∙ each.1)
 
   -- so it need be neither dug nor left
   not_dug : (i : ℕ) → i < length blocks → dug_in fixed (get_or blocks i 0) ≡ false
@@ -65,7 +60,7 @@ module _ (mine : Instance) (fixed : FixedBlocks) (rest : Rest) (of : IsFixedOf (
   not_left : (i : ℕ) → i < length blocks → left_in fixed (get_or blocks i 0) ≡ true → ⊥
   not_left i l h = true≢false (sym (is_open_block i l).1 ∙ ap not (or_right (dug_in fixed (get_or blocks i 0)) (left_in fixed (get_or blocks i 0)) h))
 
-  module _ (found : List ℕ) (before marks : List Bool) (size : length before ≡ mine.blocks) (dug : (u : ℕ) → u < mine.blocks → has before u ≡ dug_in fixed u)
+  module _ (apart : (u : ℕ) → left_in fixed u ≡ true → dug_in fixed u ≡ false) (found : List ℕ) (before marks : List Bool) (size : length before ≡ n) (dug : (u : ℕ) → u < n → has before u ≡ dug_in fixed u)
       (was : AreMarked blocks found (length found) before marks) (set : ℕ → Bool) (listed : found ≡ members (length blocks) set) where
     abbrev after : ℕ → Bool
     after u = has marks u || dug_in fixed u
@@ -77,7 +72,7 @@ module _ (mine : Instance) (fixed : FixedBlocks) (rest : Rest) (of : IsFixedOf (
         (subst (λ v. v < length blocks) (sym same) at.0, ap set same ∙ at.1)
 
     -- what is marked must be dug, or was found
-    marked_so : (u : ℕ) → u < mine.blocks → has marks u ≡ true → (dug_in fixed u ≡ true) ⊎ ((i : ℕ) × (i < length blocks) × (set i ≡ true) × (get_or blocks i 0 ≡ u))
+    marked_so : (u : ℕ) → u < n → has marks u ≡ true → (dug_in fixed u ≡ true) ⊎ ((i : ℕ) × (i < length blocks) × (set i ≡ true) × (get_or blocks i 0 ≡ u))
     marked_so u l h = ⊎_elim
         (λ (b : has before u ≡ true). inl (sym (dug u l) ∙ b))
         (λ (p : (j : ℕ) × (j < length found) × (named blocks found j ≡ u)).
@@ -105,52 +100,56 @@ module _ (mine : Instance) (fixed : FixedBlocks) (rest : Rest) (of : IsFixedOf (
         (λ (p : (j : ℕ) × (j < length blocks) × (set j ≡ true) × (get_or blocks j 0 ≡ u)).
         true≢false (sym p.2 ∙ ap set (rises_once blocks blocks_rise p.0 i p.1 l p.3) ∙ f))
         (marked_so u (is_open_block i l).0 m)))
-        (λ (n : has marks u ≡ false). n ∙ sym f)
+        (λ (none : has marks u ≡ false). none ∙ sym f)
         (cases_Bool (has marks u)))
         (cases_Bool (set i))
-
-    apart : (u : ℕ) → left_in fixed u ≡ true → dug_in fixed u ≡ false
-    apart = settled_are_apart mine (fixed_of fixed.lists) (dug_in fixed) (left_in fixed) of.settled of.clash_free
 
     misses : (u : ℕ) → left_in fixed u ≡ true → after u ≡ false
     misses u h = ap (λ b. has marks u || b) (apart u h) ∙ ⊎_elim
         (λ (t : has marks u ≡ true). absurd (⊎_elim
         (λ (b : has before u ≡ true). ⊎_elim
-        (λ (l : u < mine.blocks). true≢false (sym b ∙ dug u l ∙ apart u h))
-        (λ (far : mine.blocks ≤ u). none_outside before u (omega arith) b)
-        (cases_lt u mine.blocks))
+        (λ (l : u < n). true≢false (sym b ∙ dug u l ∙ apart u h))
+        (λ (far : n ≤ u). none_outside before u (omega arith) b)
+        (cases_lt u n))
         (λ (p : (j : ℕ) × (j < length found) × (named blocks found j ≡ u)).
         not_left (get_or found p.0 0) (found_each p.0 p.1).0 (ap (left_in fixed) p.2 ∙ h))
         (was.only u t)))
         (λ (f : has marks u ≡ false). ap (λ b. b || false) f)
         (cases_Bool (has marks u))
 
-    pub lists_joined : ListsJoined mine.blocks fixed blocks set (members (length marks) (has marks))
+    pub lists_joined : ListsJoined n fixed blocks set (members (length marks) (has marks))
     lists_joined = record {
       after = after;
       listed =
-          ap (λ n. members n (has marks)) (was.size ∙ size)
-          ∙ members_ext mine.blocks (has marks) after (λ u l. ⊎_elim
+          ap (λ m. members m (has marks)) (was.size ∙ size)
+          ∙ members_ext n (has marks) after (λ u l. ⊎_elim
           (λ (d : dug_in fixed u ≡ true). was.grows u (dug u l ∙ d) ∙ sym (or_right (has marks u) (dug_in fixed u) d))
-          (λ (n : dug_in fixed u ≡ false). sym (ap (λ b. has marks u || b) n ∙ plain_or (has marks u)))
+          (λ (none : dug_in fixed u ≡ false). sym (ap (λ b. has marks u || b) none ∙ plain_or (has marks u)))
           (cases_Bool (dug_in fixed u)));
       joined = record { keeps = λ u d. or_right (has marks u) (dug_in fixed u) d; misses = misses; adds = adds };
     }
+
+module _ (mine : Instance) (fixed : FixedBlocks) (rest : Rest) (of : IsFixedOf (graph_of_mine mine) fixed) (is : IsRestIn mine fixed rest) where
+  abbrev blocks : List ℕ
+  blocks = rest.blocks.items
+
+  is_open_in : (i : ℕ) → i < length blocks → (get_or blocks i 0 < mine.blocks) × (open_in fixed (get_or blocks i 0) ≡ true)
+  is_open_in = is_open_block mine.blocks fixed blocks is.is_rest.is_part.blocks_are
 
   module _ (inst : IsInstance mine) (rest_inst : IsInstance rest.mine) (found : Certificate) (shown : IsCertificateOf rest.mine found) (nothing flow : List ℤ)
       (none : (a : ℕ) → amount nothing a ≡ pos 0) (size : length nothing ≡ arcs mine)
       (was : AreCarried (graph_of_mine mine) blocks (graph_of_mine rest.mine) found.flow.items (arcs rest.mine) nothing flow) where
     -- a pair that stands in the rest has open ends
     open_ends : (k a : ℕ) → k < arcs rest.mine → (get_or blocks (source rest.mine k) 0 ≡ source mine a) × (get_or blocks (target rest.mine k) 0 ≡ target mine a)
-        → (open_set (source mine a) && open_set (target mine a)) ≡ true
+        → (open_in fixed (source mine a) && open_in fixed (target mine a)) ≡ true
     open_ends k a l names =
         let ends = is.is_rest.is_graph.in_range k l in
         let count = is.is_rest.is_part.count in
         let first : source rest.mine k < length blocks = let e = ends.0 in omega arith in
         let second : target rest.mine k < length blocks = let e = ends.1 in omega arith in
-        let one : open_set (source mine a) ≡ true = ap open_set (sym names.0) ∙ (is_open_block (source rest.mine k) first).1 in
-        let two : open_set (target mine a) ≡ true = ap open_set (sym names.1) ∙ (is_open_block (target rest.mine k) second).1 in
-        ap (λ b. b && open_set (target mine a)) one ∙ two
+        let one : open_in fixed (source mine a) ≡ true = ap (open_in fixed) (sym names.0) ∙ (is_open_in (source rest.mine k) first).1 in
+        let two : open_in fixed (target mine a) ≡ true = ap (open_in fixed) (sym names.1) ∙ (is_open_in (target rest.mine k) second).1 in
+        ap (λ b. b && open_in fixed (target mine a)) one ∙ two
 
     idle : IsIdle mine (dug_in fixed) (left_in fixed) (amount flow)
     idle a l closed = was.rest a (λ k m names. true≢false (sym (open_ends k a m names) ∙ closed)) ∙ none a
@@ -163,11 +162,11 @@ module _ (mine : Instance) (fixed : FixedBlocks) (rest : Rest) (of : IsFixedOf (
         let inside : a < arcs mine = let s = was.size in omega arith in
         let nought : amount flow a ≡ pos 0 → Between (pos 0) (amount flow a) most_amount = λ e. subst (λ x. Between (pos 0) x most_amount) (sym e) zero_between in
         ⊎_elim
-        (λ (o : (open_set (source mine a) && open_set (target mine a)) ≡ true).
-        let there = is.is_rest.is_part.all a inside (and_parts (open_set (source mine a)) (open_set (target mine a)) o).0 (and_parts (open_set (source mine a)) (open_set (target mine a)) o).1 in
+        (λ (o : (open_in fixed (source mine a) && open_in fixed (target mine a)) ≡ true).
+        let there = is.is_rest.is_part.all a inside (and_parts (open_in fixed (source mine a)) (open_in fixed (target mine a)) o).0 (and_parts (open_in fixed (source mine a)) (open_in fixed (target mine a)) o).1 in
         subst (λ x. Between (pos 0) x most_amount) (sym (was.placed there.0 a there.1 inside there.2)) (shown.candidate.amounts there.0 (let c = shown.candidate.counted in let b = there.1 in omega arith)))
-        (λ (c : (open_set (source mine a) && open_set (target mine a)) ≡ false). nought (idle a inside c))
-        (cases_Bool (open_set (source mine a) && open_set (target mine a)))
+        (λ (c : (open_in fixed (source mine a) && open_in fixed (target mine a)) ≡ false). nought (idle a inside c))
+        (cases_Bool (open_in fixed (source mine a) && open_in fixed (target mine a)))
 
     pub certificate_of_whole : (pit : List ℕ) (amounts : List ℤ) → amounts ≡ flow
         → ((set : ℕ → Bool) → found.pit.items ≡ members (length blocks) set → ListsJoined mine.blocks fixed blocks set pit)
@@ -196,3 +195,7 @@ module _ (mine : Instance) (fixed : FixedBlocks) (rest : Rest) (of : IsFixedOf (
             amounts = subst (λ (xs : List ℤ). (k : ℕ) → k < length xs → Between (pos 0) (amount xs k) most_amount) (sym same) amounts_within;
           },
         )
+
+-- no block must be both dug and left
+pub none_both : (mine : Instance) (fixed : FixedBlocks) → IsFixedOf (graph_of_mine mine) fixed → (u : ℕ) → left_in fixed u ≡ true → dug_in fixed u ≡ false
+none_both mine fixed of = settled_are_apart mine (fixed_of fixed.lists) (dug_in fixed) (left_in fixed) of.settled of.clash_free

@@ -18,6 +18,13 @@ use std::alloc::{AllocError, Global};
 use std::marker::Model;
 use std::ops::Range;
 
+/// What a turn did: it merged over this arc, it gave blocks the next label, or nothing, and no turn is left.
+enum Turn {
+    Merged(u32),
+    Raised,
+    Last,
+}
+
 /// To a contract it is the number of blocks.
 #[derive(Drop)]
 pub struct LowestLabel {
@@ -266,40 +273,40 @@ impl LowestLabel {
         }
     }
 
-    /// Merges over the arc, and lets the strong roots that its path then has wait; it answers whether the tree merged.
-    fn merge(&mut self, tree: &mut BareTree, arc: u32) -> bool
+    /// Merges over the arc, and lets the strong roots that its path then has wait.
+    fn merge(&mut self, tree: &mut BareTree, arc: u32) -> Turn
         requires same { self.old ≡ tree.old.mine.blocks }
         ensures same { self.new ≡ self.old }
         ensures mine { tree.new.mine ≡ tree.old.mine }
     {
         if !tree.try_merge(arc) {
-            return false;
+            return Turn::Last;
         }
         self.wait_along(tree);
-        true
+        Turn::Merged(arc)
     }
 
-    /// One turn; it answers whether there may be another. It ends where no block is one label lower than the lowest strong
-    /// root: then no strong branch reaches a weak block.
-    fn turn(&mut self, tree: &mut BareTree) -> bool
+    /// One turn. The last is where no block is one label lower than the lowest strong root: then no strong branch reaches a
+    /// weak block.
+    fn turn(&mut self, tree: &mut BareTree) -> Turn
         requires same { self.old ≡ tree.old.mine.blocks }
         ensures same { self.new ≡ self.old }
         ensures mine { tree.new.mine ≡ tree.old.mine }
     {
         let Some((label, root)) = self.waiting.pop() else {
-            return false;
+            return Turn::Last;
         };
         if label == 0
             || self.counts[label as usize - 1] == 0
             || label > tree.instance().graph().n()
         {
-            return false;
+            return Turn::Last;
         }
         match self.look(tree, root, label) {
             Some(arc) => self.merge(tree, arc),
             None => {
                 self.raise(tree.instance().graph(), root, label);
-                true
+                Turn::Raised
             }
         }
     }
@@ -315,9 +322,26 @@ pub fn merge_by_lowest_label(alloc: Global, tree: &mut BareTree) -> Result<(), F
 {
     let mut order = LowestLabel::new(alloc, tree)?;
     for _turn in 0..MOST_TURNS {
-        if !order.turn(tree) {
-            break;
+        match order.turn(tree) {
+            Turn::Merged(_) | Turn::Raised => {}
+            Turn::Last => break,
         }
     }
     Ok(())
+}
+
+/// Makes mergers by lowest label, and answers over which arcs, in their order. Refused for want of memory alone.
+pub(crate) fn mergers_by_lowest_label(alloc: Global, tree: &mut BareTree) -> Result<Vec<u32>, Fault>
+    ensures { IfErr result (λ e. e ≡ no_memory) }
+{
+    let mut order = LowestLabel::new(alloc, tree)?;
+    let mut arcs = Vec::new(alloc);
+    for _turn in 0..MOST_TURNS {
+        match order.turn(tree) {
+            Turn::Merged(arc) => arcs.push(arc)?,
+            Turn::Raised => {}
+            Turn::Last => break,
+        }
+    }
+    Ok(arcs)
 }

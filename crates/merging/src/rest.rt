@@ -1,11 +1,11 @@
 //! The rest of a mine with fixed blocks as an instance of its own, and what is found there by the numbers of the whole.
-ghost use Rattle.std.specs.Prelude.{◌≡◌, ◌<◌, ◌≤◌, ◌^◌, ℕ, Bool, length, get_or, IfOk, IfErr};
+ghost use Rattle.std.specs.Prelude.{◌≡◌, ◌<◌, ◌≤◌, ◌^◌, ℕ, Bool, true, false, length, get_or, IfOk, IfErr};
 ghost use Rattle.faults.specs.Refused.{no_memory};
 ghost use Rattle.pit_model.specs.Fixed.{IsFixedRest, fixed_of, graph_of_mine};
 ghost use Rattle.pit_model.specs.Mine.{arcs, members};
 ghost use Rattle.pit_model.specs.Size.{most_blocks};
 ghost use Rattle.certificate.specs.Certificate.{IsCertificateOf, IsFixedCertificateOf};
-ghost use Rattle.certificate.specs.Check.{amount, has};
+ghost use Rattle.certificate.specs.Check.{amount, has, open_in};
 ghost use Rattle.mine_graph.specs.FixedBlocks.{IsFixedOf, dug_in, left_in};
 ghost use Rattle.merging.specs.Rest.{IsRestIn, ListsJoined};
 
@@ -32,6 +32,26 @@ fn dug_marks(alloc: Global, fixed: &Fixed, n: u32) -> Result<Vec<bool>, AllocErr
     (0..n).map(|u| fixed.is_dug(u)).collect(alloc)
 }
 
+/// The blocks that must be dug with those that were found among the open ones, by the numbers of the whole, rising. Refused for
+/// want of memory alone.
+pub fn join_pit(
+    alloc: Global,
+    n: u32,
+    fixed: &Fixed,
+    blocks: &[u32],
+    found: &[u32],
+) -> Result<Vec<u32>, Fault>
+    requires blocks { blocks.now ≡ members n (open_in fixed.now) }
+    requires apart { (u : ℕ) → left_in fixed.now u ≡ true → dug_in fixed.now u ≡ false }
+    requires found { (i : ℕ) → i < length found.now → get_or found.now i 0 < length blocks.now }
+    ensures joined { IfOk result (λ list. (set : ℕ → Bool) → found.now ≡ members (length blocks.now) set → ListsJoined n fixed.now blocks.now set list.items) }
+    ensures refused { IfErr result (λ e. e ≡ no_memory) }
+{
+    let mut marks = dug_marks(alloc, fixed, n)?;
+    mark_pit(blocks, found, &mut marks);
+    Ok(marked(alloc, &marks)?)
+}
+
 impl Rest {
     /// The open blocks of a mine as an instance of its own. Refused for want of memory alone.
     pub fn of(alloc: Global, mine: &Instance, fixed: &Fixed) -> Result<Rest, Fault>
@@ -48,27 +68,6 @@ impl Rest {
             blocks: part.blocks,
             mine: rest,
         })
-    }
-
-    /// The blocks that must be dug with those that were found on the rest, by the numbers of the whole, rising. Refused for
-    /// want of memory alone.
-    pub fn joined(
-        &self,
-        alloc: Global,
-        mine: &Instance,
-        fixed: &Fixed,
-        found: &[u32],
-    ) -> Result<Vec<u32>, Fault>
-        requires fixed { IsFixedOf (graph_of_mine mine.now) fixed.now }
-        requires rest { IsRestIn mine.now fixed.now self.now }
-        requires found { (i : ℕ) → i < length found.now → get_or found.now i 0 < length self.now.blocks.items }
-        ensures joined { IfOk result (λ list. (set : ℕ → Bool) → found.now ≡ members (length self.now.blocks.items) set → ListsJoined mine.now.blocks fixed.now self.now.blocks.items set list.items) }
-        ensures refused { IfErr result (λ e. e ≡ no_memory) }
-    {
-        mine.law();
-        let mut marks = dug_marks(alloc, fixed, mine.graph().n())?;
-        mark_pit(&self.blocks, found, &mut marks);
-        Ok(marked(alloc, &marks)?)
     }
 
     /// A certificate of the rest by the numbers of the whole: with what must be dug, and with no flow on a pair of a block that
@@ -92,7 +91,7 @@ impl Rest {
         let part: &Graph = self.mine.graph();
         let mut flow = vec![in alloc; 0i128; whole.arcs() as usize]?;
         carry_flow(whole, &self.blocks, part, &found.flow, &mut flow);
-        let pit = self.joined(alloc, mine, fixed, &found.pit)?;
+        let pit = join_pit(alloc, whole.n(), fixed, &self.blocks, &found.pit)?;
         Ok(Certificate { pit, flow })
     }
 }

@@ -1,17 +1,11 @@
 -- The rows of a part's blocks, one after another, give its pairs; and its pairs, renumbered, are a graph without a cycle.
-use Rattle.std.proofs.Common.{◌≡◌, ℕ, suc, ◌+◌, ◌<◌, ◌≤◌, ◌==◌, nat_lt, Bool, true, false, ◌&&◌, ◌||◌, refl, sym, ap, subst, ◌∙◌, arith, ⊎_elim, List, [], ◌∷◌, ◌++◌, map, get_or, length}
+use Rattle.std.proofs.Common.{◌≡◌, ℕ, suc, ◌+◌, ◌<◌, ◌≤◌, ◌==◌, nat_lt, Bool, true, false, ◌&&◌, ◌||◌, refl, sym, ap, subst, ◌∙◌, arith, ⊎_elim, inl, inr, List, [], ◌∷◌, ◌++◌, map, get_or, length}
 use Rattle.std.proofs.lemmas.Bool.{cases_eq, cases_lt, cases_Bool, and_parts, eq-eqb, ne_eqb, lt-ltb, le-ltb}
 use Rattle.std.proofs.lemmas.List.{get_or-map, length-map, get_or_past}
-use Rattle.pit_model.specs.Graph.{Graph, first_of, second_of, AreInRange, AreApart, AreRising, AreSamePairs, IsAcyclic, IsGraph}
+use Rattle.pit_model.specs.Graph.{Graph, first_of, second_of, AreInRange, AreRising, IsAcyclic, IsGraph}
 use Rattle.pit_model.specs.Mine.{members}
 use Rattle.pit_model.specs.Part.{IsPart}
-use Rattle.faults.specs.declared.fault.Fault.{Fault}
-use Rattle.faults.specs.declared.refusal.Refusal.{Refusal}
-use Rattle.faults.specs.declared.refusal.Refusal.TheVariants.{NoMemory, Cycle}
-use Rattle.faults.specs.Refused.{no_memory}
-use Rattle.mine_graph.specs.Faults.{RefusesPairs, IsGraphFault}
 use Rattle.mine_graph.specs.Renumbered.{has_label, placed_pair, is_inside, is_inside_before, IsPlaced}
-use Rattle.mine_graph.proofs.Acyclic.{acyclic_has_no_needy}
 use Rattle.pit_model.proofs.Members.{IsMemberAt, bound_of, first_bound, members_cut, members_each, members_ext, members_few, members_one_more, members_place, members_rise}
 
 and_false : (b : Bool) → (b && false) ≡ false
@@ -188,23 +182,39 @@ module _ (n : ℕ) (pairs : List (ℕ × ℕ)) (labels blocks places : List ℕ)
   pub renumbered_few : length renumbered ≤ length pairs
   renumbered_few = let few = members_few (length pairs) (is_inside pairs labels label) in let s = size in omega arith
 
-  pub renumbered_in_range : AreInRange renumbered (length blocks)
+  renumbered_in_range : AreInRange renumbered (length blocks)
   renumbered_in_range k l = let s = size in let f = from k (omega arith) in (f.1.0, f.2.0)
 
-  pub renumbered_apart : AreApart renumbered
-  renumbered_apart k l less inside same =
+  -- places rise with their blocks
+  places_rise : (i j : ℕ) → i < length blocks → get_or blocks i 0 < get_or blocks j 0 → i < j
+  places_rise i j inside less = ⊎_elim
+      (λ (low : i < j). low)
+      (λ (high : j ≤ i). ⊎_elim
+      (λ (same : j ≡ i). let e = ap (λ x. get_or blocks x 0) same in omega arith)
+      (λ (apart : j ≡ i → ⊥).
+      let up : get_or blocks j 0 < get_or blocks i 0 = subst (λ xs. get_or xs j 0 < get_or xs i 0) (sym blocks_are) (members_rise n (has_label labels label) j i (omega arith) (subst (λ xs. i < length xs) blocks_are inside)) in
+      omega arith)
+      (cases_eq j i))
+      (cases_lt i j)
+
+  renumbered_rising : AreRising renumbered
+  renumbered_rising k l less inside =
       let s = size in
       let a = from k (omega arith) in
       let b = from l (omega arith) in
       let up = members_rise (length pairs) (is_inside pairs labels label) k l less (omega arith) in
-      let first : first_of pairs (get_or within k 0) ≡ first_of pairs (get_or within l 0) = sym a.1.1 ∙ ap (λ (q : ℕ × ℕ). get_or blocks q.0 0) same ∙ b.1.1 in
-      let second : second_of pairs (get_or within k 0) ≡ second_of pairs (get_or within l 0) = sym a.2.1 ∙ ap (λ (q : ℕ × ℕ). get_or blocks q.1 0) same ∙ b.2.1 in
       ⊎_elim
-      (λ (h : first_of pairs (get_or within k 0) < first_of pairs (get_or within l 0)). omega arith)
-      (λ (h : (first_of pairs (get_or within k 0) ≡ first_of pairs (get_or within l 0)) × (second_of pairs (get_or within k 0) < second_of pairs (get_or within l 0))). let low = h.1 in omega arith)
+      (λ (h : first_of pairs (get_or within k 0) < first_of pairs (get_or within l 0)).
+      inl (places_rise (first_of renumbered k) (first_of renumbered l) a.1.0 (let x = a.1.1 in let y = b.1.1 in omega arith)))
+      (λ (h : (first_of pairs (get_or within k 0) ≡ first_of pairs (get_or within l 0)) × (second_of pairs (get_or within k 0) < second_of pairs (get_or within l 0))).
+      let one = members_each (length pairs) (is_inside pairs labels label) k (omega arith) in
+      let two = members_each (length pairs) (is_inside pairs labels label) l (omega arith) in
+      let first : first_of renumbered k ≡ first_of renumbered l =
+      ap (λ q. q.0) (at k (omega arith)) ∙ ap (λ u. get_or places u 0) h.0 ∙ sym (ap (λ q. q.0) (at l (omega arith))) in
+      inr (first, places_rise (second_of renumbered k) (second_of renumbered l) a.2.0 (let x = a.2.1 in let y = b.2.1 in let low = h.1 in omega arith)))
       (graph.rising (get_or within k 0) (get_or within l 0) up b.0)
 
-  pub renumbered_acyclic : IsAcyclic renumbered
+  renumbered_acyclic : IsAcyclic renumbered
   renumbered_acyclic = (
     λ i. graph.acyclic.0 (get_or blocks i 0),
     λ k l. let s = size in let f = from k (omega arith) in
@@ -214,35 +224,27 @@ module _ (n : ℕ) (pairs : List (ℕ × ℕ)) (labels blocks places : List ℕ)
         omega arith,
   )
 
-  pub part_is : (part : Graph) → part.blocks ≡ length blocks → AreSamePairs renumbered part.pairs → IsPart (record { blocks = n; pairs = pairs }) (has_label labels label) blocks part
+  pub renumbered_graph : IsGraph (length blocks) renumbered
+  renumbered_graph = record { in_range = renumbered_in_range; rising = renumbered_rising; acyclic = renumbered_acyclic }
+
+  pub part_is : (part : Graph) → part.blocks ≡ length blocks → part.pairs ≡ renumbered → IsPart (record { blocks = n; pairs = pairs }) (has_label labels label) blocks part
   part_is part count same = record {
     blocks_are = blocks_are;
     count = count;
     inside = λ k l.
-        let r = same.back k l in
         let s = size in
-        let f = from r.0 (omega (arith, r.1)) in
-        (get_or within r.0 0, f.0, (ap (λ (q : ℕ × ℕ). get_or blocks q.0 0) (sym r.2) ∙ f.1.1, ap (λ (q : ℕ × ℕ). get_or blocks q.1 0) (sym r.2) ∙ f.2.1));
+        let f = from k (let c = ap (λ (qs : List (ℕ × ℕ)). length qs) same in omega arith) in
+        (get_or within k 0, f.0, (ap (λ qs. get_or blocks (first_of qs k) 0) same ∙ f.1.1, ap (λ qs. get_or blocks (second_of qs k) 0) same ∙ f.2.1));
     all = λ l inside u p.
         let own : is_inside pairs labels label l ≡ true = ap (λ b. b && has_label labels label (second_of pairs l)) u ∙ p in
         let place = members_place (length pairs) (is_inside pairs labels label) l inside own in
         let s = size in
-        let here = place.1 in
-        let r = same.forth place.0 (omega arith) in
-        let f = from place.0 here in
-        (r.0, r.1, (ap (λ (q : ℕ × ℕ). get_or blocks q.0 0) r.2 ∙ f.1.1 ∙ ap (first_of pairs) place.2, ap (λ (q : ℕ × ℕ). get_or blocks q.1 0) r.2 ∙ f.2.1 ∙ ap (second_of pairs) place.2));
+        let f = from place.0 place.1 in (
+          place.0,
+          (let c = ap (λ (qs : List (ℕ × ℕ)). length qs) same in let here = place.1 in omega arith),
+          (ap (λ qs. get_or blocks (first_of qs place.0) 0) same ∙ f.1.1 ∙ ap (first_of pairs) place.2, ap (λ qs. get_or blocks (second_of qs place.0) 0) same ∙ f.2.1 ∙ ap (second_of pairs) place.2),
+        );
   }
-
-refuses_memory : (pairs : List (ℕ × ℕ)) (n : ℕ) (refusal : Refusal) (fault : Fault) → IsAcyclic pairs → RefusesPairs pairs n refusal fault → fault ≡ no_memory
-refuses_memory pairs n NoMemory fault acyclic is = is
-refuses_memory pairs n (Cycle list) fault acyclic is =
-    let walked = is.0.walked in
-    absurd (acyclic_has_no_needy pairs n is.0.set acyclic is.0.largest.needy (get_or is.0.walk 0 0) walked.first.member)
-refuses_memory pairs n refusal fault acyclic is = absurd is
-
--- pairs without a cycle are refused for want of memory alone
-pub only_memory : (pairs : List (ℕ × ℕ)) (n : ℕ) (fault : Fault) → IsAcyclic pairs → IsGraphFault pairs n fault → fault ≡ no_memory
-only_memory pairs n fault acyclic is = refuses_memory pairs n fault.refusal fault acyclic is
 
 -- a part knows its set by the blocks alone
 pub part_ext : (whole part : Graph) (s t : ℕ → Bool) (blocks : List ℕ) → AreInRange whole.pairs whole.blocks → ((u : ℕ) → u < whole.blocks → s u ≡ t u)

@@ -8,10 +8,10 @@ ghost use Rattle.pit_model.specs.Mine.{members};
 ghost use Rattle.mine_graph.specs.Faults.{IsGraphFault};
 
 use crate::no_cycle::check_acyclic;
-use crate::rising::in_order;
+use crate::rising::{in_order, row_starts};
 use crate::sort::{number_by_second, turn_in_order};
 use faults::Fault;
-use std::alloc::Global;
+use std::alloc::{AllocError, Global};
 use std::marker::Model;
 use std::ops::Range;
 
@@ -51,6 +51,29 @@ impl Graph {
     {
         let (starts, pairs) = in_order(alloc, n, pairs)?;
         check_acyclic(alloc, n, &pairs, &starts)?;
+        let (user_starts, users) = number_by_second(alloc, n, &pairs)?;
+        Ok(Graph {
+            blocks: n,
+            starts,
+            pairs,
+            user_starts,
+            users,
+        })
+    }
+
+    /// The graph of pairs in their order that are known to have no cycle. It takes no time to look for one.
+    pub(crate) fn of_ordered(
+        alloc: Global,
+        n: u32,
+        pairs: Vec<(u32, u32)>,
+    ) -> Result<Graph, AllocError>
+        requires few_blocks { n ≤ 2 ^ 22 }
+        requires few_pairs { length pairs.items ≤ 2 ^ 26 }
+        requires graph { IsGraph n pairs.items }
+        ensures blocks { IfOk result (λ g. g.blocks ≡ n) }
+        ensures pairs { IfOk result (λ g. g.pairs ≡ pairs.items) }
+    {
+        let starts = row_starts(alloc, n, &pairs)?;
         let (user_starts, users) = number_by_second(alloc, n, &pairs)?;
         Ok(Graph {
             blocks: n,

@@ -1,11 +1,13 @@
 //! A graph with a value for each block.
-ghost use Rattle.std.specs.Prelude.{◌≡◌, ◌<◌, ◌≤◌, ℕ, pos, neg_ℤ, ◌≤ℤ◌, ◌^◌, Bool, length, get_or};
+ghost use Rattle.std.specs.Prelude.{◌≡◌, ◌<◌, ◌≤◌, ℕ, pos, neg_ℤ, ◌≤ℤ◌, ◌^◌, Bool, length, get_or, IfOk};
 ghost use Rattle.std.specs.List.{All};
 ghost use Rattle.pit_model.specs.Sum.{total};
 ghost use Rattle.pit_model.specs.Mine.{members, value, worth};
 ghost use Rattle.pit_model.specs.Limits.{IsInstance};
 
 use crate::graph::Graph;
+use crate::values::Values;
+use std::alloc::{AllocError, Global};
 use std::marker::Model;
 use std::sync::Arc;
 
@@ -13,18 +15,18 @@ use std::sync::Arc;
 #[derive(Drop)]
 pub struct Instance {
     graph: Arc<Graph>,
-    values: Vec<i128>,
+    values: Values,
 }
 
 impl Model for Instance {
+    ghost use Rattle.std.specs.Prelude.{◌≡◌, length};
     ghost use Rattle.pit_model.specs.Mine.{Instance};
-    ghost use Rattle.mine_graph.specs.Kept.{AreWithinLimits};
 
     ghost Value = { Instance };
 
-    ghost view = { λ i. record { blocks = i.graph.value.blocks; values = i.values.items; pairs = i.graph.value.pairs } };
+    ghost view = { λ i. record { blocks = i.graph.value.blocks; values = i.values; pairs = i.graph.value.pairs } };
 
-    ghost invariant = { λ i. AreWithinLimits i.graph.value.blocks i.values.items };
+    ghost invariant = { λ i. length i.values ≡ i.graph.value.blocks };
 }
 
 impl Instance {
@@ -37,7 +39,17 @@ impl Instance {
         ensures pairs { result.pairs ≡ graph.value.pairs }
         ensures values { result.values ≡ values.items }
     {
+        let values = Values::new(values);
         Instance { graph, values }
+    }
+
+    /// The same instance once more. The graph is shared.
+    pub fn share(&self, alloc: Global) -> Result<Instance, AllocError>
+        ensures { IfOk result (λ other. other ≡ self.now) }
+    {
+        let graph = Arc::try_clone(&self.graph)?;
+        let values = self.values.copy(alloc)?;
+        Ok(Instance { graph, values })
     }
 
     /// What is true of each instance.
@@ -45,7 +57,7 @@ impl Instance {
         ensures { IsInstance self.now }
     {
         self.graph.law();
-        let _ = &self.values;
+        self.values.law();
     }
 
     /// The blocks and their pairs.
@@ -56,12 +68,19 @@ impl Instance {
         &self.graph
     }
 
+    /// The values alone. The graph is given up, and its memory where no one else holds it.
+    pub fn into_values(self) -> Values
+        ensures { result ≡ self.values }
+    {
+        self.values
+    }
+
     /// The value of a block.
     pub fn value(&self, u: u32) -> i128
         requires { u < self.now.blocks }
         ensures { result ≡ value self.now u }
     {
-        self.values[u as usize]
+        self.values.of(u)
     }
 
     /// The summed value of a list of blocks, in millionths where the values are: for the members of a set, its worth.
@@ -72,10 +91,6 @@ impl Instance {
         ensures set { (set : ℕ → Bool) → blocks.now ≡ members self.now.blocks set → result ≡ worth self.now set }
     {
         self.law();
-        let mut sum = 0;
-        for &u in blocks {
-            sum += self.value(u);
-        }
-        sum
+        self.values.worth(blocks)
     }
 }

@@ -13,6 +13,7 @@ mod part;
 mod parts;
 mod rising;
 mod sort;
+mod values;
 
 pub use classes::Classes;
 pub use cycle::acyclic_has_no_needy;
@@ -20,3 +21,4 @@ pub use fixed::Fixed;
 pub use graph::Graph;
 pub use instance::Instance;
 pub use part::Part;
+pub use values::Values;

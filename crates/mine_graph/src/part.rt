@@ -85,7 +85,7 @@ pub(crate) fn part_of(
 {
     graph.law();
     let pairs = pairs_within(alloc, graph, &blocks, labels, label, places)?;
-    let graph = Graph::new(alloc, blocks.len() as u32, pairs)?;
+    let graph = Graph::of_ordered(alloc, blocks.len() as u32, pairs)?;
     Ok(Part { blocks, graph })
 }
 

@@ -21,13 +21,13 @@ use Rattle.merging.specs.declared.outcome.Outcome.{Outcome}
 use Rattle.merging.specs.declared.outcome.Outcome.TheVariants as outcomes
 use Rattle.solver.specs.declared.mode.Mode.{Mode}
 use Rattle.solver.specs.declared.mode.Mode.TheVariants.{Single, Parts, Shared}
-use Rattle.solver.specs.Modes.{EndsIn, RunsOut}
+use Rattle.solver.specs.Modes.{EndsIn}
 use Rattle.solver.specs.Searched.{EndsFixed, IsLifted}
 use Rattle.solver.proofs.Searching.{named_block}
 use Rattle.runs.specs.Solve.{Files, FixedMine, HoldsMine, fixed_in}
 use Rattle.runs.specs.Chosen.{Chosen, OfWriter, OfWriterIfAny}
 use Rattle.runs.specs.Journaled.{JournalEnd, AtBudget, EndOf, AtAnyEnd, MayPutEntries, PutsEntries, RefusesEntries, SaysJournal, WritesJournal, PutsJournal, IsJournaled, IsJournalCut}
-use Rattle.runs.specs.Run.{EndsSolve, RefusesOutcome}
+use Rattle.runs.specs.Run.{RefusesOutcome}
 use Rattle.runs.proofs.Certifying.{of_states}
 
 -- the journal of workers ends as their outcome says

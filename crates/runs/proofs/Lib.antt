@@ -9,3 +9,4 @@ pub mod Uniqueness
 pub mod OneFault
 pub mod Replaying
 pub mod ReplayOnce
+pub mod ReplayTakes

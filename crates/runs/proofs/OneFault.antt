@@ -25,7 +25,8 @@ use Rattle.minelib_reader.proofs.PrecFaultLemmas as precedence_faults
 use Rattle.minelib_reader.proofs.FixedGrammarLemmas as fixed
 use Rattle.minelib_reader.proofs.FixedFaultLemmas as fixed_faults
 use Rattle.mine_graph.specs.Faults.{RefusesPairs, IsGraphFault}
-use Rattle.mine_graph.proofs.Renumbering.{only_memory}
+use Rattle.mine_graph.proofs.Acyclic.{acyclic_has_no_needy}
+use Rattle.merging.proofs.Planning.{only_memory}
 use Rattle.pit_model.specs.Graph.{IsAcyclic}
 use Rattle.pit_model.specs.Cycle.{IsCycleList}
 use Rattle.pit_model.specs.declared.direction.Direction.{Direction}
@@ -105,7 +106,7 @@ module _ (files other : Files) (same : ReadAlike files other)
       let m = one_model files.model files.prec other.model other.prec same.model same.prec u upit ps pairs one gave in
       absurd (no_fixed_fault files.fixed other.fixed u.n upit.n lists fault same.fixed (ap (λ (w : Upit). w.n) m) fixed_one faulty)
   no_fault fault (in_pairs upit pairs named gave fixed_gave is) =
-      only_memory pairs upit.n fault (subst IsAcyclic (one_precedence files.model files.prec other.model other.prec same.model same.prec u upit ps pairs one gave) acyclic) is
+      only_memory acyclic_has_no_needy pairs upit.n fault.refusal fault (subst IsAcyclic (one_precedence files.model files.prec other.model other.prec same.model same.prec u upit ps pairs one gave) acyclic) is
   no_fault fault (in_blocks task block gave named is) =
       let h = gave.holds in
       let upit = one_model files.model files.prec other.model other.prec same.model same.prec u h.upit ps h.pairs one h.given in
@@ -246,7 +247,7 @@ module _ (files other : Files) (same : ReadAlike files other) (f g : Fault)
   one_fault (in_pairs u ps lists one fixed_one is) (in_blocks task block gave named two) =
       let h = gave.holds in
       let p = one_precedence files.model files.prec other.model other.prec same.model same.prec u h.upit ps h.pairs one h.given in
-      absurd (some (only_memory ps u.n f (subst IsAcyclic (sym p) h.acyclic) is))
+      absurd (some (only_memory acyclic_has_no_needy ps u.n f.refusal f (subst IsAcyclic (sym p) h.acyclic) is))
   one_fault (in_blocks task block one named is) (in_model behind gave two) =
       let h = one.holds.given in absurd (sound_too files other same f g h.model_text behind one.holds.upit h.model_given gave h.model_spelled two)
   one_fault (in_blocks task block one named is) (in_prec behind qs v gave spelled there two) =
@@ -257,7 +258,7 @@ module _ (files other : Files) (same : ReadAlike files other) (f g : Fault)
   one_fault (in_blocks task block one named is) (in_pairs v qs others gave fixed_gave two) =
       let h = one.holds in
       let p = one_precedence files.model files.prec other.model other.prec same.model same.prec h.upit v h.pairs qs h.given gave in
-      absurd (some_too (only_memory qs v.n g (subst IsAcyclic p h.acyclic) two))
+      absurd (some_too (only_memory acyclic_has_no_needy qs v.n g.refusal g (subst IsAcyclic p h.acyclic) two))
   one_fault (in_blocks task block one named is) (in_blocks task_too block_too gave named_too two) =
       let t = mine_in_order files other same task task_too one gave in
       let here = subst (λ (x : FixedMine). IsClash x.mine.pairs (fixed_in x) block) t named in

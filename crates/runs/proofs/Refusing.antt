@@ -15,7 +15,10 @@ use Rattle.mine_graph.specs.Faults.{RefusesPairs, IsGraphFault}
 use Rattle.minelib_reader.specs.FixedFault.{IsFirstFixedFault}
 use Rattle.mine_graph.specs.FixedBlocks.{RefusesFixed}
 use Rattle.pit_model.specs.Fixed.{FixedLists, graph_of_mine}
-use Rattle.runs.specs.Solve.{Choice, no_reader, one_reader, gone, choice, Files, FixedMine, GaveFixed, GaveInOrder, HoldsMine, OfChoice, OfChoiceIfAny, Gave, NeverFailed, GaveMine, in_model, in_prec, in_fixed, in_pairs, in_blocks, RefusesFixedText, RefusesMine}
+use Rattle.pit_model.specs.declared.direction.Direction.{Direction}
+use Rattle.solver.specs.declared.mode.Mode.{Mode}
+use Rattle.solver.specs.Searched.{RefusesSearch}
+use Rattle.runs.specs.Solve.{Choice, no_reader, one_reader, gone, choice, Files, FixedMine, GaveFixed, GaveInOrder, HoldsMine, OfChoice, OfChoiceIfAny, Gave, NeverFailed, GaveMine, in_model, in_prec, in_fixed, in_pairs, in_blocks, RefusesFixedText, RefusesMine, fixed_in}
 use Rattle.runs.specs.declared.asked.Asked.{Asked}
 use Rattle.pit_model.specs.Replay.{IsSettled}
 use Rattle.runs.specs.Chosen.{Chosen, IsLeft}
@@ -107,13 +110,25 @@ read_refused asked NoSeat e files journal certificate out j c h = absurd h
 read_refused asked (Exhausted count) e files journal certificate out j c h = absurd h
 read_refused asked _ e files journal certificate out j c h = (h, record { no_journal = j; no_certificate = c; no_pit = refl })
 
+-- a search that is refused before anything is written, where there is no writer of a journal
+pub search_refused :
+    (mode : Mode) (direction : Direction) (task : FixedMine) (r : Refusal) (e : Fault) (journal certificate : Chosen) → journal.before ≡ None → IsLeft journal → IsLeft certificate
+    → RefusesSearch mode direction task.mine (fixed_in task) r e → RefusesPit mode direction task r e journal certificate
+search_refused mode direction task (Exhausted count) e journal certificate none left same h = (h, inl (none, left), same)
+search_refused mode direction task WriteFailed e journal certificate none left same h = absurd h
+search_refused mode direction task _ e journal certificate none left same h = (h, left, same)
+
 -- and so is a refusal to find the pit
 pub pit_refused :
     (asked : Asked) (r : Refusal) (e : Fault) (files : Files) (task : FixedMine) (journal certificate : Chosen) (out : Progress) → HoldsMine files task
     → RefusesPit asked.mode asked.pit task r e journal certificate → RefusesRun asked r e files journal certificate out out
 pit_refused asked WriteFailed e files task journal certificate out holds h = ⊎_elim
     (λ of_journal. (of_journal.0.1, in_journal (journal_cut asked.mode files task e journal holds of_journal.0.0) of_journal.1 refl))
-    (λ behind. (behind.1.1, in_certificate (journaled IsSettled asked.mode files task journal holds behind.0) (certificate_cut files task e certificate holds behind.1.0) refl))
+    (λ behind. (
+      behind.2.1,
+      in_certificate (record { within = (task, holds, behind.0); journaled = journaled IsSettled asked.mode files task journal holds behind.1 })
+          (certificate_cut files task e certificate holds behind.2.0) refl,
+    ))
     h
 pit_refused asked NoMemory e files task journal certificate out holds h =
     ((h.0, holds.given.model_given.failures, holds.given.prec_given.failures, given_fixed files.fixed holds.upit.n task.lists holds.fixed_given), record { no_journal = h.1; no_certificate = h.2; no_pit = refl })

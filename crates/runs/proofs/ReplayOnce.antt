@@ -45,7 +45,7 @@ no_difference mine budget journal k lawful d = d.differs (lawful_front mine budg
 -- what a journal's text says of the rest of the mine that the readers gave, whoever reads it
 module _ (files other : Files) (journal : Reading) (same : ReadAlike files other) where
   -- the rest is one
-  rest_once : (m n : Instance) → GaveRest files m → GaveRest other n → m ≡ n
+  pub rest_once : (m n : Instance) → GaveRest files m → GaveRest other n → m ≡ n
   rest_once m n one two =
       let task = mine_in_order files other same one.0 two.0 one.1 two.1 in
       rest_is_one two.0.mine (fixed_in two.0) m n (subst (λ (t : FixedMine). IsRestOf t.mine (fixed_in t) m) task one.2) two.2
@@ -62,7 +62,7 @@ module _ (files other : Files) (journal : Reading) (same : ReadAlike files other
   said_so Ends Parts rest behind_rest text behind said one two is says spelled = absurd says
 
   -- the text that went to the writer is the one that was given
-  taken_so : (Ends : JournalEnd) (mode : Mode) (before after : Progress) (rest : Instance) (said : BudgetAndEntries) → GaveTaken journal before after → IsJournaled Ends mode files before after
+  pub taken_so : (Ends : JournalEnd) (mode : Mode) (before after : Progress) (rest : Instance) (said : BudgetAndEntries) → GaveTaken journal before after → IsJournaled Ends mode files before after
       → GaveRest other rest → GaveJournal rest journal said → Ends rest said.budget said.entries
   taken_so Ends mode before after rest said taken wrote two given =
       let text : wrote.text ≡ given.text = append_cancel_left before.bytes wrote.text taken.text (sym wrote.written ∙ taken.taken) ∙ given_once journal taken.text given.text taken.given given.given in

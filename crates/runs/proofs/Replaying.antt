@@ -19,7 +19,7 @@ use Rattle.merging.specs.Replayed.{EndsReplay}
 use Rattle.merging.specs.Rest.{IsRestIn, ListsJoined}
 use Rattle.merging.specs.declared.rest.Rest.{Rest}
 use Rattle.mine_graph.specs.FixedBlocks.{FixedBlocks, no_lists}
-use Rattle.solver.proofs.Searching.{is_rest_of, joined_pit, none_is_rest, plain_pit}
+use Rattle.solver.proofs.Searching.{is_rest_of, joined_pit, least_pit, none_is_rest, plain_pit}
 use Rattle.merging.specs.declared.replayed.Replayed.{Replayed}
 use Rattle.merging.specs.declared.replayed.Replayed.TheVariants as ends
 use Rattle.pit_model.specs.declared.direction.Direction.TheVariants.{Least}
@@ -55,7 +55,7 @@ is_replayed mine reading said text (Err e) given spelled ended = tt
 
 -- the end of a replay of the mine itself, where nothing is fixed
 plain_end : (task : FixedMine) (journal : BudgetAndEntries) (end : Replayed) → task.lists ≡ no_lists → EndsReplay task.mine journal.budget journal.entries end → EndsOnRest task task.mine journal end
-plain_end task journal (ends.Pit pit) none e = (e.0, plain_pit task.mine task.lists pit.items none e.1)
+plain_end task journal (ends.Pit pit) none e = (e.0, plain_pit Least task.mine task.lists pit.items none (least_pit task.mine pit.items e.1))
 plain_end task journal _ none e = e
 
 pub plain_replayed : (task : FixedMine) (reading : Reading) (answer : Result Replayed Fault) → task.lists ≡ no_lists → IfOk answer (IsReplayedOn task.mine reading) → IfOk answer (IsReplayed task reading)
@@ -94,7 +94,7 @@ pit_replayed mine fixed rest reading found list some is r joined = record {
   is_rest = is_rest_of mine fixed rest some is;
   journal = r.journal;
   given = r.given;
-  ends = (r.ends.0, joined_pit mine fixed rest found.items list.items is r.ends.1 joined);
+  ends = (r.ends.0, joined_pit Least mine fixed rest found.items list.items is (least_pit rest.mine found.items r.ends.1) joined);
 }
 
 answers : (task : FixedMine) (rest : Instance) (said : BudgetAndEntries) (end : Replayed) (text : List ℕ) (status : Status) → EndsOnRest task rest said end → TellsEnd task end text status → AnswersJournal task rest said text status

@@ -115,9 +115,18 @@ module _ (direction : Direction) (blocks prec : Reading) (revenue cost : ℕ) (p
     no_failure = w.1;
   }
 
+  pub shells_within : (mode : Mode) (factors : List ℕ) → EachEndsWithin mode direction (deposit_of prices graph) factors → HoldsOfDeposit blocks prec revenue cost (λ deposit. EachEndsWithin mode direction deposit factors)
+  shells_within mode factors each = (
+    deposit_in holds.table prices holds.pairs,
+    gave,
+    within_moves direction prices (rows holds.table) graph.pairs holds.pairs (turned holds.pairs graph.pairs holds.same) mode factors
+        (subst (λ n. EachEndsWithin mode direction (deposit_of prices (graph_with n graph.pairs)) factors) holds.count each),
+  )
+
   pub shells_cut : (mode : Mode) (factors : List ℕ) (shells : List Shell) (m : ℕ) (before after : Progress) (e : Fault) → m ≡ graph.blocks → AreShells direction (deposit_of prices graph) factors shells
-      → e ≡ write_failed → Writes {E = Fault} before after (shells_text m shells) (Err e) → RefusesShellsRun mode direction e.refusal e blocks prec revenue cost factors before after
-  shells_cut mode factors shells m before after e count are failed w =
+      → EachEndsWithin mode direction (deposit_of prices graph) factors → e ≡ write_failed → Writes {E = Fault} before after (shells_text m shells) (Err e)
+      → RefusesShellsRun mode direction e.refusal e blocks prec revenue cost factors before after
+  shells_cut mode factors shells m before after e count are within failed w =
       let cut : IsShellsCut direction blocks prec revenue cost factors before after = record {
         text = shells_text m shells;
         gives = gives factors shells m count are;
@@ -126,15 +135,7 @@ module _ (direction : Direction) (blocks prec : Reading) (revenue cost : ℕ) (p
         written = w.0.2;
         failure = w.1;
       } in
-      subst (λ f. RefusesShellsRun mode direction f.refusal f blocks prec revenue cost factors before after) (sym failed) (refl, cut)
-
-  pub shells_within : (mode : Mode) (factors : List ℕ) → EachEndsWithin mode direction (deposit_of prices graph) factors → HoldsOfDeposit blocks prec revenue cost (λ deposit. EachEndsWithin mode direction deposit factors)
-  shells_within mode factors each = (
-    deposit_in holds.table prices holds.pairs,
-    gave,
-    within_moves direction prices (rows holds.table) graph.pairs holds.pairs (turned holds.pairs graph.pairs holds.same) mode factors
-        (subst (λ n. EachEndsWithin mode direction (deposit_of prices (graph_with n graph.pairs)) factors) holds.count each),
-  )
+      subst (λ f. RefusesShellsRun mode direction f.refusal f blocks prec revenue cost factors before after) (sym failed) (refl, shells_within mode factors within, cut)
 
   moved : (mode : Mode) (factors : List ℕ) (r : Refusal) (e : Fault) → RefusesShells mode direction (deposit_of prices graph) factors r e → RefusesShells mode direction (deposit_in holds.table prices holds.pairs) factors r e
   moved mode factors r e h =

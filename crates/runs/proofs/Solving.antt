@@ -1,8 +1,7 @@
 -- The pit of the mine that was read gives its text: it is the pit of the instance, whose pairs stand in another order than
 -- in the file, and that order does not matter.
-use Rattle.std.proofs.Common.{◌≡◌, ℕ, refl, sym, ap, ◌∙◌, subst, Bool, List, length, ◌≤◌, ◌<◌}
+use Rattle.std.proofs.Common.{◌≡◌, ℕ, refl, sym, ap, ◌∙◌, subst, Bool, List}
 use Rattle.std.specs.Prelude.{ℤ, Ok, Err}
-use Rattle.std.specs.List.{All}
 use Rattle.minelib_reader.specs.Device.{Progress, Writes}
 use Rattle.faults.specs.declared.fault.Fault.{Fault}
 use Rattle.pit_model.specs.declared.direction.Direction.{Direction}
@@ -12,17 +11,11 @@ use Rattle.pit_model.specs.Graph.{AreSamePairs}
 use Rattle.pit_model.specs.Mine.{Instance, instance_of, members, worth}
 use Rattle.pit_model.specs.PitText.{pit_text}
 use Rattle.pit_model.proofs.SamePairs.{turned, fixed_pit_knows_no_order}
-use Rattle.pit_model.proofs.Members.{members_few, members_below}
+use Rattle.solver.specs.declared.search.FoundPit.{FoundPit}
+use Rattle.solver.specs.Searched.{IsFound}
 use Rattle.runs.specs.Solve.{Files, FixedMine, HoldsMine, IsPitText, Solves, IsDone, IsCutShort, fixed_in}
 use Rattle.runs.specs.declared.status.Status.TheVariants.{Done}
 
-pub listed_few : (n : ℕ) (pit : List ℕ) (set : ℕ → Bool) → pit ≡ members n set → length pit ≤ n
-listed_few n pit set listed = subst (λ xs. length xs ≤ n) (sym listed) (members_few n set)
-
-pub listed_below : (n : ℕ) (pit : List ℕ) (set : ℕ → Bool) → pit ≡ members n set → All (λ u. u < n) pit
-listed_below n pit set listed = subst (λ xs. All (λ u. u < n) xs) (sym listed) (members_below n set)
-
--- the blocks of a pit, with their summed value, are its text
 pub shown_text :
     (direction : Direction) (task : FixedMine) (pit : List ℕ) (n : ℕ) (sum : ℤ) → n ≡ task.mine.blocks → ListsPit direction task.mine (fixed_in task) pit
     → ((set : ℕ → Bool) → pit ≡ members task.mine.blocks set → sum ≡ worth task.mine set)
@@ -35,6 +28,13 @@ shown_text direction task pit n sum count shown summed = record {
       ∙ ap (λ p. pit_text task.mine.blocks p sum) shown.listed
       ∙ ap (pit_text task.mine.blocks (members task.mine.blocks shown.set)) (summed shown.set shown.listed);
 }
+
+-- the text of the pit that a search found
+pub found_text :
+    (direction : Direction) (task : FixedMine) (found : FoundPit) (pit : List ℕ) (n : ℕ) → n ≡ task.mine.blocks → pit ≡ found.blocks.items → IsFound direction task.mine (fixed_in task) found
+    → IsPitText direction task (pit_text n pit found.worth)
+found_text direction task found pit n count same is =
+    shown_text direction task pit n found.worth count (subst (λ p. ListsPit direction task.mine (fixed_in task) p) (sym same) is.listed) (λ set listed. is.worth_is set (sym same ∙ listed))
 
 abbrev task_on : Instance → FixedLists → FixedMine
 task_on mine lists = record { mine = mine; lists = lists }

@@ -39,19 +39,24 @@ pub record IsUnwritten (journal certificate : Chosen) (before after : Progress) 
   pub no_certificate : IsLeft certificate
   pub no_pit : after ≡ before
 
--- where a write failed: in the journal, of which a beginning was written, and nothing else; in the certificate, behind the
--- whole journal; or in the pit's text, behind both. Each is there where it is wanted
+-- the solve came to its pit within the budget, with the whole journal written, where that is wanted
+pub record CameToPit (asked : Asked) (files : Files) (journal : Chosen) : Type 0 where
+  pub within : HoldsOfSearched asked.pit files (EndsWithin asked.mode)
+  pub journaled : OfWriterIfAny journal (IsJournaled IsSettled asked.mode files)
+
+-- where a write failed: in the journal, of which a beginning was written, and nothing else; or, where the solve came to its pit,
+-- in the certificate, or in the pit's text behind the whole certificate. Each is there where it is wanted
 pub data WasCutShort (asked : Asked) (files : Files) (journal certificate : Chosen) (before after : Progress) : Type 0 where
   in_journal : OfWriter journal (IsJournalCut asked.mode files) → IsLeft certificate → after ≡ before → WasCutShort asked files journal certificate before after
-  in_certificate : OfWriterIfAny journal (IsJournaled IsSettled asked.mode files) → OfWriter certificate (IsCertificateCut files) → after ≡ before → WasCutShort asked files journal certificate before after
-  in_pit : OfWriterIfAny journal (IsJournaled IsSettled asked.mode files) → OfWriterIfAny certificate (IsCertified files) → IsCutShort asked.pit files before after → WasCutShort asked files journal certificate before after
+  in_certificate : CameToPit asked files journal → OfWriter certificate (IsCertificateCut files) → after ≡ before → WasCutShort asked files journal certificate before after
+  in_pit : CameToPit asked files journal → OfWriterIfAny certificate (IsCertified files) → IsCutShort asked.pit files before after → WasCutShort asked files journal certificate before after
 
--- why no pit of a mine was found: a write failed in the journal, or in the certificate behind it; the budget is used up, of
--- which the journal was written; or the solve lacked room, and nothing was written
+-- why no pit of a mine was found: a write failed in the journal, or in the certificate behind it, with the budget kept; the
+-- budget is used up, of which the journal was written; or the solve lacked room, and nothing was written
 abbrev pub RefusesPit : Mode → Direction → FixedMine → Refusal → Fault → Chosen → Chosen → Type 0
 RefusesPit mode direction task WriteFailed fault journal certificate =
     (PutsJournal AtAnyEnd mode task journal (Err fault) × IsLeft certificate)
-    ⊎ (PutsJournal IsSettled mode task journal (Ok tt) × PutsCertificate task certificate (Err fault))
+    ⊎ (OfSearched direction task.mine (fixed_in task) (EndsWithin mode) × PutsJournal IsSettled mode task journal (Ok tt) × PutsCertificate task certificate (Err fault))
 RefusesPit mode direction task (Exhausted count) fault journal certificate =
     RefusesSearch mode direction task.mine (fixed_in task) (Exhausted count) fault × PutsJournal (AtBudget count) mode task journal (Ok tt) × IsLeft certificate
 RefusesPit mode direction task refusal fault journal certificate = LacksRoom mode refusal fault × IsLeft journal × IsLeft certificate

@@ -11,7 +11,7 @@ use Rattle.pit_model.specs.Deposit.{Deposit}
 use Rattle.pit_model.specs.Shells.{AreShells}
 use Rattle.pit_model.specs.ShellText.{shells_text}
 use Rattle.solver.specs.declared.mode.Mode.{Mode}
-use Rattle.shells.specs.Grown.{RefusesShells}
+use Rattle.shells.specs.Grown.{EachEndsWithin, RefusesShells}
 use Rattle.runs.specs.Solve.{Reading}
 use Rattle.runs.specs.Deposit.{GaveDeposit, RefusesDeposit}
 use Rattle.runs.specs.declared.status.Status.{Status}
@@ -50,9 +50,11 @@ pub record IsShellsCut (direction : Direction) (blocks prec : Reading) (revenue 
 abbrev pub HoldsOfDeposit : Reading → Reading → ℕ → ℕ → (Deposit → Type 0) → Type 0
 HoldsOfDeposit blocks prec revenue cost Holds = (deposit : Deposit) × GaveDeposit blocks prec revenue cost deposit × Holds deposit
 
--- why a run ended without shells: nothing was written, but where a write failed
+-- why a run ended without shells: nothing was written, but where a write failed, with the budget kept at each factor
 abbrev pub RefusesShellsRun : Mode → Direction → Refusal → Fault → Reading → Reading → ℕ → ℕ → List ℕ → Progress → Progress → Type 0
-RefusesShellsRun mode direction WriteFailed fault blocks prec revenue cost factors before after = (fault ≡ write_failed) × IsShellsCut direction blocks prec revenue cost factors before after
+RefusesShellsRun mode direction WriteFailed fault blocks prec revenue cost factors before after =
+    (fault ≡ write_failed) × HoldsOfDeposit blocks prec revenue cost (λ deposit. EachEndsWithin mode direction deposit factors)
+    × IsShellsCut direction blocks prec revenue cost factors before after
 RefusesShellsRun mode direction NoSeat fault blocks prec revenue cost factors before after =
     HoldsOfDeposit blocks prec revenue cost (λ deposit. RefusesShells mode direction deposit factors NoSeat fault) × (after ≡ before)
 RefusesShellsRun mode direction (Exhausted count) fault blocks prec revenue cost factors before after =

@@ -3,18 +3,19 @@ use Rattle.std.specs.Prelude.{◌≡◌, ◌≢◌, ◌⊎◌, ℕ, ◌++◌, Bo
 use Rattle.minelib_reader.specs.Device.{Progress}
 use Rattle.faults.specs.Refused.{no_memory}
 use Rattle.faults.specs.declared.fault.Fault.{Fault}
-use Rattle.faults.specs.declared.refusal.Refusal.TheVariants.{NoMemory, ReadFailed}
+use Rattle.faults.specs.declared.refusal.Refusal.{Refusal}
+use Rattle.faults.specs.declared.refusal.Refusal.TheVariants.{NoMemory, ReadFailed, WriteFailed}
 use Rattle.pit_model.specs.Graph.{IsGraph}
 use Rattle.pit_model.specs.declared.direction.Direction.{Direction}
 use Rattle.pit_model.specs.declared.direction.Direction.TheVariants.{Least}
 use Rattle.report.specs.AnswerText.{answer_text}
 use Rattle.report.specs.FaultText.{fault_text}
-use Rattle.runs.specs.Solve.{Choice, no_reader, one_reader, Files, FixedMine, Reading, Gave, IsDone, FirstFault, RefusesMine}
+use Rattle.runs.specs.Solve.{Choice, no_reader, one_reader, Files, FixedMine, GaveInOrder, Reading, Gave, IsDone, FirstFault, RefusesMine}
 use Rattle.runs.specs.ShellsRun.{IsShellsDone}
 use Rattle.runs.specs.Certified.{IsCertified}
 use Rattle.runs.specs.Check.{AnswersText, IsChecked}
-use Rattle.runs.specs.Journaled.{AtBudget, IsJournaled}
-use Rattle.runs.specs.Replay.{IsJournalSpent, IsToldReplay}
+use Rattle.runs.specs.Journaled.{AtAnyEnd, AtBudget, IsJournaled}
+use Rattle.runs.specs.Replay.{IsJournalSpent, IsToldReplay, RefusesJournal, RefusesReplay}
 use Rattle.pit_model.specs.Replay.{IsSettled}
 use Rattle.solver.specs.declared.mode.Mode.{Mode}
 use Rattle.runs.specs.declared.status.Status.{Status}
@@ -124,3 +125,22 @@ pub record SpendsReplay (files other : Files) (journal : Reading) : Type 0 where
       (mode : Mode) (count named : ℕ) (before after : Progress)
       → ReadAlike files other → GaveTaken journal before after
       → IsJournaled (AtBudget count) mode files before after → IsJournalSpent other journal named → named ≡ count
+
+-- a text was not read for want of memory, or by a failed read
+abbrev pub IsUnread : Refusal → Type 0
+IsUnread refusal = (refusal ≡ NoMemory) ⊎ (refusal ≡ ReadFailed)
+
+-- where a run of `solve` wrote its journal, `replay` over the same texts finds no fault in it; and where that run was done, it is
+-- refused for want of memory, or by a failed read or write, alone
+pub record TakesReplay (files other : Files) (journal : Reading) : Type 0 where
+  pub no_fault :
+      (mode : Mode) (before after : Progress) (task : FixedMine) (fault : Fault)
+      → ReadAlike files other → GaveTaken journal before after
+      → IsJournaled AtAnyEnd mode files before after → GaveInOrder other task → RefusesJournal fault.refusal fault task journal
+      → IsUnread fault.refusal
+  pub done :
+      (mode : Mode) (before after pit_before pit_after other_before other_after : Progress) (status : Status) (fault : Fault)
+      → ReadAlike files other → GaveTaken journal before after
+      → IsJournaled IsSettled mode files before after → IsDone Least files pit_before pit_after status
+      → RefusesReplay fault.refusal fault other journal other_before other_after
+      → IsUnread fault.refusal ⊎ (fault.refusal ≡ WriteFailed)

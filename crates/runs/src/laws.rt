@@ -2,7 +2,7 @@
 //! readers: a run's reading is a reader's state before it and its state after.
 ghost use Rattle.runs.specs.declared.mine.MineFiles.{MineFiles};
 ghost use Rattle.runs.specs.Solve.{files_of, reading};
-ghost use Rattle.runs.specs.Uniqueness.{SolvesOnce, NeverFaulty, FaultsOnce, NestsOnce, AnswerIsOne, ChecksOnce, PassesCheck, PassesReplay, SpendsReplay};
+ghost use Rattle.runs.specs.Uniqueness.{SolvesOnce, NeverFaulty, FaultsOnce, NestsOnce, AnswerIsOne, ChecksOnce, PassesCheck, PassesReplay, SpendsReplay, TakesReplay};
 
 use minelib_reader::InBytes;
 
@@ -100,7 +100,8 @@ pub fn solve_passes_check<
 {}
 
 /// Where `replay` ends over the texts of a run of `solve` and the journal that it wrote: with the same pit and the same status
-/// where that run was done, and with no answer where it used up its budget.
+/// where that run was done, and with no answer where it used up its budget. It finds no fault in that journal; and where that run
+/// was done, it is refused for want of memory, or by a failed read or write, alone.
 pub fn solve_passes_replay<
     M: InBytes,
     P: InBytes,
@@ -115,6 +116,10 @@ pub fn solve_passes_replay<
         (files_of N.progress N.IsAtEnd Q.progress Q.IsAtEnd G.progress G.IsAtEnd other other_end)
         (reading (J.progress journal) (J.progress journal_end) (J.IsAtEnd journal_end)) }
     ensures spent { (files files_end : MineFiles M P F) (other other_end : MineFiles N Q G) (journal journal_end : J) → SpendsReplay
+        (files_of M.progress M.IsAtEnd P.progress P.IsAtEnd F.progress F.IsAtEnd files files_end)
+        (files_of N.progress N.IsAtEnd Q.progress Q.IsAtEnd G.progress G.IsAtEnd other other_end)
+        (reading (J.progress journal) (J.progress journal_end) (J.IsAtEnd journal_end)) }
+    ensures taken { (files files_end : MineFiles M P F) (other other_end : MineFiles N Q G) (journal journal_end : J) → TakesReplay
         (files_of M.progress M.IsAtEnd P.progress P.IsAtEnd F.progress F.IsAtEnd files files_end)
         (files_of N.progress N.IsAtEnd Q.progress Q.IsAtEnd G.progress G.IsAtEnd other other_end)
         (reading (J.progress journal) (J.progress journal_end) (J.IsAtEnd journal_end)) }

@@ -1,18 +1,21 @@
 //! `replay`: from the bytes of the files of a mine and of a journal to the bytes of the pit, or of what is wrong with the journal.
-ghost use Rattle.std.specs.Prelude.{◌≡◌, ◌<◌, ◌≤◌, ◌^◌, IfOk, IfErr};
+ghost use Rattle.std.specs.Prelude.{◌≡◌, ◌<◌, ◌≤◌, ◌^◌, ℕ, Bool, IfOk, IfErr};
+ghost use Rattle.faults.specs.Refused.{write_failed};
 ghost use Rattle.mine_graph.specs.FixedBlocks.{IsFixedOf};
-ghost use Rattle.pit_model.specs.Fixed.{graph_of_mine};
+ghost use Rattle.pit_model.specs.declared.direction.Direction.{Direction as AnyDirection};
+ghost use Rattle.pit_model.specs.Direction.{ListsPit};
+ghost use Rattle.pit_model.specs.Fixed.{fixed_of, graph_of_mine};
+ghost use Rattle.pit_model.specs.Mine.{members};
 ghost use Rattle.runs.specs.Replay.{IsReplayed, IsReplayedOn, IsTold, IsToldReplay, NotTold, RefusesJournal, RefusesJournalOn, RefusesReplay, ShowsEnd};
-ghost use Rattle.runs.specs.Solve.{files_of, reading, task_of, MayRead};
+ghost use Rattle.runs.specs.Solve.{files_of, reading, task_of, MayRead, WritesPit};
 
 use crate::mine::{MineFiles, Task, read_mine};
-use crate::solve::put_pit;
 use crate::status::Status;
 use faults::Fault;
-use merging::{Replayed, Rest, replay};
+use merging::{Replayed, Rest, join_pit, replay};
 use mine_graph::Instance;
 use minelib_reader::{InBytes, OutBytes};
-use report::{read_journal, write_difference, write_open};
+use report::{read_journal, write_difference, write_open, write_pit};
 use std::alloc::Global;
 
 /// How the replay of the journal ends that a reader gives of an instance.
@@ -40,14 +43,25 @@ fn replay_of<J: InBytes>(alloc: Global, task: &Task, journal: &mut J) -> Result<
     }
     let rest = Rest::of(alloc, &task.mine, &task.fixed)?;
     match replay_on(alloc, &rest.mine, journal)? {
-        Replayed::Pit(found) => Ok(Replayed::Pit(rest.joined(
-            alloc,
-            &task.mine,
-            &task.fixed,
-            &found,
-        )?)),
+        Replayed::Pit(found) => {
+            let n = task.mine.graph().n();
+            let pit = join_pit(alloc, n, &task.fixed, &rest.blocks, &found)?;
+            Ok(Replayed::Pit(pit))
+        }
         end => Ok(end),
     }
+}
+
+/// Writes the text of a pit, whichever it is.
+fn put_pit<W: OutBytes>(out: &mut W, task: &Task, pit: &[u32]) -> Result<(), Fault>
+    requires countable { (W.progress out.old).failures < 2 ^ 63 }
+    requires listed { (set : ℕ → Bool) × (pit.now ≡ members task.now.mine.blocks set) }
+    ensures written { (direction : AnyDirection) → ListsPit direction task.now.mine (fixed_of task.now.fixed.lists) pit.now → WritesPit direction (task_of task.now) (W.progress out.old) (W.progress out.new) result }
+    ensures refused { IfErr result (λ e. e ≡ write_failed) }
+{
+    task.mine.law();
+    let worth = task.mine.worth(pit);
+    write_pit(out, task.mine.graph().n(), pit, worth)
 }
 
 /// Writes the answer to a replay. A budget that is used up is a fault, and nothing is written.

@@ -1,22 +1,18 @@
 //! `solve`: from the bytes of a model, a precedence file and a file of fixed blocks to the bytes of the pit, of the certificate
 //! that shows it, and of the journal of what workers decided.
-ghost use Rattle.std.specs.Prelude.{◌≡◌, ◌<◌, ◌^◌, ℕ, Bool, Ok, IfOk, IfErr};
-ghost use Rattle.faults.specs.Refused.{write_failed};
+ghost use Rattle.std.specs.Prelude.{◌≡◌, ◌<◌, ◌^◌, Ok, IfOk, IfErr};
 ghost use Rattle.certificate.specs.Certificate.{IsFixedCertificateOf};
 ghost use Rattle.mine_graph.specs.FixedBlocks.{IsFixedOf};
-ghost use Rattle.pit_model.specs.declared.direction.Direction.{Direction as AnyDirection};
-ghost use Rattle.pit_model.specs.declared.direction.Direction.TheVariants.{Greatest, Least};
-ghost use Rattle.pit_model.specs.Mine.{members};
-ghost use Rattle.pit_model.specs.Direction.{ListsPit};
+ghost use Rattle.pit_model.specs.declared.direction.Direction.TheVariants.{Least};
 ghost use Rattle.pit_model.specs.Fixed.{fixed_of, graph_of_mine};
 ghost use Rattle.pit_model.specs.Replay.{IsSettled};
 ghost use Rattle.runs.specs.Certified.{IsCertified, PutsCertificate};
 ghost use Rattle.runs.specs.Chosen.{chosen, progress_of, IsCountable, OfWriterIfAny};
 ghost use Rattle.runs.specs.Journaled.{EndOf, IsJournaled, MayJournal, MayPutEntries, PutsEntries, PutsJournal, RefusesEntries};
 ghost use Rattle.runs.specs.Run.{EndsJournaled, HoldsOfSearched, MayWrite, RefusesOutcome, RefusesPit, RefusesRun};
-ghost use Rattle.runs.specs.Solve.{files_of, fixed_in, task_of, IsDone, MayRead, WritesPit};
+ghost use Rattle.runs.specs.Solve.{files_of, task_of, IsDone, MayRead};
 ghost use Rattle.solver.specs.Modes.{EndsWithin};
-ghost use Rattle.solver.specs.Searched.{EndsFixed, OfSearched, RefusesSearch};
+ghost use Rattle.solver.specs.Searched.{EndsFixed, IsFound, OfSearched};
 
 use crate::asked::Asked;
 use crate::mine::{MineFiles, Task, read_mine};
@@ -25,9 +21,8 @@ use certificate::{Certificate, write};
 use faults::Fault;
 use merging::Outcome;
 use minelib_reader::{InBytes, OutBytes};
-use pit_model::Direction;
 use report::{write_journal, write_pit};
-use solver::{Entry, Mode, OpenGate, PitOutcome, find_fixed_pit, solve_fixed, solve_greatest};
+use solver::{Entry, FoundPit, Mode, OpenGate, Search, find_fixed_pit, solve_fixed};
 use std::alloc::Global;
 use std::sync::Wait;
 use std::thread::Threads;
@@ -123,90 +118,68 @@ fn solve_journaled<J: OutBytes, R: Threads + Wait + Sync>(
     Ok(solved.0)
 }
 
-/// The pit of a mine. Where there is a writer for the journal, or for the certificate that shows the pit, these go there, in
-/// this order; else no certificate is made.
-fn least_pit<J: OutBytes, C: OutBytes, W: OutBytes, R: Threads + Wait + Sync>(
+/// The least pit of a mine. Where there is a writer for the journal, or for the certificate that shows the pit, these go there,
+/// in this order.
+fn recorded_pit<J: OutBytes, C: OutBytes, W: OutBytes, R: Threads + Wait + Sync>(
     rt: &R,
     alloc: Global,
     task: &Task,
     mode: &Mode,
     outputs: &mut SolveOutputs<J, C, W>,
-) -> Result<Vec<u32>, Fault>
+) -> Result<FoundPit, Fault>
     requires journal_countable { IsCountable (progress_of J.progress outputs.old.journal) }
     requires may { MayJournal mode.now (progress_of J.progress outputs.old.journal) }
     requires countable { IsCountable (progress_of C.progress outputs.old.certificate) }
     requires fixed { IsFixedOf (graph_of_mine task.now.mine) task.now.fixed }
-    ensures shown { IfOk result (λ pit. ListsPit Least task.now.mine (fixed_of task.now.fixed.lists) pit.items) }
+    ensures found { IfOk result (IsFound Least task.now.mine (fixed_of task.now.fixed.lists)) }
     ensures journaled { IfOk result (λ _. PutsJournal IsSettled mode.now (task_of task.now) (chosen J.progress outputs.old.journal outputs.new.journal) (Ok tt)) }
     ensures certified { IfOk result (λ _. PutsCertificate (task_of task.now) (chosen C.progress outputs.old.certificate outputs.new.certificate) (Ok tt)) }
     ensures within { IfOk result (λ _. OfSearched Least task.now.mine (fixed_of task.now.fixed.lists) (EndsWithin mode.now)) }
     ensures refused { IfErr result (λ e. RefusesPit mode.now Least (task_of task.now) e.refusal e (chosen J.progress outputs.old.journal outputs.new.journal) (chosen C.progress outputs.old.certificate outputs.new.certificate)) }
     ensures no_pit { outputs.new.out ≡ outputs.old.out }
 {
-    if outputs.journal.is_none() && outputs.certificate.is_none() {
-        return find_fixed_pit(rt, alloc, &task.mine, &task.fixed, mode, &OpenGate);
-    }
     match solve_journaled(rt, alloc, task, mode, &mut outputs.journal)? {
         Outcome::Exhausted(count) => Err(Fault::exhausted(count)),
         Outcome::Pit(shown) => {
             put_certificate(&mut outputs.certificate, task, &shown)?;
             task.mine.law();
-            Ok(shown.pit)
+            let worth = task.mine.worth(&shown.pit);
+            Ok(FoundPit {
+                blocks: shown.pit,
+                worth,
+            })
         }
     }
 }
 
-/// The greatest pit of a mine. A used-up budget is refused (20).
-fn greatest_pit<R: Threads + Wait + Sync>(
-    rt: &R,
-    alloc: Global,
-    task: &Task,
-    mode: &Mode,
-) -> Result<Vec<u32>, Fault>
-    requires { IsFixedOf (graph_of_mine task.now.mine) task.now.fixed }
-    ensures shown { IfOk result (λ pit. ListsPit Greatest task.now.mine (fixed_of task.now.fixed.lists) pit.items) }
-    ensures within { IfOk result (λ _. OfSearched Greatest task.now.mine (fixed_of task.now.fixed.lists) (EndsWithin mode.now)) }
-    ensures refused { IfErr result (λ e. RefusesSearch mode.now Greatest task.now.mine (fixed_of task.now.fixed.lists) e.refusal e) }
-{
-    match solve_greatest(rt, alloc, &task.mine, &task.fixed, mode, &OpenGate)? {
-        PitOutcome::Pit(pit) => Ok(pit),
-        PitOutcome::Exhausted(count) => Err(Fault::exhausted(count)),
-    }
-}
-
-/// The pit that is asked for. For the greatest there is no writer of a journal or of a certificate.
+/// The pit that is asked for. Where neither a journal nor a certificate is wanted, the mine's graph is given up while the rest is
+/// solved; for the greatest pit neither is.
 fn solve_mine<J: OutBytes, C: OutBytes, W: OutBytes, R: Threads + Wait + Sync>(
     rt: &R,
     alloc: Global,
-    task: &Task,
+    task: Task,
     asked: &Asked,
     outputs: &mut SolveOutputs<J, C, W>,
-) -> Result<Vec<u32>, Fault>
+) -> Result<FoundPit, Fault>
     requires may { MayWrite J.progress C.progress asked.now outputs.old }
-    requires fixed { IsFixedOf (graph_of_mine task.now.mine) task.now.fixed }
-    ensures shown { IfOk result (λ pit. ListsPit asked.now.pit task.now.mine (fixed_of task.now.fixed.lists) pit.items) }
-    ensures journaled { IfOk result (λ _. PutsJournal IsSettled asked.now.mode (task_of task.now) (chosen J.progress outputs.old.journal outputs.new.journal) (Ok tt)) }
-    ensures certified { IfOk result (λ _. PutsCertificate (task_of task.now) (chosen C.progress outputs.old.certificate outputs.new.certificate) (Ok tt)) }
-    ensures within { IfOk result (λ _. OfSearched asked.now.pit task.now.mine (fixed_of task.now.fixed.lists) (EndsWithin asked.now.mode)) }
-    ensures refused { IfErr result (λ e. RefusesPit asked.now.mode asked.now.pit (task_of task.now) e.refusal e (chosen J.progress outputs.old.journal outputs.new.journal) (chosen C.progress outputs.old.certificate outputs.new.certificate)) }
+    requires fixed { IsFixedOf (graph_of_mine task.mine) task.fixed }
+    ensures found { IfOk result (IsFound asked.now.pit task.mine (fixed_of task.fixed.lists)) }
+    ensures journaled { IfOk result (λ _. PutsJournal IsSettled asked.now.mode (task_of task) (chosen J.progress outputs.old.journal outputs.new.journal) (Ok tt)) }
+    ensures certified { IfOk result (λ _. PutsCertificate (task_of task) (chosen C.progress outputs.old.certificate outputs.new.certificate) (Ok tt)) }
+    ensures within { IfOk result (λ _. OfSearched asked.now.pit task.mine (fixed_of task.fixed.lists) (EndsWithin asked.now.mode)) }
+    ensures refused { IfErr result (λ e. RefusesPit asked.now.mode asked.now.pit (task_of task) e.refusal e (chosen J.progress outputs.old.journal outputs.new.journal) (chosen C.progress outputs.old.certificate outputs.new.certificate)) }
     ensures no_pit { outputs.new.out ≡ outputs.old.out }
 {
-    match asked.pit {
-        Direction::Least => least_pit(rt, alloc, task, &asked.mode, outputs),
-        Direction::Greatest => greatest_pit(rt, alloc, task, &asked.mode),
+    if outputs.journal.is_none() && outputs.certificate.is_none() {
+        let search = Search {
+            mode: &asked.mode,
+            direction: asked.pit,
+            gate: &OpenGate,
+        };
+        let Task { mine, fixed } = task;
+        return find_fixed_pit(rt, alloc, mine, &fixed, &search);
     }
-}
-
-/// Writes the text of a pit, whichever it is.
-pub(crate) fn put_pit<W: OutBytes>(out: &mut W, task: &Task, pit: &[u32]) -> Result<(), Fault>
-    requires countable { (W.progress out.old).failures < 2 ^ 63 }
-    requires listed { (set : ℕ → Bool) × (pit.now ≡ members task.now.mine.blocks set) }
-    ensures written { (direction : AnyDirection) → ListsPit direction task.now.mine (fixed_of task.now.fixed.lists) pit.now → WritesPit direction (task_of task.now) (W.progress out.old) (W.progress out.new) result }
-    ensures refused { IfErr result (λ e. e ≡ write_failed) }
-{
-    task.mine.law();
-    let worth = task.mine.worth(pit);
-    write_pit(out, task.mine.graph().n(), pit, worth)
+    recorded_pit(rt, alloc, &task, &asked.mode, outputs)
 }
 
 /// Reads a model, then a precedence file, then the file of fixed blocks, where there is one, and writes the text of the pit,
@@ -254,7 +227,8 @@ pub fn run_solve<
         (W.progress outputs.old.out) (W.progress outputs.new.out)) }
 {
     let task = read_mine(alloc, files)?;
-    let pit = solve_mine(rt, alloc, &task, &asked, outputs)?;
-    put_pit(&mut outputs.out, &task, &pit)?;
+    let n = task.mine.graph().n();
+    let pit = solve_mine(rt, alloc, task, &asked, outputs)?;
+    write_pit(&mut outputs.out, n, &pit.blocks, pit.worth)?;
     Ok(Status::Done)
 }

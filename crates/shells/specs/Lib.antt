@@ -1,4 +1,5 @@
 pub mod FactorList
+pub mod FactorLimits
 pub mod Prices
 pub mod Grown
 pub mod Outermost

@@ -5,11 +5,13 @@ mod columns;
 mod factors;
 mod growing;
 mod items;
+mod laws;
 mod nesting;
 mod outermost;
 mod plan;
 
 pub use columns::Columns;
 pub use factors::Factors;
+pub use laws::limits_of_factors;
 pub use nesting::shells;
 pub use pit_model::{Direction, Shell, ShellList};

@@ -1,19 +1,20 @@
 -- What is found on the instance that is searched, by the numbers of the whole mine.
-use Rattle.std.proofs.Common.{◌≡◌, ℕ, ◌<◌, ◌||◌, arith, Bool, true, false, not, refl, sym, ap, subst, ◌∙◌, List, [], ◌∷◌, Option, Some, None, get_or, length}
+use Rattle.std.proofs.Common.{◌≡◌, ℕ, ◌<◌, ◌||◌, ◌≤◌, Bool, true, not, refl, sym, ap, subst, ◌∙◌, List, [], ◌∷◌, get_or, length}
 use Rattle.std.specs.Prelude.{IsTrue, pos}
+use Rattle.std.specs.List.{All}
 use Rattle.std.proofs.lemmas.Bool.{eq-eqb, or_left, or_right}
-use Rattle.faults.specs.Refused.{exhausted}
 use Rattle.faults.specs.declared.fault.Fault.{Fault}
 use Rattle.faults.specs.declared.refusal.Refusal.{Refusal}
 use Rattle.faults.specs.declared.refusal.Refusal.TheVariants as refusals
+use Rattle.pit_model.specs.declared.direction.Direction.{Direction}
 use Rattle.pit_model.specs.declared.direction.Direction.TheVariants.{Least, Greatest}
 use Rattle.pit_model.specs.declared.journal.Entry.{Entry}
 use Rattle.pit_model.specs.Graph.{IsGraph}
-use Rattle.pit_model.specs.Mine.{Instance, members, IsPit}
+use Rattle.pit_model.specs.Mine.{Instance, members}
 use Rattle.pit_model.specs.Direction.{IsTurned, ListsPit, nothing, IsPitToward}
-use Rattle.pit_model.specs.Fixed.{Fixed, FixedLists, IsNothingFixed, IsRestOf, all_open, some_fixed, fixed_of, graph_of_mine, is_among, mine_among}
-use Rattle.pit_model.proofs.Fixed.{none_fixes_nothing, rest_gives_fixed_pit}
-use Rattle.pit_model.proofs.Members.{members_each}
+use Rattle.pit_model.specs.Fixed.{Fixed, FixedLists, IsNothingFixed, IsRestOf, all_open, some_fixed, fixed_of, graph_of_mine, is_among}
+use Rattle.pit_model.proofs.Fixed.{none_fixes_nothing}
+use Rattle.pit_model.proofs.Members.{members_below, members_each, members_few}
 use Rattle.pit_model.proofs.OneRest.{rest_is_one}
 use Rattle.pit_model.proofs.OpenCertificates.{none_fixed_certifies}
 use Rattle.pit_model.proofs.Turned.{complement_is_greatest, nothing_fixed, rest_gives_pit_toward}
@@ -27,7 +28,7 @@ use Rattle.merging.specs.declared.outcome.Outcome.{Outcome}
 use Rattle.merging.specs.declared.outcome.Outcome.TheVariants as outcomes
 use Rattle.solver.specs.declared.mode.Mode.{Mode}
 use Rattle.solver.specs.declared.mode.Mode.TheVariants.{Single, Parts, Shared}
-use Rattle.solver.specs.Modes.{EndsIn, EndsWithin, LacksRoom, RefusesSolve, RunsOut}
+use Rattle.solver.specs.Modes.{EndsIn, RefusesSolve, RunsOut}
 use Rattle.solver.specs.Searched.{EndsFixed, IsLifted, IsShown, OfSearched, RefusesSearch}
 
 -- ---- the rest
@@ -83,29 +84,21 @@ ends_plain mode mine fixed outcome journal of none ended =
     (mine, none_is_rest mine fixed.lists none, (outcome, ended, lifts_itself mine fixed outcome of none (shown_of mode mine outcome journal ended)))
 
 -- ---- pits
-pub plain_pit : (mine : Instance) (lists : FixedLists) (pit : List ℕ) → lists ≡ no_lists → ShowsPit mine pit → ListsPit Least mine (fixed_of lists) pit
-plain_pit mine lists pit none shown = record { set = shown.set; listed = shown.listed; is_pit = (none_fixes_nothing mine (fixed_of lists) shown.set (none_named lists none)).1 shown.is_pit }
+pub plain_pit : (direction : Direction) (mine : Instance) (lists : FixedLists) (pit : List ℕ) → lists ≡ no_lists → ListsPit direction mine nothing pit → ListsPit direction mine (fixed_of lists) pit
+plain_pit direction mine lists pit none shown = subst (λ (l : FixedLists). ListsPit direction mine (fixed_of l) pit) (sym none) shown
 
-pub joined_pit : (mine : Instance) (fixed : FixedBlocks) (rest : Rest) (found pit : List ℕ) → IsRestIn mine fixed rest → ShowsPit rest.mine found
-    → ((set : ℕ → Bool) → found ≡ members (length rest.blocks.items) set → ListsJoined mine.blocks fixed rest.blocks.items set pit) → ListsPit Least mine (fixed_of fixed.lists) pit
-joined_pit mine fixed rest found pit is shown joined =
+pub plain_search : (direction : Direction) (mine : Instance) (lists : FixedLists) (Holds : Instance → Type 0) → lists ≡ no_lists → OfSearched direction mine nothing Holds → OfSearched direction mine (fixed_of lists) Holds
+plain_search direction mine lists Holds none searched = subst (λ (l : FixedLists). OfSearched direction mine (fixed_of l) Holds) (sym none) searched
+
+pub joined_pit : (direction : Direction) (mine : Instance) (fixed : FixedBlocks) (rest : Rest) (found pit : List ℕ) → IsRestIn mine fixed rest → ListsPit direction rest.mine nothing found
+    → ((set : ℕ → Bool) → found ≡ members (length rest.blocks.items) set → ListsJoined mine.blocks fixed rest.blocks.items set pit) → ListsPit direction mine (fixed_of fixed.lists) pit
+joined_pit direction mine fixed rest found pit is shown joined =
     let list = joined shown.set (shown.listed ∙ ap (λ n. members n shown.set) is.is_rest.is_part.count) in
-    let here = subst (λ (m : Instance). IsPit m shown.set) is.mine_is shown.is_pit in
+    let here = subst (λ (m : Instance). IsPitToward direction m nothing shown.set) is.mine_is shown.is_pit in
     record {
       set = list.after;
       listed = list.listed;
-      is_pit = rest_gives_fixed_pit mine (fixed_of fixed.lists) (dug_in fixed) (left_in fixed) rest.blocks.items (graph_of_mine rest.mine) shown.set list.after is.is_rest here list.joined;
-    }
-
-pub joined_greatest : (mine : Instance) (fixed : FixedBlocks) (rest : Rest) (found pit : List ℕ) → IsRestIn mine fixed rest → ListsPit Greatest rest.mine nothing found
-    → ((set : ℕ → Bool) → found ≡ members (length rest.blocks.items) set → ListsJoined mine.blocks fixed rest.blocks.items set pit) → ListsPit Greatest mine (fixed_of fixed.lists) pit
-joined_greatest mine fixed rest found pit is shown joined =
-    let list = joined shown.set (shown.listed ∙ ap (λ n. members n shown.set) is.is_rest.is_part.count) in
-    let here = subst (λ (m : Instance). IsPitToward Greatest m nothing shown.set) is.mine_is shown.is_pit in
-    record {
-      set = list.after;
-      listed = list.listed;
-      is_pit = rest_gives_pit_toward Greatest mine (fixed_of fixed.lists) (dug_in fixed) (left_in fixed) rest.blocks.items (graph_of_mine rest.mine) shown.set list.after is.is_rest here list.joined;
+      is_pit = rest_gives_pit_toward direction mine (fixed_of fixed.lists) (dug_in fixed) (left_in fixed) rest.blocks.items (graph_of_mine rest.mine) shown.set list.after is.is_rest here list.joined;
     }
 
 -- the blocks outside the pit of the mine turned round
@@ -129,38 +122,46 @@ pub least_refused : (mode : Mode) (mine : Instance) (r : Refusal) (e : Fault) �
 least_refused mode mine (refusals.Exhausted count) e h = (h.0, mine_is_searched mine (λ searched. RunsOut mode searched count) h.1)
 least_refused mode mine _ e h = h
 
-pub plain_refused : (mode : Mode) (mine : Instance) (lists : FixedLists) (r : Refusal) (e : Fault) → lists ≡ no_lists → RefusesSolve mode mine r e → RefusesSearch mode Least mine (fixed_of lists) r e
-plain_refused mode mine lists (refusals.Exhausted count) e none h = (h.0, (mine, none_is_rest mine lists none, h.1))
-plain_refused mode mine lists _ e none h = h
-
-pub rest_refused : (mode : Mode) (mine : Instance) (fixed : Fixed) (rest : Instance) (r : Refusal) (e : Fault) → IsRestOf mine fixed rest → RefusesSolve mode rest r e → RefusesSearch mode Least mine fixed r e
-rest_refused mode mine fixed rest (refusals.Exhausted count) e is h = (h.0, (rest, is, h.1))
-rest_refused mode mine fixed rest _ e is h = h
+pub plain_refused : (mode : Mode) (direction : Direction) (mine : Instance) (lists : FixedLists) (r : Refusal) (e : Fault) → lists ≡ no_lists → RefusesSearch mode direction mine nothing r e → RefusesSearch mode direction mine (fixed_of lists) r e
+plain_refused mode direction mine lists r e none h = subst (λ (l : FixedLists). RefusesSearch mode direction mine (fixed_of l) r e) (sym none) h
 
 -- what is searched of the rest is searched of the mine
-pub searched_of_rest : (mine : Instance) (fixed : Fixed) (rest : Instance) (Holds : Instance → Type 0) → IsRestOf mine fixed rest → OfSearched Greatest rest nothing Holds → OfSearched Greatest mine fixed Holds
-searched_of_rest mine fixed rest Holds is s =
+pub searched_of_rest : (direction : Direction) (mine : Instance) (fixed : Fixed) (rest : Instance) (Holds : Instance → Type 0) → IsRestOf mine fixed rest → OfSearched direction rest nothing Holds → OfSearched direction mine fixed Holds
+searched_of_rest Least mine fixed rest Holds is s =
+    let same = rest_is_one rest nothing rest s.0 (all_open nothing_fixed refl) s.1 in
+    (s.0, subst (λ m. IsRestOf mine fixed m) same is, s.2)
+searched_of_rest Greatest mine fixed rest Holds is s =
     let inner = s.1 in
     let same = rest_is_one rest nothing rest inner.0 (all_open nothing_fixed refl) inner.1 in
     (s.0, (inner.0, subst (λ m. IsRestOf mine fixed m) same is, inner.2, inner.3), s.2)
 
-pub greatest_refused : (mode : Mode) (mine : Instance) (fixed : Fixed) (rest : Instance) (r : Refusal) (e : Fault) → IsRestOf mine fixed rest → RefusesSearch mode Greatest rest nothing r e → RefusesSearch mode Greatest mine fixed r e
-greatest_refused mode mine fixed rest (refusals.Exhausted count) e is h = (h.0, searched_of_rest mine fixed rest (λ searched. RunsOut mode searched count) is h.1)
-greatest_refused mode mine fixed rest _ e is h = h
+pub rest_refused : (mode : Mode) (direction : Direction) (mine : Instance) (fixed : Fixed) (rest : Instance) (r : Refusal) (e : Fault) → IsRestOf mine fixed rest → RefusesSearch mode direction rest nothing r e → RefusesSearch mode direction mine fixed r e
+rest_refused mode direction mine fixed rest (refusals.Exhausted count) e is h = (h.0, searched_of_rest direction mine fixed rest (λ searched. RunsOut mode searched count) is h.1)
+rest_refused mode direction mine fixed rest _ e is h = h
+
+-- the blocks of a set lie below its bound
+pub inside_listed : (n : ℕ) (found : List ℕ) (set : ℕ → Bool) → found ≡ members n set → (i : ℕ) → i < length found → get_or found i 0 < n
+inside_listed n found set listed i l =
+    let each = (members_each n set i (subst (λ (xs : List ℕ). i < length xs) listed l)).0 in
+    subst (λ v. v < n) (sym (ap (λ (xs : List ℕ). get_or xs i 0) listed)) each
+
+-- and so the values of each of them can be summed
+pub listed_few : (n : ℕ) (pit : List ℕ) (set : ℕ → Bool) → pit ≡ members n set → length pit ≤ n
+listed_few n pit set listed = subst (λ xs. length xs ≤ n) (sym listed) (members_few n set)
+
+pub listed_below : (n : ℕ) (pit : List ℕ) (set : ℕ → Bool) → pit ≡ members n set → All (λ u. u < n) pit
+listed_below n pit set listed = subst (λ xs. All (λ u. u < n) xs) (sym listed) (members_below n set)
 
 -- what was found of the rest lies in it
 pub found_inside : (mine : Instance) (fixed : FixedBlocks) (rest : Rest) (found : List ℕ) (set : ℕ → Bool) → IsRestIn mine fixed rest → found ≡ members rest.mine.blocks set
     → (i : ℕ) → i < length found → get_or found i 0 < length rest.blocks.items
-found_inside mine fixed rest found set is listed i l =
-    let each = (members_each rest.mine.blocks set i (subst (λ (xs : List ℕ). i < length xs) listed l)).0 in
-    let same : get_or found i 0 ≡ get_or (members rest.mine.blocks set) i 0 = ap (λ (xs : List ℕ). get_or xs i 0) listed in
-    let count = is.is_rest.is_part.count in
-    omega arith
+found_inside mine fixed rest found set is listed =
+    inside_listed (length rest.blocks.items) found set (listed ∙ ap (λ n. members n set) is.is_rest.is_part.count)
 
--- what was found of the mine turned round lies in it
-pub turned_inside : (mine other : Instance) (found : List ℕ) (set : ℕ → Bool) → IsTurned mine other → found ≡ members other.blocks set → (i : ℕ) → i < length found → get_or found i 0 < mine.blocks
-turned_inside mine other found set is listed i l =
-    let each = (members_each other.blocks set i (subst (λ (xs : List ℕ). i < length xs) listed l)).0 in
-    let same : get_or found i 0 ≡ get_or (members other.blocks set) i 0 = ap (λ (xs : List ℕ). get_or xs i 0) listed in
-    let count = is.reversed.same_blocks in
-    omega arith
+-- a search of the mine turned round is one for the greatest pit
+pub turned_search : (mine other : Instance) (Holds : Instance → Type 0) → IsTurned mine other → IsGraph other.blocks other.pairs → Holds other → OfSearched Greatest mine nothing Holds
+turned_search mine other Holds is graph h = (other, (mine, all_open nothing_fixed refl, is, graph), h)
+
+pub turned_refused : (mode : Mode) (mine other : Instance) (r : Refusal) (e : Fault) → IsTurned mine other → IsGraph other.blocks other.pairs → RefusesSolve mode other r e → RefusesSearch mode Greatest mine nothing r e
+turned_refused mode mine other (refusals.Exhausted count) e is graph h = (h.0, turned_search mine other (λ searched. RunsOut mode searched count) is graph h.1)
+turned_refused mode mine other _ e is graph h = h

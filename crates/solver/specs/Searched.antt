@@ -1,5 +1,5 @@
 -- Solves of a mine with fixed blocks, and for the greatest pit: each is a solve of another instance, which is searched.
-use Rattle.std.specs.Prelude.{◌≡◌, ℕ, List}
+use Rattle.std.specs.Prelude.{◌≡◌, ℕ, Bool, List}
 use Rattle.faults.specs.Refused.{exhausted}
 use Rattle.faults.specs.declared.fault.Fault.{Fault}
 use Rattle.faults.specs.declared.refusal.Refusal.{Refusal}
@@ -7,7 +7,7 @@ use Rattle.faults.specs.declared.refusal.Refusal.TheVariants as refusals
 use Rattle.pit_model.specs.declared.direction.Direction.{Direction}
 use Rattle.pit_model.specs.declared.direction.Direction.TheVariants.{Least, Greatest}
 use Rattle.pit_model.specs.declared.journal.Entry.{Entry}
-use Rattle.pit_model.specs.Mine.{Instance}
+use Rattle.pit_model.specs.Mine.{Instance, members, worth}
 use Rattle.pit_model.specs.Fixed.{Fixed}
 use Rattle.pit_model.specs.Direction.{IsSearched, ListsPit}
 use Rattle.certificate.specs.Certificate.{IsCertificateOf, IsFixedCertificateOf}
@@ -16,6 +16,7 @@ use Rattle.merging.specs.declared.outcome.Outcome.TheVariants as outcomes
 use Rattle.solver.specs.declared.greatest.PitOutcome.{PitOutcome}
 use Rattle.solver.specs.declared.greatest.PitOutcome.TheVariants.{Pit, Exhausted}
 use Rattle.solver.specs.declared.mode.Mode.{Mode}
+use Rattle.solver.specs.declared.search.FoundPit.{FoundPit}
 use Rattle.solver.specs.Modes.{EndsIn, EndsWithin, LacksRoom, RunsOut}
 
 -- this holds of the instance that is searched
@@ -37,6 +38,11 @@ IsLifted mine fixed found outcome = ⊥
 abbrev pub EndsFixed : Mode → Instance → Fixed → Outcome → List Entry → Type 0
 EndsFixed mode mine fixed outcome journal =
     OfSearched Least mine fixed (λ rest. (found : Outcome) × EndsIn mode rest found journal × IsLifted mine fixed found outcome)
+
+-- the pit toward a direction, with its worth
+pub record IsFound (direction : Direction) (mine : Instance) (fixed : Fixed) (found : FoundPit) : Type 0 where
+  pub listed : ListsPit direction mine fixed found.blocks.items
+  pub worth_is : (set : ℕ → Bool) → found.blocks.items ≡ members mine.blocks set → found.worth ≡ worth mine set
 
 -- how a solve for the greatest pit ends
 abbrev pub EndsGreatest : Mode → Instance → Fixed → PitOutcome → Type 0

@@ -5,17 +5,18 @@ ghost use Rattle.faults.specs.Refused.{no_memory};
 ghost use Rattle.pit_model.specs.declared.direction.Direction.TheVariants.{Greatest};
 ghost use Rattle.pit_model.specs.Direction.{IsTurned, ListsPit, nothing};
 ghost use Rattle.pit_model.specs.Fixed.{fixed_of, graph_of_mine};
-ghost use Rattle.pit_model.specs.Mine.{members, value};
-ghost use Rattle.mine_graph.specs.FixedBlocks.{IsFixedOf, no_lists};
+ghost use Rattle.pit_model.specs.Mine.{Instance as AnyInstance, members, value};
+ghost use Rattle.mine_graph.specs.FixedBlocks.{IsFixedOf};
 ghost use Rattle.certificate.specs.Check.{has};
-ghost use Rattle.solver.specs.Modes.{EndsWithin, LacksRoom};
+ghost use Rattle.solver.specs.Modes.{EndsWithin, LacksRoom, RefusesSolve};
 ghost use Rattle.solver.specs.Searched.{EndsGreatest, OfSearched, RefusesSearch};
 
 use crate::by_mode::find_pit;
+use crate::given_up::find_fixed_pit;
 use crate::mode::Mode;
+use crate::search::Search;
 use crew::Gate;
 use faults::{Fault, Refusal};
-use merging::Rest;
 use mine_graph::{Fixed, Graph, Instance};
 use pit_model::Direction;
 use std::alloc::{AllocError, Global};
@@ -42,7 +43,7 @@ fn negated(alloc: Global, mine: &Instance) -> Result<Vec<i128>, AllocError>
 }
 
 /// The instance turned round: each pair, and the sign of each value.
-fn turned(alloc: Global, mine: &Instance) -> Result<Instance, Fault>
+pub(crate) fn turned(alloc: Global, mine: &Instance) -> Result<Instance, Fault>
     ensures turned { IfOk result (IsTurned mine.now) }
     ensures refused { IfErr result (λ e. e ≡ no_memory) }
 {
@@ -75,6 +76,22 @@ fn outside(alloc: Global, n: u32, found: &[u32]) -> Result<Vec<u32>, AllocError>
     unmarked(alloc, &inside)
 }
 
+/// The blocks outside the pit of an instance: the greatest pit of the one that it was made of by turning it round.
+pub(crate) fn blocks_outside<G: Gate + Sync, R: Threads + Wait + Sync>(
+    rt: &R,
+    alloc: Global,
+    other: &Instance,
+    mode: &Mode,
+    gate: &G,
+) -> Result<Vec<u32>, Fault>
+    ensures shown { IfOk result (λ pit. (mine : AnyInstance) → IsTurned mine other.now → ListsPit Greatest mine nothing pit.items) }
+    ensures within { IfOk result (λ _. EndsWithin mode.now other.now) }
+    ensures refused { IfErr result (λ e. RefusesSolve mode.now other.now e.refusal e) }
+{
+    let found = find_pit(rt, alloc, other, mode, gate)?;
+    Ok(outside(alloc, other.graph().n(), &found)?)
+}
+
 /// The greatest pit of an instance without fixed blocks.
 fn greatest_of<G: Gate + Sync, R: Threads + Wait + Sync>(
     rt: &R,
@@ -87,11 +104,9 @@ fn greatest_of<G: Gate + Sync, R: Threads + Wait + Sync>(
     ensures within { IfOk result (λ _. OfSearched Greatest instance.now nothing (EndsWithin mode.now)) }
     ensures refused { IfErr result (λ e. RefusesSearch mode.now Greatest instance.now nothing e.refusal e) }
 {
-    instance.law();
     let other = turned(alloc, instance)?;
     other.law();
-    let found = find_pit(rt, alloc, &other, mode, gate)?;
-    Ok(outside(alloc, instance.graph().n(), &found)?)
+    blocks_outside(rt, alloc, &other, mode, gate)
 }
 
 /// The pit of an instance toward a direction, rising, with no block fixed. Refused as `find_pit` is; where the greatest pit is
@@ -114,28 +129,8 @@ pub fn find_pit_toward<G: Gate + Sync, R: Threads + Wait + Sync>(
     }
 }
 
-/// The greatest pit of a mine with fixed blocks, by that of its rest.
-fn greatest_on_rest<G: Gate + Sync, R: Threads + Wait + Sync>(
-    rt: &R,
-    alloc: Global,
-    instance: &Instance,
-    fixed: &Fixed,
-    mode: &Mode,
-    gate: &G,
-) -> Result<Vec<u32>, Fault>
-    requires fixed { IsFixedOf (graph_of_mine instance.now) fixed.now }
-    requires some { fixed.now.lists ≡ no_lists → ⊥ }
-    ensures shown { IfOk result (λ pit. ListsPit Greatest instance.now (fixed_of fixed.now.lists) pit.items) }
-    ensures within { IfOk result (λ _. OfSearched Greatest instance.now (fixed_of fixed.now.lists) (EndsWithin mode.now)) }
-    ensures refused { IfErr result (λ e. RefusesSearch mode.now Greatest instance.now (fixed_of fixed.now.lists) e.refusal e) }
-{
-    let rest = Rest::of(alloc, instance, fixed)?;
-    let found = greatest_of(rt, alloc, &rest.mine, mode, gate)?;
-    rest.joined(alloc, instance, fixed, &found)
-}
-
 /// The greatest pit of a mine with fixed blocks: of the closed sets that hold each block forced in and none that is barred, the
-/// largest of greatest worth. A budget counts the mergers of the instance turned round.
+/// largest of greatest worth. A budget counts the mergers of the instance turned round. The graph is shared with the caller.
 ///
 /// Refused for want of memory (1), and in mode shared where a worker could not be started (22).
 pub fn solve_greatest<G: Gate + Sync, R: Threads + Wait + Sync>(
@@ -150,13 +145,14 @@ pub fn solve_greatest<G: Gate + Sync, R: Threads + Wait + Sync>(
     ensures ended { IfOk result (EndsGreatest mode.now instance.now (fixed_of fixed.now.lists)) }
     ensures refused { IfErr result (λ e. LacksRoom mode.now e.refusal e) }
 {
-    let found = if fixed.is_none() {
-        greatest_of(rt, alloc, instance, mode, gate)
-    } else {
-        greatest_on_rest(rt, alloc, instance, fixed, mode, gate)
+    let mine = instance.share(alloc)?;
+    let search = Search {
+        mode,
+        direction: Direction::Greatest,
+        gate,
     };
-    match found {
-        Ok(pit) => Ok(PitOutcome::Pit(pit)),
+    match find_fixed_pit(rt, alloc, mine, fixed, &search) {
+        Ok(pit) => Ok(PitOutcome::Pit(pit.blocks)),
         Err(fault) => match fault.refusal {
             Refusal::Exhausted(count) => Ok(PitOutcome::Exhausted(count)),
             _ => Err(fault),

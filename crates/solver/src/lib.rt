@@ -2,13 +2,17 @@
 #![tactic(auto)]
 
 mod by_mode;
+mod given_up;
 mod greatest;
 mod mode;
+mod search;
 mod with_fixed;
 
 pub use by_mode::{find_certificate, find_pit, solve};
 pub use crew::{Entry, Gate, OpenGate, Verdict, solve_shared};
+pub use given_up::find_fixed_pit;
 pub use greatest::{PitOutcome, find_pit_toward, solve_greatest};
 pub use merging::{Outcome, solve_parts, solve_single};
 pub use mode::Mode;
-pub use with_fixed::{find_fixed_pit, solve_fixed};
+pub use search::{FoundPit, Search};
+pub use with_fixed::solve_fixed;

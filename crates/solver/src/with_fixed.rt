@@ -2,15 +2,13 @@
 //! instance, and its pit joined with what must be dug. Where nothing is fixed, no graph is copied.
 ghost use Rattle.std.specs.Prelude.{◌≡◌, IfOk, IfErr};
 ghost use Rattle.faults.specs.Refused.{no_memory};
-ghost use Rattle.pit_model.specs.declared.direction.Direction.TheVariants.{Least};
-ghost use Rattle.pit_model.specs.Direction.{ListsPit};
 ghost use Rattle.pit_model.specs.Fixed.{fixed_of, graph_of_mine};
 ghost use Rattle.mine_graph.specs.FixedBlocks.{IsFixedOf};
 ghost use Rattle.merging.specs.Rest.{IsRestIn};
-ghost use Rattle.solver.specs.Modes.{EndsIn, EndsWithin, LacksRoom};
-ghost use Rattle.solver.specs.Searched.{EndsFixed, IsLifted, IsShown, OfSearched, RefusesSearch};
+ghost use Rattle.solver.specs.Modes.{EndsIn, LacksRoom};
+ghost use Rattle.solver.specs.Searched.{EndsFixed, IsLifted, IsShown};
 
-use crate::by_mode::{find_pit, solve};
+use crate::by_mode::solve;
 use crate::mode::Mode;
 use crew::{Entry, Gate};
 use faults::Fault;
@@ -68,27 +66,4 @@ pub fn solve_fixed<G: Gate + Sync, R: Threads + Wait + Sync>(
     let (found, entries) = solve(rt, alloc, &rest.mine, mode, gate)?;
     let outcome = lift(alloc, instance, fixed, &rest, &found)?;
     Ok((outcome, entries))
-}
-
-/// The pit of a mine with fixed blocks, rising: of the closed sets that hold each block forced in and none that is barred, the
-/// smallest of greatest worth. Refused as `solve_fixed` is, and where the budget is used up with a merger arc left (20).
-pub fn find_fixed_pit<G: Gate + Sync, R: Threads + Wait + Sync>(
-    rt: &R,
-    alloc: Global,
-    instance: &Instance,
-    fixed: &Fixed,
-    mode: &Mode,
-    gate: &G,
-) -> Result<Vec<u32>, Fault>
-    requires { IsFixedOf (graph_of_mine instance.now) fixed.now }
-    ensures shown { IfOk result (λ pit. ListsPit Least instance.now (fixed_of fixed.now.lists) pit.items) }
-    ensures within { IfOk result (λ _. OfSearched Least instance.now (fixed_of fixed.now.lists) (EndsWithin mode.now)) }
-    ensures refused { IfErr result (λ e. RefusesSearch mode.now Least instance.now (fixed_of fixed.now.lists) e.refusal e) }
-{
-    if fixed.is_none() {
-        return find_pit(rt, alloc, instance, mode, gate);
-    }
-    let rest = Rest::of(alloc, instance, fixed)?;
-    let found = find_pit(rt, alloc, &rest.mine, mode, gate)?;
-    rest.joined(alloc, instance, fixed, &found)
 }

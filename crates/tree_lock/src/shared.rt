@@ -75,6 +75,12 @@ impl<S: Site> SharedTree<S> {
         served
     }
 
+    /// Takes the lock, for one who serves the board more than once before the guard is let go. Of the holder nothing is known
+    /// then but its law.
+    pub fn lock<R: Wait>(&self, rt: &R) -> MutexGuard<'_, Holder<S>> {
+        self.lock.lock(rt)
+    }
+
     /// Takes the lock and tells the seat of all mergers that were made by then: all that it saw or was told of before was a
     /// beginning of these. True where nothing is left to be published, which is always.
     pub fn tell<R: Wait>(&self, rt: &R, seat: &mut LookSeat<S>) -> bool

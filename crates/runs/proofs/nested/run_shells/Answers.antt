@@ -36,7 +36,7 @@ returns-in_err-write_shells-clause-refused g c =
     let prec = reading (g.P.InBytes.progress c.args.prec.now) (g.P.InBytes.progress c.read_deposit.new.prec) (g.P.InBytes.IsAtEnd c.read_deposit.new.prec) in
     let deposit = c.in_ok-deposit.deposit in
     rw (p.1, p.2) (shells_cut c.args.asked.pit blocks prec c.args.revenue c.args.cost deposit.columns deposit.graph.value c.in_ok-deposit.ensures.deposit c.args.asked.mode c.args.factors.now c.in_ok-list.list.shells.items c.in_ok-list.list.n
-    (g.W.OutBytes.progress c.args.out.now) (g.W.OutBytes.progress c.write_shells.new.writer) e c.in_ok-list.ensures.blocks c.in_ok-list.ensures.shells c.in_err-write_shells.ensures.refused c.in_err-write_shells.ensures.text)
+    (g.W.OutBytes.progress c.args.out.now) (g.W.OutBytes.progress c.write_shells.new.writer) e c.in_ok-list.ensures.blocks c.in_ok-list.ensures.shells c.in_ok-list.ensures.within c.in_err-write_shells.ensures.refused c.in_err-write_shells.ensures.text)
 
 pub returns-clause-done : goal.returns-clause-done
 returns-clause-done g c =

@@ -1,10 +1,13 @@
 -- Where nothing is fixed, the replay is one of the mine; else one of the rest, whose pit is joined with what must be dug.
-use Rattle.std.proofs.Common.{◌≡◌, ◌<◌, ◌∙◌, ℕ, Bool, List, get_or, length, subst, sym}
+use Rattle.std.proofs.Common.{◌≡◌, ◌<◌, ◌∙◌, ℕ, List, ap, get_or, length, subst, sym}
 use Rattle.std.proofs.lemmas.Bool.{true≢false}
 use Rattle.std.proofs.lemmas.Result.{err_from_is_err_and}
+use Rattle.pit_model.specs.Graph.{Graph}
 use Rattle.pit_model.specs.Mine.{members}
+use Rattle.certificate.specs.Check.{open_in}
 use Rattle.mine_graph.specs.FixedBlocks.{no_lists}
 use Rattle.merging.specs.Rest.{ListsJoined}
+use Rattle.merging.proofs.Resting.{none_both}
 use Rattle.solver.proofs.Searching.{found_inside, is_rest_of}
 use Rattle.runs.specs.Replay.{IsReplayedOn}
 use Rattle.runs.specs.Solve.{reading, task_of}
@@ -32,25 +35,36 @@ returns-in_err-end-clause-refused g c =
     let some : fixed.lists ≡ no_lists → ⊥ = λ none. true≢false (sym (c.is_none.ensures.1 none) ∙ c.if-is_none.false) in
     rw (p.1, p.2) (rest_refused e.refusal e task rest.mine journal (is_rest_of task.mine fixed rest some c.in_ok-rest.ensures.rest) c.in_err-end.ensures.refused)
 
-pub joined-requires-clause-found : goal.joined-requires-clause-found
-joined-requires-clause-found g c =
+pub join_pit-requires-clause-blocks : goal.join_pit-requires-clause-blocks
+join_pit-requires-clause-blocks g c =
+    let count : c.n-n.result ≡ c.args.task.now.mine.blocks = c.n-n.ensures ∙ ap (λ (g : Graph). g.blocks) c.deref.ensures ∙ c.graph.ensures.blocks in
+    c.deref-in-Pit.ensures.value ∙ c.in_ok-rest.ensures.rest.is_rest.is_part.blocks_are ∙ ap (λ n. members n (open_in c.args.task.now.fixed)) (sym count)
+
+pub join_pit-requires-clause-apart : goal.join_pit-requires-clause-apart
+join_pit-requires-clause-apart g c = none_both c.args.task.now.mine c.args.task.now.fixed c.requires.fixed
+
+pub join_pit-requires-clause-found : goal.join_pit-requires-clause-found
+join_pit-requires-clause-found g c =
     let rest = c.in_ok-rest.rest in
     let journal = reading (g.J.InBytes.progress c.args.journal.now) (g.J.InBytes.progress c.replay_on-2.new.journal) (g.J.InBytes.IsAtEnd c.replay_on-2.new.journal) in
     let shown = (subst (IsReplayedOn rest.mine journal) c.in-Pit.is c.in_ok-end.ensures.replayed).ends.1 in
-    subst (λ (xs : List ℕ). (i : ℕ) → i < length xs → get_or xs i 0 < length rest.blocks.items) (sym c.deref.ensures.value)
-    (found_inside c.args.task.now.mine c.args.task.now.fixed rest c.in-Pit.found.items shown.set c.in_ok-rest.ensures.rest shown.listed)
+    subst (λ (ys : List ℕ). (i : ℕ) → i < length c.deref-in-Pit-2.result.now → get_or c.deref-in-Pit-2.result.now i 0 < length ys) (sym c.deref-in-Pit.ensures.value)
+    (subst (λ (xs : List ℕ). (i : ℕ) → i < length xs → get_or xs i 0 < length rest.blocks.items) (sym c.deref-in-Pit-2.ensures.value)
+    (found_inside c.args.task.now.mine c.args.task.now.fixed rest c.in-Pit.found.items shown.set c.in_ok-rest.ensures.rest shown.listed))
 
 pub returns-in-Pit-clause-replayed : goal.returns-in-Pit-clause-replayed
 returns-in-Pit-clause-replayed g c =
     let mine = c.args.task.now.mine in
     let fixed = c.args.task.now.fixed in
     let rest = c.in_ok-rest.rest in
-    let list = c.in_ok-joined-in-Pit.field-0 in
+    let list = c.in_ok-pit-in-Pit.pit in
+    let count : c.n-n.result ≡ mine.blocks = c.n-n.ensures ∙ ap (λ (g : Graph). g.blocks) c.deref.ensures ∙ c.graph.ensures.blocks in
     let journal = reading (g.J.InBytes.progress c.args.journal.now) (g.J.InBytes.progress c.replay_on-2.new.journal) (g.J.InBytes.IsAtEnd c.replay_on-2.new.journal) in
     let some : fixed.lists ≡ no_lists → ⊥ = λ none. true≢false (sym (c.is_none.ensures.1 none) ∙ c.if-is_none.false) in
     pit_replayed mine fixed rest journal c.in-Pit.found list some c.in_ok-rest.ensures.rest (subst (IsReplayedOn rest.mine journal) c.in-Pit.is c.in_ok-end.ensures.replayed)
-    (subst (λ (xs : List ℕ). (set : ℕ → Bool) → xs ≡ members (length rest.blocks.items) set → ListsJoined mine.blocks fixed rest.blocks.items set list.items)
-    c.deref.ensures.value c.in_ok-joined-in-Pit.ensures.joined)
+    (λ set listed. subst (λ n. ListsJoined n fixed rest.blocks.items set list.items) count
+    (subst (λ (xs : List ℕ). ListsJoined c.n-n.result fixed xs set list.items) c.deref-in-Pit.ensures.value
+    (c.in_ok-pit-in-Pit.ensures.joined set (c.deref-in-Pit-2.ensures.value ∙ listed ∙ ap (λ (xs : List ℕ). members (length xs) set) (sym c.deref-in-Pit.ensures.value)))))
 
 pub returns : goal.returns
 returns g c =

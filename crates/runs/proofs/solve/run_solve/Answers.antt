@@ -1,6 +1,11 @@
 -- Each exit: what the step said of its refusal is said of the run; and at the end the pit of the mine was written.
-use Rattle.std.proofs.Common.{refl, sym}
+use Rattle.std.proofs.Common.{rules, ◌≡◌, ◌∙◌, ap, refl, sym}
+use Rattle.std.specs.Int.{w128}
+use Rattle.std.proofs.lemmas.Int.{to_z-of_z}
 use Rattle.std.proofs.lemmas.Result.{err_from_is_err_and}
+use mir.Val.{SFits}
+use Rattle.pit_model.specs.Graph.{Graph}
+use Rattle.pit_model.specs.PitText.{pit_text}
 use Rattle.pit_model.specs.Replay.{IsSettled}
 use Rattle.runs.specs.Chosen.{chosen}
 use Rattle.runs.specs.Run.{in_pit}
@@ -8,7 +13,7 @@ use Rattle.runs.specs.Solve.{files_of, task_of}
 use Rattle.runs.proofs.Certifying.{certified}
 use Rattle.runs.proofs.Journaling.{journaled}
 use Rattle.runs.proofs.Refusing.{read_refused, pit_refused, write_refused}
-use Rattle.runs.proofs.Solving.{done, cut_short}
+use Rattle.runs.proofs.Solving.{done, cut_short, found_text}
 use Rattle.runs.proofs.solve.run_solve.Goals as goal
 
 pub returns-in_err-task-clause-refused : goal.returns-in_err-task-clause-refused
@@ -33,10 +38,10 @@ returns-in_err-pit-clause-refused g c =
     rw (p.1, p.2, c.solve_mine.ensures.no_pit)
     (pit_refused c.args.asked e.refusal e files (task_of c.in_ok-task.task) journal certificate (g.W.OutBytes.progress outputs.out) c.in_ok-task.ensures.mine c.in_err-pit.ensures.refused)
 
-pub returns-in_err-put_pit-clause-refused : goal.returns-in_err-put_pit-clause-refused
-returns-in_err-put_pit-clause-refused g c =
-    let p = err_from_is_err_and c.from_residual-in_err-put_pit.result c.from_residual-in_err-put_pit.ensures.1 in
-    let e = c.in_err-put_pit.field-0.0 in
+pub returns-in_err-write_pit-clause-refused : goal.returns-in_err-write_pit-clause-refused
+returns-in_err-write_pit-clause-refused g c =
+    let p = err_from_is_err_and c.from_residual-in_err-write_pit.result c.from_residual-in_err-write_pit.ensures.1 in
+    let e = c.in_err-write_pit.field-0.0 in
     let asked = c.args.asked in
     let files = files_of g.M.InBytes.progress g.M.InBytes.IsAtEnd g.P.InBytes.progress g.P.InBytes.IsAtEnd g.F.InBytes.progress g.F.InBytes.IsAtEnd c.args.files.now c.read_mine.new.files in
     let outputs = c.args.outputs.now in
@@ -44,19 +49,26 @@ returns-in_err-put_pit-clause-refused g c =
     let journal = chosen g.J.OutBytes.progress outputs.journal after.journal in
     let certificate = chosen g.C.OutBytes.progress outputs.certificate after.certificate in
     let old = g.W.OutBytes.progress after.out in
-    let new = g.W.OutBytes.progress c.put_pit.new.out in
+    let new = g.W.OutBytes.progress c.write_pit.new.writer in
     let task = task_of c.in_ok-task.task in
+    let found = c.in_ok-pit.pit in
     let holds = c.in_ok-task.ensures.mine in
-    let wrote = c.in_err-put_pit.ensures.written asked.pit (rw (c.deref.ensures.value) c.in_ok-pit.ensures.shown) in
-    rw (p.1, p.2, sym c.solve_mine.ensures.no_pit) (write_refused asked e files journal certificate old new c.in_err-put_pit.ensures.refused
-    (in_pit (journaled IsSettled asked.mode files task journal holds c.in_ok-pit.ensures.journaled)
+    let count : c.n-n.result ≡ task.mine.blocks = c.n-n.ensures ∙ ap (λ (g : Graph). g.blocks) c.deref.ensures ∙ c.graph.ensures.blocks in
+    let fits : SFits w128 found.worth = search rules in
+    rw (p.1, p.2, sym c.solve_mine.ensures.no_pit) (write_refused asked e files journal certificate old new c.in_err-write_pit.ensures.refused
+    (in_pit (record { within = (task, holds, c.in_ok-pit.ensures.within); journaled = journaled IsSettled asked.mode files task journal holds c.in_ok-pit.ensures.journaled })
     (certified files task certificate holds c.in_ok-pit.ensures.certified)
-    (cut_short asked.pit files task old new e holds wrote.0 wrote.1 wrote.2)))
+    (cut_short asked.pit files task old new e holds (pit_text c.n-n.result c.deref-2.result.now found.worth)
+    (found_text asked.pit task found c.deref-2.result.now c.n-n.result count c.deref-2.ensures.value c.in_ok-pit.ensures.found) (simp to_z-of_z at c.in_err-write_pit.ensures.text))))
 
 pub returns-clause-done : goal.returns-clause-done
 returns-clause-done g c =
     let asked = c.args.asked in
     let files = files_of g.M.InBytes.progress g.M.InBytes.IsAtEnd g.P.InBytes.progress g.P.InBytes.IsAtEnd g.F.InBytes.progress g.F.InBytes.IsAtEnd c.args.files.now c.read_mine.new.files in
-    let wrote = c.in_ok-put_pit.ensures.written asked.pit (rw (c.deref.ensures.value) c.in_ok-pit.ensures.shown) in
+    let task = task_of c.in_ok-task.task in
+    let found = c.in_ok-pit.pit in
+    let count : c.n-n.result ≡ task.mine.blocks = c.n-n.ensures ∙ ap (λ (g : Graph). g.blocks) c.deref.ensures ∙ c.graph.ensures.blocks in
+    let fits : SFits w128 found.worth = search rules in
     rw (sym c.solve_mine.ensures.no_pit)
-    (done asked.pit files (task_of c.in_ok-task.task) (g.W.OutBytes.progress c.solve_mine.new.outputs.out) (g.W.OutBytes.progress c.put_pit.new.out) c.in_ok-task.ensures.mine wrote.0 wrote.1 wrote.2)
+    (done asked.pit files task (g.W.OutBytes.progress c.solve_mine.new.outputs.out) (g.W.OutBytes.progress c.write_pit.new.writer) c.in_ok-task.ensures.mine (pit_text c.n-n.result c.deref-2.result.now found.worth)
+    (found_text asked.pit task found c.deref-2.result.now c.n-n.result count c.deref-2.ensures.value c.in_ok-pit.ensures.found) (simp to_z-of_z at c.in_ok-write_pit.ensures.text))

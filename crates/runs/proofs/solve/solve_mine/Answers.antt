@@ -1,4 +1,9 @@
+-- Beside the greatest pit there is no writer: where there is one, the least pit is asked for.
+use Rattle.std.proofs.Common.{rules, ◌≡◌}
+use Rattle.pit_model.specs.declared.direction.Direction.TheVariants.{Least}
 use Rattle.runs.proofs.solve.solve_mine.Goals as goal
 
-pub returns-in-Least-clause-within : goal.returns-in-Least-clause-within
-returns-in-Least-clause-within g c = rw (c.in-Least.is) c.least_pit.ensures.within
+pub returns-clause-within : goal.returns-clause-within
+returns-clause-within g c =
+    let least : c.args.asked.now.pit ≡ Least = search rules in
+    rw (least) c.recorded_pit.ensures.within

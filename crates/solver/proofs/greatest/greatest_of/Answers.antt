@@ -1,24 +1,31 @@
--- The blocks outside the pit of the mine turned round are the greatest pit.
-use Rattle.std.proofs.Common.{◌≡◌, ℕ, ◌<◌, Bool, not, List, ap, sym, subst, ◌∙◌, length, get_or}
-use Rattle.pit_model.specs.Graph.{Graph}
-use Rattle.pit_model.specs.Mine.{members}
-use Rattle.solver.proofs.Searching.{turned_inside, turned_pit}
+-- The mine turned round is searched.
+use Rattle.std.proofs.lemmas.Result.{IfErr-weaker, IfOk-weaker}
+use Rattle.pit_model.specs.declared.direction.Direction.TheVariants.{Greatest}
+use Rattle.pit_model.specs.Direction.{IsTurned, ListsPit, nothing}
+use Rattle.pit_model.specs.Mine.{Instance}
+use Rattle.solver.specs.Modes.{EndsWithin, RefusesSolve}
+use Rattle.solver.specs.Searched.{OfSearched, RefusesSearch}
+use Rattle.solver.proofs.Searching.{turned_refused, turned_search}
 use Rattle.solver.proofs.greatest.greatest_of.Goals as goal
-
-pub outside-requires : goal.outside-requires
-outside-requires g c =
-    let mine = c.args.instance.now in
-    let shown = c.in_ok-found.ensures.shown in
-    let count : c.n.result ≡ mine.blocks = c.n.ensures ∙ ap (λ (g : Graph). g.blocks) c.deref.ensures ∙ c.graph.ensures.blocks in
-    subst (λ (xs : List ℕ). (i : ℕ) → i < length xs → get_or xs i 0 < c.n.result) (sym c.deref-2.ensures.value)
-    (subst (λ n. (i : ℕ) → i < length c.in_ok-found.found.items → get_or c.in_ok-found.found.items i 0 < n) (sym count)
-    (turned_inside mine c.in_ok-other.other c.in_ok-found.found.items shown.set c.in_ok-other.ensures.turned shown.listed))
 
 pub returns-clause-shown : goal.returns-clause-shown
 returns-clause-shown g c =
     let mine = c.args.instance.now in
-    let list = c.in_ok-outside.field-0.items in
-    let count : c.n.result ≡ mine.blocks = c.n.ensures ∙ ap (λ (g : Graph). g.blocks) c.deref.ensures ∙ c.graph.ensures.blocks in
-    turned_pit mine c.in_ok-other.other c.in_ok-found.found.items list c.in_ok-other.ensures.turned c.in_ok-found.ensures.shown
-    (subst (λ (xs : List ℕ). (set : ℕ → Bool) → xs ≡ members mine.blocks set → list ≡ members mine.blocks (λ u. not (set u))) c.deref-2.ensures.value
-    (subst (λ n. (set : ℕ → Bool) → c.deref-2.result.now ≡ members n set → list ≡ members n (λ u. not (set u))) count c.in_ok-outside.ensures))
+    IfOk-weaker c.blocks_outside.result (λ pit. (m : Instance) → IsTurned m c.in_ok-other.other → ListsPit Greatest m nothing pit.items) (λ pit. ListsPit Greatest mine nothing pit.items)
+    (λ pit shown. shown mine c.in_ok-other.ensures.turned) c.blocks_outside.ensures.shown
+
+pub returns-clause-within : goal.returns-clause-within
+returns-clause-within g c =
+    let mine = c.args.instance.now in
+    let mode = c.args.mode.now in
+    let other = c.in_ok-other.other in
+    IfOk-weaker c.blocks_outside.result (λ pit. EndsWithin mode other) (λ pit. OfSearched Greatest mine nothing (EndsWithin mode))
+    (λ pit within. turned_search mine other (EndsWithin mode) c.in_ok-other.ensures.turned c.law.ensures.graph within) c.blocks_outside.ensures.within
+
+pub returns-clause-refused : goal.returns-clause-refused
+returns-clause-refused g c =
+    let mine = c.args.instance.now in
+    let mode = c.args.mode.now in
+    let other = c.in_ok-other.other in
+    IfErr-weaker c.blocks_outside.result (λ e. RefusesSolve mode other e.refusal e) (λ e. RefusesSearch mode Greatest mine nothing e.refusal e)
+    (λ e h. turned_refused mode mine other e.refusal e c.in_ok-other.ensures.turned c.law.ensures.graph h) c.blocks_outside.ensures.refused

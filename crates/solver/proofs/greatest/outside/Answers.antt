@@ -1,5 +1,5 @@
 -- One block more is marked; at the end those without a mark are not on the list.
-use Rattle.std.proofs.Common.{◌≡◌, ℕ, Bool, not, List, arith, ap, sym, subst, ◌∙◌, length}
+use Rattle.std.proofs.Common.{◌≡◌, ℕ, Bool, not, List, arith, ap, subst, ◌∙◌, length}
 use Rattle.std.proofs.lemmas.Result.{IfOk-weaker}
 use Rattle.pit_model.specs.Mine.{members}
 use Rattle.certificate.specs.Check.{has}

@@ -1,5 +1,5 @@
 -- A value within the limits stays so with its sign turned.
-use Rattle.std.proofs.Common.{◌≡◌, ℕ, ◌<◌, ◌∙◌, arith, ap, sym}
+use Rattle.std.proofs.Common.{◌<◌, arith, ap}
 use Rattle.std.proofs.lemmas.Int.{ints}
 use Rattle.pit_model.specs.Graph.{Graph}
 use Rattle.solver.proofs.greatest.turned.Goals as goal

@@ -1,15 +1,16 @@
 -- Each pair of the rest is one of the whole, where its amount is written; all other pairs carry nothing.
-use Rattle.std.proofs.Common.{rules, ◌≡◌, ℕ, ◌<◌, ◌∙◌, arith, ap, sym, subst, drop, List, get_or, length}
+use Rattle.std.proofs.Common.{rules, ◌≡◌, ℕ, ◌∙◌, ap, sym, subst, drop, List, length}
 use Rattle.std.specs.Prelude.{ℤ, pos}
 use Rattle.std.specs.Arc.{arc_value}
 use Rattle.std.proofs.lemmas.List.{take_at}
 use Rattle.pit_model.specs.Graph.{Graph}
-use Rattle.pit_model.specs.Mine.{arcs}
+use Rattle.pit_model.specs.Mine.{arcs, members}
 use Rattle.pit_model.specs.Fixed.{graph_of_mine, is_open}
 use Rattle.mine_graph.specs.FixedBlocks.{dug_in, left_in}
 use Rattle.certificate.specs.Check.{amount}
 use Rattle.merging.specs.Parts.{AreCarried}
-use Rattle.merging.proofs.Resting.{certificate_of_whole, zeros}
+use Rattle.merging.specs.Rest.{ListsJoined}
+use Rattle.merging.proofs.Resting.{certificate_of_whole, none_both, zeros}
 use Rattle.merging.proofs.SolvedPart.{blocks_apart, blocks_below, graph_is, same_part}
 use Rattle.merging.proofs.rest.Rest.certificate.Goals as goal
 
@@ -62,5 +63,11 @@ returns-clause-certificate c =
     let flow_size : length flow ≡ c.in_ok-flow.flow.len = c.carry_flow.ensures.size ∙ c.deref_mut.ensures.len in
     let answer = certificate_of_whole mine c.args.fixed.now rest c.requires.fixed c.requires.rest c.law.ensures c.law-2.ensures found c.requires.found nothing flow none long was
     c.in_ok-pit.pit.items _ (take_at flow (drop (length flow) nothing) c.in_ok-flow.flow.len flow_size)
-    (λ set listed. c.in_ok-pit.ensures.joined set (c.deref-3.ensures.value ∙ listed)) in
+    (λ set listed.
+    subst (λ n. ListsJoined n c.args.fixed.now rest.blocks.items set c.in_ok-pit.pit.items) (c.n.ensures ∙ ap (λ (g : Graph). g.blocks) whole)
+    (subst (λ (xs : List ℕ). ListsJoined c.n.result c.args.fixed.now xs set c.in_ok-pit.pit.items) c.deref-3.ensures.value
+    (c.in_ok-pit.ensures.joined set (c.deref-4.ensures.value ∙ listed ∙ ap (λ (xs : List ℕ). members (length xs) set) (sym c.deref-3.ensures.value))))) in
     record { certifies = answer.0; candidate = answer.1 }
+
+pub join_pit-requires-clause-apart : goal.join_pit-requires-clause-apart
+join_pit-requires-clause-apart c = none_both c.args.mine.now c.args.fixed.now c.requires.fixed

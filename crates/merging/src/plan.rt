@@ -1,0 +1,162 @@
+//! A plan for workers at one tree: few mergers that lead from the opening tree to a solved one. One thread solves the mine on a
+//! tree of its own, and then once more by the links of the solved tree alone. That takes fewer mergers, and they turn far
+//! fewer blocks from strong to weak and back. No link joins two branches of the solved tree, so the mergers in one of them
+//! change nothing in another.
+//!
+//! A plan is a hint and proves nothing: what is asked for is decided at the shared tree.
+ghost use Rattle.std.specs.Prelude.{◌≡◌, ◌<◌, ◌≤◌, ℕ, length, get_or, map, IfOk, IfErr};
+ghost use Rattle.std.specs.List.{range_with_len};
+ghost use Rattle.faults.specs.Refused.{no_memory};
+ghost use Rattle.pit_model.specs.Mine.{arcs, value};
+
+use crate::joined::marked;
+use crate::lowest_label::{merge_by_lowest_label, mergers_by_lowest_label};
+use faults::Fault;
+use mine_graph::{Graph, Instance, acyclic_has_no_needy};
+use norm_tree::BareTree;
+use std::alloc::{AllocError, Global};
+use std::sync::Arc;
+
+/// A planned merger: its arc, and the branch of the solved tree in which both blocks of the arc lie.
+#[derive(Clone, Copy)]
+pub struct Planned {
+    pub arc: u32,
+    pub branch: u32,
+}
+
+/// Planned mergers, in their order, and how many branches the solved tree has.
+#[derive(Drop)]
+pub struct Plan {
+    pub mergers: Vec<Planned>,
+    pub branches: u32,
+}
+
+/// The arcs along which the solved tree has links, rising; the graph of these alone; and the branch of each block.
+#[derive(Drop)]
+struct Links {
+    arcs: Vec<u32>,
+    graph: Arc<Graph>,
+    branches: Vec<u32>,
+    count: u32,
+}
+
+/// Whether the tree has a link along the arc.
+fn is_linked(tree: &BareTree, arc: u32) -> bool
+    requires { arc < arcs tree.now.mine }
+{
+    tree.law();
+    let (from, to) = tree.instance().graph().arc(arc);
+    tree.parent(from) == Some(to) || tree.parent(to) == Some(from)
+}
+
+/// A mark for each arc: whether the tree has a link along it.
+fn link_marks(alloc: Global, tree: &BareTree) -> Result<Vec<bool>, AllocError>
+    ensures { IfOk result (λ v. length v.items ≡ arcs tree.now.mine) }
+{
+    (0..tree.instance().graph().arcs())
+        .map(|arc| is_linked(tree, arc))
+        .collect(alloc)
+}
+
+/// The pairs with these numbers.
+fn pairs_at(alloc: Global, graph: &Graph, arcs: &[u32]) -> Result<Vec<(u32, u32)>, AllocError>
+    requires { (i : ℕ) → i < length arcs.now → get_or arcs.now i 0 < length graph.now.pairs }
+    ensures count { IfOk result (λ v. length v.items ≡ length arcs.now) }
+    ensures each { IfOk result (λ v. (i : ℕ) → i < length arcs.now → get_or v.items i (0, 0) ≡ get_or graph.now.pairs (get_or arcs.now i 0) (0, 0)) }
+{
+    let mut pairs = Vec::with_capacity(alloc, arcs.len())?;
+    for i in 0..arcs.len() {
+        pairs.push(graph.arc(arcs[i]))?;
+    }
+    Ok(pairs)
+}
+
+/// The graph of the same blocks with the pairs of these numbers alone.
+fn graph_of_arcs(alloc: Global, graph: &Graph, arcs: &[u32]) -> Result<Graph, Fault>
+    requires below { (i : ℕ) → i < length arcs.now → get_or arcs.now i 0 < length graph.now.pairs }
+    requires rising { (i j : ℕ) → i < j → j < length arcs.now → get_or arcs.now i 0 < get_or arcs.now j 0 }
+    requires few { length arcs.now ≤ length graph.now.pairs }
+    ensures blocks { IfOk result (λ g. g.blocks ≡ graph.now.blocks) }
+    ensures refused { IfErr result (λ e. e ≡ no_memory) }
+{
+    graph.law();
+    acyclic_has_no_needy();
+    let pairs = pairs_at(alloc, graph, arcs)?;
+    let links = Graph::new(alloc, graph.n(), pairs)?;
+    Ok(links)
+}
+
+/// The links of a tree.
+fn links_of(alloc: Global, tree: &BareTree) -> Result<Links, Fault>
+    ensures blocks { IfOk result (λ l. l.graph.value.blocks ≡ tree.now.mine.blocks) }
+    ensures refused { IfErr result (λ e. e ≡ no_memory) }
+{
+    tree.law();
+    let marks = link_marks(alloc, tree)?;
+    let arcs = marked(alloc, &marks)?;
+    let graph = graph_of_arcs(alloc, tree.instance().graph(), &arcs)?;
+    let classes = graph.classes()?;
+    Ok(Links {
+        arcs,
+        graph: Arc::new(alloc, graph)?,
+        branches: classes.labels,
+        count: classes.count,
+    })
+}
+
+/// The instance of other pairs of the same blocks, with the same values.
+fn with_pairs_of(alloc: Global, instance: &Instance, graph: &Arc<Graph>) -> Result<Instance, Fault>
+    requires { graph.now.value.blocks ≡ instance.now.blocks }
+    ensures { IfErr result (λ e. e ≡ no_memory) }
+{
+    instance.law();
+    let values = values_of(alloc, instance)?;
+    Ok(Instance::new(Arc::try_clone(graph)?, values))
+}
+
+/// The value of each block.
+fn values_of(alloc: Global, instance: &Instance) -> Result<Vec<i128>, AllocError>
+    ensures { IfOk result (λ v. v.items ≡ map (value instance.now) (range_with_len 0 instance.now.blocks)) }
+{
+    let n = instance.graph().n();
+    Ok((0..n).map(|u| instance.value(u)).collect(alloc)?)
+}
+
+/// The merger over a link, by the numbers of the whole; None where no link has that number.
+fn merger_over(graph: &Graph, links: &Links, link: u32) -> Option<Planned> {
+    let &arc = links.arcs.get(link as usize)?;
+    if arc >= graph.arcs() {
+        return None;
+    }
+    let &branch = links.branches.get(graph.arc(arc).0 as usize)?;
+    Some(Planned { arc, branch })
+}
+
+/// The mergers over the arcs of these links.
+fn plan_of(alloc: Global, graph: &Graph, links: &Links, order: &[u32]) -> Result<Plan, Fault>
+    ensures { IfErr result (λ e. e ≡ no_memory) }
+{
+    let mut mergers = Vec::with_capacity(alloc, order.len())?;
+    for &link in order {
+        if let Some(merger) = merger_over(graph, links, link) {
+            mergers.push(merger)?;
+        }
+    }
+    Ok(Plan {
+        mergers,
+        branches: links.count,
+    })
+}
+
+/// Few mergers, in their order, that lead from the opening tree to a solved one. Refused for want of memory alone.
+pub fn plan_mergers(alloc: Global, instance: &Instance) -> Result<Plan, Fault>
+    ensures { IfErr result (λ e. e ≡ no_memory) }
+{
+    let mut solved = BareTree::start(alloc, instance)?;
+    merge_by_lowest_label(alloc, &mut solved)?;
+    let links = links_of(alloc, &solved)?;
+    let linked = with_pairs_of(alloc, instance, &links.graph)?;
+    let mut again = BareTree::start(alloc, &linked)?;
+    let order = mergers_by_lowest_label(alloc, &mut again)?;
+    plan_of(alloc, instance.graph(), &links, &order)
+}

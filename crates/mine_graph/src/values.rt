@@ -1,0 +1,75 @@
+//! The values of blocks by themselves, as they are left of an instance whose graph is given up.
+ghost use Rattle.std.specs.Prelude.{◌≡◌, ◌<◌, ◌≤◌, ℕ, ℤ, pos, Bool, List, length, get_or, IfOk};
+ghost use Rattle.std.specs.List.{All};
+ghost use Rattle.pit_model.specs.Sum.{total, when};
+ghost use Rattle.pit_model.specs.Mine.{members};
+ghost use Rattle.pit_model.specs.Size.{most_blocks};
+ghost use Rattle.mine_graph.specs.Kept.{AreWithinLimits};
+
+use std::alloc::{AllocError, Global};
+use std::marker::Model;
+
+/// The value of each block: whole numbers within 10^23 of 0, in millionths where a model's are.
+#[derive(Drop)]
+pub struct Values {
+    amounts: Vec<i128>,
+}
+
+impl Model for Values {
+    ghost use Rattle.std.specs.Prelude.{ℤ, List, length};
+    ghost use Rattle.mine_graph.specs.Kept.{AreWithinLimits};
+
+    ghost Value = { List ℤ };
+
+    ghost view = { λ v. v.amounts.items };
+
+    ghost invariant = { λ v. AreWithinLimits (length v.amounts.items) v.amounts.items };
+}
+
+impl Values {
+    /// These values. It takes no memory.
+    pub(crate) fn new(amounts: Vec<i128>) -> Values
+        requires { AreWithinLimits (length amounts.items) amounts.items }
+        ensures { result ≡ amounts.items }
+    {
+        Values { amounts }
+    }
+
+    /// What is true of all values.
+    pub(crate) fn law(&self)
+        ensures { AreWithinLimits (length self.now) self.now }
+    {
+        let _ = &self.amounts;
+    }
+
+    /// The same values once more.
+    pub(crate) fn copy(&self, alloc: Global) -> Result<Values, AllocError>
+        ensures { IfOk result (λ other. other ≡ self.now) }
+    {
+        let amounts = Vec::from_slice(alloc, &self.amounts)?;
+        Ok(Values { amounts })
+    }
+
+    /// The value of a block.
+    pub fn of(&self, u: u32) -> i128
+        requires { u < length self.now }
+        ensures { result ≡ get_or self.now u (pos 0) }
+    {
+        self.amounts[u as usize]
+    }
+
+    /// The summed value of a list of blocks: for the members of a set, its worth.
+    pub fn worth(&self, blocks: &[u32]) -> i128
+        requires few { length blocks.now ≤ most_blocks }
+        requires below { All (λ u. u < length self.now) blocks.now }
+        ensures sum { result ≡ total (length blocks.now) (λ i. get_or self.now (get_or blocks.now i 0) (pos 0)) }
+        ensures set { (n : ℕ) (set : ℕ → Bool) → blocks.now ≡ members n set → result ≡ total n (λ u. when (set u) (get_or self.now u (pos 0))) }
+    {
+        self.law();
+        let mut sum = 0;
+        for &u in blocks {
+            sum += self.of(u);
+        }
+        sum
+    }
+}
