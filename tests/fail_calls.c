@@ -1,5 +1,6 @@
 /* Loaded before the C library (LD_PRELOAD), so that single calls of a run go wrong on purpose:
    FAIL_ALLOC=N   the Nth request for memory is refused          FAIL_READ=N  FAIL_WRITE=N   the Nth read or write fails
+   FAIL_ALLOC_FROM=N  so is each from the Nth on
    SHORT_READ=N   the Nth read gives one byte at most            SHORT_WRITE=N               the Nth write takes one byte at most
                   (-1: each of them)
    FAIL_THREAD=N  the Nth start of a thread is refused (-1: each of them)
@@ -38,7 +39,8 @@ static long one_more(long *count) {
 }
 
 static int refused(void) {
-    return one_more(&allocs) == wanted("FAIL_ALLOC");
+    long number = one_more(&allocs), first = wanted("FAIL_ALLOC_FROM");
+    return number == wanted("FAIL_ALLOC") || (first > 0 && number >= first);
 }
 
 void *malloc(size_t size) {

@@ -1,4 +1,5 @@
-"""The calls of the lock and a solve by a worker, with each request for memory refused in turn.
+"""The calls of the lock and a solve by a worker, with each request for memory refused in turn; and mergers, a board and a counter
+of chunks with every request refused once they are prepared.
 
 What was refused to `apply` or `serve` left all as it was, and a second call goes on. In a solve the worker's ask is taken back, and
 the driver goes on. The program is `crates/refused_memory`, which says what it saw; the gate builds it, and where it is older than the
@@ -16,7 +17,8 @@ import pytest
 
 CRATES = pathlib.Path(__file__).resolve().parent.parent / "crates"
 PROGRAM = CRATES / "refused_memory" / "out" / "refused_memory"
-HELD = re.compile(r"apply: (\d) refused, all held\nserve: (\d) refused, all held\n")
+PREPARED = "prepared: all held\n"
+HELD = re.compile(PREPARED + r"apply: (\d) refused, all held\nserve: (\d) refused, all held\n")
 BY_THE_WORKER = "solve: 1 0 Applied\nsolve: 1 1 Applied\n"
 # The worker's first ask was refused memory and taken back, and the driver decided its own first arc, which is the same.
 FIRST_BY_THE_DRIVER = "solve: 0 0 Applied\nsolve: 1 1 Applied\n"
@@ -27,19 +29,23 @@ def is_built() -> bool:
     return PROGRAM.exists() and PROGRAM.stat().st_mtime > newest
 
 
-def run(shim: pathlib.Path, folder: pathlib.Path, number: int) -> tuple[int, str, int]:
+def run(shim: pathlib.Path, folder: pathlib.Path, number: int, refused: str = "FAIL_ALLOC") -> tuple[int, str, int]:
     """Status, standard output, and how often memory was asked for, where the request of this number is refused."""
     told = folder / "counts"
-    env = {**os.environ, "LD_PRELOAD": str(shim), "COUNT_CALLS": str(told), "FAIL_ALLOC": str(number)}
+    env = {**os.environ, "LD_PRELOAD": str(shim), "COUNT_CALLS": str(told), refused: str(number)}
     ran = subprocess.run([PROGRAM], env=env, capture_output=True, text=True, timeout=60)
     return ran.returncode, ran.stdout, int(told.read_text().split()[0])
+
+
+@pytest.fixture(scope="module", autouse=True)
+def program() -> None:
+    if not is_built():
+        subprocess.run(["rt", "run"], cwd=CRATES / "refused_memory", check=True, capture_output=True)
 
 
 @pytest.fixture(scope="module")
 def runs(shim: pathlib.Path, tmp_path_factory: pytest.TempPathFactory) -> list[tuple[int, str]]:
     """Status and standard output of each run, until one asks for memory less often."""
-    if not is_built():
-        subprocess.run(["rt", "run"], cwd=CRATES / "refused_memory", check=True, capture_output=True)
     folder, found = tmp_path_factory.mktemp("counts"), []
     for number in itertools.count(1):
         status, out, asked = run(shim, folder, number)
@@ -48,11 +54,21 @@ def runs(shim: pathlib.Path, tmp_path_factory: pytest.TempPathFactory) -> list[t
             return found
 
 
+def test_what_is_prepared_runs_without_memory(shim: pathlib.Path, tmp_path: pathlib.Path) -> None:
+    for number in itertools.count(1):
+        status, out, asked = run(shim, tmp_path, number, refused="FAIL_ALLOC_FROM")
+        assert status == 1, out
+        if out:
+            break
+    # what is prepared asked for all before this request, and what comes after asked in vain
+    assert out == PREPARED and number > 20 and asked >= number
+
+
 def test_what_was_refused_memory_changed_nothing(runs: list[tuple[int, str]]) -> None:
     refused = collections.Counter()
     for status, out in runs:
-        if status == 1 and not out:
-            continue  # to the program's own preparations
+        if status == 1 and out in ("", PREPARED):
+            continue  # to what is prepared for the calls
         held = HELD.match(out)
         assert held, out
         refused.update(apply=int(held[1]), serve=int(held[2]))

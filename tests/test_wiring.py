@@ -1,7 +1,7 @@
 """What the command line, the files and the streams of the program have to do with one another.
 
-No contract speaks of it, since none can say what a file holds; so each wire is pulled once. The answers of the two-block mine
-were worked out by hand: ore worth 5 below waste that costs 3.
+The contracts of the calls speak of any place where files are, and none can say what a real file holds or what the command line
+meant; so each wire is pulled once. The answers of the two-block mine were worked out by hand: ore worth 5 below waste that costs 3.
 """
 
 import pathlib

@@ -1,6 +1,6 @@
 //! One worker of mode shared: in a sweep it draws chunks of arcs, looks at the published version, asks for a merger arc that
 //! it sees there, serves the board under the lock where nobody else did, and collects its reply.
-ghost use Rattle.std.specs.Prelude.{◌≡◌, ◌<◌, IsTrue};
+ghost use Rattle.std.specs.Prelude.{◌≡◌, ◌<◌, ◌≤◌, suc, None, IfSome, IsTrue};
 ghost use Rattle.pit_model.specs.Mine.{arcs};
 ghost use Rattle.crew.specs.Solved.{HasMet};
 
@@ -22,7 +22,9 @@ struct Turn<'a, S: Site> {
 }
 
 impl<'a, S: Site> Turn<'a, S> {
-    fn begin(holder: MutexGuard<'a, Holder<S>>) -> Turn<'a, S> {
+    fn begin(holder: MutexGuard<'a, Holder<S>>) -> Turn<'a, S>
+        ensures { result.asks ≡ 64 }
+    {
         Turn {
             holder,
             asks: ASKS_IN_TURN,
@@ -30,7 +32,10 @@ impl<'a, S: Site> Turn<'a, S> {
     }
 
     // The same after an ask; None after the last, and then the lock is free.
-    fn left(self) -> Option<Turn<'a, S>> {
+    fn left(self) -> Option<Turn<'a, S>>
+        ensures ends { self.entry.asks ≤ 1 → result ≡ None }
+        ensures fewer { IfSome result (λ turn. suc turn.asks ≡ self.entry.asks) }
+    {
         let Turn { holder, asks } = self;
         if asks <= 1 {
             MutexGuard::unlock(holder);

@@ -187,7 +187,7 @@ fn solve_command<'a>(alloc: Global) -> Result<Command<'a>, AllocError> {
 pub fn command<'a>(alloc: Global) -> Result<Command<'a>, AllocError> {
     Command::new(alloc, "pitshell")
         .version("0.1.0 (rattle-kit-13b logic dac8208d650f15bf)")
-        .about("Finds the ultimate pit of a mine, and proves it")
+        .about("Finds the ultimate pit of a mine with a proved solver")
         .after_help(STATUSES)
         .subcommand_required(true)
         .arg_required_else_help(false)

@@ -1,51 +1,9 @@
 //! What the command line asks for, as types of the program's own.
 
 use clap::ArgMatches;
+use file_runs::{CheckOptions, MineNames, ReplayOptions, ShellsOptions, SolveOptions};
 use runs::{Asked, mode_fault, mode_of, pit_fault, pit_of};
 use solver::Mode;
-
-/// The files of a mine. That of the fixed blocks is there where some are.
-#[derive(Clone, Copy)]
-pub struct MineNames<'a> {
-    pub model: &'a str,
-    pub prec: &'a str,
-    pub fixed: Option<&'a str>,
-}
-
-/// The files of `solve`, how to solve, and for which pit. Those of the certificate and of the journal are there where one is
-/// wanted.
-#[derive(Clone, Copy)]
-pub struct SolveOptions<'a> {
-    pub mine: MineNames<'a>,
-    pub certificate: Option<&'a str>,
-    pub journal: Option<&'a str>,
-    pub asked: Asked,
-}
-
-/// The files of `shells`, the columns of revenue and cost, the text of the factors, how to solve, and for which pits.
-#[derive(Clone, Copy)]
-pub struct ShellsOptions<'a> {
-    pub blocks: &'a str,
-    pub prec: &'a str,
-    pub revenue: u32,
-    pub cost: u32,
-    pub factors: &'a str,
-    pub asked: Asked,
-}
-
-/// The files of `check`.
-#[derive(Clone, Copy)]
-pub struct CheckOptions<'a> {
-    pub mine: MineNames<'a>,
-    pub certificate: &'a str,
-}
-
-/// The files of `replay`.
-#[derive(Clone, Copy)]
-pub struct ReplayOptions<'a> {
-    pub mine: MineNames<'a>,
-    pub journal: &'a str,
-}
 
 /// One subcommand with its options.
 #[derive(Clone, Copy)]
@@ -54,8 +12,6 @@ pub enum Options<'a> {
     Shells(ShellsOptions<'a>),
     Check(CheckOptions<'a>),
     Replay(ReplayOptions<'a>),
-    /// What is asked for does not go together: the line that says so.
-    Wrong(&'static str),
 }
 
 /// The files of the mine of a subcommand. None where the parse has let through that one is missing.
@@ -100,50 +56,51 @@ fn asked_in(
 }
 
 /// The options of `solve`.
-fn solve_of<'a>(found: &ArgMatches<'a>) -> Option<Options<'a>> {
+fn solve_of<'a>(found: &ArgMatches<'a>) -> Option<Result<Options<'a>, &'static str>> {
     let certificate = found.get_str("certificate");
     let journal = found.get_str("journal");
     match asked_in(found, certificate.is_some(), journal.is_some())? {
-        Err(line) => Some(Options::Wrong(line)),
-        Ok(asked) => Some(Options::Solve(SolveOptions {
+        Err(line) => Some(Err(line)),
+        Ok(asked) => Some(Ok(Options::Solve(SolveOptions {
             mine: mine_in(found)?,
             certificate,
             journal,
             asked,
-        })),
+        }))),
     }
 }
 
 /// The options of `shells`.
-fn shells_of<'a>(found: &ArgMatches<'a>) -> Option<Options<'a>> {
+fn shells_of<'a>(found: &ArgMatches<'a>) -> Option<Result<Options<'a>, &'static str>> {
     match asked_in(found, false, false)? {
-        Err(line) => Some(Options::Wrong(line)),
-        Ok(asked) => Some(Options::Shells(ShellsOptions {
+        Err(line) => Some(Err(line)),
+        Ok(asked) => Some(Ok(Options::Shells(ShellsOptions {
             blocks: found.get_str("blocks")?,
             prec: found.get_str("prec")?,
             revenue: u32::try_from(found.get_one::<u64>("revenue")?).ok()?,
             cost: u32::try_from(found.get_one::<u64>("cost")?).ok()?,
             factors: found.get_str("factors")?,
             asked,
-        })),
+        }))),
     }
 }
 
 impl<'a> Options<'a> {
-    /// None where no subcommand was given or a file's name is missing, which the parse has refused before.
-    pub fn of(matches: &ArgMatches<'a>) -> Option<Options<'a>> {
+    /// The subcommand with its options, or the line that says what does not go together. None where no subcommand was given or a
+    /// file's name is missing, which the parse has refused before.
+    pub fn of(matches: &ArgMatches<'a>) -> Option<Result<Options<'a>, &'static str>> {
         let (name, found) = matches.subcommand()?;
         match name {
             "solve" => solve_of(found),
             "shells" => shells_of(found),
-            "check" => Some(Options::Check(CheckOptions {
+            "check" => Some(Ok(Options::Check(CheckOptions {
                 mine: mine_in(found)?,
                 certificate: found.get_str("certificate")?,
-            })),
-            "replay" => Some(Options::Replay(ReplayOptions {
+            }))),
+            "replay" => Some(Ok(Options::Replay(ReplayOptions {
                 mine: mine_in(found)?,
                 journal: found.get_str("journal")?,
-            })),
+            }))),
             _ => None,
         }
     }

@@ -1,9 +1,13 @@
 //! A file that is written takes its name only when it is whole and on disk: until then it stands beside its place, under a
 //! name of its own. So a run that is refused, interrupted or killed leaves what stood there. What is no regular file, as a
 //! pipe or a device, is written as it is.
+ghost use Rattle.std.specs.Prelude.{◌≡◌, IfErr};
+ghost use Rattle.faults.specs.Refused.{write_failed};
+ghost use Rattle.file_runs.specs.Made.{IsUnmade};
 
 use faults::Fault;
 use std::fs::{File, Metadata, OpenOptions};
+use std::io::Write;
 use std::os::unix::fs::MetadataExt;
 use std::path::PathBuf;
 use std::{fs, io};
@@ -56,11 +60,9 @@ fn is_taken(rt: &HostRuntime, path: &str, files: &[Option<&File>]) -> bool {
 
 /// A file beside this path, under a name that nothing has yet: the path with a number and `.part` behind it. Refused where
 /// one of these files stands there, which then waits for the same place.
-fn create_beside(
-    rt: &HostRuntime,
-    path: PathBuf,
-    taken: &[Option<&File>],
-) -> Result<Output, Fault> {
+fn create_beside(rt: &HostRuntime, path: PathBuf, taken: &[Option<&File>]) -> Result<Output, Fault>
+    ensures refused { IfErr result IsUnmade }
+{
     for number in 0..MOST_NAMES {
         let partial = format!(in rt.alloc(); "{}.{number}.part", path.display())?;
         match OpenOptions::new()
@@ -87,7 +89,9 @@ impl Output {
     /// Makes a file, or what it is written to before it takes its name. Refused where it cannot be made or may not be
     /// written, where it is one of the inputs and outputs that are taken or the file of standard output, and for want of
     /// memory.
-    pub fn create(rt: &HostRuntime, path: &str, taken: &[Option<&File>]) -> Result<Output, Fault> {
+    pub fn create(rt: &HostRuntime, path: &str, taken: &[Option<&File>]) -> Result<Output, Fault>
+        ensures refused { IfErr result IsUnmade }
+    {
         match fs::metadata(rt, path) {
             Ok(found) if !found.is_file() => match File::create(rt, path) {
                 Ok(file) => Ok(Output { file, place: None }),
@@ -107,7 +111,9 @@ impl Output {
     }
 
     /// The file takes its name, once it is on disk. One that cannot goes, which is a write that failed.
-    pub fn keep(self, rt: &HostRuntime) -> Result<(), Fault> {
+    fn keep(self, rt: &HostRuntime) -> Result<(), Fault>
+        ensures refused { IfErr result (λ e. e ≡ write_failed) }
+    {
         let Output { file, place } = self;
         let Some(place) = place else {
             return Ok(());
@@ -121,22 +127,32 @@ impl Output {
     }
 
     /// The file goes, and what stood at its place stays.
-    pub fn discard(self, rt: &HostRuntime) {
+    fn discard(self, rt: &HostRuntime) {
         let Output { file: _, place } = self;
         if let Some(place) = place {
             let _ = fs::remove_file(rt, place.partial.as_str());
         }
     }
+
+    /// Ends it after a run: it is kept, or it goes.
+    pub fn end(self, rt: &HostRuntime, is_kept: bool) -> Result<(), Fault>
+        ensures refused { IfErr result (λ e. e ≡ write_failed) }
+    {
+        if is_kept {
+            return self.keep(rt);
+        }
+        self.discard(rt);
+        Ok(())
+    }
 }
 
-/// Ends a file, where there is one: it is kept or goes.
-pub fn end(rt: &HostRuntime, output: Option<Output>, is_kept: bool) -> Result<(), Fault> {
-    match output {
-        None => Ok(()),
-        Some(output) if is_kept => output.keep(rt),
-        Some(output) => {
-            output.discard(rt);
-            Ok(())
-        }
+/// What is written to it goes to its file.
+impl Write for Output {
+    fn write(&mut self, buf: &[u8]) -> io::Result<usize> {
+        self.file.write(buf)
+    }
+
+    fn flush(&mut self) -> io::Result<()> {
+        self.file.flush()
     }
 }

@@ -1,17 +1,21 @@
-//! Decides arcs at a tree under its lock, by the driver and by asks of workers. Where memory is refused it looks whether all is as it
-//! was, and goes on. `tests/test_refused_memory.py` runs it with each request for memory refused in turn.
+//! Runs what needs no memory once it is prepared. Then it decides arcs at a tree under its lock, by the driver and by asks of
+//! workers; where memory is refused it looks whether all is as it was, and goes on. `tests/test_refused_memory.py` runs it with each
+//! request for memory refused in turn, and with all from one on.
 #![tactic(auto)]
 
 mod applying;
 mod mine;
+mod prepared;
 mod serving;
 mod solving;
+mod trace;
 mod trial;
 mod witness;
 
 use applying::Applying;
 use faults::Fault;
 use mine::mine;
+use prepared::run_prepared;
 use serving::Serving;
 use solving::solved;
 use std::alloc::AllocGlobal;
@@ -25,6 +29,15 @@ use witness::Seen;
 fn tried<T: Trial, R: AllocGlobal + Wait>(rt: &R, trial: &T) -> Result<Seen, Fault> {
     let mine = mine(rt.alloc())?;
     try_with(rt, rt.alloc(), &mine, trial)
+}
+
+// Writes a line on what runs without memory. It answers whether all was as it must be.
+fn told_prepared(rt: &HostRuntime, failed: Option<&'static str>) -> bool {
+    let written = match failed {
+        None => println!(rt; "prepared: all held"),
+        Some(failed) => println!(rt; "prepared: not so: {failed}"),
+    };
+    written.is_ok() && failed.is_none()
 }
 
 // Writes a line on what was seen. It answers whether all was as it must be.
@@ -48,6 +61,12 @@ fn told_of(rt: &HostRuntime, journal: &[Entry]) -> bool {
 }
 
 fn main(rt: HostRuntime) -> ExitCode {
+    let Ok(failed) = run_prepared(rt.alloc()) else {
+        return ExitCode::FAILURE;
+    };
+    if !told_prepared(&rt, failed) {
+        return ExitCode::from(2);
+    }
     let (Ok(applied), Ok(served)) = (tried(&rt, &Applying), tried(&rt, &Serving)) else {
         return ExitCode::FAILURE;
     };

@@ -152,7 +152,7 @@ pub fn next_shell<G: Gate + Sync, R: Threads + Wait + Sync>(
     graph.law();
     let factor = factors.get(k);
     let rest = rest_instance(alloc, columns, growing, factor)?;
-    let found = find_pit_toward(rt, alloc, &rest, direction, mode, gate)?;
+    let found = find_pit_toward(rt, alloc, rest, direction, mode, gate)?;
     join(alloc, graph, growing, &found)?;
     let pit = marked_blocks(alloc, &growing.marks)?;
     let worth = columns.worth(&pit, factor);

@@ -70,7 +70,7 @@ pub fn outermost_shell<G: Gate + Sync, R: Threads + Wait + Sync>(
     graph.law();
     let mut whole = start(alloc, graph)?;
     let rest = rest_instance(alloc, columns, &whole, factor)?;
-    let found = find_pit_toward(rt, alloc, &rest, direction, mode, gate)?;
+    let found = find_pit_toward(rt, alloc, rest, direction, mode, gate)?;
     mark(&mut whole.marks, &whole.blocks, &found);
     let outside = turned(alloc, &whole.marks)?;
     let part = graph.without(&outside)?;

@@ -92,39 +92,40 @@ pub(crate) fn blocks_outside<G: Gate + Sync, R: Threads + Wait + Sync>(
     Ok(outside(alloc, other.graph().n(), &found)?)
 }
 
-/// The greatest pit of an instance without fixed blocks.
+/// The greatest pit of an instance without fixed blocks. The instance is given up before the one turned round is solved.
 fn greatest_of<G: Gate + Sync, R: Threads + Wait + Sync>(
     rt: &R,
     alloc: Global,
-    instance: &Instance,
+    instance: Instance,
     mode: &Mode,
     gate: &G,
 ) -> Result<Vec<u32>, Fault>
-    ensures shown { IfOk result (λ pit. ListsPit Greatest instance.now nothing pit.items) }
-    ensures within { IfOk result (λ _. OfSearched Greatest instance.now nothing (EndsWithin mode.now)) }
-    ensures refused { IfErr result (λ e. RefusesSearch mode.now Greatest instance.now nothing e.refusal e) }
+    ensures shown { IfOk result (λ pit. ListsPit Greatest instance nothing pit.items) }
+    ensures within { IfOk result (λ _. OfSearched Greatest instance nothing (EndsWithin mode.now)) }
+    ensures refused { IfErr result (λ e. RefusesSearch mode.now Greatest instance nothing e.refusal e) }
 {
-    let other = turned(alloc, instance)?;
+    let other = turned(alloc, &instance)?;
+    drop(instance);
     other.law();
     blocks_outside(rt, alloc, &other, mode, gate)
 }
 
-/// The pit of an instance toward a direction, rising, with no block fixed. Refused as `find_pit` is; where the greatest pit is
-/// asked for, the budget counts the mergers of the instance turned round.
+/// The pit of an instance toward a direction, rising, with no block fixed. Refused as `find_pit` is; if the greatest pit is asked
+/// for, the budget counts the mergers of the instance turned round, and the instance itself is given up before that is solved.
 pub fn find_pit_toward<G: Gate + Sync, R: Threads + Wait + Sync>(
     rt: &R,
     alloc: Global,
-    instance: &Instance,
+    instance: Instance,
     direction: Direction,
     mode: &Mode,
     gate: &G,
 ) -> Result<Vec<u32>, Fault>
-    ensures shown { IfOk result (λ pit. ListsPit direction instance.now nothing pit.items) }
-    ensures within { IfOk result (λ _. OfSearched direction instance.now nothing (EndsWithin mode.now)) }
-    ensures refused { IfErr result (λ e. RefusesSearch mode.now direction instance.now nothing e.refusal e) }
+    ensures shown { IfOk result (λ pit. ListsPit direction instance nothing pit.items) }
+    ensures within { IfOk result (λ _. OfSearched direction instance nothing (EndsWithin mode.now)) }
+    ensures refused { IfErr result (λ e. RefusesSearch mode.now direction instance nothing e.refusal e) }
 {
     match direction {
-        Direction::Least => find_pit(rt, alloc, instance, mode, gate),
+        Direction::Least => find_pit(rt, alloc, &instance, mode, gate),
         Direction::Greatest => greatest_of(rt, alloc, instance, mode, gate),
     }
 }

@@ -10,13 +10,13 @@ use Rattle.solver.proofs.greatest.greatest_of.Goals as goal
 
 pub returns-clause-shown : goal.returns-clause-shown
 returns-clause-shown g c =
-    let mine = c.args.instance.now in
+    let mine = c.args.instance in
     IfOk-weaker c.blocks_outside.result (λ pit. (m : Instance) → IsTurned m c.in_ok-other.other → ListsPit Greatest m nothing pit.items) (λ pit. ListsPit Greatest mine nothing pit.items)
     (λ pit shown. shown mine c.in_ok-other.ensures.turned) c.blocks_outside.ensures.shown
 
 pub returns-clause-within : goal.returns-clause-within
 returns-clause-within g c =
-    let mine = c.args.instance.now in
+    let mine = c.args.instance in
     let mode = c.args.mode.now in
     let other = c.in_ok-other.other in
     IfOk-weaker c.blocks_outside.result (λ pit. EndsWithin mode other) (λ pit. OfSearched Greatest mine nothing (EndsWithin mode))
@@ -24,7 +24,7 @@ returns-clause-within g c =
 
 pub returns-clause-refused : goal.returns-clause-refused
 returns-clause-refused g c =
-    let mine = c.args.instance.now in
+    let mine = c.args.instance in
     let mode = c.args.mode.now in
     let other = c.in_ok-other.other in
     IfErr-weaker c.blocks_outside.result (λ e. RefusesSolve mode other e.refusal e) (λ e. RefusesSearch mode Greatest mine nothing e.refusal e)

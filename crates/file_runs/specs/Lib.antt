@@ -1,0 +1,6 @@
+pub mod Opened
+pub mod Ended
+pub mod Over
+pub mod Nested
+pub mod Made
+pub mod Solved
