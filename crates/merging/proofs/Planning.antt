@@ -6,7 +6,7 @@ use Rattle.std.proofs.lemmas.List.{ext_get_or}
 use Rattle.std.proofs.lemmas.List.FromFn.{get_or-map-range_with_len, length-map-range_with_len}
 use Rattle.pit_model.specs.Mine.{Instance, members, value}
 use Rattle.pit_model.proofs.Members.{members_each, members_few, members_rise}
-use Rattle.pit_model.specs.Graph.{first_of, second_of, AreApart, AreInRange, IsAcyclic, IsBefore, IsGraph}
+use Rattle.pit_model.specs.Graph.{AreApart, AreInRange, IsAcyclic, IsGraph}
 use Rattle.pit_model.specs.Cycle.{AcyclicHasNoNeedy}
 use Rattle.faults.specs.declared.fault.Fault.{Fault}
 use Rattle.faults.specs.declared.refusal.Refusal.{Refusal}

@@ -3,6 +3,7 @@
 #![tactic(auto)]
 
 mod closing;
+mod distances;
 mod first_mergers;
 mod joined;
 mod lowest_label;

@@ -1,14 +1,15 @@
 //! The order of mergers by lowest label (Hochbaum 2008; Chandran and Hochbaum 2009). It proposes arcs and proves nothing:
 //! the tree decides each merger, and what the order leaves over the closing loop of `single` finds.
 //!
-//! A label is a lower bound on how far a block is from the weak ones: 0 at first for a weak block, 1 for a strong one.
+//! A label is a lower bound on how far a block is from the weak ones. At first it is that distance.
 //! A turn takes a strong root of the lowest label and looks, in its branch, for a pair to a block one label lower. Where
 //! it finds one the branches merge; else the blocks of that label in the branch get the next one.
-ghost use Rattle.std.specs.Prelude.{◌≡◌, ◌<◌, ◌≤◌, ◌+◌, length, IfOk, IfErr, IfSome};
+ghost use Rattle.std.specs.Prelude.{◌≡◌, ◌<◌, ◌≤◌, ◌^◌, ◌+◌, length, IfOk, IfErr, IfSome};
 ghost use Rattle.faults.specs.Refused.{no_memory};
 ghost use Rattle.forest.specs.Forest.{size};
 ghost use Rattle.merging.specs.Order.{AreBelow};
 
+use crate::distances::Distances;
 use crate::waiting::Waiting;
 use faults::Fault;
 use forest::Forest;
@@ -112,21 +113,33 @@ fn add_children(
     found
 }
 
+/// How many blocks have each label.
+fn counts_of(alloc: Global, labels: &[u32]) -> Result<Vec<u32>, AllocError>
+    requires few { length labels.now ≤ 2 ^ 22 }
+    requires in_range { AreBelow labels.now (length labels.now + 2) }
+    ensures { IfOk result (λ v. length v.items ≡ length labels.now + 2) }
+{
+    let mut counts: Vec<u32> = vec![in alloc; 0; labels.len() + 2]?;
+    for &label in labels {
+        counts[label as usize] = counts[label as usize].saturating_add(1);
+    }
+    Ok(counts)
+}
+
 impl LowestLabel {
-    /// Each block has label 0, and none waits. Refused for want of memory alone.
-    fn opening(alloc: Global, graph: &Graph) -> Result<LowestLabel, Fault>
-        ensures blocks { IfOk result (λ o. o ≡ graph.now.blocks) }
+    /// Each block has its distance as a label, and none waits. Refused for want of memory alone.
+    fn opening(alloc: Global, tree: &BareTree) -> Result<LowestLabel, Fault>
+        ensures blocks { IfOk result (λ o. o ≡ tree.now.mine.blocks) }
         ensures no_memory { IfErr result (λ e. e ≡ no_memory) }
     {
-        graph.law();
-        let n = graph.n() as usize;
-        let mut counts = vec![in alloc; 0; n + 2]?;
-        counts[0] = graph.n();
+        tree.law();
+        let graph = tree.instance().graph();
+        let distances = Distances::of(alloc, tree)?;
         Ok(LowestLabel {
-            labels: vec![in alloc; 0; n]?,
             arcs: first_arcs(alloc, graph)?,
-            counts,
-            branch: vec![in alloc; 0; n]?,
+            counts: counts_of(alloc, &distances.of_blocks)?,
+            labels: distances.of_blocks,
+            branch: distances.queue,
             found: 0,
             waiting: Waiting::new(alloc, graph.n())?,
         })
@@ -138,7 +151,7 @@ impl LowestLabel {
         ensures no_memory { IfErr result (λ e. e ≡ no_memory) }
     {
         let graph = tree.instance().graph();
-        let mut order = LowestLabel::opening(alloc, graph)?;
+        let mut order = LowestLabel::opening(alloc, tree)?;
         for root in 0..graph.n() {
             order.wait(tree, root);
         }

@@ -1,5 +1,6 @@
 pub mod FactorList
 pub mod FactorLimits
+pub mod PriceLimits
 pub mod Prices
 pub mod Grown
 pub mod Outermost

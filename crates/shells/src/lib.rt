@@ -12,6 +12,6 @@ mod plan;
 
 pub use columns::Columns;
 pub use factors::Factors;
-pub use laws::limits_of_factors;
+pub use laws::{limits_of_factors, limits_of_prices};
 pub use nesting::shells;
 pub use pit_model::{Direction, Shell, ShellList};

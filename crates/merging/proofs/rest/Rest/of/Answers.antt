@@ -4,8 +4,8 @@ use Rattle.std.specs.Prelude.{ℤ, map, pos}
 use Rattle.std.specs.Arc.{arc_value}
 use Rattle.std.proofs.lemmas.List.{ext_get_or, get_or-map, length-map}
 use Rattle.pit_model.specs.Graph.{Graph}
-use Rattle.pit_model.specs.Mine.{Instance, instance_of, value}
-use Rattle.pit_model.specs.Fixed.{IsFixedRest, fixed_of, graph_of_mine, is_open, mine_among}
+use Rattle.pit_model.specs.Mine.{instance_of, value}
+use Rattle.pit_model.specs.Fixed.{IsFixedRest, fixed_of, graph_of_mine, is_open}
 use Rattle.mine_graph.specs.FixedBlocks.{dug_in, left_in}
 use Rattle.merging.proofs.SolvedPart.{blocks_below, graph_is}
 use Rattle.merging.proofs.rest.Rest.of.Goals as goal
