@@ -1,8 +1,7 @@
 //! Files in memory, and a log of what is asked of them: the word of each call and the name, one a line.
 ghost use Rattle.std.specs.Prelude.{◌≡◌, IfErr};
-ghost use Rattle.faults.specs.Refused.{at_line, write_failed};
-ghost use Rattle.faults.specs.declared.refusal.Refusal.TheVariants.{ReadFailed};
-ghost use Rattle.file_runs.specs.Made.{IsUnmade};
+ghost use Rattle.faults.specs.Refused.{write_failed};
+ghost use Rattle.file_runs.specs.Faults.{IsUnmade, IsUnopened};
 
 use faults::{Fault, Refusal, Source};
 use file_runs::{InputFiles, OutputFiles};
@@ -97,7 +96,7 @@ impl<'a> FakeFiles<'a> {
 
     /// Opens the text of a name.
     fn look(&mut self, word: &str, name: &str, source: Source) -> Result<Text<'a>, Fault>
-        ensures refused { IfErr result (λ e. e ≡ at_line source ReadFailed 0) }
+        ensures refused { IfErr result (IsUnopened source) }
     {
         if self.note(word, name).is_err() {
             return Err(Fault::at_line(source, Refusal::ReadFailed, 0));

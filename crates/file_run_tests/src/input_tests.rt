@@ -1,5 +1,6 @@
 //! Which files `check`, `replay` and `shells` open, in which order, and what they answer over them.
 
+use crate::ends::{Ends, done, expect_ends, refused};
 use crate::fake_files::FakeFiles;
 use file_runs::{
     CheckOptions, MineNames, ReplayOptions, ShellsOptions, check_call, replay_call, shells_call,
@@ -41,9 +42,7 @@ const MINE: MineNames<'static> = MineNames {
 fn expect_check<R: Abort + AllocGlobal>(
     rt: &R,
     options: &CheckOptions<'_>,
-    out: &str,
-    err: &str,
-    status: u8,
+    ends: &Ends<'_>,
     log: &str,
 ) -> Result<(), Fail> {
     let alloc = rt.alloc();
@@ -51,9 +50,7 @@ fn expect_check<R: Abort + AllocGlobal>(
     let mut written = MemoryWriter::new(alloc, 1000);
     let mut told = MemoryWriter::new(alloc, 1000);
     let code = check_call(alloc, &mut files, options, &mut written, &mut told);
-    assert_eq!(rt; code, status);
-    assert_eq!(rt; written.text.as_slice(), out.as_bytes());
-    assert_eq!(rt; told.text.as_slice(), err.as_bytes());
+    expect_ends(rt, ends, code, &written, &told)?;
     assert_eq!(rt; files.log.as_str(), log);
     Ok(())
 }
@@ -65,10 +62,12 @@ fn check_opens_the_certificate_behind_the_mine(rt: HostRuntime) -> Result<(), Fa
         certificate: "good.cert",
     };
     let log = "model mine.upit\nprecedence mine.prec\ncertificate good.cert\n";
-    expect_check(&rt, &options, "yes\n", "", 0, log)?;
+    expect_check(&rt, &options, &done("yes\n"), log)?;
     options.certificate = "wrong.cert";
     let log = "model mine.upit\nprecedence mine.prec\ncertificate wrong.cert\n";
-    expect_check(&rt, &options, "no\n", "", 4, log)
+    let mut no = done("no\n");
+    no.status = 4;
+    expect_check(&rt, &options, &no, log)
 }
 
 /// Where `check` is asked for over these files and a certificate that is missing, this is told after what was opened.
@@ -82,7 +81,7 @@ fn expect_missing<R: Abort + AllocGlobal>(
         mine,
         certificate: "no.cert",
     };
-    expect_check(rt, &options, "", err, 1, log)
+    expect_check(rt, &options, &refused(err, 1), log)
 }
 
 #[test]
@@ -114,12 +113,8 @@ fn replay_opens_the_journal_behind_the_mine(rt: HostRuntime) -> Result<(), Fail>
         journal: "no.journal",
     };
     let code = replay_call(alloc, &mut files, &options, &mut written, &mut told);
-    assert_eq!(&rt; code, 1);
-    assert_eq!(&rt; written.text.as_slice(), b"".as_slice());
-    assert_eq!(&rt;
-        told.text.as_slice(),
-        b"error 2: read failed in journal\n".as_slice()
-    );
+    let ends = refused("error 2: read failed in journal\n", 1);
+    expect_ends(&rt, &ends, code, &written, &told)?;
     let log = "model mine.upit\nprecedence mine.prec\njournal no.journal\n";
     assert_eq!(&rt; files.log.as_str(), log);
     Ok(())
@@ -130,19 +125,15 @@ fn replay_opens_the_journal_behind_the_mine(rt: HostRuntime) -> Result<(), Fail>
 fn expect_shells<R: Abort + AllocGlobal + Threads + Wait + Sync>(
     rt: &R,
     options: &ShellsOptions<'_>,
-    out: &str,
-    err: &str,
-    status: u8,
+    ends: &Ends<'_>,
     log: &str,
 ) -> Result<(), Fail> {
     let alloc = rt.alloc();
     let mut files = FakeFiles::new(alloc, &FILES, "");
     let mut written = MemoryWriter::new(alloc, 1000);
     let mut told = MemoryWriter::new(alloc, 1000);
-    let code = shells_call(rt, alloc, &mut files, options, &mut written, &mut told);
-    assert_eq!(rt; code, status);
-    assert_eq!(rt; written.text.as_slice(), out.as_bytes());
-    assert_eq!(rt; told.text.as_slice(), err.as_bytes());
+    let code = shells_call(rt, &mut files, options, &mut written, &mut told);
+    expect_ends(rt, ends, code, &written, &told)?;
     assert_eq!(rt; files.log.as_str(), log);
     Ok(())
 }
@@ -162,11 +153,11 @@ fn shells_read_the_factors_before_a_file_is_opened(rt: HostRuntime) -> Result<()
     };
     let log = "blocks mine.blocks\nprecedence mine.prec\n";
     let whole = "SHELLS\nBLOCKS: 2\nFACTORS: 1\n1000 2 6.000000000\n0 1000\n1 1000\n";
-    expect_shells(&rt, &options, whole, "", 0, log)?;
+    expect_shells(&rt, &options, &done(whole), log)?;
     options.revenue = 1;
     options.cost = 0;
     let one = "SHELLS\nBLOCKS: 2\nFACTORS: 1\n1000 1 3.000000000\n0 1000\n";
-    expect_shells(&rt, &options, one, "", 0, log)?;
+    expect_shells(&rt, &options, &done(one), log)?;
     options.revenue = 0;
     options.cost = 1;
     options.asked = Asked {
@@ -174,8 +165,8 @@ fn shells_read_the_factors_before_a_file_is_opened(rt: HostRuntime) -> Result<()
         pit: Direction::Least,
     };
     let used_up = "error 20: exhausted after 0 mergers\n";
-    expect_shells(&rt, &options, "", used_up, 3, log)?;
+    expect_shells(&rt, &options, &refused(used_up, 3), log)?;
     options.factors = "400,400";
     let falling = "error 19: factors not rising in factors item 2\n";
-    expect_shells(&rt, &options, "", falling, 1, "")
+    expect_shells(&rt, &options, &refused(falling, 1), "")
 }

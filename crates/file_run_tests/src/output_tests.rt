@@ -1,5 +1,6 @@
 //! Which outputs `solve` makes and keeps, in which order.
 
+use crate::ends::{Ends, done, expect_ends, refused};
 use crate::fake_files::FakeFiles;
 use file_runs::{MineNames, SolveOptions, solve_call};
 use minelib_reader::MemoryWriter;
@@ -49,18 +50,14 @@ fn log_of<R: Abort + AllocGlobal + Threads + Wait + Sync>(
     rt: &R,
     options: &SolveOptions<'_>,
     refused: &str,
-    out: &str,
-    err: &str,
-    status: u8,
+    ends: &Ends<'_>,
 ) -> Result<String, Fail> {
     let alloc = rt.alloc();
     let mut files = FakeFiles::new(alloc, &FILES, refused);
     let written = MemoryWriter::new(alloc, 1000);
     let mut told = MemoryWriter::new(alloc, 1000);
-    let (code, written) = solve_call(rt, alloc, &mut files, options, written, &mut told);
-    assert_eq!(rt; code, status);
-    assert_eq!(rt; written.text.as_slice(), out.as_bytes());
-    assert_eq!(rt; told.text.as_slice(), err.as_bytes());
+    let (code, written) = solve_call(rt, &mut files, options, written, &mut told);
+    expect_ends(rt, ends, code, &written, &told)?;
     let FakeFiles { log, .. } = files;
     Ok(log)
 }
@@ -72,7 +69,7 @@ fn behind<'a>(log: &'a str, front: &str) -> &'a str {
 
 #[test]
 fn a_solve_that_is_done_keeps_both_outputs(rt: HostRuntime) -> Result<(), Fail> {
-    let log = log_of(&rt, &by_one_worker(None), "", PIT, "", 0)?;
+    let log = log_of(&rt, &by_one_worker(None), "", &done(PIT))?;
     let (journal, certificate) = behind(log.as_str(), OPENED)
         .split_once("end certificate ")
         .unwrap_or(("", ""));
@@ -90,7 +87,7 @@ fn a_solve_that_is_done_keeps_both_outputs(rt: HostRuntime) -> Result<(), Fail> 
 #[test]
 fn a_used_up_budget_keeps_the_journal_alone(rt: HostRuntime) -> Result<(), Fail> {
     let err = "error 20: exhausted after 0 mergers\n";
-    let log = log_of(&rt, &by_one_worker(Some(0)), "", "", err, 3)?;
+    let log = log_of(&rt, &by_one_worker(Some(0)), "", &refused(err, 3))?;
     let ended = behind(log.as_str(), OPENED);
     assert!(&rt;
         ended.starts_with("end journal PITJOURNAL 1\nBLOCKS: 2\nARCS: 1\n"),
@@ -104,9 +101,9 @@ fn a_used_up_budget_keeps_the_journal_alone(rt: HostRuntime) -> Result<(), Fail>
 fn where_an_output_is_refused_none_is_left(rt: HostRuntime) -> Result<(), Fail> {
     let err = "error 18: write failed\n";
     let options = by_one_worker(None);
-    let log = log_of(&rt, &options, "made.cert", "", err, 1)?;
+    let log = log_of(&rt, &options, "made.cert", &refused(err, 1))?;
     assert_eq!(&rt; behind(log.as_str(), OPENED), "end journal gone\n");
-    let log = log_of(&rt, &options, "made.journal", "", err, 1)?;
+    let log = log_of(&rt, &options, "made.journal", &refused(err, 1))?;
     let opened = "model mine.upit\nprecedence mine.prec\nmake journal made.journal\n";
     assert_eq!(&rt; log.as_str(), opened);
     Ok(())
@@ -121,7 +118,7 @@ fn one_thread_has_no_journal_and_the_greatest_pit_no_output(rt: HostRuntime) -> 
         mode,
         pit: Direction::Least,
     };
-    let log = log_of(&rt, &options, "", PIT, "", 0)?;
+    let log = log_of(&rt, &options, "", &done(PIT))?;
     let made = behind(log.as_str(), opened);
     assert!(&rt;
         made.starts_with("make certificate made.cert\nend certificate PITCERT 1\n"),
@@ -131,7 +128,7 @@ fn one_thread_has_no_journal_and_the_greatest_pit_no_output(rt: HostRuntime) -> 
         mode,
         pit: Direction::Greatest,
     };
-    let log = log_of(&rt, &options, "", PIT, "", 0)?;
+    let log = log_of(&rt, &options, "", &done(PIT))?;
     assert_eq!(&rt; log.as_str(), opened);
     Ok(())
 }

@@ -13,11 +13,11 @@ use Rattle.runs.specs.Replay.{IsToldReplay, RefusesReplay}
 use Rattle.runs.specs.Run.{HoldsOfSearched, RefusesRun}
 use Rattle.runs.specs.ShellsRun.{HoldsOfDeposit, IsShellsDone, RefusesShellsRun}
 use Rattle.runs.specs.Solve.{Files, Reading, IsDone}
-use Rattle.runs.specs.declared.asked.Asked.{Asked}
 use Rattle.runs.specs.declared.status.Status.{Status}
-use Rattle.file_runs.specs.Nested.{RunsShells}
+use Rattle.file_runs.specs.declared.options.ShellsOptions.{ShellsOptions}
+use Rattle.file_runs.specs.Nested.{RunsShells, ShellsCourse}
 use Rattle.file_runs.specs.Over.{RunsCheck, RunsReplay}
-use Rattle.file_runs.specs.Solved.{RunsSolve}
+use Rattle.file_runs.specs.Solved.{RunsSolve, SolveCourse}
 
 pub runs_check : (files : Files) (c : Reading) (b a : Progress) (r : Result Status Fault) → IfOk r (IsChecked files c b a)
     → IfErr r (λ e. RefusesCheck e.refusal e files c b a) → RunsCheck files c b a r
@@ -29,20 +29,20 @@ pub runs_replay : (files : Files) (j : Reading) (b a : Progress) (r : Result Sta
 runs_replay files j b a (Ok status) told refused = told
 runs_replay files j b a (Err e) told refused = refused
 
-pub runs_shells : (asked : Asked) (revenue cost : ℕ) (factors : List ℕ) (blocks prec : Reading) (b a : Progress) (r : Result Status Fault)
-    → IfOk r (IsShellsDone asked.pit blocks prec revenue cost factors b a)
-    → IfOk r (λ _. HoldsOfDeposit blocks prec revenue cost (λ deposit. EachEndsWithin asked.mode asked.pit deposit factors))
-    → IfErr r (λ e. RefusesShellsRun asked.mode asked.pit e.refusal e blocks prec revenue cost factors b a)
-    → RunsShells asked revenue cost factors blocks prec b a r
-runs_shells asked revenue cost factors blocks prec b a (Ok status) done within refused = (done, within)
-runs_shells asked revenue cost factors blocks prec b a (Err e) done within refused = refused
+pub runs_shells : (options : ShellsOptions) (factors : List ℕ) (run : ShellsCourse) (r : Result Status Fault)
+    → IfOk r (IsShellsDone options.asked.pit run.blocks run.prec options.revenue options.cost factors run.before run.after)
+    → IfOk r (λ _. HoldsOfDeposit run.blocks run.prec options.revenue options.cost (λ deposit. EachEndsWithin options.asked.mode options.asked.pit deposit factors))
+    → IfErr r (λ e. RefusesShellsRun options.asked.mode options.asked.pit e.refusal e run.blocks run.prec options.revenue options.cost factors run.before run.after)
+    → RunsShells options factors run r
+runs_shells options factors run (Ok status) done within refused = (done, within)
+runs_shells options factors run (Err e) done within refused = refused
 
-pub runs_solve : (asked : Asked) (files : Files) (journal certificate : Chosen) (b a : Progress) (r : Result Status Fault)
-    → IfOk r (IsDone asked.pit files b a)
-    → IfOk r (λ _. OfWriterIfAny journal (IsJournaled IsSettled asked.mode files))
-    → IfOk r (λ _. OfWriterIfAny certificate (IsCertified files))
-    → IfOk r (λ _. HoldsOfSearched asked.pit files (EndsWithin asked.mode))
-    → IfErr r (λ e. RefusesRun asked e.refusal e files journal certificate b a)
-    → RunsSolve asked files journal certificate b a r
-runs_solve asked files journal certificate b a (Ok status) done journaled certified within refused = (done, journaled, certified, within)
-runs_solve asked files journal certificate b a (Err e) done journaled certified within refused = refused
+pub runs_solve : (run : SolveCourse) (journal certificate : Chosen) (r : Result Status Fault)
+    → IfOk r (IsDone run.asked.pit run.files run.before run.after)
+    → IfOk r (λ _. OfWriterIfAny journal (IsJournaled IsSettled run.asked.mode run.files))
+    → IfOk r (λ _. OfWriterIfAny certificate (IsCertified run.files))
+    → IfOk r (λ _. HoldsOfSearched run.asked.pit run.files (EndsWithin run.asked.mode))
+    → IfErr r (λ e. RefusesRun run.asked e.refusal e run.files journal certificate run.before run.after)
+    → RunsSolve run journal certificate r
+runs_solve run journal certificate (Ok status) done journaled certified within refused = (done, journaled, certified, within)
+runs_solve run journal certificate (Err e) done journaled certified within refused = refused

@@ -1,3 +1,5 @@
+pub mod Faults
+pub mod Place
 pub mod Opened
 pub mod Ended
 pub mod Over

@@ -1,6 +1,6 @@
 -- Which outputs a call makes beside standard output, and how each ends: kept at its place, or gone.
-use Rattle.std.specs.Prelude.{◌≡◌, ◌⊎◌, ℕ, Bool, ◌&&◌, ◌||◌, true, false, List, Option, None, Some, Result, Ok, Err, is_ok, is_some}
-use Rattle.faults.specs.Refused.{no_memory, write_failed}
+use Rattle.std.specs.Prelude.{◌≡◌, ℕ, Bool, ◌&&◌, ◌||◌, true, false, List, Option, None, Some, Result, Ok, Err, MatchBool, is_ok, is_some, option_copied}
+use Rattle.faults.specs.Refused.{write_failed}
 use Rattle.faults.specs.declared.fault.Fault.{Fault}
 use Rattle.faults.specs.declared.refusal.Refusal.{Refusal}
 use Rattle.faults.specs.declared.refusal.Refusal.TheVariants.{Exhausted}
@@ -12,27 +12,8 @@ use Rattle.runs.specs.declared.asked.Asked.{Asked}
 use Rattle.runs.specs.declared.status.Status.{Status}
 use Rattle.solver.specs.declared.mode.Mode.{Mode}
 use Rattle.solver.specs.declared.mode.Mode.TheVariants.{Shared}
-
--- why an output could not be made
-abbrev pub IsUnmade : Fault → Type 0
-IsUnmade fault = (fault ≡ write_failed) ⊎ (fault ≡ no_memory)
-
--- the output of a name was made as what it is, where there is one
-abbrev pub MakesIfAny : {F : Type 0} → (F → List ℕ → Source → F → Type 0) → Source → Option (List ℕ) → F → F → Type 0
-MakesIfAny makes source None old new = new ≡ old
-MakesIfAny makes source (Some name) old new = makes old name source new
-
--- there is one, and it could not be made
-abbrev pub SparesIfAny : {F : Type 0} → (F → List ℕ → Source → F → Type 0) → Source → Option (List ℕ) → Fault → F → F → Type 0
-SparesIfAny spares source None fault old new = ⊥
-SparesIfAny spares source (Some name) fault old new = IsUnmade fault × spares old name source new
-
--- an output was ended, where there is one: kept or not
-abbrev pub EndsIfAny : {F : Type 0} → (F → Source → Bool → F → Type 0) → (F → Source → F → Type 0) → Source → Bool → Bool → Result (Unit {0}) Fault → F → F → Type 0
-EndsIfAny ends loses source false is_kept (Ok x) old new = new ≡ old
-EndsIfAny ends loses source false is_kept (Err e) old new = ⊥
-EndsIfAny ends loses source true is_kept (Ok x) old new = ends old source is_kept new
-EndsIfAny ends loses source true is_kept (Err e) old new = (e ≡ write_failed) × loses old source new
+use Rattle.file_runs.specs.declared.options.SolveOptions.{SolveOptions}
+use Rattle.file_runs.specs.declared.outputs.OutputFiles.{Ghosts as Making}
 
 -- mode shared alone has a journal, and of the least pit
 abbrev pub journal_in : {T : Type 0} → Mode → Option T → Option T
@@ -51,19 +32,34 @@ abbrev pub certificate_toward : {T : Type 0} → Direction → Option T → Opti
 certificate_toward Least name = name
 certificate_toward Greatest name = None
 
--- the outputs beside the pit were made, where they are wanted: the journal, and then the certificate
-pub record MakesOutputs {F : Type 0} (makes : F → List ℕ → Source → F → Type 0) (journal certificate : Option (List ℕ)) (old new : F) : Type 0 where
-  pub behind_journal : F
-  pub journal_made : MakesIfAny makes sources.Journal journal old behind_journal
-  pub certificate_made : MakesIfAny makes sources.Certificate certificate behind_journal new
+-- the names of the outputs beside the pit, where they are wanted
+pub record Wanted : Type 0 where
+  pub journal : Option (List ℕ)
+  pub certificate : Option (List ℕ)
 
--- one could not be made, and none is left
-pub data SparesOutputs {F : Type 0} (makes spares : F → List ℕ → Source → F → Type 0) (ends : F → Source → Bool → F → Type 0) (loses : F → Source → F → Type 0)
-    (journal certificate : Option (List ℕ)) (fault : Fault) (old new : F) : Type 0 where
-  no_journal : SparesIfAny spares sources.Journal journal fault old new → SparesOutputs makes spares ends loses journal certificate fault old new
-  no_certificate : (f g : F) (left : Result (Unit {0}) Fault) → MakesIfAny makes sources.Journal journal old f
-      → SparesIfAny spares sources.Certificate certificate fault f g
-      → EndsIfAny ends loses sources.Journal (is_some journal) false left g new → SparesOutputs makes spares ends loses journal certificate fault old new
+abbrev pub wanted_by : SolveOptions → Wanted
+wanted_by options = record {
+  journal = journal_of options.asked (option_copied options.journal);
+  certificate = certificate_toward options.asked.pit (option_copied options.certificate);
+}
+
+-- an output when it ends: what it is, whether there is one, and whether it is to be kept
+pub record Output : Type 0 where
+  pub source : Source
+  pub is_there : Bool
+  pub is_kept : Bool
+
+abbrev pub output : Source → Bool → Bool → Output
+output source is_there is_kept = record { source = source; is_there = is_there; is_kept = is_kept }
+
+-- a run that ended so, and which outputs beside the pit it had
+pub record Finished : Type 0 where
+  pub outcome : Result Status Fault
+  pub has_journal : Bool
+  pub has_certificate : Bool
+
+abbrev pub finished : Result Status Fault → Bool → Bool → Finished
+finished outcome has_journal has_certificate = record { outcome = outcome; has_journal = has_journal; has_certificate = has_certificate }
 
 -- a run ended at its budget
 abbrev pub is_budget_refusal : Refusal → Bool
@@ -80,13 +76,45 @@ behind_outputs (Err e) certificate outcome = Err e
 behind_outputs (Ok x) (Err e) outcome = Err e
 behind_outputs (Ok x) (Ok y) outcome = outcome
 
--- behind a run its outputs were ended, where they are there: the journal is kept where the run was done or ended at its budget;
--- the certificate where it was done and the journal is at its place
-pub record EndsOutputs {F : Type 0} (ends : F → Source → Bool → F → Type 0) (loses : F → Source → F → Type 0)
-    (has_journal has_certificate : Bool) (outcome result : Result Status Fault) (old new : F) : Type 0 where
-  pub behind_journal : F
-  pub journal_left : Result (Unit {0}) Fault
-  pub certificate_left : Result (Unit {0}) Fault
-  pub journal_ended : EndsIfAny ends loses sources.Journal has_journal (is_ok outcome || is_exhausted outcome) journal_left old behind_journal
-  pub certificate_ended : EndsIfAny ends loses sources.Certificate has_certificate (is_ok outcome && is_ok journal_left) certificate_left behind_journal new
-  pub result_is : result ≡ behind_outputs journal_left certificate_left outcome
+module _ {F JournalOut CertificateOut Model Prec Fixed Certificate Journal Blocks : Type 0} where
+  -- the output of a name was made as what it is, where there is one
+  abbrev pub MakesIfAny : Making F JournalOut CertificateOut Model Prec Fixed Certificate Journal Blocks → Source → Option (List ℕ) → F → F → Type 0
+  MakesIfAny files source None old new = new ≡ old
+  MakesIfAny files source (Some name) old new = files.makes old name source new
+
+  -- there is one, and it could not be made
+  abbrev pub SparesIfAny : Making F JournalOut CertificateOut Model Prec Fixed Certificate Journal Blocks → Source → Option (List ℕ) → F → F → Type 0
+  SparesIfAny files source None old new = ⊥
+  SparesIfAny files source (Some name) old new = files.spares old name source new
+
+  -- an output that is there was ended, kept or not; or it was to be kept, and could not be
+  abbrev pub Ends : Making F JournalOut CertificateOut Model Prec Fixed Certificate Journal Blocks → Output → Result (Unit {0}) Fault → F → F → Type 0
+  Ends files output (Ok x) old new = files.ends old output.source output.is_kept new
+  Ends files output (Err e) old new = (e ≡ write_failed) × files.loses old output.source new
+
+  -- an output was ended, where there is one
+  abbrev pub EndsIfAny : Making F JournalOut CertificateOut Model Prec Fixed Certificate Journal Blocks → Output → Result (Unit {0}) Fault → F → F → Type 0
+  EndsIfAny files output result old new = MatchBool output.is_there (Ends files output result old new) ((result ≡ Ok tt) × (new ≡ old))
+
+  -- the outputs beside the pit were made, where they are wanted: the journal, and then the certificate
+  pub record MakesOutputs (files : Making F JournalOut CertificateOut Model Prec Fixed Certificate Journal Blocks) (wanted : Wanted) (old new : F) : Type 0 where
+    pub behind_journal : F
+    pub journal_made : MakesIfAny files sources.Journal wanted.journal old behind_journal
+    pub certificate_made : MakesIfAny files sources.Certificate wanted.certificate behind_journal new
+
+  -- one could not be made, and none is left
+  pub data SparesOutputs (files : Making F JournalOut CertificateOut Model Prec Fixed Certificate Journal Blocks) (wanted : Wanted) (old new : F) : Type 0 where
+    no_journal : SparesIfAny files sources.Journal wanted.journal old new → SparesOutputs files wanted old new
+    no_certificate : (f g : F) (left : Result (Unit {0}) Fault) → MakesIfAny files sources.Journal wanted.journal old f
+        → SparesIfAny files sources.Certificate wanted.certificate f g
+        → EndsIfAny files (output sources.Journal (is_some wanted.journal) false) left g new → SparesOutputs files wanted old new
+
+  -- behind a run its outputs were ended, where they are there: the journal is kept where the run was done or ended at its budget;
+  -- the certificate where it was done and the journal is at its place
+  pub record EndsOutputs (files : Making F JournalOut CertificateOut Model Prec Fixed Certificate Journal Blocks) (run : Finished) (result : Result Status Fault) (old new : F) : Type 0 where
+    pub behind_journal : F
+    pub journal_left : Result (Unit {0}) Fault
+    pub certificate_left : Result (Unit {0}) Fault
+    pub journal_ended : EndsIfAny files (output sources.Journal run.has_journal (is_ok run.outcome || is_exhausted run.outcome)) journal_left old behind_journal
+    pub certificate_ended : EndsIfAny files (output sources.Certificate run.has_certificate (is_ok run.outcome && is_ok journal_left)) certificate_left behind_journal new
+    pub result_is : result ≡ behind_outputs journal_left certificate_left run.outcome

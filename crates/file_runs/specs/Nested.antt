@@ -1,39 +1,49 @@
 -- The call of `shells`: the factors are read first, and then the files are opened.
 use Rattle.std.specs.Prelude.{◌≡◌, ◌^◌, ℕ, List, Result, Ok, Err}
 use Rattle.faults.specs.declared.fault.Fault.{Fault}
-use Rattle.faults.specs.declared.source.Source.{Source}
 use Rattle.faults.specs.declared.source.Source.TheVariants as sources
 use Rattle.minelib_reader.specs.Answer.{FailsAt}
 use Rattle.minelib_reader.specs.Device.{Progress, unread}
+use Rattle.minelib_reader.specs.declared.input.FileReader.{FileReader}
 use Rattle.shells.specs.FactorList.{numbers_of, IsFirstItemFault, SpellsFactors}
 use Rattle.shells.specs.Grown.{EachEndsWithin}
 use Rattle.runs.specs.ShellsRun.{HoldsOfDeposit, IsShellsDone, RefusesShellsRun}
-use Rattle.runs.specs.Solve.{Reading, reading}
-use Rattle.runs.specs.declared.asked.Asked.{Asked}
+use Rattle.runs.specs.Solve.{Reading}
 use Rattle.runs.specs.declared.status.Status.{Status}
-use Rattle.file_runs.specs.Opened.{Lacks}
+use Rattle.file_runs.specs.declared.options.ShellsOptions.{ShellsOptions}
+use Rattle.file_runs.specs.Faults.{IsUnopened}
+use Rattle.file_runs.specs.Place.{InputPlace, IsNotRun, State, given_by}
 
--- how a run of `shells` ends
-abbrev pub RunsShells : Asked → ℕ → ℕ → List ℕ → Reading → Reading → Progress → Progress → Result Status Fault → Type 0
-RunsShells asked revenue cost factors blocks prec before after (Ok status) =
-    IsShellsDone asked.pit blocks prec revenue cost factors before after status
-    × HoldsOfDeposit blocks prec revenue cost (λ deposit. EachEndsWithin asked.mode asked.pit deposit factors)
-RunsShells asked revenue cost factors blocks prec before after (Err e) =
-    RefusesShellsRun asked.mode asked.pit e.refusal e blocks prec revenue cost factors before after
+-- what went through the readers and the writer of a run of `shells`
+pub record ShellsCourse : Type 1 where
+  pub blocks : Reading
+  pub prec : Reading
+  pub before : Progress
+  pub after : Progress
 
--- the text spells no factors, and no file was opened; a file could not be opened, and nothing else was done; or both were opened,
--- and the run was over their readers, from their fronts, with the factors that the text spells
-pub data EndsShells {F B P : Type 0} (opens lacks : F → List ℕ → Source → F → Type 0)
-    (blocks_progress : B → Progress) (BlocksEnds : B → Type 0) (prec_progress : P → Progress) (PrecEnds : P → Type 0)
-    (blocks prec : List ℕ) (revenue cost : ℕ) (text : List ℕ) (asked : Asked) (old new : F) (before after : Progress) (result : Result Status Fault) : Type 0 where
-  no_factors : (fault : Fault) → FailsAt fault.refusal fault (IsFirstItemFault (numbers_of text)) → new ≡ old → after ≡ before → result ≡ Err fault
-      → EndsShells opens lacks blocks_progress BlocksEnds prec_progress PrecEnds blocks prec revenue cost text asked old new before after result
-  no_blocks : (fault : Fault) (factors : List ℕ) → SpellsFactors text factors → Lacks lacks blocks sources.Blocks fault old new → after ≡ before → result ≡ Err fault
-      → EndsShells opens lacks blocks_progress BlocksEnds prec_progress PrecEnds blocks prec revenue cost text asked old new before after result
-  no_needs : (fault : Fault) (factors : List ℕ) (f : F) → SpellsFactors text factors → opens old blocks sources.Blocks f
-      → Lacks lacks prec sources.Precedence fault f new → after ≡ before → result ≡ Err fault
-      → EndsShells opens lacks blocks_progress BlocksEnds prec_progress PrecEnds blocks prec revenue cost text asked old new before after result
-  grew : (factors : List ℕ) (f : F) (b b' : B) (p p' : P) → SpellsFactors text factors → opens old blocks sources.Blocks f
-      → opens f prec sources.Precedence new → blocks_progress b ≡ unread (2 ^ 40) → prec_progress p ≡ unread (2 ^ 40)
-      → RunsShells asked revenue cost factors (reading (blocks_progress b) (blocks_progress b') (BlocksEnds b')) (reading (prec_progress p) (prec_progress p') (PrecEnds p')) before after result
-      → EndsShells opens lacks blocks_progress BlocksEnds prec_progress PrecEnds blocks prec revenue cost text asked old new before after result
+-- how a run of `shells` with these factors ends
+abbrev pub RunsShells : ShellsOptions → List ℕ → ShellsCourse → Result Status Fault → Type 0
+RunsShells options factors run (Ok status) =
+    IsShellsDone options.asked.pit run.blocks run.prec options.revenue options.cost factors run.before run.after status
+    × HoldsOfDeposit run.blocks run.prec options.revenue options.cost (λ deposit. EachEndsWithin options.asked.mode options.asked.pit deposit factors)
+RunsShells options factors run (Err e) =
+    RefusesShellsRun options.asked.mode options.asked.pit e.refusal e run.blocks run.prec options.revenue options.cost factors run.before run.after
+
+module _ {F Model Prec Fixed Certificate Journal Blocks : Type 0} where
+  -- the text spells no factors, and no file was opened; a file could not be opened, and nothing else was done; or both were opened,
+  -- and the run was over their readers, from their fronts, with the factors that the text spells
+  pub data EndsShells (place : InputPlace F Model Prec Fixed Certificate Journal Blocks) (options : ShellsOptions) (old new : State F) (result : Result Status Fault) : Type 0 where
+    no_factors : (fault : Fault) → FailsAt fault.refusal fault (IsFirstItemFault (numbers_of options.factors.now)) → new.files ≡ old.files
+        → IsNotRun fault old new result → EndsShells place options old new result
+    no_blocks : (fault : Fault) (factors : List ℕ) → SpellsFactors options.factors.now factors
+        → IsUnopened sources.Blocks fault → place.files.lacks old.files options.blocks.now sources.Blocks new.files
+        → IsNotRun fault old new result → EndsShells place options old new result
+    no_prec : (fault : Fault) (factors : List ℕ) (f : F) → SpellsFactors options.factors.now factors
+        → place.files.opens old.files options.blocks.now sources.Blocks f
+        → IsUnopened sources.Precedence fault → place.files.lacks f options.prec.now sources.Precedence new.files
+        → IsNotRun fault old new result → EndsShells place options old new result
+    grew : (factors : List ℕ) (f : F) (b b' : FileReader Blocks) (p p' : FileReader Prec) → SpellsFactors options.factors.now factors
+        → place.files.opens old.files options.blocks.now sources.Blocks f → place.files.opens f options.prec.now sources.Precedence new.files
+        → place.blocks.progress b ≡ unread (2 ^ 40) → place.prec.progress p ≡ unread (2 ^ 40)
+        → RunsShells options factors (record { blocks = given_by place.blocks b b'; prec = given_by place.prec p p'; before = old.out; after = new.out }) result
+        → EndsShells place options old new result

@@ -1,14 +1,22 @@
 -- The calls over the files of a mine and one more: `check` over a certificate, and `replay` over a journal.
-use Rattle.std.specs.Prelude.{◌≡◌, ◌^◌, ℕ, List, Option, Result, Ok, Err}
+use Rattle.std.specs.Prelude.{◌≡◌, ◌^◌, ℕ, List, Result, Ok, Err}
 use Rattle.faults.specs.declared.fault.Fault.{Fault}
 use Rattle.faults.specs.declared.source.Source.{Source}
+use Rattle.faults.specs.declared.source.Source.TheVariants as sources
 use Rattle.minelib_reader.specs.Device.{Progress, unread}
+use Rattle.minelib_reader.specs.declared.device.InBytes.{Ghosts as Reader}
+use Rattle.minelib_reader.specs.declared.input.FileReader.{FileReader}
 use Rattle.runs.specs.Check.{IsChecked, RefusesCheck}
 use Rattle.runs.specs.Replay.{IsToldReplay, RefusesReplay}
-use Rattle.runs.specs.Solve.{Files, Reading, files_of, reading}
+use Rattle.runs.specs.Solve.{Files, Reading}
 use Rattle.runs.specs.declared.mine.MineFiles.{MineFiles}
 use Rattle.runs.specs.declared.status.Status.{Status}
-use Rattle.file_runs.specs.Opened.{AreUnread, Lacks, LacksMine, OpensMine}
+use Rattle.file_runs.specs.declared.options.CheckOptions.{CheckOptions}
+use Rattle.file_runs.specs.declared.options.MineNames.{MineNames}
+use Rattle.file_runs.specs.declared.options.ReplayOptions.{ReplayOptions}
+use Rattle.file_runs.specs.Faults.{IsUnopened}
+use Rattle.file_runs.specs.Opened.{AreUnread, LacksMine, OpensMine}
+use Rattle.file_runs.specs.Place.{InputPlace, IsNotRun, State, given, given_by}
 
 -- how a run of `check` ends
 abbrev pub RunsCheck : Files → Reading → Progress → Progress → Result Status Fault → Type 0
@@ -20,19 +28,43 @@ abbrev pub RunsReplay : Files → Reading → Progress → Progress → Result S
 RunsReplay files journal before after (Ok status) = IsToldReplay files journal before after status
 RunsReplay files journal before after (Err e) = RefusesReplay e.refusal e files journal before after
 
--- a file could not be opened, and nothing else was done; or the files of a mine were opened, and then the one behind them, and
--- the run was over the readers of these, from their fronts
-pub data EndsOver {F M P X S : Type 0} (opens lacks : F → List ℕ → Source → F → Type 0)
-    (model_progress : M → Progress) (ModelEnds : M → Type 0) (prec_progress : P → Progress) (PrecEnds : P → Type 0)
-    (fixed_progress : X → Progress) (FixedEnds : X → Type 0) (last_progress : S → Progress) (LastEnds : S → Type 0)
-    (source : Source) (Runs : Files → Reading → Progress → Progress → Result Status Fault → Type 0)
-    (model prec : List ℕ) (fixed : Option (List ℕ)) (last : List ℕ) (old new : F) (before after : Progress) (result : Result Status Fault) : Type 0 where
-  no_mine : (fault : Fault) → LacksMine opens lacks model prec fixed fault old new → after ≡ before → result ≡ Err fault
-      → EndsOver opens lacks model_progress ModelEnds prec_progress PrecEnds fixed_progress FixedEnds last_progress LastEnds source Runs model prec fixed last old new before after result
-  no_last : (fault : Fault) (f : F) → OpensMine opens model prec fixed old f → Lacks lacks last source fault f new → after ≡ before → result ≡ Err fault
-      → EndsOver opens lacks model_progress ModelEnds prec_progress PrecEnds fixed_progress FixedEnds last_progress LastEnds source Runs model prec fixed last old new before after result
-  ran : (f : F) (mine read : MineFiles M P X) (s t : S) → OpensMine opens model prec fixed old f → opens f last source new
-      → AreUnread model_progress prec_progress fixed_progress fixed mine → last_progress s ≡ unread (2 ^ 40)
-      → Runs (files_of model_progress ModelEnds prec_progress PrecEnds fixed_progress FixedEnds mine read)
-      (reading (last_progress s) (last_progress t) (LastEnds t)) before after result
-      → EndsOver opens lacks model_progress ModelEnds prec_progress PrecEnds fixed_progress FixedEnds last_progress LastEnds source Runs model prec fixed last old new before after result
+-- the names of a mine and of the file behind it; what that is, how its reader counts, and how a run over all of them ends
+pub record Over (S : Type 0) : Type 1 where
+  pub mine : MineNames
+  pub last : List ℕ
+  pub source : Source
+  pub reader : Reader S
+  pub Runs : Files → Reading → Progress → Progress → Result Status Fault → Type 0
+
+module _ {F Model Prec Fixed Certificate Journal Blocks : Type 0} where
+  -- a file could not be opened, and nothing else was done; or the files of a mine were opened, and then the one behind them, and
+  -- the run was over the readers of these, from their fronts
+  pub data EndsOver {S : Type 0} (place : InputPlace F Model Prec Fixed Certificate Journal Blocks) (call : Over S) (old new : State F) (result : Result Status Fault) : Type 0 where
+    no_mine : (fault : Fault) → LacksMine place.files call.mine fault old.files new.files → IsNotRun fault old new result → EndsOver place call old new result
+    no_last : (fault : Fault) (f : F) → OpensMine place.files call.mine old.files f → IsUnopened call.source fault → place.files.lacks f call.last call.source new.files
+        → IsNotRun fault old new result → EndsOver place call old new result
+    ran : (f : F) (mine read : MineFiles (FileReader Model) (FileReader Prec) (FileReader Fixed)) (s t : S)
+        → OpensMine place.files call.mine old.files f → place.files.opens f call.last call.source new.files
+        → AreUnread place call.mine mine → call.reader.progress s ≡ unread (2 ^ 40)
+        → call.Runs (given place mine read) (given_by call.reader s t) old.out new.out result
+        → EndsOver place call old new result
+
+  -- how a call of `check` ends
+  abbrev pub EndsCheck : InputPlace F Model Prec Fixed Certificate Journal Blocks → CheckOptions → State F → State F → Result Status Fault → Type 0
+  EndsCheck place options old new result = EndsOver place (record {
+    mine = options.mine;
+    last = options.certificate.now;
+    source = sources.Certificate;
+    reader = place.certificate;
+    Runs = RunsCheck;
+  }) old new result
+
+  -- how a call of `replay` ends
+  abbrev pub EndsReplay : InputPlace F Model Prec Fixed Certificate Journal Blocks → ReplayOptions → State F → State F → Result Status Fault → Type 0
+  EndsReplay place options old new result = EndsOver place (record {
+    mine = options.mine;
+    last = options.journal.now;
+    source = sources.Journal;
+    reader = place.journal;
+    Runs = RunsReplay;
+  }) old new result

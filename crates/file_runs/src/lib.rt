@@ -5,9 +5,12 @@
 mod check;
 mod ending;
 mod inputs;
+mod made;
+mod mine;
 mod nested;
 mod options;
 mod outputs;
+mod place;
 mod readers;
 mod recorded;
 mod replay;

@@ -1,35 +1,33 @@
 //! `shells` over files.
-ghost use Rattle.std.specs.Prelude.{◌≡◌, ◌<◌, ◌^◌};
+ghost use Rattle.std.specs.Prelude.{◌<◌, ◌^◌};
 ghost use Rattle.file_runs.specs.Ended.{Ended};
 ghost use Rattle.file_runs.specs.Nested.{EndsShells};
+ghost use Rattle.file_runs.specs.Place.{state};
 
 use crate::ending::told;
 use crate::inputs::InputFiles;
 use crate::options::ShellsOptions;
+use crate::place::Readable;
 use faults::Fault;
-use minelib_reader::{FileReader, InBytes, OutBytes};
+use minelib_reader::{FileReader, OutBytes};
 use runs::{Status, run_shells};
 use shells::Factors;
-use std::alloc::Global;
+use std::alloc::AllocGlobal;
 use std::sync::Wait;
 use std::thread::Threads;
 
 /// Writes the nested pits of the deposit of two files. The factors are read first, before a file is opened. `rt` starts the
 /// workers.
-fn shells_files<R: Threads + Wait + Sync, F: InputFiles, W: OutBytes>(
+fn shells_files<R: AllocGlobal + Threads + Wait + Sync, F: InputFiles, W: OutBytes>(
     rt: &R,
-    alloc: Global,
     files: &mut F,
     options: &ShellsOptions<'_>,
     out: &mut W,
 ) -> Result<Status, Fault>
     requires countable { (W.progress out.old).failures < 2 ^ 63 }
-    ensures { EndsShells F.opens F.lacks
-        (⟦<FileReader<F::Blocks> as InBytes>⟧.progress) (⟦<FileReader<F::Blocks> as InBytes>⟧.IsAtEnd)
-        (⟦<FileReader<F::Prec> as InBytes>⟧.progress) (⟦<FileReader<F::Prec> as InBytes>⟧.IsAtEnd)
-        options.now.blocks.now options.now.prec.now options.now.revenue options.now.cost options.now.factors.now options.now.asked
-        files.old files.new (W.progress out.old) (W.progress out.new) result }
+    ensures { EndsShells ⟦<F as Readable>⟧.place options.now (state files.old (W.progress out.old)) (state files.new (W.progress out.new)) result }
 {
+    let alloc = rt.alloc();
     let factors = Factors::read(alloc, options.factors)?;
     let blocks = files.open_blocks(options.blocks)?;
     let prec = files.open_prec(options.prec)?;
@@ -50,9 +48,8 @@ fn shells_files<R: Threads + Wait + Sync, F: InputFiles, W: OutBytes>(
 
 /// The whole call of `shells`: reads the factors, opens the block model and then the precedence file, and writes the nested pits.
 /// A fault is told on standard error, and the exit status is answered.
-pub fn shells_call<R: Threads + Wait + Sync, F: InputFiles, W: OutBytes, E: OutBytes>(
+pub fn shells_call<R: AllocGlobal + Threads + Wait + Sync, F: InputFiles, W: OutBytes, E: OutBytes>(
     rt: &R,
-    alloc: Global,
     files: &mut F,
     options: &ShellsOptions<'_>,
     out: &mut W,
@@ -60,12 +57,9 @@ pub fn shells_call<R: Threads + Wait + Sync, F: InputFiles, W: OutBytes, E: OutB
 ) -> u8
     requires out_countable { (W.progress out.old).failures < 2 ^ 63 }
     requires err_countable { (E.progress err.old).failures < 2 ^ 63 }
-    ensures { Ended result (E.progress err.old) (E.progress err.new) (EndsShells F.opens F.lacks
-        (⟦<FileReader<F::Blocks> as InBytes>⟧.progress) (⟦<FileReader<F::Blocks> as InBytes>⟧.IsAtEnd)
-        (⟦<FileReader<F::Prec> as InBytes>⟧.progress) (⟦<FileReader<F::Prec> as InBytes>⟧.IsAtEnd)
-        options.now.blocks.now options.now.prec.now options.now.revenue options.now.cost options.now.factors.now options.now.asked
-        files.old files.new (W.progress out.old) (W.progress out.new)) }
+    ensures { Ended result (E.progress err.old) (E.progress err.new) (EndsShells ⟦<F as Readable>⟧.place options.now
+        (state files.old (W.progress out.old)) (state files.new (W.progress out.new))) }
 {
-    let outcome = shells_files(rt, alloc, files, options, out);
+    let outcome = shells_files(rt, files, options, out);
     told(err, &outcome)
 }

@@ -35,9 +35,14 @@ fn run_certified<
     requires may_journal { MayJournal asked.mode (progress_of J.progress outputs.journal) }
     requires may_record { (asked.pit ≡ Least) ⊎ ((progress_of J.progress outputs.journal ≡ None) × (is_some outputs.certificate ≡ false)) }
     requires out_countable { (W.progress outputs.out).failures < 2 ^ 63 }
-    ensures ran { RanCertified J.progress (⟦<StreamWriter<&'static mut C> as OutBytes>⟧.progress) asked
-        (files_of M.progress M.IsAtEnd P.progress P.IsAtEnd X.progress X.IsAtEnd mine.old mine.new)
-        outputs.journal (is_some outputs.certificate) (W.progress outputs.out) (W.progress result.2) result.0 }
+    ensures ran { RanCertified (record { journal = J.OutBytes; certificate = ⟦<StreamWriter<&'static mut C> as OutBytes>⟧ })
+        (record {
+          asked = asked;
+          files = files_of M.progress M.IsAtEnd P.progress P.IsAtEnd X.progress X.IsAtEnd mine.old mine.new;
+          before = W.progress outputs.out;
+          after = W.progress result.2;
+        })
+        outputs.journal (is_some outputs.certificate) result.0 }
     ensures left { is_some result.1 ≡ is_some outputs.certificate }
 {
     let SolveOutputs {
@@ -97,9 +102,14 @@ pub(crate) fn run_recorded<
     requires may_journal { MayHaveJournal asked.mode (is_some outputs.journal) }
     requires may_record { MayHaveRecords asked.pit (is_some outputs.journal) (is_some outputs.certificate) }
     requires out_countable { (W.progress outputs.out).failures < 2 ^ 63 }
-    ensures ran { RanRecorded (⟦<StreamWriter<&'static mut J> as OutBytes>⟧.progress) (⟦<StreamWriter<&'static mut C> as OutBytes>⟧.progress) asked
-        (files_of M.progress M.IsAtEnd P.progress P.IsAtEnd X.progress X.IsAtEnd mine.old mine.new)
-        (is_some outputs.journal) (is_some outputs.certificate) (W.progress outputs.out) (W.progress result.1.out) result.0 }
+    ensures ran { RanRecorded (record { journal = ⟦<StreamWriter<&'static mut J> as OutBytes>⟧; certificate = ⟦<StreamWriter<&'static mut C> as OutBytes>⟧ })
+        (record {
+          asked = asked;
+          files = files_of M.progress M.IsAtEnd P.progress P.IsAtEnd X.progress X.IsAtEnd mine.old mine.new;
+          before = W.progress outputs.out;
+          after = W.progress result.1.out;
+        })
+        (is_some outputs.journal) (is_some outputs.certificate) result.0 }
     ensures journal_left { is_some result.1.journal ≡ is_some outputs.journal }
     ensures certificate_left { is_some result.1.certificate ≡ is_some outputs.certificate }
 {

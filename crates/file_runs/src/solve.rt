@@ -1,39 +1,34 @@
 //! `solve` over files.
-ghost use Rattle.std.specs.Prelude.{◌≡◌, ◌<◌, ◌^◌, option_copied};
+ghost use Rattle.std.specs.Prelude.{◌<◌, ◌^◌};
 ghost use Rattle.file_runs.specs.Ended.{Ended};
+ghost use Rattle.file_runs.specs.Place.{state};
 ghost use Rattle.file_runs.specs.Solved.{EndsSolve};
 
 use crate::ending::told;
-use crate::inputs::open_mine;
+use crate::made::{Outputs, end_outputs, make_outputs};
+use crate::mine::open_mine;
 use crate::options::SolveOptions;
-use crate::outputs::{OutputFiles, Outputs, end_outputs, make_outputs};
+use crate::outputs::OutputFiles;
+use crate::place::Writable;
 use crate::readers::readers_of;
 use crate::recorded::run_recorded;
 use faults::Fault;
-use minelib_reader::{FileReader, InBytes, OutBytes, StreamWriter};
+use minelib_reader::OutBytes;
 use runs::{SolveOutputs, Status};
-use std::alloc::Global;
+use std::alloc::AllocGlobal;
 use std::sync::Wait;
 use std::thread::Threads;
 
 /// Solves the mine of its files, and writes its pit to `out`, which is given back, and its journal and certificate to files
 /// where these are wanted. `rt` starts the workers.
-fn solve_files<R: Threads + Wait + Sync, F: OutputFiles, W: OutBytes + Drop>(
+fn solve_files<R: AllocGlobal + Threads + Wait + Sync, F: OutputFiles, W: OutBytes + Drop>(
     rt: &R,
-    alloc: Global,
     files: &mut F,
     options: &SolveOptions<'_>,
     out: W,
 ) -> (Result<Status, Fault>, W)
     requires countable { (W.progress out).failures < 2 ^ 63 }
-    ensures { EndsSolve F.opens F.lacks F.makes F.spares F.ends F.loses
-        (⟦<FileReader<F::Model> as InBytes>⟧.progress) (⟦<FileReader<F::Model> as InBytes>⟧.IsAtEnd)
-        (⟦<FileReader<F::Prec> as InBytes>⟧.progress) (⟦<FileReader<F::Prec> as InBytes>⟧.IsAtEnd)
-        (⟦<FileReader<F::Fixed> as InBytes>⟧.progress) (⟦<FileReader<F::Fixed> as InBytes>⟧.IsAtEnd)
-        (⟦<StreamWriter<&'static mut F::JournalOut> as OutBytes>⟧.progress) (⟦<StreamWriter<&'static mut F::CertificateOut> as OutBytes>⟧.progress)
-        options.now.mine.model.now options.now.mine.prec.now (option_copied options.now.mine.fixed)
-        (option_copied options.now.journal) (option_copied options.now.certificate) options.now.asked
-        files.old files.new (W.progress out) (W.progress result.1) result.0 }
+    ensures { EndsSolve ⟦<F as Writable>⟧.place options.now (state files.old (W.progress out)) (state files.new (W.progress result.1)) result.0 }
 {
     let mine = match open_mine(files, &options.mine) {
         Ok(mine) => mine,
@@ -53,7 +48,7 @@ fn solve_files<R: Threads + Wait + Sync, F: OutputFiles, W: OutBytes + Drop>(
         out,
     };
     let mut mine = readers_of(mine);
-    let (outcome, outputs) = run_recorded(rt, alloc, &mut mine, outputs, options.asked);
+    let (outcome, outputs) = run_recorded(rt, rt.alloc(), &mut mine, outputs, options.asked);
     let SolveOutputs {
         journal,
         certificate,
@@ -68,25 +63,17 @@ fn solve_files<R: Threads + Wait + Sync, F: OutputFiles, W: OutBytes + Drop>(
 
 /// The whole call of `solve`: opens the files of a mine, makes the outputs beside the pit, solves the mine, and writes its pit to
 /// `out`, which is given back. A fault is told on standard error, and the exit status is answered.
-pub fn solve_call<R: Threads + Wait + Sync, F: OutputFiles, W: OutBytes + Drop, E: OutBytes>(
-    rt: &R,
-    alloc: Global,
-    files: &mut F,
-    options: &SolveOptions<'_>,
-    out: W,
-    err: &mut E,
-) -> (u8, W)
+pub fn solve_call<
+    R: AllocGlobal + Threads + Wait + Sync,
+    F: OutputFiles,
+    W: OutBytes + Drop,
+    E: OutBytes,
+>(rt: &R, files: &mut F, options: &SolveOptions<'_>, out: W, err: &mut E) -> (u8, W)
     requires out_countable { (W.progress out).failures < 2 ^ 63 }
     requires err_countable { (E.progress err.old).failures < 2 ^ 63 }
-    ensures { Ended result.0 (E.progress err.old) (E.progress err.new) (EndsSolve F.opens F.lacks F.makes F.spares F.ends F.loses
-        (⟦<FileReader<F::Model> as InBytes>⟧.progress) (⟦<FileReader<F::Model> as InBytes>⟧.IsAtEnd)
-        (⟦<FileReader<F::Prec> as InBytes>⟧.progress) (⟦<FileReader<F::Prec> as InBytes>⟧.IsAtEnd)
-        (⟦<FileReader<F::Fixed> as InBytes>⟧.progress) (⟦<FileReader<F::Fixed> as InBytes>⟧.IsAtEnd)
-        (⟦<StreamWriter<&'static mut F::JournalOut> as OutBytes>⟧.progress) (⟦<StreamWriter<&'static mut F::CertificateOut> as OutBytes>⟧.progress)
-        options.now.mine.model.now options.now.mine.prec.now (option_copied options.now.mine.fixed)
-        (option_copied options.now.journal) (option_copied options.now.certificate) options.now.asked
-        files.old files.new (W.progress out) (W.progress result.1)) }
+    ensures { Ended result.0 (E.progress err.old) (E.progress err.new) (EndsSolve ⟦<F as Writable>⟧.place options.now
+        (state files.old (W.progress out)) (state files.new (W.progress result.1))) }
 {
-    let (outcome, out) = solve_files(rt, alloc, files, options, out);
+    let (outcome, out) = solve_files(rt, files, options, out);
     (told(err, &outcome), out)
 }

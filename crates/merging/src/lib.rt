@@ -4,6 +4,7 @@
 
 mod closing;
 mod distances;
+mod enough;
 mod first_mergers;
 mod joined;
 mod lowest_label;

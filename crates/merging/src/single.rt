@@ -7,6 +7,7 @@ ghost use Rattle.certificate.specs.Check.{ShowsPit};
 ghost use Rattle.merging.specs.Solved.{IsSolvedAlone};
 
 use crate::closing::merge_rest;
+use crate::enough::is_enough;
 use crate::first_mergers::make_first_mergers;
 use crate::lowest_label::merge_by_lowest_label;
 use crate::outcome::Outcome;
@@ -14,6 +15,7 @@ use certificate::{Certificate, of_tree};
 use faults::Fault;
 use mine_graph::Instance;
 use norm_tree::{BareTree, NormTree};
+use pit_model::budget_suffices;
 use std::alloc::Global;
 
 // The tree with no merger arc left, by mergers in whatever order.
@@ -58,7 +60,7 @@ fn solve_freely(alloc: Global, instance: &Instance) -> Result<Outcome, Fault>
 }
 
 // The pit, where the mergers of the first run end within the budget.
-fn solve_within(alloc: Global, instance: &Instance, budget: u64) -> Result<Outcome, Fault>
+fn solve_by_first_run(alloc: Global, instance: &Instance, budget: u64) -> Result<Outcome, Fault>
     ensures solved { IfOk result (IsSolvedAlone instance.now (Some budget)) }
     ensures refused { IfErr result (λ e. e ≡ no_memory) }
 {
@@ -67,6 +69,20 @@ fn solve_within(alloc: Global, instance: &Instance, budget: u64) -> Result<Outco
     match of_tree(&tree)? {
         Some(certificate) => Ok(Outcome::Pit(certificate)),
         None => Ok(Outcome::Exhausted(budget)),
+    }
+}
+
+// The same. Where no run uses the budget up, the order of the mergers is free.
+fn solve_within(alloc: Global, instance: &Instance, budget: u64) -> Result<Outcome, Fault>
+    ensures solved { IfOk result (IsSolvedAlone instance.now (Some budget)) }
+    ensures refused { IfErr result (λ e. e ≡ no_memory) }
+{
+    instance.law();
+    budget_suffices();
+    if is_enough(instance, budget) {
+        Ok(Outcome::Pit(certificate_of(alloc, instance)?))
+    } else {
+        solve_by_first_run(alloc, instance, budget)
     }
 }
 

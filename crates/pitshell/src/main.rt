@@ -14,7 +14,7 @@ use file_runs::{check_call, replay_call, shells_call, solve_call, told};
 use minelib_reader::StreamWriter;
 use options::Options;
 use runs::Status;
-use std::alloc::AllocError;
+use std::alloc::{AllocError, AllocGlobal};
 use std::process::ExitCode;
 use std::sync::Wait;
 use std::thread::Threads;
@@ -58,24 +58,26 @@ fn words_of(rt: &HostRuntime) -> Result<Vec<String>, NoWords> {
 }
 
 /// Does what is asked for over the files of the system, and answers the exit status.
-fn call<R: Threads + Wait + Sync>(rt: &HostRuntime, threads: &R, options: &Options<'_>) -> u8 {
+fn call<R: AllocGlobal + Threads + Wait + Sync>(
+    rt: &HostRuntime,
+    threads: &R,
+    options: &Options<'_>,
+) -> u8 {
     let alloc = rt.alloc();
     let mut files = SystemFiles { rt };
     let mut out = StreamWriter::new(io::writer(rt));
     let stderr = rt.stderr();
     let mut err = StreamWriter::new(io::writer(&stderr));
     match options {
-        Options::Solve(asked) => solve_call(threads, alloc, &mut files, asked, out, &mut err).0,
-        Options::Shells(asked) => shells_call(
-            threads, alloc, &mut files, asked, &mut out, &mut err,
-        ),
+        Options::Solve(asked) => solve_call(threads, &mut files, asked, out, &mut err).0,
+        Options::Shells(asked) => shells_call(threads, &mut files, asked, &mut out, &mut err),
         Options::Check(asked) => check_call(alloc, &mut files, asked, &mut out, &mut err),
         Options::Replay(asked) => replay_call(alloc, &mut files, asked, &mut out, &mut err),
     }
 }
 
 /// Does what the words of the command line ask for.
-fn run<R: Threads + Wait + Sync>(
+fn run<R: AllocGlobal + Threads + Wait + Sync>(
     rt: &HostRuntime,
     threads: &R,
     words: &[String],

@@ -1,9 +1,8 @@
 //! The files of the system, as the calls of the program open, make and end them.
 //! What a file of the system holds and where its name leads no clause can say: each call may lead to any state.
 
-ghost use Rattle.std.specs.Prelude.{◌≡◌, IfErr};
-ghost use Rattle.faults.specs.Refused.{at_line};
-ghost use Rattle.faults.specs.declared.refusal.Refusal.TheVariants.{ReadFailed};
+ghost use Rattle.std.specs.Prelude.{IfErr};
+ghost use Rattle.file_runs.specs.Faults.{IsUnopened};
 
 use crate::output::Output;
 use faults::{Fault, Refusal, Source};
@@ -19,7 +18,7 @@ pub struct SystemFiles<'a> {
 
 /// Opens an input; one that cannot be opened is a read that failed.
 fn open_as(rt: &HostRuntime, path: &str, source: Source) -> Result<File, Fault>
-    ensures refused { IfErr result (λ e. e ≡ at_line source ReadFailed 0) }
+    ensures refused { IfErr result (IsUnopened source) }
 {
     match File::open(rt, path) {
         Ok(file) => Ok(file),

@@ -9,18 +9,19 @@ use Rattle.file_runs.proofs.check.check_files.Goals as goal
 pub returns-in_err-mine : goal.returns-in_err-mine
 returns-in_err-mine g c =
     let p = err_from_is_err_and c.from_residual.result c.from_residual.ensures.1 in
-    rw (p.1, p.2) (no_mine c.in_err-mine.field-0.0 c.in_err-mine.ensures.lacked refl refl)
+    rw (p.1, p.2) (no_mine c.in_err-mine.field-0.0 c.in_err-mine.ensures.lacked (record { unwritten = refl; told = refl }))
 
 pub returns-in_err-certificate : goal.returns-in_err-certificate
 returns-in_err-certificate g c =
     let p = err_from_is_err_and c.from_residual-in_err-certificate.result c.from_residual-in_err-certificate.ensures.1 in
-    rw (p.1, p.2) (no_last c.in_err-certificate.field-0.0 c.open_mine.new.files c.in_ok-mine.ensures.opened c.in_err-certificate.ensures.lacked refl refl)
+    rw (p.1, p.2) (no_last c.in_err-certificate.field-0.0 c.open_mine.new.files c.in_ok-mine.ensures.opened c.in_err-certificate.ensures.lacked.0 c.in_err-certificate.ensures.lacked.1
+    (record { unwritten = refl; told = refl }))
 
 pub returns : goal.returns
 returns g c =
     ran c.open_mine.new.files c.readers_of-mine.result c.run_check.new.files c.new-certificate.result c.run_check.new.certificate
     c.in_ok-mine.ensures.opened c.in_ok-certificate.ensures.opened
-    (are_unread _ _ _ _ c.in_ok-mine.mine.fixed c.readers_of-mine.result c.in_ok-mine.ensures.named c.readers_of-mine.ensures.named
+    (are_unread _ _ c.in_ok-mine.mine.fixed c.readers_of-mine.result c.in_ok-mine.ensures.named c.readers_of-mine.ensures.named
     c.readers_of-mine.ensures.model c.readers_of-mine.ensures.prec c.readers_of-mine.ensures.fixed)
     c.new-certificate.ensures.start
     (runs_check _ _ _ _ c.run_check.result c.run_check.ensures.checked c.run_check.ensures.refused)

@@ -12,7 +12,7 @@ returns-in-None-clause-ran g c =
       certificate = None;
       certificate_left = run.new.outputs.certificate;
       certificate_new = record { unwritten = tt; named = refl };
-      ran = runs_solve _ _ _ _ _ _ run.result run.ensures.done run.ensures.journaled run.ensures.certified run.ensures.within run.ensures.refused;
+      ran = runs_solve _ _ _ run.result run.ensures.done run.ensures.journaled run.ensures.certified run.ensures.within run.ensures.refused;
     })
 
 pub returns-in-Some-clause-ran : goal.returns-in-Some-clause-ran
@@ -23,5 +23,5 @@ returns-in-Some-clause-ran g c =
       certificate = Some c.new.result;
       certificate_left = run.new.outputs.certificate;
       certificate_new = record { unwritten = c.new.ensures.start; named = refl };
-      ran = runs_solve _ _ _ _ _ _ run.result run.ensures.done run.ensures.journaled run.ensures.certified run.ensures.within run.ensures.refused;
+      ran = runs_solve _ _ _ run.result run.ensures.done run.ensures.journaled run.ensures.certified run.ensures.within run.ensures.refused;
     })

@@ -5,11 +5,12 @@ use Rattle.file_runs.proofs.Reading.{are_unread}
 use Rattle.file_runs.proofs.solve.solve_files.Goals as goal
 
 pub returns-in-Err : goal.returns-in-Err
-returns-in-Err g c = unopened c.in-Err.fault c.in-Err.ensures.lacked refl refl
+returns-in-Err g c = unopened c.in-Err.fault c.in-Err.ensures.lacked (record { unwritten = refl; told = refl })
 
 pub returns-in-Err-make_outputs : goal.returns-in-Err-make_outputs
 returns-in-Err-make_outputs g c =
-    unmade c.in-Err-make_outputs.fault c.open_mine.new.files c.in-Ok.ensures.opened c.in-Err-make_outputs.ensures.spared refl refl
+    unmade c.in-Err-make_outputs.fault c.open_mine.new.files c.in-Ok.ensures.opened
+    c.in-Err-make_outputs.ensures.unmade c.in-Err-make_outputs.ensures.spared (record { unwritten = refl; told = refl })
 
 pub returns : goal.returns
 returns g c =
@@ -17,7 +18,7 @@ returns g c =
     let run = c.run_recorded-outcome in
     solved run.result.0 c.open_mine.new.files c.make_outputs.new.files c.readers_of-mine.result run.new.mine
     c.in-Ok.ensures.opened made.ensures.made
-    (are_unread _ _ _ _ c.in-Ok.mine.fixed c.readers_of-mine.result c.in-Ok.ensures.named c.readers_of-mine.ensures.named
+    (are_unread _ _ c.in-Ok.mine.fixed c.readers_of-mine.result c.in-Ok.ensures.named c.readers_of-mine.ensures.named
     c.readers_of-mine.ensures.model c.readers_of-mine.ensures.prec c.readers_of-mine.ensures.fixed)
     (rw (sym made.ensures.journal_named, sym made.ensures.certificate_named) run.ensures.ran)
     (rw (sym made.ensures.journal_named, sym made.ensures.certificate_named, sym run.ensures.journal_left, sym run.ensures.certificate_left) c.end_outputs.ensures)
