@@ -96,7 +96,7 @@ def test_help_names_each_option(mine: Mine, subcommand: str, options: list[str])
 
 
 def test_version_names_the_toolchain(mine: Mine) -> None:
-    toolchain = "rattle-kit-13b logic dac8208d650f15bf"
+    toolchain = "rattle-kit-13f logic dac8208d650f15bf"
     assert mine.run("--version") == (0, f"pitshell 0.1.0 ({toolchain})\n", "")
     assert f"`{toolchain}`" in (TOP / "docs" / "PROOFS.md").read_text()
     if shutil.which("rt"):

@@ -10,3 +10,4 @@ pub mod Classes
 pub mod Order
 pub mod Parts
 pub mod Flood
+pub mod Raised

@@ -1,9 +1,10 @@
 //! A graph with a value for each block.
-ghost use Rattle.std.specs.Prelude.{◌≡◌, ◌<◌, ◌≤◌, ℕ, pos, neg_ℤ, ◌≤ℤ◌, ◌^◌, Bool, length, get_or, IfOk};
+ghost use Rattle.std.specs.Prelude.{◌≡◌, ◌<◌, ◌≤◌, ℕ, pos, neg_ℤ, ◌+ℤ◌, ◌≤ℤ◌, ◌^◌, Bool, length, get_or, IfOk};
 ghost use Rattle.std.specs.List.{All};
 ghost use Rattle.pit_model.specs.Sum.{total};
 ghost use Rattle.pit_model.specs.Mine.{members, value, worth};
 ghost use Rattle.pit_model.specs.Limits.{IsInstance};
+ghost use Rattle.mine_graph.specs.Raised.{raised_at};
 
 use crate::graph::Graph;
 use crate::values::Values;
@@ -81,6 +82,16 @@ impl Instance {
         ensures { result ≡ value self.now u }
     {
         self.values.of(u)
+    }
+
+    /// The value of a block grows by an amount. The sum is within 10^23.
+    pub fn raise(&mut self, block: u32, amount: i128)
+        requires below { block < self.old.blocks }
+        requires least { pos 0 ≤ℤ amount }
+        requires most { (value self.old block +ℤ amount) ≤ℤ pos (10 ^ 23) }
+        ensures { self.new ≡ raised_at self.old block amount }
+    {
+        self.values.raise(block, amount);
     }
 
     /// The summed value of a list of blocks, in millionths where the values are: for the members of a set, its worth.

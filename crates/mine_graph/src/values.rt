@@ -1,5 +1,5 @@
 //! The values of blocks by themselves, as they are left of an instance whose graph is given up.
-ghost use Rattle.std.specs.Prelude.{◌≡◌, ◌<◌, ◌≤◌, ℕ, ℤ, pos, Bool, List, length, get_or, IfOk};
+ghost use Rattle.std.specs.Prelude.{◌≡◌, ◌<◌, ◌≤◌, ◌^◌, ℕ, ℤ, pos, ◌+ℤ◌, ◌≤ℤ◌, Bool, List, length, get_or, set, IfOk};
 ghost use Rattle.std.specs.List.{All};
 ghost use Rattle.pit_model.specs.Sum.{total, when};
 ghost use Rattle.pit_model.specs.Mine.{members};
@@ -56,6 +56,18 @@ impl Values {
         ensures { result ≡ get_or self.now u (pos 0) }
     {
         self.amounts[u as usize]
+    }
+
+    /// The value of a block grows by an amount.
+    pub(crate) fn raise(&mut self, u: u32, amount: i128)
+        requires below { u < length self.old }
+        requires least { pos 0 ≤ℤ amount }
+        requires most { (get_or self.old u (pos 0) +ℤ amount) ≤ℤ pos (10 ^ 23) }
+        ensures { self.new ≡ set self.old u (get_or self.old u (pos 0) +ℤ amount) }
+    {
+        self.law();
+        let sum = self.of(u) + amount;
+        self.amounts[u as usize] = sum;
     }
 
     /// The summed value of a list of blocks: for the members of a set, its worth.

@@ -14,3 +14,5 @@ mod Renewing
 mod Strength
 mod Stale
 mod Ranking
+mod Rising
+mod Over

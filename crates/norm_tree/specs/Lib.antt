@@ -7,3 +7,4 @@ pub mod Labelled
 pub mod Walk
 pub mod Renewal
 pub mod Excesses
+pub mod Over

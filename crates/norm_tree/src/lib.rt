@@ -1,4 +1,4 @@
-//! The normalised tree of the pseudoflow method (Hochbaum 2008), changed by mergers alone.
+//! The normalised tree of the pseudoflow method (Hochbaum 2008), changed by mergers and by rises of a value.
 #![tactic(auto)]
 
 mod bare;
@@ -9,6 +9,7 @@ mod labels;
 mod marks;
 mod merge;
 mod pit;
+mod raise;
 mod rank;
 mod renew;
 mod start;

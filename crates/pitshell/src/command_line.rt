@@ -186,7 +186,7 @@ fn solve_command<'a>(alloc: Global) -> Result<Command<'a>, AllocError> {
 /// `pitshell` with its subcommands. Its version names the toolchain that proves it, as `rt version` tells it.
 pub fn command<'a>(alloc: Global) -> Result<Command<'a>, AllocError> {
     Command::new(alloc, "pitshell")
-        .version("0.1.0 (rattle-kit-13b logic dac8208d650f15bf)")
+        .version("0.1.0 (rattle-kit-13f logic dac8208d650f15bf)")
         .about("Finds the ultimate pit of a mine with a proved solver")
         .after_help(STATUSES)
         .subcommand_required(true)
