@@ -8,6 +8,7 @@ mod enough;
 mod first_mergers;
 mod joined;
 mod lowest_label;
+mod one_part;
 mod outcome;
 mod parts;
 mod plan;

@@ -11,6 +11,7 @@ ghost use Rattle.certificate.specs.Check.{ShowsPit};
 ghost use Rattle.merging.specs.Parts.{graph_of, IsPartOf, IsSolvedPart};
 
 use crate::joined::join_parts;
+use crate::one_part::is_one_part;
 use crate::single::{certificate_of, pit_of};
 use crate::solved_part::SolvedPart;
 use certificate::Certificate;
@@ -89,6 +90,9 @@ fn join_of_parts<R: Threads + Sync>(
 {
     instance.law();
     let graph: &Graph = instance.graph();
+    if is_one_part(alloc, graph)? {
+        return Ok(None);
+    }
     let classes = graph.classes()?;
     if classes.count < 2 {
         return Ok(None);

@@ -6,7 +6,6 @@ mod Gathering
 mod Showing
 mod Starting
 mod Merging
-mod Heaping
 mod Labelling
 mod Underway
 mod Walking

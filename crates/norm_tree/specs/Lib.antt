@@ -2,7 +2,7 @@ pub mod Along
 pub mod Route
 pub mod Shows
 pub mod Bare
-pub mod Heap
+pub mod Runs
 pub mod Labelled
 pub mod Walk
 pub mod Renewal

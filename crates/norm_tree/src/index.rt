@@ -1,9 +1,9 @@
-//! What finds the first merger arc by labels: for each block the count of the weak blocks that it needs, and a mark on each
-//! strong block whose count is not 0. A change of a label goes to the users of its block.
-ghost use Rattle.std.specs.Prelude.{◌≡◌, ℕ, ◌^◌, ◌<◌, ◌≤◌, true, false, length, get_or, set, IsTrue, IfOk, IfErr, IfSome, IsNone, not};
+//! What finds the first merger arc by labels: a mark on each strong block that needs a weak one. Others may be marked too, since
+//! a mark stays when its block turns weak, or what it needs turns strong; it is taken off once a look has passed it by.
+ghost use Rattle.std.specs.Prelude.{◌≡◌, ℕ, ◌^◌, ◌<◌, ◌≤◌, ◌==◌, true, false, length, get_or, set, IsTrue, IfOk, IfErr, IfSome, IsNone, not};
 ghost use Rattle.faults.specs.Refused.{no_memory};
 ghost use Rattle.pit_model.specs.Graph.{first_of, second_of};
-ghost use Rattle.norm_tree.specs.Labelled.{is_open, label, labelled, AreCounted, AreMarked, IsIndexed};
+ghost use Rattle.norm_tree.specs.Labelled.{is_open, label, labelled, IsClosedBelow, IsIndexed};
 
 use crate::marks::Marks;
 use faults::Fault;
@@ -13,67 +13,40 @@ use std::alloc::Global;
 /// The index of a graph's labels, which stand elsewhere.
 #[derive(Drop)]
 pub(crate) struct Index {
-    /// Of how many weak blocks each block needs.
-    weak_needs: Vec<u32>,
-    /// The strong blocks that need a weak one.
+    /// Each strong block that needs a weak one, and others.
     marks: Marks,
 }
 
-/// Counts the weak blocks that each block needs.
-fn count_weak(graph: &Graph, strong: &[bool], weak_needs: &mut [u32])
-    requires labelled { length strong.now ≡ graph.now.blocks }
-    requires sized { length weak_needs.old ≡ graph.now.blocks }
-    requires zero { (u : ℕ) → u < length weak_needs.old → get_or weak_needs.old u 0 ≡ 0 }
-    ensures { AreCounted graph.now.pairs strong.now weak_needs.new }
-{
-    graph.law();
-    for k in 0..graph.arcs() {
-        let (from, to) = graph.arc(k);
-        if !strong[to as usize] {
-            weak_needs[from as usize] += 1;
-        }
-    }
-}
-
-/// Marks the strong blocks that need a weak one, where nothing is marked yet.
-fn mark_all(strong: &[bool], weak_needs: &[u32], marks: &mut Marks)
+/// Marks the strong blocks.
+fn mark_strong(strong: &[bool], marks: &mut Marks)
     requires few { length strong.now ≤ 2 ^ 22 }
-    requires sized { length weak_needs.now ≡ length strong.now }
-    requires room { length strong.now ≤ length marks.old }
-    requires unmarked { (u : ℕ) → get_or marks.old u false ≡ false }
+    requires room { length marks.old ≡ length strong.now }
     ensures count { length marks.new ≡ length marks.old }
-    ensures marked { AreMarked strong.now weak_needs.now marks.new }
+    ensures marked { (u : ℕ) → label strong.now u ≡ true → get_or marks.new u false ≡ true }
 {
     for u in 0..strong.len() {
-        if strong[u] && weak_needs[u] > 0 {
-            marks.set(u as u32, true);
+        if strong[u] {
+            marks.mark(u as u32);
         }
     }
 }
 
-/// Takes the changed label of a block in at each of its users.
-fn tell_users(graph: &Graph, strong: &[bool], block: u32, weak_needs: &mut [u32], marks: &mut Marks)
+/// Marks the strong blocks that need a block.
+fn mark_users(graph: &Graph, strong: &[bool], block: u32, marks: &mut Marks)
     requires labelled { length strong.now ≡ graph.now.blocks }
-    requires sized { length weak_needs.old ≡ graph.now.blocks }
-    requires room { graph.now.blocks ≤ length marks.old }
+    requires room { length marks.old ≡ graph.now.blocks }
     requires inside { block < graph.now.blocks }
-    requires counted { AreCounted graph.now.pairs (set strong.now block (not (get_or strong.now block false))) weak_needs.old }
-    requires marked { AreMarked strong.now weak_needs.old marks.old }
-    ensures sized { length weak_needs.new ≡ length weak_needs.old }
     ensures count { length marks.new ≡ length marks.old }
-    ensures counted { AreCounted graph.now.pairs strong.now weak_needs.new }
-    ensures marked { AreMarked strong.now weak_needs.new marks.new }
+    ensures kept { (u : ℕ) → get_or marks.old u false ≡ true → get_or marks.new u false ≡ true }
+    ensures marked { (k : ℕ) → k < length graph.now.pairs → second_of graph.now.pairs k ≡ block → label strong.now (first_of graph.now.pairs k) ≡ true → get_or marks.new (first_of graph.now.pairs k) false ≡ true }
 {
     graph.law();
     let users = graph.users(block);
     for place in 0..users.len() {
         let user = graph.arc(users[place]).0;
-        if strong[block as usize] {
-            weak_needs[user as usize] -= 1;
-        } else {
-            weak_needs[user as usize] += 1;
+        if strong[user as usize] {
+            marks.mark(user);
         }
-        marks.set(user, strong[user as usize] && weak_needs[user as usize] > 0);
     }
 }
 
@@ -97,45 +70,86 @@ fn first_weak_need(graph: &Graph, strong: &[bool], block: u32) -> Option<u32>
     None
 }
 
+/// The first pair that leads from a block to a weak one, where the block is strong.
+fn first_open_need(graph: &Graph, strong: &[bool], block: u32) -> Option<u32>
+    requires labelled { length strong.now ≡ graph.now.blocks }
+    requires inside { block < graph.now.blocks }
+    ensures own { IfSome result (λ k. first_of graph.now.pairs k ≡ block) }
+    ensures open { IfSome result (λ k. IsTrue (is_open (labelled graph.now strong.now) k)) }
+    ensures first { IfSome result (λ k. (l : ℕ) → l < k → first_of graph.now.pairs l ≡ block → is_open (labelled graph.now strong.now) l ≡ false) }
+    ensures none { IsNone result → (l : ℕ) → l < length graph.now.pairs → first_of graph.now.pairs l ≡ block → is_open (labelled graph.now strong.now) l ≡ false }
+{
+    if strong[block as usize] {
+        first_weak_need(graph, strong, block)
+    } else {
+        None
+    }
+}
+
 impl Index {
-    /// The index of those labels, made in time linear in blocks and pairs. Refused for want of memory alone.
+    /// The index of those labels, made in time linear in the blocks. Refused for want of memory alone.
     pub(crate) fn of(alloc: Global, graph: &Graph, strong: &[bool]) -> Result<Index, Fault>
         requires { length strong.now ≡ graph.now.blocks }
-        ensures indexed { IfOk result (λ i. IsIndexed graph.now strong.now i.weak_needs.items i.marks) }
+        ensures indexed { IfOk result (λ i. IsIndexed graph.now strong.now i.marks) }
         ensures no_memory { IfErr result (λ e. e ≡ no_memory) }
     {
         graph.law();
-        let mut weak_needs = vec![in alloc; 0; graph.n() as usize]?;
         let mut marks = Marks::none(alloc, graph.n())?;
-        count_weak(graph, strong, &mut weak_needs);
-        mark_all(strong, &weak_needs, &mut marks);
-        Ok(Index { weak_needs, marks })
+        mark_strong(strong, &mut marks);
+        Ok(Index { marks })
     }
 
-    /// Takes in that the label of a block has changed, in time linear in the users of the block.
+    /// Takes in that the label of a block has changed, in time linear in the users of the block where it turned weak.
     pub(crate) fn take_in(&mut self, graph: &Graph, strong: &[bool], block: u32)
         requires inside { block < graph.now.blocks }
-        requires indexed { IsIndexed graph.now (set strong.now block (not (get_or strong.now block false))) self.old.weak_needs.items self.old.marks }
-        ensures { IsIndexed graph.now strong.now self.new.weak_needs.items self.new.marks }
+        requires indexed { IsIndexed graph.now (set strong.now block (not (get_or strong.now block false))) self.old.marks }
+        ensures { IsIndexed graph.now strong.now self.new.marks }
     {
-        self.marks.set(
-            block,
-            strong[block as usize] && self.weak_needs[block as usize] > 0,
-        );
-        tell_users(graph, strong, block, &mut self.weak_needs, &mut self.marks);
+        if strong[block as usize] {
+            self.marks.mark(block);
+        } else {
+            mark_users(graph, strong, block, &mut self.marks);
+        }
     }
 
     /// The first pair by number that leads from a strong block to a weak one.
     pub(crate) fn first(&self, graph: &Graph, strong: &[bool]) -> Option<u32>
-        requires { IsIndexed graph.now strong.now self.now.weak_needs.items self.now.marks }
+        requires { IsIndexed graph.now strong.now self.now.marks }
         ensures merger { IfSome result (λ k. IsTrue (is_open (labelled graph.now strong.now) k)) }
         ensures least { IfSome result (λ k. (l : ℕ) → l < k → is_open (labelled graph.now strong.now) l ≡ false) }
         ensures none { IsNone result → (k : ℕ) → is_open (labelled graph.now strong.now) k ≡ false }
     {
         graph.law();
-        match self.marks.first() {
-            Some(block) => first_weak_need(graph, strong, block),
-            None => None,
+        let mut from = 0;
+        for _marked in 0..graph.n() {
+            let block = self.marks.next(from)?;
+            if let Some(arc) = first_open_need(graph, strong, block) {
+                return Some(arc);
+            }
+            from = block + 1;
         }
+        None
+    }
+
+    /// The block from which the first such pair leads; the number of blocks where there is none.
+    fn first_block(&self, graph: &Graph, strong: &[bool]) -> u32
+        requires { IsIndexed graph.now strong.now self.now.marks }
+        ensures inside { result ≤ graph.now.blocks }
+        ensures closed { IsClosedBelow (labelled graph.now strong.now) result }
+    {
+        graph.law();
+        match self.first(graph, strong) {
+            Some(arc) => graph.arc(arc).0,
+            None => graph.n(),
+        }
+    }
+
+    /// Takes off the marks below that block.
+    pub(crate) fn settle(&mut self, graph: &Graph, strong: &[bool])
+        requires { IsIndexed graph.now strong.now self.old.marks }
+        ensures { IsIndexed graph.now strong.now self.new.marks }
+    {
+        let block = self.first_block(graph, strong);
+        self.marks.clear_below(block);
     }
 }

@@ -27,7 +27,7 @@ impl Model for Labels {
 
     ghost view = { λ l. record { graph = l.graph.value; strong = l.strong.items } };
 
-    ghost invariant = { λ l. (length l.strong.items ≡ l.graph.value.blocks) × IfSome l.index (λ i. IsIndexed l.graph.value l.strong.items i.weak_needs.items i.marks) };
+    ghost invariant = { λ l. (length l.strong.items ≡ l.graph.value.blocks) × IfSome l.index (λ i. IsIndexed l.graph.value l.strong.items i.marks) };
 }
 
 /// The first pair by number that leads from a strong block to a weak one, by a look at each pair.
@@ -61,7 +61,7 @@ impl Labels {
         }
     }
 
-    /// The same labels with an index, made in time linear in blocks and pairs. Refused for want of memory alone.
+    /// The same labels with an index, made in time linear in the blocks. Refused for want of memory alone.
     pub(crate) fn indexed(self, alloc: Global) -> Result<Labels, Fault>
         ensures same { IfOk result (λ l. l ≡ self) }
         ensures no_memory { IfErr result (λ e. e ≡ no_memory) }
@@ -113,6 +113,15 @@ impl Labels {
         self.strong[block as usize] = strong;
         if let Some(index) = &mut self.index {
             index.take_in(&self.graph, &self.strong, block);
+        }
+    }
+
+    /// Makes the next look for the first such pair short, where there is an index.
+    pub(crate) fn settle(&mut self)
+        ensures { self.new ≡ self.old }
+    {
+        if let Some(index) = &mut self.index {
+            index.settle(&self.graph, &self.strong);
         }
     }
 

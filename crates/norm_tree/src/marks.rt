@@ -1,123 +1,148 @@
-//! Marks on blocks, and the least marked block in a few steps. The marks are the last level of a heap in which each node
-//! is marked where one of the two below it is: setting a mark climbs until nothing changes, the search descends.
-ghost use Rattle.std.specs.Prelude.{◌≡◌, ℕ, ◌+◌, ◌*◌, ◌^◌, ◌<◌, ◌≤◌, false, length, get_or, IsTrue, IfOk, IfErr, IfSome, IsNone};
+//! Marks on blocks, and the next marked block. Each run of 64 blocks has a mark of its own, which is there where one of its
+//! blocks is marked, so that a look passes over runs without one.
+ghost use Rattle.std.specs.Prelude.{◌≡◌, ℕ, ◌*◌, ◌+◌, ◌^◌, ◌<◌, ◌≤◌, false, true, length, get_or, IsTrue, IfOk, IfErr, IfSome, IsNone};
 ghost use Rattle.faults.specs.Refused.{no_memory};
-ghost use Rattle.norm_tree.specs.Heap.{AreEither};
+ghost use Rattle.norm_tree.specs.Runs.{AreInRuns};
 
 use faults::Fault;
 use std::alloc::Global;
 use std::marker::Model;
 
-/// A mark for each block, and for some numbers above them that stay unmarked.
+/// How many blocks a run has.
+const RUN: usize = 64;
+
+/// A mark for each block.
 #[derive(Drop)]
 pub(crate) struct Marks {
-    height: u32,
-    /// Node 1 is the top, 2i and 2i + 1 are below node i, and the last 2^height nodes are the blocks.
-    nodes: Vec<bool>,
+    blocks: Vec<bool>,
+    runs: Vec<bool>,
 }
 
 impl Model for Marks {
-    ghost use Rattle.std.specs.Prelude.{◌^◌, List, Bool, drop};
-    ghost use Rattle.norm_tree.specs.Heap.{IsHeap};
+    ghost use Rattle.std.specs.Prelude.{List, Bool, length, ◌<◌, ◌^◌};
+    ghost use Rattle.norm_tree.specs.Runs.{AreInRuns};
 
     ghost Value = { List Bool };
 
-    ghost view = { λ m. drop (2 ^ m.height) m.nodes.items };
+    ghost view = { λ m. m.blocks.items };
 
-    ghost invariant = { λ m. IsHeap m.height m.nodes.items };
+    ghost invariant = { λ m. AreInRuns m.blocks.items m.runs.items };
 }
 
-/// How many levels lie above the one with room for that many blocks.
-fn height_of(count: u32) -> u32
-    requires few { count ≤ 2 ^ 22 }
-    ensures room { count ≤ 2 ^ result }
-    ensures few { result ≤ 22 }
+/// The first marked place from one on, and before another.
+fn first_between(marks: &[bool], from: usize, to: usize) -> Option<usize>
+    requires { to ≤ length marks.now }
+    ensures marked { IfSome result (λ i. (from ≤ i) × (i < to) × IsTrue (get_or marks.now i false)) }
+    ensures before { IfSome result (λ i. (j : ℕ) → from ≤ j → j < i → get_or marks.now j false ≡ false) }
+    ensures none { IsNone result → (j : ℕ) → from ≤ j → j < to → get_or marks.now j false ≡ false }
 {
-    let mut height = 0;
-    let mut size = 1;
-    'doubling: while size < count {
-        size *= 2;
-        height += 1;
-    }
-    height
-}
-
-/// Sets the node of a block, and each node above it as the two below it are.
-fn put(nodes: &mut [bool], height: u32, place: usize, marked: bool)
-    requires count { length nodes.old ≡ 2 ^ height + 2 ^ height }
-    requires inside { (2 ^ height ≤ place) × (place < length nodes.old) }
-    requires either { AreEither nodes.old (2 ^ height) }
-    ensures either { AreEither nodes.new (2 ^ height) }
-    ensures at { get_or nodes.new place false ≡ marked }
-    ensures rest { (i : ℕ) → 2 ^ height ≤ i → (i ≡ place → ⊥) → get_or nodes.new i false ≡ get_or nodes.old i false }
-{
-    nodes[place] = marked;
-    let mut node = place;
-    'climbing: while node > 1 {
-        node /= 2;
-        let marked = nodes[2 * node] || nodes[2 * node + 1];
-        if nodes[node] == marked {
-            break;
-        }
-        nodes[node] = marked;
-    }
-}
-
-/// The first marked node of the last level, where the top is marked.
-fn descend(nodes: &[bool], height: u32) -> usize
-    requires count { length nodes.now ≡ 2 ^ height + 2 ^ height }
-    requires either { AreEither nodes.now (2 ^ height) }
-    requires top { IsTrue (get_or nodes.now 1 false) }
-    ensures inside { (2 ^ height ≤ result) × (result < length nodes.now) }
-    ensures marked { IsTrue (get_or nodes.now result false) }
-    ensures first { (i : ℕ) → 2 ^ height ≤ i → i < result → get_or nodes.now i false ≡ false }
-{
-    let mut node = 1;
-    for _level in 0..height {
-        node *= 2;
-        if !nodes[node] {
-            node += 1;
+    for place in from..to {
+        if marks[place] {
+            return Some(place);
         }
     }
-    node
+    None
+}
+
+/// The first marked block of the runs from one on.
+fn first_of_runs(blocks: &[bool], runs: &[bool], from: usize) -> Option<usize>
+    requires { AreInRuns blocks.now runs.now }
+    ensures marked { IfSome result (λ u. (64 * from ≤ u) × (u < length blocks.now) × IsTrue (get_or blocks.now u false)) }
+    ensures before { IfSome result (λ u. (v : ℕ) → 64 * from ≤ v → v < u → get_or blocks.now v false ≡ false) }
+    ensures none { IsNone result → (v : ℕ) → 64 * from ≤ v → get_or blocks.now v false ≡ false }
+{
+    for run in from..runs.len() {
+        if runs[run] {
+            let start = (run * RUN).min(blocks.len());
+            let end = (run * RUN + RUN).min(blocks.len());
+            let found = first_between(blocks, start, end);
+            if found.is_some() {
+                return found;
+            }
+        }
+    }
+    None
+}
+
+/// Takes the marks off from one place on, and before another.
+fn clear(marks: &mut [bool], from: usize, to: usize)
+    requires order { from ≤ to }
+    requires inside { to ≤ length marks.old }
+    ensures count { length marks.new ≡ length marks.old }
+    ensures cleared { (i : ℕ) → from ≤ i → i < to → get_or marks.new i false ≡ false }
+    ensures before { (i : ℕ) → i < from → get_or marks.new i false ≡ get_or marks.old i false }
+    ensures behind { (i : ℕ) → to ≤ i → get_or marks.new i false ≡ get_or marks.old i false }
+{
+    for place in from..to {
+        marks[place] = false;
+    }
+}
+
+/// Takes the marks off the runs before one, and off their blocks.
+fn clear_runs(blocks: &mut [bool], runs: &mut [bool], to: usize)
+    requires in_runs { AreInRuns blocks.old runs.old }
+    requires inside { 64 * to ≤ length blocks.old }
+    ensures in_runs { AreInRuns blocks.new runs.new }
+    ensures count { length blocks.new ≡ length blocks.old }
+    ensures cleared { (u : ℕ) → u < 64 * to → get_or blocks.new u false ≡ false }
+    ensures rest { (u : ℕ) → 64 * to ≤ u → get_or blocks.new u false ≡ get_or blocks.old u false }
+{
+    for run in 0..to {
+        if runs[run] {
+            clear(blocks, run * RUN, run * RUN + RUN);
+            runs[run] = false;
+        }
+    }
 }
 
 impl Marks {
-    /// Room for that many marks, none of them set. Refused for want of memory alone.
+    /// A mark for each of so many blocks, none of them set. Refused for want of memory alone.
     pub(crate) fn none(alloc: Global, count: u32) -> Result<Marks, Fault>
         requires few { count ≤ 2 ^ 22 }
-        ensures room { IfOk result (λ m. count ≤ length m) }
+        ensures count { IfOk result (λ m. length m ≡ count) }
         ensures unmarked { IfOk result (λ m. (u : ℕ) → get_or m u false ≡ false) }
         ensures no_memory { IfErr result (λ e. e ≡ no_memory) }
     {
-        let height = height_of(count);
-        let size = 1usize << height;
-        let nodes = vec![in alloc; false; 2 * size]?;
-        Ok(Marks { height, nodes })
+        let blocks = vec![in alloc; false; count as usize]?;
+        let runs = vec![in alloc; false; count as usize / RUN + 1]?;
+        Ok(Marks { blocks, runs })
     }
 
-    /// Marks a block, or takes its mark off.
-    pub(crate) fn set(&mut self, block: u32, marked: bool)
+    /// Marks a block.
+    pub(crate) fn mark(&mut self, block: u32)
         requires { block < length self.old }
         ensures count { length self.new ≡ length self.old }
-        ensures at { get_or self.new block false ≡ marked }
+        ensures at { get_or self.new block false ≡ true }
         ensures rest { (u : ℕ) → (u ≡ block → ⊥) → get_or self.new u false ≡ get_or self.old u false }
     {
-        let size = 1usize << self.height;
-        put(&mut self.nodes, self.height, size + block as usize, marked);
+        self.blocks[block as usize] = true;
+        self.runs[block as usize / RUN] = true;
     }
 
-    /// The least marked block.
-    pub(crate) fn first(&self) -> Option<u32>
-        ensures marked { IfSome result (λ u. (u < length self.now) × IsTrue (get_or self.now u false)) }
-        ensures least { IfSome result (λ u. (v : ℕ) → v < u → get_or self.now v false ≡ false) }
-        ensures none { IsNone result → (u : ℕ) → get_or self.now u false ≡ false }
+    /// Takes the marks off all blocks below one.
+    pub(crate) fn clear_below(&mut self, block: u32)
+        requires { block ≤ length self.old }
+        ensures count { length self.new ≡ length self.old }
+        ensures cleared { (u : ℕ) → u < block → get_or self.new u false ≡ false }
+        ensures rest { (u : ℕ) → block ≤ u → get_or self.new u false ≡ get_or self.old u false }
     {
-        let nodes = self.nodes.as_slice();
-        if !nodes[1] {
-            return None;
+        let run = block as usize / RUN;
+        clear_runs(&mut self.blocks, &mut self.runs, run);
+        clear(&mut self.blocks, run * RUN, block as usize);
+    }
+
+    /// The least marked block from one on.
+    pub(crate) fn next(&self, from: u32) -> Option<u32>
+        ensures marked { IfSome result (λ u. (from ≤ u) × (u < length self.now) × IsTrue (get_or self.now u false)) }
+        ensures least { IfSome result (λ u. (v : ℕ) → from ≤ v → v < u → get_or self.now v false ≡ false) }
+        ensures none { IsNone result → (u : ℕ) → from ≤ u → get_or self.now u false ≡ false }
+    {
+        let blocks = self.blocks.as_slice();
+        let run = from as usize / RUN;
+        let end = (run * RUN + RUN).min(blocks.len());
+        match first_between(blocks, from as usize, end) {
+            Some(block) => Some(block as u32),
+            None => Some(first_of_runs(blocks, &self.runs, run + 1)? as u32),
         }
-        let size = 1usize << self.height;
-        Some((descend(nodes, self.height) - size) as u32)
     }
 }
