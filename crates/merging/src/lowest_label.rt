@@ -5,6 +5,7 @@
 //! A turn takes a strong root of the lowest label and looks, in its branch, for a pair to a block one label lower. Where
 //! it finds one the branches merge; else the blocks of that label in the branch get the next one.
 ghost use Rattle.std.specs.Prelude.{◌≡◌, ◌<◌, ◌≤◌, ◌^◌, ◌+◌, length, IfOk, IfErr, IfSome};
+ghost use Rattle.std.specs.List.{All};
 ghost use Rattle.faults.specs.Refused.{no_memory};
 ghost use Rattle.forest.specs.Forest.{size};
 ghost use Rattle.merging.specs.Order.{AreBelow};
@@ -275,6 +276,33 @@ impl LowestLabel {
         self.waiting.push(label + 1, root);
     }
 
+    /// Lets the strong roots of a tree wait, but for those that `finish` named, and no other block. Labels stay: they are lower
+    /// bounds also where values grew.
+    pub fn wait_anew(&mut self, tree: &BareTree)
+        requires same { self.old ≡ tree.now.mine.blocks }
+        ensures { self.new ≡ self.old }
+    {
+        tree.law();
+        self.waiting.clear();
+        let blocks = tree.instance().graph().n();
+        for root in 0..blocks {
+            if self.labels[root as usize] <= blocks {
+                self.wait(tree, root);
+            }
+        }
+    }
+
+    /// No turn looks at these blocks any more: they get a label that none is one lower than.
+    pub fn finish(&mut self, blocks: &[u32])
+        requires { All (λ u. u < self.old) blocks.now }
+        ensures { self.new ≡ self.old }
+    {
+        let last = self.labels.len() as u32 + 1;
+        for &block in blocks {
+            self.relabel(block, last);
+        }
+    }
+
     /// Lets the strong roots of the last merger's path wait.
     fn wait_along(&mut self, tree: &BareTree)
         requires same { self.old ≡ tree.now.mine.blocks }
@@ -328,18 +356,27 @@ impl LowestLabel {
 /// So many turns no run takes: a bound that the loop ends by, whatever the order does.
 const MOST_TURNS: u64 = 1 << 63;
 
-/// Makes mergers by lowest label. Refused for want of memory alone, and then it made none.
-pub fn merge_by_lowest_label(alloc: Global, tree: &mut BareTree) -> Result<(), Fault>
+/// Takes turns until the last.
+pub(crate) fn take_turns(order: &mut LowestLabel, tree: &mut BareTree)
+    requires same { order.old ≡ tree.old.mine.blocks }
+    ensures same { order.new ≡ order.old }
     ensures mine { tree.new.mine ≡ tree.old.mine }
-    ensures refused { IfErr result (λ e. (e ≡ no_memory) × (tree.new ≡ tree.old)) }
 {
-    let mut order = LowestLabel::new(alloc, tree)?;
     for _turn in 0..MOST_TURNS {
         match order.turn(tree) {
             Turn::Merged(_) | Turn::Raised => {}
             Turn::Last => break,
         }
     }
+}
+
+/// Makes mergers by lowest label. Refused for want of memory alone, and then it made none.
+pub fn merge_by_lowest_label(alloc: Global, tree: &mut BareTree) -> Result<(), Fault>
+    ensures mine { tree.new.mine ≡ tree.old.mine }
+    ensures refused { IfErr result (λ e. (e ≡ no_memory) × (tree.new ≡ tree.old)) }
+{
+    let mut order = LowestLabel::new(alloc, tree)?;
+    take_turns(&mut order, tree);
     Ok(())
 }
 

@@ -100,6 +100,15 @@ impl Waiting {
         })
     }
 
+    /// No root waits any more.
+    pub fn clear(&mut self)
+        ensures { self.new ≡ self.old }
+    {
+        self.first.fill(None);
+        self.last.fill(None);
+        self.lowest = 0;
+    }
+
     /// Lets a root wait behind the others of its label.
     pub fn push(&mut self, label: u32, root: u32)
         requires label { label < self.old + 2 }

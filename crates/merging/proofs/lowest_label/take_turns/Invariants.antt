@@ -1,6 +1,6 @@
 -- The instance stays, and the order is of as many blocks.
 use Rattle.std.proofs.Common.{◌≡◌}
-use Rattle.merging.proofs.lowest_label.merge_by_lowest_label.Given as goal
+use Rattle.merging.proofs.lowest_label.take_turns.Given as goal
 
 abbrev pub invariant-loop-turn : goal.invariant-loop-turn
 invariant-loop-turn l = record {

@@ -1,0 +1,86 @@
+//! A mine whose values grow from solve to solve, by one tree (the parametric form of the method, Hochbaum 2008): each solve
+//! goes on from the tree and the labels of the one before.
+ghost use Rattle.std.specs.Prelude.{◌≡◌, ◌<◌, ◌^◌, pos, ◌+ℤ◌, ◌≤ℤ◌, IfOk, IfErr};
+ghost use Rattle.faults.specs.Refused.{no_memory};
+ghost use Rattle.pit_model.specs.Mine.{value};
+ghost use Rattle.mine_graph.specs.Raised.{raised_at};
+ghost use Rattle.norm_tree.specs.Over.{most_rise};
+ghost use Rattle.certificate.specs.Check.{ShowsPit};
+
+use crate::closing::merge_rest;
+use crate::lowest_label::{LowestLabel, take_turns};
+use faults::Fault;
+use mine_graph::Instance;
+use norm_tree::{BareTree, NormTree};
+use std::alloc::Global;
+use std::marker::Model;
+
+/// To a contract it is the mine.
+#[derive(Drop)]
+pub struct RisingMine {
+    tree: BareTree,
+    order: LowestLabel,
+}
+
+impl Model for RisingMine {
+    ghost use Rattle.std.specs.Prelude.{◌≡◌};
+    ghost use Rattle.pit_model.specs.Mine.{Instance};
+
+    ghost Value = { Instance };
+
+    ghost view = { λ r. r.tree.mine };
+
+    ghost invariant = { λ r. r.order ≡ r.tree.mine.blocks };
+}
+
+impl RisingMine {
+    /// A mine, in memory of its own, that is not solved yet. Refused for want of memory alone.
+    pub fn new(alloc: Global, instance: &Instance) -> Result<RisingMine, Fault>
+        ensures mine { IfOk result (λ r. r ≡ instance.now) }
+        ensures refused { IfErr result (λ e. e ≡ no_memory) }
+    {
+        let tree = BareTree::start(alloc, instance)?;
+        let order = LowestLabel::new(alloc, &tree)?;
+        Ok(RisingMine { tree, order })
+    }
+
+    /// The mine as it is now.
+    pub fn instance(&self) -> &Instance
+        ensures { result.now ≡ self.now }
+    {
+        self.tree.instance()
+    }
+
+    /// The value of a block grows by an amount, as far as a value may. It takes no memory.
+    pub fn raise(&mut self, block: u32, amount: i128)
+        requires below { block < self.old.blocks }
+        requires least { pos 0 ≤ℤ amount }
+        requires most { amount ≤ℤ pos most_rise }
+        requires limit { (value self.old block +ℤ amount) ≤ℤ pos (10 ^ 23) }
+        ensures { self.new ≡ raised_at self.old block amount }
+    {
+        self.tree.raise(block, amount);
+    }
+
+    /// The same mine, solved, and its pit, rising. Refused for want of memory alone.
+    ///
+    /// The pit stays in that of each later solve, since values only grow: so the order is done with its blocks.
+    pub fn solved(self) -> Result<(RisingMine, Vec<u32>), Fault>
+        ensures mine { IfOk result (λ r. r.0 ≡ self) }
+        ensures shown { IfOk result (λ r. ShowsPit self r.1.items) }
+        ensures refused { IfErr result (λ e. e ≡ no_memory) }
+    {
+        let RisingMine {
+            mut tree,
+            mut order,
+        } = self;
+        order.wait_anew(&tree);
+        take_turns(&mut order, &mut tree);
+        let solved = merge_rest(NormTree::from_bare(tree)?)?;
+        solved.law();
+        let pit = solved.pit()?;
+        order.finish(&pit);
+        let tree = solved.into_bare();
+        Ok((RisingMine { tree, order }, pit))
+    }
+}
