@@ -8,6 +8,7 @@ ghost use Rattle.mine_graph.specs.Raised.{raised_at};
 
 use crate::graph::Graph;
 use crate::values::Values;
+use gauge::Gauge;
 use std::alloc::{AllocError, Global};
 use std::marker::Model;
 use std::sync::Arc;
@@ -17,6 +18,7 @@ use std::sync::Arc;
 pub struct Instance {
     graph: Arc<Graph>,
     values: Values,
+    gauge: Gauge,
 }
 
 impl Model for Instance {
@@ -40,17 +42,42 @@ impl Instance {
         ensures pairs { result.pairs ≡ graph.value.pairs }
         ensures values { result.values ≡ values.items }
     {
-        let values = Values::new(values);
-        Instance { graph, values }
+        Instance::watched(graph, values, Gauge::none())
     }
 
-    /// The same instance once more. The graph is shared.
+    /// The same as `new` gives, over which this gauge counts.
+    pub fn watched(graph: Arc<Graph>, values: Vec<i128>, gauge: Gauge) -> Instance
+        requires count { length values.items ≡ graph.value.blocks }
+        requires low { (u : ℕ) → u < graph.value.blocks → neg_ℤ (pos (10 ^ 23)) ≤ℤ get_or values.items u (pos 0) }
+        requires high { (u : ℕ) → u < graph.value.blocks → get_or values.items u (pos 0) ≤ℤ pos (10 ^ 23) }
+        ensures blocks { result.blocks ≡ graph.value.blocks }
+        ensures pairs { result.pairs ≡ graph.value.pairs }
+        ensures values { result.values ≡ values.items }
+    {
+        let values = Values::new(values);
+        Instance {
+            graph,
+            values,
+            gauge,
+        }
+    }
+
+    /// What counts over the instance. No clause speaks of it.
+    pub fn gauge(&self) -> &Gauge {
+        &self.gauge
+    }
+
+    /// The same instance once more. The graph and the gauge are shared.
     pub fn share(&self, alloc: Global) -> Result<Instance, AllocError>
         ensures { IfOk result (λ other. other ≡ self.now) }
     {
         let graph = Arc::try_clone(&self.graph)?;
         let values = self.values.copy(alloc)?;
-        Ok(Instance { graph, values })
+        Ok(Instance {
+            graph,
+            values,
+            gauge: self.gauge.share(),
+        })
     }
 
     /// What is true of each instance.

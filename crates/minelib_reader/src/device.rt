@@ -4,6 +4,8 @@ ghost use Rattle.std.specs.Prelude.{◌≡◌, ◌<◌, ◌^◌, ℕ, List, leng
 ghost use Rattle.std.specs.Io.KnownBytes.{Keeps, WriteAppends};
 ghost use Rattle.minelib_reader.specs.Device.{Progress, ReadGives, WriteTakes};
 
+use gauge::Gauge;
+
 /// A call of the device failed, and was counted.
 #[derive(Clone, Copy, Debug, PartialEq, Eq)]
 pub struct DeviceFailed;
@@ -30,6 +32,11 @@ pub trait InBytes {
         ensures end { result ≡ Ok 0 → IsAtEnd self.new }
         ensures known { Keeps (known_text self.old) (known_text self.new) }
         ensures sound { IsSound self.old → (IsErr result → (progress self.old).allowance ≡ 0) × IsSound self.new };
+
+    /// What counts over the run that reads from here. No clause speaks of it.
+    fn gauge(&self) -> Gauge {
+        Gauge::none()
+    }
 }
 
 /// A taker of bytes.

@@ -10,6 +10,7 @@ use crate::device::{DeviceFailed, InBytes};
 use crate::stream::{InputStream, MOST_TRIES, is_interrupted};
 use crate::tally::Tally;
 use faults::{Fault, Refusal, Source};
+use gauge::Gauge;
 use std::alloc::Global;
 use std::io;
 
@@ -58,6 +59,7 @@ pub struct FileReader<S> {
     stream: S,
     tally: Tally,
     ended: bool,
+    gauge: Gauge,
 }
 
 impl<S: InputStream + Drop> FileReader<S> {
@@ -67,10 +69,20 @@ impl<S: InputStream + Drop> FileReader<S> {
         ensures known { ⟦<FileReader<S> as InBytes>⟧.known_text result ≡ prepend_known [] (S.remaining stream) }
         ensures sound { S.IsSound stream → ⟦<FileReader<S> as InBytes>⟧.IsSound result }
     {
+        FileReader::watched(stream, Gauge::none())
+    }
+
+    /// The same as `new` gives. This gauge is told how many bytes are read.
+    pub fn watched(stream: S, gauge: Gauge) -> FileReader<S>
+        ensures start { ⟦<FileReader<S> as InBytes>⟧.progress result ≡ unread (2 ^ 40) }
+        ensures known { ⟦<FileReader<S> as InBytes>⟧.known_text result ≡ prepend_known [] (S.remaining stream) }
+        ensures sound { S.IsSound stream → ⟦<FileReader<S> as InBytes>⟧.IsSound result }
+    {
         FileReader {
             stream,
             tally: Tally::new(MOST_BYTES),
             ended: false,
+            gauge,
         }
     }
 }
@@ -109,6 +121,7 @@ impl<S: InputStream + Drop> InBytes for FileReader<S> {
             Ok(n) => {
                 self.ended = n == 0;
                 self.tally.gave(&buf[..n]);
+                self.gauge.read(n as u64);
                 Ok(n)
             }
             Err(_) => {
@@ -116,6 +129,10 @@ impl<S: InputStream + Drop> InBytes for FileReader<S> {
                 Err(DeviceFailed)
             }
         }
+    }
+
+    fn gauge(&self) -> Gauge {
+        self.gauge.share()
     }
 }
 

@@ -22,6 +22,7 @@ use crate::lines::{count_fields, first_two, next_whole};
 use crate::number::whole_number;
 use crate::rows::{Row, Rows};
 use faults::{Fault, Refusal, Source};
+use gauge::Gauge;
 use std::alloc::Global;
 
 const MOST_PAIRS: u64 = 67_108_864;
@@ -180,7 +181,7 @@ fn read_line(
 }
 
 /// The pairs of all lines.
-fn parse_lines(alloc: Global, text: &[u8], n: u32) -> Result<Vec<(u32, u32)>, Fault>
+fn parse_lines(alloc: Global, text: &[u8], n: u32, gauge: &Gauge) -> Result<Vec<(u32, u32)>, Fault>
     requires { length text.now ≤ 2 ^ 40 }
     ensures { Gives (λ v. v.items) result (prec_of n text.now) }
 {
@@ -190,6 +191,7 @@ fn parse_lines(alloc: Global, text: &[u8], n: u32) -> Result<Vec<(u32, u32)>, Fa
     let mut before = Before { from: 0, total: 0 };
     while let Some(row) = rows.next_row() {
         before = read_line(n, before, &mut marks, row, &mut pairs)?;
+        gauge.pairs_read(before.total);
     }
     Ok(pairs)
 }
@@ -212,7 +214,24 @@ pub fn parse_prec(alloc: Global, text: &[u8], n: u32) -> Result<Vec<(u32, u32)>,
     ensures first_fault { IfErr result (λ e. FailsAt e.refusal e (IsFirstPrecFault n text.now)) }
     ensures lawful { IfOk result (λ v. ArePrecedences n v.items) }
 {
-    parse_lines(alloc, text, n)
+    parse_watched(alloc, text, n, &Gauge::none())
+}
+
+/// The same as `parse_prec` gives. A gauge is told of the pairs of each line.
+fn parse_watched(
+    alloc: Global,
+    text: &[u8],
+    n: u32,
+    gauge: &Gauge,
+) -> Result<Vec<(u32, u32)>, Fault>
+    requires { length text.now ≤ 2 ^ 40 }
+    ensures exact { Gives (λ v. v.items) result (prec_of n text.now) }
+    ensures spelled { IfOk result (λ v. SpellsPrec n text.now v.items) }
+    ensures read { (pairs : List (ℕ × ℕ)) → SpellsPrec n text.now pairs → Gives (λ v. v.items) result (Ok pairs) }
+    ensures first_fault { IfErr result (λ e. FailsAt e.refusal e (IsFirstPrecFault n text.now)) }
+    ensures lawful { IfOk result (λ v. ArePrecedences n v.items) }
+{
+    parse_lines(alloc, text, n, gauge)
 }
 
 /// The pairs (u, p) of "u needs p" for n blocks, in order of line and place, that all spells which the reader has left,
@@ -233,5 +252,5 @@ pub fn read_prec<R: InBytes>(
     ensures exact { Answers (λ v. v.items) (prec_of n) sources.Precedence (R.progress reader.old) (R.progress reader.new) (R.IsAtEnd reader.new) result }
 {
     let text = read_all(alloc, reader, Source::Precedence)?;
-    parse_prec(alloc, &text, n)
+    parse_watched(alloc, &text, n, &reader.gauge())
 }

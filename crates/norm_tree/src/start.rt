@@ -18,7 +18,7 @@ pub(crate) fn values_of(alloc: Global, instance: &Instance) -> Result<Vec<i128>,
     Ok((0..n).map(|u| instance.value(u)).collect(alloc)?)
 }
 
-/// The same instance, over the same graph.
+/// The same instance, over the same graph, and with the same gauge.
 pub(crate) fn copy_of(alloc: Global, instance: &Instance) -> Result<Instance, Fault>
     ensures same { IfOk result (λ copy. copy ≡ instance.now) }
     ensures no_memory { IfErr result (λ e. e ≡ no_memory) }
@@ -26,5 +26,5 @@ pub(crate) fn copy_of(alloc: Global, instance: &Instance) -> Result<Instance, Fa
     instance.law();
     let graph = Arc::try_clone(instance.graph())?;
     let values = values_of(alloc, instance)?;
-    Ok(Instance::new(graph, values))
+    Ok(Instance::watched(graph, values, instance.gauge().share()))
 }

@@ -116,6 +116,15 @@ impl<V: Origin> Book<V> {
         lawful_verdict(self.tree(), self.budget, self.applied, arc)
     }
 
+    // Tells the gauge of the instance of a decision.
+    fn count(&self, verdict: Verdict) {
+        let gauge = self.tree().instance().gauge();
+        gauge.decided(verdict == Verdict::Stale);
+        if verdict == Verdict::Applied {
+            gauge.merged();
+        }
+    }
+
     /// Decides one proposal for a seat, with an entry; an applied merger is published. Where memory for that was refused,
     /// nothing changed.
     pub fn decide<R: Wait>(&mut self, rt: &R, seat: u32, arc: u32) -> Result<Verdict, Fault>
@@ -130,6 +139,7 @@ impl<V: Origin> Book<V> {
             Err(error) => return Err(error),
         }
         self.journal.push_reserved(entry);
+        self.count(verdict);
         Ok(verdict)
     }
 }

@@ -8,7 +8,7 @@ use Rattle.minelib_reader.specs.UpitGrammar.{SpellsUpit}
 use Rattle.minelib_reader.proofs.AnswerLemmas.{value_told, fault_told}
 use Rattle.minelib_reader.proofs.UpitGrammarLemmas.{reads, spelled}
 use Rattle.minelib_reader.proofs.UpitFaultLemmas.{fails_first}
-use Rattle.minelib_reader.proofs.upit.parse_upit.Goals as goal
+use Rattle.minelib_reader.proofs.upit.parse_watched.Goals as goal
 
 pub returns-clause-spelled : goal.returns-clause-spelled
 returns-clause-spelled c =

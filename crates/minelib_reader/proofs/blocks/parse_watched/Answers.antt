@@ -8,7 +8,7 @@ use Rattle.minelib_reader.specs.BlocksGrammar.{SpellsTable}
 use Rattle.minelib_reader.proofs.AnswerLemmas.{value_told, fault_told}
 use Rattle.minelib_reader.proofs.BlocksGrammarLemmas.{reads, spelled}
 use Rattle.minelib_reader.proofs.BlocksFaultLemmas.{fails_first}
-use Rattle.minelib_reader.proofs.blocks.parse_blocks.Goals as goal
+use Rattle.minelib_reader.proofs.blocks.parse_watched.Goals as goal
 
 pub returns-clause-spelled : goal.returns-clause-spelled
 returns-clause-spelled c =
