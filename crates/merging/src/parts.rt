@@ -79,7 +79,18 @@ fn solve_each<R: Threads + Sync>(
     solved
 }
 
-// The certificates of the parts, joined; None where there are fewer than two parts.
+// More parts than this are solved as one mine, where they have fewer than so many blocks on average: each part is an instance
+// of its own, which takes more memory than what so few blocks need.
+const MANY_PARTS: u32 = 1 << 16;
+
+const FEW_BLOCKS: u32 = 16;
+
+// Whether so many parts of a mine of so many blocks are to be solved one by one.
+fn are_worth_parting(parts: u32, blocks: u32) -> bool {
+    parts >= 2 && (parts <= MANY_PARTS || parts <= blocks / FEW_BLOCKS)
+}
+
+// The certificates of the parts, joined; None where the mine is to be solved as one.
 fn join_of_parts<R: Threads + Sync>(
     rt: &R,
     alloc: Global,
@@ -94,7 +105,7 @@ fn join_of_parts<R: Threads + Sync>(
         return Ok(None);
     }
     let classes = graph.classes()?;
-    if classes.count < 2 {
+    if !are_worth_parting(classes.count, graph.n()) {
         return Ok(None);
     }
     let parts = graph.parts_by(&classes)?;
@@ -118,7 +129,7 @@ pub fn solve_parts<R: Threads + Sync>(
     }
 }
 
-/// The smallest closed set of greatest worth by its parts. Of an instance that is one part no flow is made.
+/// The smallest closed set of greatest worth by its parts. Of an instance that is solved as one no flow is made.
 /// Refused for want of memory alone, also that of a single part.
 pub fn pit_by_parts<R: Threads + Sync>(
     rt: &R,
