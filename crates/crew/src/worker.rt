@@ -14,6 +14,10 @@ use tree_lock::{Holder, LookSeat, SharedTree, Site, Verdict};
 // one another each time, which takes longer than what is done with it.
 const ASKS_IN_TURN: u32 = 64;
 
+// So often a worker looks for a reply to its ask while another has the lock, before it waits for the lock. Whoever has it answers
+// all asks within a few millionths of a second, in which a look is made some ten times.
+const LOOKS_BEFORE_WAITING: u32 = 1_000;
+
 // The lock, while a worker has it, and how many asks more it may serve with it. It is not `Drop`: it ends by `end`, or by `left`
 // after the last ask.
 struct Turn<'a, S: Site> {
@@ -111,25 +115,41 @@ impl<S: Site> Worker<S> {
         Some(reply.verdict != Verdict::Spent)
     }
 
-    // Serves the board with the lock, which it takes where it does not have it, and collects the reply to its ask. It answers
-    // whether the worker is to go on, and the lock where it keeps it. It is not to go on where memory was refused; an ask that
-    // was not answered then stays open.
+    // Serves the board with the lock, and collects the reply to its ask. It answers whether the worker is to go on, and the lock
+    // where it keeps it. It is not to go on where memory was refused; an ask that was not answered then stays open.
     fn serve<'a, G: Gate, L: Lot, R: Wait>(
         &mut self,
         rt: &R,
         sweep: &Sweep<'a, S, G, L>,
-        turn: Option<Turn<'a, S>>,
+        turn: Turn<'a, S>,
     ) -> (bool, Option<Turn<'a, S>>) {
-        let mut turn = match turn {
-            Some(turn) => turn,
-            None => Turn::begin(sweep.shared.lock(rt)),
-        };
+        let mut turn = turn;
         let served = turn.holder.serve(rt, sweep.board);
         let goes_on = match self.collect(sweep) {
             Some(goes_on) => served.is_ok() && goes_on,
             None => false,
         };
         (goes_on, turn.left())
+    }
+
+    // Collects the reply of whoever has the lock, or serves once the lock is free. It waits for the lock only where it found it
+    // taken so often.
+    fn meet_holder<'a, G: Gate, L: Lot, R: Wait>(
+        &mut self,
+        rt: &R,
+        sweep: &Sweep<'a, S, G, L>,
+    ) -> (bool, Option<Turn<'a, S>>) {
+        for _look in 0..LOOKS_BEFORE_WAITING {
+            match sweep.shared.try_lock() {
+                Some(holder) => return self.serve(rt, sweep, Turn::begin(holder)),
+                None => {}
+            }
+            match self.collect(sweep) {
+                Some(goes_on) => return (goes_on, None),
+                None => {}
+            }
+        }
+        self.serve(rt, sweep, Turn::begin(sweep.shared.lock(rt)))
     }
 
     // Asks for the arc, serves where nobody answered yet, and collects. It answers whether the worker is to go on, and the lock
@@ -145,9 +165,10 @@ impl<S: Site> Worker<S> {
     {
         sweep.board.ask(&mut self.asks, arc);
         sweep.gate.asked(self.number);
-        match self.collect(sweep) {
-            Some(goes_on) => (goes_on, turn),
-            None => self.serve(rt, sweep, turn),
+        match (self.collect(sweep), turn) {
+            (Some(goes_on), turn) => (goes_on, turn),
+            (None, Some(turn)) => self.serve(rt, sweep, turn),
+            (None, None) => self.meet_holder(rt, sweep),
         }
     }
 

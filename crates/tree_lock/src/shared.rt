@@ -81,6 +81,11 @@ impl<S: Site> SharedTree<S> {
         self.lock.lock(rt)
     }
 
+    /// The same where no other thread has the lock, without waiting for it.
+    pub fn try_lock(&self) -> Option<MutexGuard<'_, Holder<S>>> {
+        self.lock.try_lock()
+    }
+
     /// Takes the lock and tells the seat of all mergers that were made by then: all that it saw or was told of before was a
     /// beginning of these. True where nothing is left to be published, which is always.
     pub fn tell<R: Wait>(&self, rt: &R, seat: &mut LookSeat<S>) -> bool
