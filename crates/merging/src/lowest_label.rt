@@ -323,6 +323,7 @@ impl LowestLabel {
         if !tree.try_merge(arc) {
             return Turn::Last;
         }
+        tree.instance().gauge().merged();
         self.wait_along(tree);
         Turn::Merged(arc)
     }
@@ -346,6 +347,7 @@ impl LowestLabel {
         match self.look(tree, root, label) {
             Some(arc) => self.merge(tree, arc),
             None => {
+                tree.instance().gauge().relabelled(self.found as u64);
                 self.raise(tree.instance().graph(), root, label);
                 Turn::Raised
             }

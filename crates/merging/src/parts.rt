@@ -46,7 +46,8 @@ fn solve_part(alloc: Global, instance: &Instance, part: Part) -> Result<SolvedPa
 {
     instance.law();
     let values = values_of(alloc, instance, &part.blocks)?;
-    let mine = Instance::new(Arc::new(alloc, part.graph)?, values);
+    let gauge = instance.gauge().share();
+    let mine = Instance::watched(Arc::new(alloc, part.graph)?, values, gauge);
     mine.law();
     let certificate = certificate_of(alloc, &mine)?;
     Ok(SolvedPart {

@@ -111,7 +111,8 @@ fn with_pairs_of(alloc: Global, instance: &Instance, graph: &Arc<Graph>) -> Resu
 {
     instance.law();
     let values = values_of(alloc, instance)?;
-    Ok(Instance::new(Arc::try_clone(graph)?, values))
+    let gauge = instance.gauge().share();
+    Ok(Instance::watched(Arc::try_clone(graph)?, values, gauge))
 }
 
 /// The value of each block.

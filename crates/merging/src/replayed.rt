@@ -40,6 +40,7 @@ fn decide_again(tree: &mut NormTree, budget: Option<u64>, made: u64, entry: Entr
     match entry.verdict {
         Verdict::Applied => {
             tree.try_merge(entry.arc);
+            tree.instance().gauge().merged();
             Some(made + 1)
         }
         Verdict::Stale | Verdict::Spent => Some(made),

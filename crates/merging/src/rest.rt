@@ -63,7 +63,8 @@ impl Rest {
         let part = fixed.rest(mine.graph())?;
         part.graph.law();
         let values = values_of(alloc, mine, &part.blocks)?;
-        let rest = Instance::new(Arc::new(alloc, part.graph)?, values);
+        let gauge = mine.gauge().share();
+        let rest = Instance::watched(Arc::new(alloc, part.graph)?, values, gauge);
         Ok(Rest {
             blocks: part.blocks,
             mine: rest,

@@ -10,8 +10,8 @@ values_of-requires c =
     subst (λ (xs : List ℕ). (u : ℕ) → u < length xs → get_or xs u 0 < c.args.instance.now.blocks) (sym c.deref.ensures.value)
     (blocks_below (graph_of c.args.instance.now) c.args.part.graph c.requires.0 c.args.part.blocks.items c.requires.1)
 
-pub new-mine-requires-clause-low : goal.new-mine-requires-clause-low
-new-mine-requires-clause-low c u l =
+pub watched-mine-requires-clause-low : goal.watched-mine-requires-clause-low
+watched-mine-requires-clause-low c u l =
     let count = ap (λ (g : Graph). g.blocks) c.in_ok-new.ensures.ok ∙ c.requires.1.count in
     let size = ap (λ (xs : List ℕ). length xs) c.deref.ensures.value in
     let same = c.in_ok-values.ensures.each u (omega arith) in
@@ -19,8 +19,8 @@ new-mine-requires-clause-low c u l =
     let below = blocks_below (graph_of c.args.instance.now) c.args.part.graph c.requires.0 c.args.part.blocks.items c.requires.1 u (omega arith) in
     rw same (c.law.ensures.limits.low (get_or c.deref.result.now u 0) (omega arith))
 
-pub new-mine-requires-clause-high : goal.new-mine-requires-clause-high
-new-mine-requires-clause-high c u l =
+pub watched-mine-requires-clause-high : goal.watched-mine-requires-clause-high
+watched-mine-requires-clause-high c u l =
     let count = ap (λ (g : Graph). g.blocks) c.in_ok-new.ensures.ok ∙ c.requires.1.count in
     let size = ap (λ (xs : List ℕ). length xs) c.deref.ensures.value in
     let same = c.in_ok-values.ensures.each u (omega arith) in

@@ -20,8 +20,8 @@ values_of-requires c =
     subst (λ (xs : List ℕ). (u : ℕ) → u < length xs → get_or xs u 0 < mine.blocks) (sym c.deref-2.ensures.value)
     (λ u l. subst (λ (g : Graph). get_or part.blocks.items u 0 < g.blocks) whole (below u l))
 
-pub new-rest-requires-clause-low : goal.new-rest-requires-clause-low
-new-rest-requires-clause-low c u l =
+pub watched-rest-requires-clause-low : goal.watched-rest-requires-clause-low
+watched-rest-requires-clause-low c u l =
     let mine = c.args.mine.now in
     let whole : c.deref.result.now ≡ graph_of_mine mine = c.deref.ensures ∙ graph_is (arc_value c.graph.result.now) mine c.graph.ensures.blocks c.graph.ensures.pairs in
     let part = c.in_ok-part.part in
@@ -34,8 +34,8 @@ new-rest-requires-clause-low c u l =
     let below = subst (λ (g : Graph). get_or part.blocks.items u 0 < g.blocks) whole near in
     rw same (c.law.ensures.limits.low (get_or c.deref-2.result.now u 0) (omega arith))
 
-pub new-rest-requires-clause-high : goal.new-rest-requires-clause-high
-new-rest-requires-clause-high c u l =
+pub watched-rest-requires-clause-high : goal.watched-rest-requires-clause-high
+watched-rest-requires-clause-high c u l =
     let mine = c.args.mine.now in
     let whole : c.deref.result.now ≡ graph_of_mine mine = c.deref.ensures ∙ graph_is (arc_value c.graph.result.now) mine c.graph.ensures.blocks c.graph.ensures.pairs in
     let part = c.in_ok-part.part in
@@ -52,13 +52,13 @@ pub returns-clause-rest : goal.returns-clause-rest
 returns-clause-rest c =
     let mine = c.args.mine.now in
     let fixed = c.args.fixed.now in
-    let rest = c.new-rest.result in
+    let rest = c.watched-rest.result in
     let part = c.in_ok-part.part in
     let blocks = part.blocks.items in
     let whole : c.deref.result.now ≡ graph_of_mine mine = c.deref.ensures ∙ graph_is (arc_value c.graph.result.now) mine c.graph.ensures.blocks c.graph.ensures.pairs in
     let held : arc_value c.in_ok-new.field-0 ≡ part.graph = c.in_ok-new.ensures.ok in
-    let size : rest.blocks ≡ part.graph.blocks = c.new-rest.ensures.blocks ∙ ap (λ (g : Graph). g.blocks) held in
-    let pairs : rest.pairs ≡ part.graph.pairs = c.new-rest.ensures.pairs ∙ ap (λ (g : Graph). g.pairs) held in
+    let size : rest.blocks ≡ part.graph.blocks = c.watched-rest.ensures.blocks ∙ ap (λ (g : Graph). g.blocks) held in
+    let pairs : rest.pairs ≡ part.graph.pairs = c.watched-rest.ensures.pairs ∙ ap (λ (g : Graph). g.pairs) held in
     let own : part.graph ≡ graph_of_mine rest = graph_is part.graph rest (sym size) (sym pairs) in
     let list : c.deref-2.result.now ≡ blocks = c.deref-2.ensures.value in
     let count : length c.in_ok-values.values.items ≡ length blocks = c.in_ok-values.ensures.count ∙ ap (λ (xs : List ℕ). length xs) list in
@@ -71,5 +71,5 @@ returns-clause-rest c =
       is_rest =
           subst (λ (g : Graph). IsFixedRest (graph_of_mine mine) (fixed_of fixed.lists) (dug_in fixed) (left_in fixed) blocks g) own
           (subst (λ (g : Graph). IsFixedRest g (fixed_of fixed.lists) (dug_in fixed) (left_in fixed) blocks part.graph) whole c.in_ok-part.ensures.rest);
-      mine_is = ap (λ (vs : List ℤ). instance_of rest.blocks vs rest.pairs) (c.new-rest.ensures.values ∙ values);
+      mine_is = ap (λ (vs : List ℤ). instance_of rest.blocks vs rest.pairs) (c.watched-rest.ensures.values ∙ values);
     }
