@@ -1,7 +1,7 @@
 //! One thread, and the parts, over small mines whose pits and whose mergers one by one were worked out by hand.
 use crate::mines::{cut_once, dug_whole, one_part, three_parts, worth_nothing};
 use crate::outcomes::{exhausted_at, is_shown, pit_in};
-use merging::{merge_by_lowest_label, pit_by_parts, solve_parts, solve_single};
+use merging::{RisingMine, merge_by_lowest_label, pit_by_parts, solve_parts, solve_single};
 use norm_tree::{BareTree, NormTree};
 use std::test::*;
 
@@ -36,6 +36,30 @@ fn the_order_leaves_no_merger_arc(rt: HostRuntime) -> Result<(), Fail> {
     let tree = NormTree::from_bare(tree)?;
     assert_eq!(rt; tree.find_merger(), None);
     assert_eq!(rt; tree.pit()?.as_slice(), [1, 2].as_slice());
+    Ok(())
+}
+
+/// Raises the value of a block by 1.
+fn raise(mine: &mut RisingMine, block: u32) -> bool {
+    let instance = mine.instance();
+    if block >= instance.graph().n() || instance.value(block) > 1_000_000 {
+        return false;
+    }
+    mine.raise(block, 1);
+    true
+}
+
+#[test]
+fn a_rising_mine_grows_its_pit(rt: HostRuntime) -> Result<(), Fail> {
+    let mine = RisingMine::new(rt.alloc(), &cut_once(rt.alloc())?)?;
+    let (mut mine, pit) = mine.solved()?;
+    assert_eq!(rt; pit.as_slice(), [1, 2].as_slice());
+    assert!(rt; raise(&mut mine, 0));
+    let (mut mine, pit) = mine.solved()?;
+    assert_eq!(rt; pit.as_slice(), [1, 2].as_slice());
+    assert!(rt; raise(&mut mine, 0));
+    let (_, pit) = mine.solved()?;
+    assert_eq!(rt; pit.as_slice(), [0, 1, 2, 3].as_slice());
     Ok(())
 }
 

@@ -7,3 +7,4 @@ pub mod Lifting
 pub mod Amounts
 pub mod Ends
 pub mod Outer
+pub mod Risen

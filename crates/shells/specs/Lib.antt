@@ -3,4 +3,5 @@ pub mod FactorLimits
 pub mod PriceLimits
 pub mod Prices
 pub mod Grown
+pub mod Risen
 pub mod Outermost

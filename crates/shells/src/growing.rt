@@ -30,7 +30,7 @@ pub struct Growing {
 }
 
 /// The numbers of all blocks.
-fn all_blocks(alloc: Global, n: u32) -> Result<Vec<u32>, AllocError>
+pub fn all_blocks(alloc: Global, n: u32) -> Result<Vec<u32>, AllocError>
     ensures { IfOk result (λ v. v.items ≡ range_with_len 0 n) }
 {
     (0..n).collect(alloc)

@@ -9,6 +9,7 @@ mod laws;
 mod nesting;
 mod outermost;
 mod plan;
+mod rising;
 
 pub use columns::Columns;
 pub use factors::Factors;

@@ -10,6 +10,7 @@ use crate::factors::Factors;
 use crate::growing::{next_shell, start};
 use crate::outermost::{is_free, lift_all, outermost_shell};
 use crate::plan::Plan;
+use crate::rising::rising_shells;
 use faults::Fault;
 use mine_graph::Graph;
 use pit_model::{Direction, Shell, ShellList};
@@ -40,6 +41,26 @@ fn each_shell<G: Gate + Sync, R: Threads + Wait + Sync>(
         list.push(shell)?;
     }
     Ok(list)
+}
+
+/// The shell of each factor, in their order: by one tree where one thread looks for the least shells. Refused for want of memory
+/// alone.
+fn inner_shells<G: Gate + Sync, R: Threads + Wait + Sync>(
+    rt: &R,
+    alloc: Global,
+    plan: &Plan<'_>,
+    gate: &G,
+) -> Result<Vec<Shell>, Fault>
+    requires rows { length plan.now.columns.now.revenues ≡ plan.now.graph.now.value.blocks }
+    requires some { 0 < length plan.now.factors.now }
+    requires free { IsFree plan.now.mode.now }
+    ensures shells { IfOk result (λ list. AreShells plan.now.direction (deposit_of plan.now.columns.now plan.now.graph.now.value) plan.now.factors.now list.items) }
+    ensures refused { IfErr result (λ e. e ≡ no_memory) }
+{
+    match (plan.mode, plan.direction) {
+        (Mode::Single { budget: None }, Direction::Least) => rising_shells(alloc, plan),
+        _ => each_shell(rt, alloc, plan, gate),
+    }
 }
 
 /// The shell of each factor, found among the blocks of the last one. Refused for want of memory alone.
@@ -76,7 +97,7 @@ fn shells_within<G: Gate + Sync, R: Threads + Wait + Sync>(
         mode,
         direction,
     };
-    let inner = each_shell(rt, alloc, &within, gate)?;
+    let inner = inner_shells(rt, alloc, &within, gate)?;
     Ok(lift_all(alloc, graph.n(), &outer.blocks, &inner)?)
 }
 

@@ -33,7 +33,7 @@ one_more n found marks k below is =
     }
 
 -- a block is marked where it is a member
-marks_members : (n : ℕ) (found : List ℕ) (marks : List Bool) (set : ℕ → Bool) → IsMarking n found marks (length found) → found ≡ members n set → (u : ℕ) → u < n → has marks u ≡ set u
+pub marks_members : (n : ℕ) (found : List ℕ) (marks : List Bool) (set : ℕ → Bool) → IsMarking n found marks (length found) → found ≡ members n set → (u : ℕ) → u < n → has marks u ≡ set u
 marks_members n found marks set is listed u l = ⊎_elim
     (λ (on : set u ≡ true).
     let place = members_place n set u l on in

@@ -1,0 +1,176 @@
+//! Shells by one tree (the parametric form of the method: Hochbaum 2008): from factor to factor the values of the blocks outside
+//! the shell before rise to what they are then, and each solve goes on from the tree of the one before.
+//!
+//! The blocks of the shell before keep their values: each set that may be the pit holds them all, so its pit stays the same.
+ghost use Rattle.std.specs.Prelude.{◌≡◌, ◌<◌, ◌≤◌, ◌+◌, ℕ, pos, ◌-ℤ◌, ◌≤ℤ◌, ◌^◌, Bool, false, length, IfOk, IfErr};
+ghost use Rattle.std.specs.List.{All};
+ghost use Rattle.faults.specs.Refused.{no_memory};
+ghost use Rattle.pit_model.specs.declared.direction.Direction.TheVariants.{Least};
+ghost use Rattle.pit_model.specs.Mine.{members, value};
+ghost use Rattle.pit_model.specs.Deposit.{mine_at};
+ghost use Rattle.pit_model.specs.Shells.{AreShells, IsShell, factor_of};
+ghost use Rattle.shells.specs.Prices.{deposit_of, price_of};
+ghost use Rattle.shells.specs.Grown.{marked};
+ghost use Rattle.shells.specs.Risen.{IsHeld, IsRisen, IsSolvedAt};
+
+use crate::columns::Columns;
+use crate::growing::all_blocks;
+use crate::plan::Plan;
+use faults::Fault;
+use merging::RisingMine;
+use mine_graph::{Graph, Instance};
+use pit_model::Shell;
+use std::alloc::{AllocError, Global};
+use std::sync::Arc;
+
+/// A solved mine, with a mark for each block of its pit.
+#[derive(Drop)]
+pub struct Risen {
+    pub mine: RisingMine,
+    pub marks: Vec<bool>,
+}
+
+/// The mine at a factor. Refused for want of memory alone.
+fn mine_at(
+    alloc: Global,
+    columns: &Columns,
+    graph: &Arc<Graph>,
+    factor: u32,
+) -> Result<Instance, Fault>
+    requires rows { length columns.now.revenues ≡ graph.now.value.blocks }
+    requires factor { factor ≤ 100000 }
+    ensures is { IfOk result (λ mine. mine ≡ mine_at (deposit_of columns.now graph.now.value) factor) }
+    ensures refused { IfErr result (λ e. e ≡ no_memory) }
+{
+    columns.law();
+    let blocks = all_blocks(alloc, graph.n())?;
+    let values = columns.values(alloc, &blocks, factor)?;
+    Ok(Instance::new(Arc::try_clone(graph)?, values))
+}
+
+/// What a block gains from one factor to another.
+fn gain(columns: &Columns, block: u32, from: u32, to: u32) -> i128
+    requires block { block < length columns.now.revenues }
+    requires rising { from ≤ to }
+    requires limit { to ≤ 100000 }
+    ensures gain { result ≡ price_of columns.now to block -ℤ price_of columns.now from block }
+    ensures least { pos 0 ≤ℤ result }
+    ensures most { result ≤ℤ pos (10 ^ 23) }
+{
+    columns.law();
+    columns.value(block, to) - columns.value(block, from)
+}
+
+/// Lets the values of the blocks without a mark rise from one factor to another.
+fn rise(mine: &mut RisingMine, columns: &Columns, marks: &[bool], from: u32, to: u32)
+    requires rows { length columns.now.revenues ≡ mine.old.blocks }
+    requires marks { length marks.now ≡ mine.old.blocks }
+    requires rising { from ≤ to }
+    requires limit { to ≤ 100000 }
+    requires before { (u : ℕ) → u < mine.old.blocks → marked marks.now u ≡ false → value mine.old u ≡ price_of columns.now from u }
+    ensures { IsRisen columns.now marks.now to mine.old.blocks mine.old mine.new }
+{
+    mine.instance().law();
+    columns.law();
+    for block in 0..columns.len() {
+        if !marks[block as usize] {
+            let amount = gain(columns, block, from, to);
+            if amount > 0 {
+                mine.raise(block, amount);
+            }
+        }
+    }
+}
+
+/// A mark for each block of a rising list.
+fn marks_of(alloc: Global, blocks: u32, pit: &[u32]) -> Result<Vec<bool>, AllocError>
+    requires { All (λ u. u < blocks) pit.now }
+    ensures size { IfOk result (λ v. length v.items ≡ blocks) }
+    ensures marks { IfOk result (λ v. (set : ℕ → Bool) → pit.now ≡ members blocks set → (u : ℕ) → u < blocks → marked v.items u ≡ set u) }
+{
+    let mut marks = vec![in alloc; false; blocks as usize]?;
+    for &block in pit {
+        marks[block as usize] = true;
+    }
+    Ok(marks)
+}
+
+/// Solves the mine that has risen to a factor, and answers the factor's shell. Refused for want of memory alone.
+fn solve(
+    alloc: Global,
+    columns: &Columns,
+    factor: u32,
+    mine: RisingMine,
+) -> Result<(Risen, Shell), Fault>
+    requires rows { length columns.now.revenues ≡ mine.blocks }
+    requires factor { factor ≤ 100000 }
+    ensures solved { IfOk result (λ r. IsSolvedAt columns.now factor mine r.0 r.1) }
+    ensures refused { IfErr result (λ e. e ≡ no_memory) }
+{
+    mine.instance().law();
+    let blocks = mine.instance().graph().n();
+    let (mine, pit) = mine.solved()?;
+    let marks = marks_of(alloc, blocks, &pit)?;
+    let worth = columns.worth(&pit, factor);
+    Ok((Risen { mine, marks }, Shell { factor, pit, worth }))
+}
+
+/// The shell of the first factor, and the mine in which it was found.
+fn first_shell(alloc: Global, plan: &Plan<'_>) -> Result<(Risen, Shell), Fault>
+    requires rows { length plan.now.columns.now.revenues ≡ plan.now.graph.now.value.blocks }
+    requires some { 0 < length plan.now.factors.now }
+    ensures held { IfOk result (λ r. IsHeld (deposit_of plan.now.columns.now plan.now.graph.now.value) (factor_of plan.now.factors.now 0) r.0.marks.items r.0.mine) }
+    ensures shell { IfOk result (λ r. IsShell Least (deposit_of plan.now.columns.now plan.now.graph.now.value) r.1) }
+    ensures factor { IfOk result (λ r. r.1.factor ≡ factor_of plan.now.factors.now 0) }
+    ensures refused { IfErr result (λ e. e ≡ no_memory) }
+{
+    plan.columns.law();
+    plan.factors.law();
+    let factor = plan.factors.get(0);
+    let mine = mine_at(alloc, plan.columns, plan.graph, factor)?;
+    solve(alloc, plan.columns, factor, RisingMine::new(alloc, &mine)?)
+}
+
+/// The shell of the factor after that with a number, by the mine in which the shell of the latter was found.
+fn next_shell(
+    alloc: Global,
+    plan: &Plan<'_>,
+    k: usize,
+    risen: Risen,
+) -> Result<(Risen, Shell), Fault>
+    requires rows { length plan.now.columns.now.revenues ≡ plan.now.graph.now.value.blocks }
+    requires known { k + 1 < length plan.now.factors.now }
+    requires held { IsHeld (deposit_of plan.now.columns.now plan.now.graph.now.value) (factor_of plan.now.factors.now k) risen.marks.items risen.mine }
+    ensures held { IfOk result (λ r. IsHeld (deposit_of plan.now.columns.now plan.now.graph.now.value) (factor_of plan.now.factors.now (k + 1)) r.0.marks.items r.0.mine) }
+    ensures shell { IfOk result (λ r. IsShell Least (deposit_of plan.now.columns.now plan.now.graph.now.value) r.1) }
+    ensures factor { IfOk result (λ r. r.1.factor ≡ factor_of plan.now.factors.now (k + 1)) }
+    ensures refused { IfErr result (λ e. e ≡ no_memory) }
+{
+    plan.columns.law();
+    plan.factors.law();
+    let Risen { mut mine, marks } = risen;
+    let from = plan.factors.get(k);
+    let to = plan.factors.get(k + 1);
+    rise(&mut mine, plan.columns, &marks, from, to);
+    solve(alloc, plan.columns, to, mine)
+}
+
+/// The least shell of each factor, in their order, by one thread. Refused for want of memory alone.
+pub fn rising_shells(alloc: Global, plan: &Plan<'_>) -> Result<Vec<Shell>, Fault>
+    requires rows { length plan.now.columns.now.revenues ≡ plan.now.graph.now.value.blocks }
+    requires some { 0 < length plan.now.factors.now }
+    ensures shells { IfOk result (λ list. AreShells Least (deposit_of plan.now.columns.now plan.now.graph.now.value) plan.now.factors.now list.items) }
+    ensures refused { IfErr result (λ e. e ≡ no_memory) }
+{
+    plan.columns.law();
+    plan.factors.law();
+    let mut list = Vec::new(alloc);
+    let (mut risen, shell) = first_shell(alloc, plan)?;
+    list.push(shell)?;
+    for k in 0..plan.factors.len() - 1 {
+        let (next, shell) = next_shell(alloc, plan, k, risen)?;
+        risen = next;
+        list.push(shell)?;
+    }
+    Ok(list)
+}
