@@ -7,7 +7,7 @@ _pitshell() {
         return
     fi
     case $before in
-    --model | --prec | --fixed | --blocks | --certificate | --journal)
+    --model | --prec | --fixed | --blocks | --certificate | --journal | --stats)
         compopt -o filenames 2> /dev/null
         mapfile -t COMPREPLY < <(compgen -f -- "$word")
         return
@@ -20,11 +20,11 @@ _pitshell() {
         mapfile -t COMPREPLY < <(compgen -W "least greatest" -- "$word")
         return
         ;;
-    --workers | --budget | --revenue | --cost | --factors) return ;;
+    --workers | --budget | --revenue | --cost | --factors | --progress) return ;;
     esac
     case ${COMP_WORDS[1]} in
-    solve) options="--model --prec --fixed --mode --workers --budget --pit --journal --certificate --help" ;;
-    shells) options="--blocks --prec --revenue --cost --factors --mode --workers --budget --pit --help" ;;
+    solve) options="--model --prec --fixed --mode --workers --budget --pit --journal --certificate --progress --stats --help" ;;
+    shells) options="--blocks --prec --revenue --cost --factors --mode --workers --budget --pit --progress --stats --help" ;;
     check) options="--model --prec --fixed --certificate --help" ;;
     replay) options="--model --prec --fixed --journal --help" ;;
     help) options="solve shells check replay" ;;

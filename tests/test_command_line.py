@@ -82,8 +82,8 @@ def test_help_goes_to_standard_output_and_names_the_statuses(mine: Mine, words: 
 @pytest.mark.parametrize(
     ("subcommand", "options"),
     [
-        ("solve", ["--model", "--prec", "--fixed", "--mode", "--workers", "--budget", "--pit", "--journal", "--certificate"]),
-        ("shells", ["--blocks", "--prec", "--revenue", "--cost", "--factors", "--mode", "--workers", "--budget", "--pit"]),
+        ("solve", ["--model", "--prec", "--fixed", "--mode", "--workers", "--budget", "--pit", "--journal", "--certificate", "--progress", "--stats"]),
+        ("shells", ["--blocks", "--prec", "--revenue", "--cost", "--factors", "--mode", "--workers", "--budget", "--pit", "--progress", "--stats"]),
         ("check", ["--model", "--prec", "--fixed", "--certificate"]),
         ("replay", ["--model", "--prec", "--fixed", "--journal"]),
     ],

@@ -161,6 +161,7 @@ impl<'a, S: Site + Send + Sync, G: Gate + Sync> Crew<'a, S, G> {
             return Err(fault);
         }
         self.meet(&mut holder);
+        holder.tree().instance().gauge().swept();
         let renewed = match is_ended(rt, &mut holder) {
             Ok(true) => return Ok((holder, true)),
             Ok(false) => self.renew(alloc, holder.tree()),
