@@ -1,5 +1,7 @@
 """What the command line takes, what it refuses with status 2, and the words of help."""
 
+import pathlib
+import re
 import shutil
 import subprocess
 
@@ -7,6 +9,8 @@ import pytest
 
 from conftest import TOP, Mine
 
+# What the program says of itself and of mistakes: each command behind a dollar sign, and then its status, and all that it says.
+STORED = pathlib.Path(__file__).with_name("stored_words.txt")
 SOLVE = ["solve", "--model", "mine.upit", "--prec", "mine.prec"]
 SHELLS = ["shells", "--blocks", "mine.blocks", "--prec", "mine.prec", "--revenue", "0", "--cost", "1", "--factors", "1000"]
 
@@ -52,6 +56,18 @@ def test_mistakes_write_nothing_to_standard_output(mine: Mine, words: list[str])
     status, out, err = mine.run(*words)
     assert (status, out) == (2, "")
     assert err
+
+
+def stored_words() -> dict[str, str]:
+    told = re.split(r"^\$ pitshell ?", STORED.read_text(), flags=re.MULTILINE)[1:]
+    return dict(text.split("\n", 1) for text in told)
+
+
+@pytest.mark.parametrize("command", stored_words())
+def test_help_and_mistakes_in_their_stored_words(mine: Mine, command: str) -> None:
+    status, out, err = mine.run(*command.split())
+    assert f"status {status}\n{out}{err}" == stored_words()[command]
+    assert not out or not err
 
 
 def test_a_mistyped_option_is_told_the_closest_one(mine: Mine) -> None:

@@ -1,8 +1,10 @@
 """Files of more than a megabyte and more than 100,000 pairs: what small mines do not reach."""
 
+import subprocess
+
 import pytest
 
-from conftest import Mine
+from conftest import PROGRAM, Mine
 from rows import MODES, model_of, pit_of
 
 PAIRS = 120_000
@@ -45,3 +47,10 @@ def test_a_long_line(mine: Mine) -> None:
     mine.write("mine.upit", model_of(["-1"] * PAIRS + [str(PAIRS + 1)]))
     mine.write("mine.prec", f"{PAIRS} {PAIRS} {' '.join(map(str, range(PAIRS)))}\n")
     assert mine.run(*SOLVE) == (0, pit_of(PAIRS + 1, list(range(PAIRS + 1)), "1.000000"), "")
+
+
+def test_the_first_line_of_a_great_answer(pairs: Mine) -> None:
+    """Whoever takes one line of many gets it, and the run ends with a write that failed and nothing more."""
+    piped = ["bash", "-c", '"$0" "$@" | head -n 1; echo "${PIPESTATUS[0]}"', PROGRAM, *SOLVE]
+    ran = subprocess.run(piped, cwd=pairs.folder, capture_output=True, text=True, timeout=60)
+    assert (ran.stdout, ran.stderr) == ("PIT\n1\n", "error 18: write failed\n")
