@@ -9,6 +9,7 @@ ghost use Rattle.shells.specs.Prices.{price_of, AreColumns, ArePrices, RefusesCo
 ghost use Rattle.pit_model.specs.Size.{most_blocks};
 
 use faults::Fault;
+use gauge::Gauge;
 use minelib_reader::{BlockTable, column};
 use std::alloc::{AllocError, Global};
 use std::marker::Model;
@@ -18,6 +19,7 @@ use std::marker::Model;
 pub struct Columns {
     revenues: Vec<i128>,
     costs: Vec<i128>,
+    gauge: Gauge,
 }
 
 impl Model for Columns {
@@ -60,10 +62,33 @@ impl Columns {
         ensures columns { IfOk result (AreColumns table.now revenue cost) }
         ensures refused { IfErr result (RefusesColumns table.now revenue cost) }
     {
+        Columns::watched(alloc, table, revenue, cost, Gauge::none())
+    }
+
+    /// The same as `of` gives, over whose instances this gauge counts.
+    pub fn watched(
+        alloc: Global,
+        table: &BlockTable,
+        revenue: u32,
+        cost: u32,
+        gauge: Gauge,
+    ) -> Result<Columns, Fault>
+        ensures columns { IfOk result (AreColumns table.now revenue cost) }
+        ensures refused { IfErr result (RefusesColumns table.now revenue cost) }
+    {
         let _rows = table.len();
         let revenues = column(alloc, table, revenue)?;
         let costs = column(alloc, table, cost)?;
-        Ok(Columns { revenues, costs })
+        Ok(Columns {
+            revenues,
+            costs,
+            gauge,
+        })
+    }
+
+    /// What counts over the instances of these columns. No clause speaks of it.
+    pub(crate) fn gauge(&self) -> &Gauge {
+        &self.gauge
     }
 
     /// What is true of each pair of columns.
@@ -118,7 +143,11 @@ impl Columns {
         self.law();
         let revenues = amounts_at(alloc, &self.revenues, blocks)?;
         let costs = amounts_at(alloc, &self.costs, blocks)?;
-        Ok(Columns { revenues, costs })
+        Ok(Columns {
+            revenues,
+            costs,
+            gauge: self.gauge.share(),
+        })
     }
 
     /// The summed value of a list of blocks at a factor in per mille, in billionths.

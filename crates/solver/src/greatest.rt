@@ -52,7 +52,8 @@ pub(crate) fn turned(alloc: Global, mine: &Instance) -> Result<Instance, Fault>
     let values = negated(alloc, mine)?;
     let reversed = graph.reversed()?;
     reversed.law();
-    Ok(Instance::new(Arc::new(alloc, reversed)?, values))
+    let gauge = mine.gauge().share();
+    Ok(Instance::watched(Arc::new(alloc, reversed)?, values, gauge))
 }
 
 /// The blocks without a mark, rising.

@@ -4,8 +4,8 @@ use Rattle.std.proofs.lemmas.Int.{ints}
 use Rattle.pit_model.specs.Graph.{Graph}
 use Rattle.solver.proofs.greatest.turned.Goals as goal
 
-pub new-requires-2-clause-high : goal.new-requires-2-clause-high
-new-requires-2-clause-high c u l =
+pub watched-requires-clause-high : goal.watched-requires-clause-high
+watched-requires-clause-high c u l =
     let held = ap (λ (g : Graph). g.blocks) c.in_ok-new.ensures.ok in
     let same = c.in_ok-reversed.ensures.reversed.same_blocks in
     let count = ap (λ (g : Graph). g.blocks) c.deref-graph.ensures in
