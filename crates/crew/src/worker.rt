@@ -14,8 +14,8 @@ use tree_lock::{Holder, LookSeat, SharedTree, Site, Verdict};
 // one another each time, which takes longer than what is done with it.
 const ASKS_IN_TURN: u32 = 64;
 
-// So often a worker looks for a reply to its ask while another has the lock, before it waits for the lock. Whoever has it answers
-// all asks within a few millionths of a second, in which a look is made some ten times.
+// So often a worker looks for a reply to its ask while another has the lock, before it waits for the lock: whoever has it answers
+// all asks at each of its own.
 const LOOKS_BEFORE_WAITING: u32 = 1_000;
 
 // The lock, while a worker has it, and how many asks more it may serve with it. It is not `Drop`: it ends by `end`, or by `left`
