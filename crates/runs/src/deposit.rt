@@ -4,6 +4,7 @@ ghost use Rattle.runs.specs.Solve.{reading};
 ghost use Rattle.runs.specs.Deposit.{HoldsDeposit, RefusesDeposit};
 
 use faults::Fault;
+use gauge::Phase;
 use mine_graph::Graph;
 use minelib_reader::{InBytes, read_blocks, read_prec};
 use shells::Columns;
@@ -40,11 +41,14 @@ pub fn read_deposit<B: InBytes, P: InBytes>(
         (reading (P.progress prec.old) (P.progress prec.new) (P.IsAtEnd prec.new))
         revenue cost) }
 {
+    blocks.gauge().enter(Phase::Reading);
     let table = read_blocks(alloc, blocks)?;
     let n = table.len();
     let pairs = read_prec(alloc, prec, n)?;
     let graph = Graph::new(alloc, n, pairs)?;
-    let columns = Columns::of(alloc, &table, revenue, cost)?;
+    let gauge = blocks.gauge();
+    gauge.enter(Phase::Solving);
+    let columns = Columns::watched(alloc, &table, revenue, cost, gauge)?;
     let shared = Arc::new(alloc, graph)?;
     Ok(Deposit {
         columns,

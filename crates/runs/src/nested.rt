@@ -8,6 +8,7 @@ use crate::asked::Asked;
 use crate::deposit::read_deposit;
 use crate::status::Status;
 use faults::Fault;
+use gauge::Phase;
 use minelib_reader::{InBytes, OutBytes};
 use report::write_shells;
 use shells::{Factors, shells};
@@ -62,6 +63,7 @@ pub fn run_shells<R: Threads + Wait + Sync, B: InBytes, P: InBytes, W: OutBytes>
         &OpenGate,
         asked.pit,
     )?;
+    blocks.gauge().enter(Phase::Writing);
     write_shells(out, &list)?;
     Ok(Status::Done)
 }

@@ -68,7 +68,7 @@ returns-in_err-fixed-clause-refused g c =
     let files = files_of g.M.InBytes.progress g.M.InBytes.IsAtEnd g.P.InBytes.progress g.P.InBytes.IsAtEnd g.F.InBytes.progress g.F.InBytes.IsAtEnd c.args.files.now (record { model = c.read_upit.new.reader; prec = c.read_prec.new.reader; fixed = c.read_lists.new.fixed }) in
     let m = c.in_ok-model.ensures.answers in
     let q = c.in_ok-pairs.ensures.answers in
-    let mine = c.new-mine.result in
+    let mine = c.watched-mine.result in
     let pairs = c.in_ok-pairs.pairs.items in
     let lists = fixed_lists c.in_ok-forced.forced.items c.in_ok-forced.barred.items in
     let task : FixedMine = record { mine = mine; lists = lists } in
@@ -79,9 +79,9 @@ returns-in_err-fixed-clause-refused g c =
       pairs = pairs;
       given = record { model_text = m.0; prec_text = q.0; model_given = m.1; prec_given = q.1; model_spelled = m.2; prec_spelled = q.2 };
       fixed_given = c.in_ok-forced.ensures.given;
-      blocks = c.new-mine.ensures.blocks ∙ ap (λ (h : Graph). h.blocks) held ∙ c.in_ok-graph.ensures.blocks;
-      values = c.new-mine.ensures.values;
-      same = subst (λ (qs : List (ℕ × ℕ)). AreSamePairs pairs qs) (sym (c.new-mine.ensures.pairs ∙ ap (λ (h : Graph). h.pairs) held)) c.in_ok-graph.ensures.same;
+      blocks = c.watched-mine.ensures.blocks ∙ ap (λ (h : Graph). h.blocks) held ∙ c.in_ok-graph.ensures.blocks;
+      values = c.watched-mine.ensures.values;
+      same = subst (λ (qs : List (ℕ × ℕ)). AreSamePairs pairs qs) (sym (c.watched-mine.ensures.pairs ∙ ap (λ (h : Graph). h.pairs) held)) c.in_ok-graph.ensures.same;
       acyclic = c.in_ok-graph.ensures.acyclic;
       instance = c.law.ensures;
     } in
