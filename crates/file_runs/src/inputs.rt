@@ -5,6 +5,7 @@ ghost use Rattle.faults.specs.declared.source.Source.TheVariants as sources;
 ghost use Rattle.file_runs.specs.Faults.{IsUnopened};
 
 use faults::Fault;
+use gauge::Gauge;
 use runs::MineFiles;
 use std::io::Read;
 
@@ -58,6 +59,11 @@ pub trait InputFiles {
     fn open_blocks(&mut self, path: &str) -> Result<Self::Blocks, Fault>
         ensures opened { IfOk result (λ _. opens self.old path.now sources.Blocks self.new) }
         ensures lacked { IfErr result (λ e. IsUnopened sources.Blocks e × lacks self.old path.now sources.Blocks self.new) };
+
+    /// What counts over the runs that read these files. No clause speaks of it.
+    fn gauge(&self) -> Gauge {
+        Gauge::none()
+    }
 }
 
 /// The streams of the files of a mine.

@@ -4,6 +4,7 @@ ghost use Rattle.minelib_reader.specs.Device.{unread};
 ghost use Rattle.runs.specs.Solve.{MayRead};
 ghost use Rattle.file_runs.specs.Opened.{IsUnreadIfAny};
 
+use gauge::Gauge;
 use minelib_reader::{FileReader, InBytes};
 use runs::MineFiles;
 use std::io::Read;
@@ -12,19 +13,20 @@ use std::io::Read;
 pub(crate) type MineReaders<M, P, X> = MineFiles<FileReader<M>, FileReader<P>, FileReader<X>>;
 
 /// What reads the file of fixed blocks, where there is one.
-fn reader_of<X: Read + Drop>(fixed: Option<X>) -> Option<FileReader<X>>
+fn reader_of<X: Read + Drop>(fixed: Option<X>, gauge: &Gauge) -> Option<FileReader<X>>
     ensures unread { IsUnreadIfAny (⟦<FileReader<X> as InBytes>⟧.progress) result }
     ensures named { is_some result ≡ is_some fixed }
 {
     match fixed {
         None => None,
-        Some(stream) => Some(FileReader::new(stream)),
+        Some(stream) => Some(FileReader::watched(stream, gauge.share())),
     }
 }
 
-/// What reads the files of a mine.
+/// What reads the files of a mine, over which a gauge counts.
 pub(crate) fn readers_of<M: Read + Drop, P: Read + Drop, X: Read + Drop>(
     mine: MineFiles<M, P, X>,
+    gauge: &Gauge,
 ) -> MineReaders<M, P, X>
     ensures model { ⟦<FileReader<M> as InBytes>⟧.progress result.model ≡ unread (2 ^ 40) }
     ensures prec { ⟦<FileReader<P> as InBytes>⟧.progress result.prec ≡ unread (2 ^ 40) }
@@ -34,8 +36,8 @@ pub(crate) fn readers_of<M: Read + Drop, P: Read + Drop, X: Read + Drop>(
 {
     let MineFiles { model, prec, fixed } = mine;
     MineFiles {
-        model: FileReader::new(model),
-        prec: FileReader::new(prec),
-        fixed: reader_of(fixed),
+        model: FileReader::watched(model, gauge.share()),
+        prec: FileReader::watched(prec, gauge.share()),
+        fixed: reader_of(fixed, gauge),
     }
 }

@@ -13,6 +13,8 @@ mod board_thread_tests;
 #[cfg(test)]
 mod board_walk_tests;
 #[cfg(test)]
+mod count_tests;
+#[cfg(test)]
 mod crew_tests;
 #[cfg(test)]
 mod draw_tests;

@@ -2,6 +2,7 @@
 ghost use Rattle.std.specs.Prelude.{◌≡◌, IfOk};
 
 use faults::Fault;
+use gauge::Gauge;
 use mine_graph::{Graph, Instance};
 use minelib_reader::{MemoryReader, read_prec, read_upit};
 use std::alloc::Global;
@@ -74,15 +75,15 @@ pub fn three_parts(alloc: Global) -> Result<Instance, Fault> {
     Ok(Instance::new(graph, values))
 }
 
-// The mine that two texts spell.
-fn spelled(alloc: Global, model: &str, prec: &str) -> Result<Instance, Fault> {
+// The mine that two texts spell, over which this gauge counts.
+fn spelled(alloc: Global, model: &str, prec: &str, gauge: Gauge) -> Result<Instance, Fault> {
     if model.len() > 1_000_000 || prec.len() > 1_000_000 {
         return Err(Fault::no_seat());
     }
     let mine = read_upit(alloc, &mut MemoryReader::new(model.as_bytes()))?;
     let pairs = read_prec(alloc, &mut MemoryReader::new(prec.as_bytes()), mine.n)?;
     let graph = Graph::new(alloc, mine.n, pairs)?;
-    Ok(Instance::new(Arc::new(alloc, graph)?, mine.values))
+    Ok(Instance::watched(Arc::new(alloc, graph)?, mine.values, gauge))
 }
 
 /// So many copies of a mine of two blocks, at most 1,000, numbered two at a time: the second block needs the first, and pays
@@ -99,7 +100,7 @@ pub fn pairs_of_blocks(alloc: Global, copies: u32) -> Result<Instance, Fail> {
         model.push_str(&format!(in alloc; "{} -3\n{} 5\n", u, u + 1)?)?;
         prec.push_str(&format!(in alloc; "{} 1 {}\n", u + 1, u)?)?;
     }
-    Ok(spelled(alloc, &model, &prec)?)
+    Ok(spelled(alloc, &model, &prec, Gauge::none())?)
 }
 
 /// So many copies of a mine of three blocks, at most 1,000, numbered three at a time: ore below ore below waste. The upper ore
@@ -116,7 +117,7 @@ pub fn ores_below_waste(alloc: Global, copies: u32) -> Result<Instance, Fail> {
         model.push_str(&format!(in alloc; "{u} -5\n{} 1\n{} 10\n", u + 1, u + 2)?)?;
         prec.push_str(&format!(in alloc; "{} 1 {u}\n{} 1 {}\n", u + 1, u + 2, u + 1)?)?;
     }
-    Ok(spelled(alloc, &model, &prec)?)
+    Ok(spelled(alloc, &model, &prec, Gauge::none())?)
 }
 
 // What a block of the cross section is worth: ore below, waste above and at the sides.
@@ -143,6 +144,11 @@ fn prec_line(alloc: Global, block: u32, place: u32) -> Result<String, Fail> {
 
 /// A mine in cross section: 100 blocks wide and 50 deep.
 pub fn cross_section(alloc: Global, seed: u64) -> Result<Instance, Fail> {
+    watched_cross_section(alloc, seed, Gauge::none())
+}
+
+/// The same, over which a gauge counts.
+pub fn watched_cross_section(alloc: Global, seed: u64, gauge: Gauge) -> Result<Instance, Fail> {
     let mut model = String::from_str(
         alloc,
         "NAME: t\nTYPE: UPIT\nNBLOCKS: 5000\nOBJECTIVE_FUNCTION:\n",
@@ -160,5 +166,5 @@ pub fn cross_section(alloc: Global, seed: u64) -> Result<Instance, Fail> {
             prec.push_str(&prec_line(alloc, block, place)?)?;
         }
     }
-    Ok(spelled(alloc, &model, &prec)?)
+    Ok(spelled(alloc, &model, &prec, gauge)?)
 }

@@ -120,7 +120,7 @@ fn shells_command<'a>(alloc: Global) -> Result<Command<'a>, AllocError> {
             "Attribute column of the cost, the first being 0",
         ))?
         .arg(factors)?;
-    with_asked(alloc, shells, 5)
+    with_told(alloc, with_asked(alloc, shells, 5)?)
 }
 
 /// What is asked for: the word of the mode and that of the pit, which `runs` checks, the number of workers and the budget of
@@ -162,13 +162,30 @@ fn with_asked<'a>(
     command.arg(mode)?.arg(workers)?.arg(budget)?.arg(pit)
 }
 
+/// What is told of a run beside its answer. Help shows it last.
+fn with_told<'a>(alloc: Global, command: Command<'a>) -> Result<Command<'a>, AllocError> {
+    let progress = Arg::new(alloc, "progress")
+        .long("progress")
+        .value_name("SECONDS")
+        .help("After so many seconds a line on standard error, each time, 1 to 86400")
+        .value_parser(value_parser!(u64).range(1..=86_400))
+        .action(ArgAction::Set);
+    let stats = file(
+        alloc,
+        "stats",
+        "Where to write what the run did and how long it took",
+    )
+    .required(false);
+    command.arg(progress)?.arg(stats)
+}
+
 /// `solve` with its files and what is asked for. The model's option is added behind that of the mode: of two names that are as
 /// close to a mistyped one, the last is suggested.
 fn solve_command<'a>(alloc: Global) -> Result<Command<'a>, AllocError> {
     let solve = Command::new(alloc, "solve")
         .about("Writes the smallest closed set of greatest worth: the ultimate pit")
         .after_help(STATUSES);
-    with_mine(alloc, with_asked(alloc, solve, 3)?)?
+    let solve = with_mine(alloc, with_asked(alloc, solve, 3)?)?
         .arg(file(
             alloc,
             "certificate",
@@ -180,7 +197,8 @@ fn solve_command<'a>(alloc: Global) -> Result<Command<'a>, AllocError> {
             "journal",
             "Where to write what the workers decided; in mode shared alone",
         )
-        .required(false))
+        .required(false))?;
+    with_told(alloc, solve)
 }
 
 /// `pitshell` with its subcommands. Its version names the toolchain that proves it, as `rt version` tells it.

@@ -5,21 +5,25 @@
 mod command_line;
 mod options;
 mod output;
+mod stats;
 mod system_files;
+mod told_runs;
+mod watch;
 
 use clap::error::ErrorKind;
 use command_line::command;
 use faults::Fault;
-use file_runs::{check_call, replay_call, shells_call, solve_call, told};
+use file_runs::told;
 use minelib_reader::StreamWriter;
-use options::Options;
+use options::{Options, Told};
 use runs::Status;
 use std::alloc::{AllocError, AllocGlobal};
 use std::process::ExitCode;
 use std::sync::Wait;
 use std::thread::Threads;
+use std::time::Clock;
 use std::{env, io};
-use system_files::SystemFiles;
+use told_runs::told_call;
 
 /// Tells how a run ended: a fault goes to standard error, and the exit status is answered.
 fn ended(rt: &HostRuntime, outcome: Result<Status, Fault>) -> ExitCode {
@@ -57,27 +61,8 @@ fn words_of(rt: &HostRuntime) -> Result<Vec<String>, NoWords> {
     }
 }
 
-/// Does what is asked for over the files of the system, and answers the exit status.
-fn call<R: AllocGlobal + Threads + Wait + Sync>(
-    rt: &HostRuntime,
-    threads: &R,
-    options: &Options<'_>,
-) -> u8 {
-    let alloc = rt.alloc();
-    let mut files = SystemFiles { rt };
-    let mut out = StreamWriter::new(io::writer(rt));
-    let stderr = rt.stderr();
-    let mut err = StreamWriter::new(io::writer(&stderr));
-    match options {
-        Options::Solve(asked) => solve_call(threads, &mut files, asked, out, &mut err).0,
-        Options::Shells(asked) => shells_call(threads, &mut files, asked, &mut out, &mut err),
-        Options::Check(asked) => check_call(alloc, &mut files, asked, &mut out, &mut err),
-        Options::Replay(asked) => replay_call(alloc, &mut files, asked, &mut out, &mut err),
-    }
-}
-
 /// Does what the words of the command line ask for.
-fn run<R: AllocGlobal + Threads + Wait + Sync>(
+fn run<R: AllocGlobal + Threads + Wait + Clock + Eprint + Sync>(
     rt: &HostRuntime,
     threads: &R,
     words: &[String],
@@ -87,7 +72,10 @@ fn run<R: AllocGlobal + Threads + Wait + Sync>(
         Ok(matches) => match Options::of(&matches) {
             None => Ok(ExitCode::from(2)),
             Some(Err(line)) => Ok(not_understood(rt, line)),
-            Some(Ok(options)) => Ok(ExitCode::from(call(rt, threads, &options))),
+            Some(Ok(options)) => {
+                let asked = Told::of(&matches);
+                Ok(ExitCode::from(told_call(rt, threads, &options, &asked)?))
+            }
         },
     }
 }

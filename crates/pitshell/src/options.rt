@@ -14,6 +14,36 @@ pub enum Options<'a> {
     Replay(ReplayOptions<'a>),
 }
 
+/// What is to be told of a run beside its answer.
+#[derive(Clone, Copy)]
+pub struct Told<'a> {
+    /// After so many seconds a line, each time.
+    pub every: Option<u64>,
+    /// The file of what the run did.
+    pub stats: Option<&'a str>,
+}
+
+impl<'a> Told<'a> {
+    /// What the command line asks for: of `solve` and of `shells` alone.
+    pub fn of(matches: &ArgMatches<'a>) -> Told<'a> {
+        match matches.subcommand() {
+            Some(("solve" | "shells", found)) => Told {
+                every: found.get_one::<u64>("progress"),
+                stats: found.get_str("stats"),
+            },
+            _ => Told {
+                every: None,
+                stats: None,
+            },
+        }
+    }
+
+    /// Whether nothing is to be told.
+    pub fn is_nothing(&self) -> bool {
+        self.every.is_none() && self.stats.is_none()
+    }
+}
+
 /// The files of the mine of a subcommand. None where the parse has let through that one is missing.
 fn mine_in<'a>(found: &ArgMatches<'a>) -> Option<MineNames<'a>> {
     Some(MineNames {

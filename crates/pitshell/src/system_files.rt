@@ -7,13 +7,16 @@ ghost use Rattle.file_runs.specs.Faults.{IsUnopened};
 use crate::output::Output;
 use faults::{Fault, Refusal, Source};
 use file_runs::{InputFiles, OutputFiles};
+use gauge::Gauge;
 use runs::MineFiles;
 use std::fs::File;
 
-/// The files of the system.
+/// The files of the system, what counts over the run that reads them, and the file of what it did, where one is wanted.
 #[derive(Drop)]
 pub struct SystemFiles<'a> {
     pub rt: &'a HostRuntime,
+    pub gauge: Gauge,
+    pub stats: Option<Output>,
 }
 
 /// Opens an input; one that cannot be opened is a read that failed.
@@ -66,6 +69,10 @@ impl InputFiles for SystemFiles<'_> {
     fn open_blocks(&mut self, path: &str) -> Result<File, Fault> {
         open_as(self.rt, path, Source::Blocks)
     }
+
+    fn gauge(&self) -> Gauge {
+        self.gauge.share()
+    }
 }
 
 impl OutputFiles for SystemFiles<'_> {
@@ -87,7 +94,12 @@ impl OutputFiles for SystemFiles<'_> {
         inputs: &MineFiles<File, File, File>,
     ) -> Result<Output, Fault> {
         let MineFiles { model, prec, fixed } = inputs;
-        Output::create(self.rt, path, &[Some(model), Some(prec), fixed.as_ref()])
+        let stats = self.stats.as_ref().map(|output| &output.file);
+        Output::create(
+            self.rt,
+            path,
+            &[Some(model), Some(prec), fixed.as_ref(), stats],
+        )
     }
 
     fn make_certificate(
@@ -98,10 +110,11 @@ impl OutputFiles for SystemFiles<'_> {
     ) -> Result<Output, Fault> {
         let MineFiles { model, prec, fixed } = inputs;
         let journal = journal.map(|output| &output.file);
+        let stats = self.stats.as_ref().map(|output| &output.file);
         Output::create(
             self.rt,
             path,
-            &[Some(model), Some(prec), fixed.as_ref(), journal],
+            &[Some(model), Some(prec), fixed.as_ref(), journal, stats],
         )
     }
 

@@ -24,6 +24,6 @@ returns-in_err-prec g c =
 
 pub returns : goal.returns
 returns g c =
-    grew c.in_ok-factors.factors c.open_blocks.new.self c.new-blocks.result c.run_shells.new.blocks c.new-prec.result c.run_shells.new.prec
-    c.in_ok-factors.ensures.spelled c.in_ok-blocks.ensures.opened c.in_ok-prec.ensures.opened c.new-blocks.ensures.start c.new-prec.ensures.start
+    grew c.in_ok-factors.factors c.open_blocks.new.self c.watched-blocks.result c.run_shells.new.blocks c.watched-prec.result c.run_shells.new.prec
+    c.in_ok-factors.ensures.spelled c.in_ok-blocks.ensures.opened c.in_ok-prec.ensures.opened c.watched-blocks.ensures.start c.watched-prec.ensures.start
     (runs_shells c.args.options.now _ _ c.run_shells.result c.run_shells.ensures.done c.run_shells.ensures.within c.run_shells.ensures.refused)
