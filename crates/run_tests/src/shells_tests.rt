@@ -3,7 +3,7 @@ use crate::modes::{EACH_MODE, ONE_THREAD, greatest, least};
 use faults::{Fault, Refusal, Source};
 use mine_graph::Graph;
 use minelib_reader::parse_blocks;
-use pit_model::{Direction, ShellList};
+use pit_model::{Direction, Shell, ShellList};
 use runs::Asked;
 use shells::{Columns, Factors, shells};
 use solver::{Mode, OpenGate};
@@ -85,6 +85,17 @@ fn two_hills(alloc: Global) -> Result<(Columns, Arc<Graph>), Fault> {
     let columns = columns_of(
         alloc,
         "0 0 0 0 0 3\n1 0 0 1 10 1\n2 1 0 0 0 3\n3 1 0 1 10 6\n",
+    )?;
+    Ok((columns, Arc::new(alloc, graph)?))
+}
+
+/// Four ores that share two blocks of waste, each with another price from which it pays.
+fn four_ores(alloc: Global) -> Result<(Columns, Arc<Graph>), Fault> {
+    let pairs = vec![in alloc; (2, 0), (3, 0), (3, 1), (4, 1), (5, 1)]?;
+    let graph = Graph::new(alloc, 6, pairs)?;
+    let columns = columns_of(
+        alloc,
+        "0 0 0 0 0 3\n1 1 0 0 0 5\n2 0 0 1 10 1\n3 1 0 1 10 8\n4 2 0 1 6 2\n5 3 0 1 4 4\n",
     )?;
     Ok((columns, Arc::new(alloc, graph)?))
 }
@@ -242,6 +253,67 @@ fn a_budget_counts_for_each_rest(rt: HostRuntime) -> Result<(), Fail> {
         &TWO_HILLS,
     )?;
     assert!(rt; matches!(found, Ending::Wanted));
+    Ok(())
+}
+
+/// The least shells at some factors, by one thread.
+fn shells_at<R: Threads + Wait + Sync>(
+    rt: &R,
+    alloc: Global,
+    mine: &(Columns, Arc<Graph>),
+    factors: Vec<u32>,
+) -> Result<Option<ShellList>, Fault> {
+    let (columns, graph) = mine;
+    if columns.len() != graph.n() {
+        return Ok(None);
+    }
+    let factors = Factors::new(factors)?;
+    let list = shells(
+        rt,
+        alloc,
+        columns,
+        graph,
+        &factors,
+        &ONE_THREAD,
+        &OpenGate,
+        Direction::Least,
+    )?;
+    Ok(Some(list))
+}
+
+/// Whether a shell is the one that its factor has alone.
+fn is_alone<R: Threads + Wait + Sync>(
+    rt: &R,
+    alloc: Global,
+    mine: &(Columns, Arc<Graph>),
+    shell: &Shell,
+) -> Result<bool, Fault> {
+    let factors = vec![in alloc; shell.factor]?;
+    match shells_at(rt, alloc, mine, factors)? {
+        Some(list) if list.shells.len() == 1 => {
+            let one = &list.shells[0];
+            Ok(one.worth == shell.worth && one.pit.as_slice() == shell.pit.as_slice())
+        }
+        _ => Ok(false),
+    }
+}
+
+#[test]
+fn many_factors_have_the_shells_of_each_alone(rt: HostRuntime) -> Result<(), Fail> {
+    let alloc = rt.alloc();
+    let mine = four_ores(alloc)?;
+    let mut factors = Vec::new(alloc);
+    for k in 1..31u32 {
+        factors.push(100 * k)?;
+    }
+    let list = shells_at(&rt, alloc, &mine, factors)?;
+    assert!(rt; matches!(&list, Some(found) if found.shells.len() == 30));
+    if let Some(found) = &list {
+        assert_eq!(rt; found.shells[29].pit.len(), 6);
+        for shell in &found.shells {
+            assert!(rt; is_alone(&rt, alloc, &mine, shell)?);
+        }
+    }
     Ok(())
 }
 

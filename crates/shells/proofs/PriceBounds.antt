@@ -24,12 +24,6 @@ yields f (pos x) few least most =
     (omega (arith, ints), omega (arith, ints))
 yields f (negsuc x) few least most = absurd (omega (arith, ints))
 
-rises : (f g : ℕ) (r : ℤ) → f ≤ g → pos 0 ≤ℤ r → (pos f *ℤ r) ≤ℤ (pos g *ℤ r)
-rises f g (pos x) few least =
-    let more : f * x ≤ g * x = mul-le f x g x few (omega arith) in
-    omega (arith, ints)
-rises f g (negsuc x) few least = absurd (omega (arith, ints))
-
 module _ (f : ℕ) (x r c : ℤ) (is : x ≡ pos f) (few : f ≤ 100000) (r_least : pos 0 ≤ℤ r) (r_most : r ≤ℤ pos (10 ^ 18)) (c_least : pos 0 ≤ℤ c) (c_most : c ≤ℤ pos (10 ^ 18)) where
   yielded : held (held x *ℤ held r) ≡ pos f *ℤ r
   yielded =
@@ -67,19 +61,6 @@ pub each_small : (prices : Prices) (factor u : ℕ) → ArePrices prices.revenue
 each_small prices factor u are few inside =
     price_small factor (pos factor) (get_or prices.revenues u (pos 0)) (get_or prices.costs u (pos 0)) refl few
     (are.revenue.least u inside) (are.revenue.most u inside) (are.cost.least u inside) (are.cost.most u inside)
-
--- what a block gains from one factor to another
-pub gain_within : (prices : Prices) (from to u : ℕ) → ArePrices prices.revenues prices.costs → from ≤ to → to ≤ 100000 → u < length prices.revenues
-    → (pos 0 ≤ℤ (price_of prices to u -ℤ price_of prices from u)) × ((price_of prices to u -ℤ price_of prices from u) ≤ℤ pos (10 ^ 23))
-gain_within prices from to u are rising few inside =
-    let r = get_or prices.revenues u (pos 0) in
-    let c = get_or prices.costs u (pos 0) in
-    let least = are.revenue.least u inside in
-    let most = are.revenue.most u inside in
-    let low = (yields from r (omega arith) least most).0 in
-    let high = (yields to r few least most).1 in
-    let more = rises from to r rising least in
-    (omega (arith, ints), omega (arith, ints))
 
 -- one block more, where at most 2^22 are summed
 pub sum_fits : (prices : Prices) (factor : ℕ) (blocks : List ℕ) (i : ℕ) → ArePrices prices.revenues prices.costs → factor ≤ 100000 → length blocks ≤ 2 ^ 22 → All (λ u. u < length prices.revenues) blocks → i < length blocks

@@ -37,9 +37,6 @@ range_below n =
     omega arith)
 
 -- ---- one block more
-pub risen_none : (prices : Prices) (marks : List Bool) (factor : ℕ) (mine : Instance) → IsRisen prices marks factor 0 mine mine
-risen_none prices marks factor mine = record { blocks = refl; pairs = refl; size = refl; risen = λ u l h. absurd (omega arith); kept = λ u h. refl; later = λ u l. refl }
-
 pub risen_marked : (prices : Prices) (marks : List Bool) (factor i : ℕ) (before mine : Instance) → IsRisen prices marks factor i before mine → marked marks i ≡ true → IsRisen prices marks factor (i + 1) before mine
 risen_marked prices marks factor i before mine is on = record {
   blocks = is.blocks;

@@ -2,6 +2,7 @@
 use Rattle.std.proofs.Common.{◌≡◌, ◌∙◌, ◌<◌, ◌≤◌, ◌+◌, List, length, map, sym, ap, subst, arith, rules}
 use Rattle.std.specs.List.{All}
 use Rattle.std.proofs.lemmas.List.Elements.{All-push}
+use Rattle.std.proofs.lemmas.Result.{err_from_is_err_and}
 use Rattle.pit_model.specs.declared.direction.Direction.TheVariants.{Least}
 use Rattle.pit_model.specs.declared.shell.Shell.{Shell}
 use Rattle.pit_model.specs.Shells.{IsShell}
@@ -34,3 +35,8 @@ returns-clause-shells c =
     let all : length factors ≤ c.loop-k.k + 1 = search rules in
     are_shells Least (deposit_of plan.columns.now plan.graph.now.value) factors c.loop-k.list.items (c.loop-k.k + 1) (is_priced plan.columns.now plan.graph.now.value c.law.ensures c.requires.rows) c.law-2.ensures all
     c.loop-k.invariant.named c.loop-k.invariant.each
+
+pub returns-in_err-push-2-clause-refused : goal.returns-in_err-push-2-clause-refused
+returns-in_err-push-2-clause-refused c =
+    let p = err_from_is_err_and c.from_residual-in_err-push-2.result c.from_residual-in_err-push-2.ensures.1 in
+    rw p.1 p.2
