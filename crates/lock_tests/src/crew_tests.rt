@@ -148,8 +148,16 @@ fn a_second_sweep_makes_what_the_first_left(rt: HostRuntime) -> Result<(), Fail>
     for chunk in 1..4 {
         let (outcome, journal) = solve_shared(&rt, rt.alloc(), &mine, 2, None, chunk, &OpenGate)?;
         assert_eq!(rt; pit_in(&outcome).map(|pit| pit.len()), Some(9));
-        assert_eq!(rt; (journal.len(), mergers_in(&journal)), (6, 6), "at chunks of {chunk}");
-        assert_eq!(rt; of_driver(&journal), 1, "the driver decides once between two sweeps");
+        assert_eq!(rt;
+            (journal.len(), mergers_in(&journal)),
+            (6, 6),
+            "at chunks of {chunk}"
+        );
+        assert_eq!(rt;
+            of_driver(&journal),
+            1,
+            "the driver decides once between two sweeps"
+        );
     }
     Ok(())
 }
