@@ -103,6 +103,8 @@ def stalled(mine: Mine, command: list[str | pathlib.Path]) -> tuple[int, str, st
     return run.returncode, out.decode(), err.decode()
 
 
+# The one merger sends all that block 1 has to spare, and not only what block 0 lacks.
+ALL_SENT = CERTIFICATE.replace("1 0 3000000", "1 0 5000000")
 PIPED = ["solve", "--model", "/dev/stdin", "--prec", "mine.prec", "--progress", "1"]
 
 
@@ -117,7 +119,7 @@ def test_a_line_comes_while_a_pipe_stalls(mine: Mine) -> None:
 def test_a_standard_error_that_takes_nothing_is_no_other_answer(mine: Mine, closed: str) -> None:
     command = ["sh", "-c", f'"$0" "$@" {closed}', PROGRAM, *PIPED, "--certificate", "made.cert", "--stats", "made.stats"]
     assert stalled(mine, command) == (0, PIT, "")
-    assert mine.read("made.cert") == CERTIFICATE
+    assert mine.read("made.cert") == ALL_SENT
     assert stats(mine)["MERGERS"] == "1"
 
 
