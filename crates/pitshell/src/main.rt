@@ -6,6 +6,7 @@ mod command_line;
 mod options;
 mod output;
 mod stats;
+mod streams;
 mod system_files;
 mod told_runs;
 mod watch;
@@ -23,6 +24,7 @@ use std::sync::Wait;
 use std::thread::Threads;
 use std::time::Clock;
 use std::{env, io};
+use streams::StandIns;
 use told_runs::told_call;
 
 /// Tells how a run ended: a fault goes to standard error, and the exit status is answered.
@@ -81,6 +83,7 @@ fn run<R: AllocGlobal + Threads + Wait + Clock + Eprint + Sync>(
 }
 
 fn main(rt: HostRuntime) -> ExitCode {
+    let _stand_ins = StandIns::new(&rt);
     let outcome = match words_of(&rt) {
         Ok(words) => run(&rt, &rt, &words),
         Err(NoWords::NotText) => Ok(not_understood(&rt, "pitshell: an argument is not UTF-8")),
