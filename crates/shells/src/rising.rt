@@ -45,11 +45,7 @@ fn mine_at(
     columns.law();
     let blocks = all_blocks(alloc, graph.n())?;
     let values = columns.values(alloc, &blocks, factor)?;
-    Ok(Instance::watched(
-        Arc::try_clone(graph)?,
-        values,
-        columns.gauge().share(),
-    ))
+    Ok(Instance::watched(Arc::try_clone(graph)?, values, columns.gauge().share()))
 }
 
 /// What a block gains from one factor to another.
