@@ -6,11 +6,12 @@ Neither may change the answer, the other files or the exit status. Of the two-bl
 import pathlib
 import re
 import subprocess
+import sys
 import time
 
 import pytest
 
-from conftest import CERTIFICATE, CHAIN, PROGRAM, TWO_BLOCKS, Mine
+from conftest import CERTIFICATE, CHAIN, PROGRAM, TOP, TWO_BLOCKS, Mine
 
 PIT = "PIT\nBLOCKS: 2\nIN: 2\nWORTH: 2.000000\n0\n1\n"
 SOLVE = ["solve", "--model", "mine.upit", "--prec", "mine.prec"]
@@ -43,6 +44,17 @@ def test_the_merger_and_what_is_read_are_counted(mine: Mine, mode: list[str]) ->
     assert (told["MERGERS"], told["CLOSING"]) == ("1", "0")
     assert (int(told["BYTES"]), told["BLOCKS"], told["PAIRS"]) == (len(TWO_BLOCKS) + len(CHAIN), "2", "1")
     assert int(told["PEAK"]) > 0
+
+
+@pytest.mark.parametrize("slopes", ["1:5", "1:9", "cone"])
+def test_the_closing_loop_merges_nothing_on_mines_of_the_bench(mine: Mine, slopes: str) -> None:
+    words = ["--blocks", "10000", "--slopes", slopes, "--seed", "1", "--out", mine.folder / "mine"]
+    subprocess.run([sys.executable, TOP / "tools" / "make_mine.py", *words], check=True, capture_output=True, timeout=60)
+    status, _, err = mine.run(*SOLVE, "--stats", "made.stats")
+    assert (status, err) == (0, "")
+    told = stats(mine)
+    assert int(told["MERGERS"]) > 1000
+    assert told["CLOSING"] == "0"
 
 
 def test_asks_are_counted_in_mode_shared_alone(mine: Mine) -> None:
