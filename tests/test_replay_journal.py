@@ -16,7 +16,8 @@ from rows import FOUR_PAIRS, journal_of, model_of, pit_of
 
 sys.path.insert(0, str(TOP / "tools"))
 
-from replay_journal import Tree, answer, read_mine  # noqa: E402
+from check_certificate import read_mine  # noqa: E402
+from replay_journal import Tree, answer  # noqa: E402
 
 STORED = json.loads((pathlib.Path(__file__).parent / "bent_journals.json").read_text())
 
@@ -114,14 +115,6 @@ LIMITS = [
 @pytest.mark.parametrize(("journal", "wanted"), LIMITS)
 def test_the_limits_of_numbers(journal: str, wanted: tuple[str, str, int]) -> None:
     assert replayed(NINE, FOUR_PAIRS, journal) == wanted
-
-
-def test_a_mine_that_is_not_lawful_is_refused() -> None:
-    no_mine = ("", "the model, the precedence or the fixed file is not lawful\n", 1)
-    empty = journal_of(2, 2, "none")
-    assert replayed(["1", "1"], "0 1 1\n1 1 0\n", empty) == no_mine
-    assert replayed(["1", "1.0000001"], "", empty) == no_mine
-    assert replayed(["1", "1"], "0 1 2\n", empty) == no_mine
 
 
 def test_it_answers_as_a_command(tmp_path: pathlib.Path) -> None:

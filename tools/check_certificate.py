@@ -22,11 +22,6 @@ WORDS = {3: "wrong header", 4: "over the limit", 5: "not a whole number", 7: "id
 Fault = type("Fault", (Exception,), {})
 
 
-def demand(holds, number, line):
-    if not holds:
-        raise Fault(f"error {number}: {WORDS[number]} in certificate line {line}\n")
-
-
 class Fixed:
     """The blocks forced in and barred, as listed; and what follows: all that must be dug, and all that must be left."""
 
@@ -61,68 +56,80 @@ def rows_of(text):
     return [(k, fields) for k, fields in split if fields], len(lines)
 
 
+class Lines:
+    """The lines with fields of a named text, handed out one after another. A fault names the line that was handed out last."""
+
+    def __init__(self, text, name):
+        rows, self.count = rows_of(text)
+        self.left, self.name, self.line = iter(rows), name, 0
+
+    def demand(self, holds, number):
+        if not holds:
+            raise Fault(f"error {number}: {WORDS[number]} in {self.name} line {self.line}\n")
+
+    def fields(self, few=None):
+        """The next line's fields; where so many are due, another number of them is a fault."""
+        self.line, fields = next(self.left, (self.count + 1, None))
+        self.demand(fields, 12)
+        self.demand(few is None or len(fields) == few, 11)
+        return fields
+
+    def head(self, word):
+        fields = self.fields()
+        self.demand(len(fields) == 2 and fields[0] == word, 3)
+        return fields[1]
+
+    def number(self, field, most=10):
+        self.demand(1 <= len(field) <= most and all(48 <= byte <= 57 for byte in field), 5)
+        return int(field)
+
+    def end(self):
+        self.line, fields = next(self.left, (0, None))
+        self.demand(not fields, 13)
+
+
 def read_mine(model, prec):
     """The values in millionths, and the pairs (u, p) of "u needs p" in order."""
     values = [int(decimal.Decimal(fields[1].decode()).scaleb(6)) for _, fields in rows_of(model)[0][4:]]
     return values, sorted((int(fields[0]), int(p)) for _, fields in rows_of(prec)[0] for p in fields[2:])
 
 
-def number(field, line, most=10):
-    demand(1 <= len(field) <= most and all(48 <= byte <= 57 for byte in field), 5, line)
-    return int(field)
-
-
 def read_certificate(text, n, pairs, fixed):
     """The blocks, and the amount on each pair that has a line. Format 2 names the fixed blocks too; format 1 is for none."""
-    rows, count = rows_of(text)
-    left = iter(rows)
-
-    def due():
-        row = next(left, None)
-        demand(row, 12, count + 1)
-        return row
-
-    def head(word):
-        line, fields = due()
-        demand(len(fields) == 2 and fields[0] == word, 3, line)
-        return number(fields[1], line), line
+    lines = Lines(text, "certificate")
 
     def blocks(word, wanted=None):
         """Rising blocks behind their count; where others are wanted, the first line that differs is a fault."""
-        few, line = head(word)
-        demand(few <= n, 4, line)
-        demand(wanted is None or few == len(wanted), 17, line)
+        few = lines.number(lines.head(word))
+        lines.demand(few <= n, 4)
+        lines.demand(wanted is None or few == len(wanted), 17)
         found = [-1]
         for place in range(few):
-            line, fields = due()
-            demand(len(fields) == 1, 11, line)
-            block = number(fields[0], line)
-            demand(found[-1] < block < n, 7, line)
-            demand(wanted is None or block == wanted[place], 17, line)
+            block = lines.number(lines.fields(1)[0])
+            lines.demand(found[-1] < block < n, 7)
+            lines.demand(wanted is None or block == wanted[place], 17)
             found.append(block)
         return found[1:]
 
-    line, title = due()
-    demand(title in ([b"PITCERT", b"1"], [b"PITCERT", b"2"]), 3, line)
-    demand(title[1] == b"2" or not (fixed.forced or fixed.barred), 17, line)
+    title = lines.fields()
+    lines.demand(title in ([b"PITCERT", b"1"], [b"PITCERT", b"2"]), 3)
+    lines.demand(title[1] == b"2" or not (fixed.forced or fixed.barred), 17)
     for word, known in ((b"BLOCKS:", n), (b"ARCS:", len(pairs))):
-        named, line = head(word)
-        demand(named == known, 17, line)
+        lines.demand(lines.number(lines.head(word)) == known, 17)
     if title[1] == b"2":
         blocks(b"FORCED:", fixed.forced)
         blocks(b"BARRED:", fixed.barred)
     pit = blocks(b"IN:")
-    few, line = head(b"FLOW:")
-    demand(few <= len(pairs), 4, line)
+    few = lines.number(lines.head(b"FLOW:"))
+    lines.demand(few <= len(pairs), 4)
     flow, known, last = {}, set(pairs), (-1, -1)
     for _ in range(few):
-        line, fields = due()
-        demand(len(fields) == 3, 11, line)
-        pair = (number(fields[0], line), number(fields[1], line))
-        demand(pair in known and pair > last, 7, line)
-        flow[pair], last = number(fields[2], line, 31), pair
-        demand(0 < flow[pair] <= 10**30, 4, line)
-    demand(not (more := next(left, None)), 13, more and more[0])
+        u, p, amount = lines.fields(3)
+        pair = (lines.number(u), lines.number(p))
+        lines.demand(pair in known and pair > last, 7)
+        flow[pair], last = lines.number(amount, 31), pair
+        lines.demand(0 < flow[pair] <= 10**30, 4)
+    lines.end()
     return set(pit), flow
 
 

@@ -12,7 +12,8 @@ import argparse
 import pathlib
 import sys
 
-from replay_journal import closure, pit_text, read_mine, rows_of
+from check_certificate import closure, read_mine, rows_of
+from replay_journal import pit_text
 
 WORDS = {3: "wrong header", 5: "not a whole number", 7: "id out of place", 11: "wrong number of fields"}
 Fault = type("Fault", (Exception,), {})

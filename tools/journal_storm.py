@@ -22,8 +22,9 @@ import sys
 import tempfile
 import time
 
+from check_certificate import closure, read_mine
 from make_mine import write_mine
-from replay_journal import answer, closure, read_mine
+from replay_journal import answer
 
 TOP = pathlib.Path(__file__).resolve().parent.parent
 WORKERS = (1, 2, 3, 4, 8, 16, 33, 64)

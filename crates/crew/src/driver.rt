@@ -16,7 +16,7 @@ use std::sync::Wait;
 use std::thread::Threads;
 use tree_lock::{Entry, Holder, Site, Verdict};
 
-// The merger arc with the least number, over as many threads as there are processors; None where there is none.
+/// The merger arc with the least number, over as many threads as there are processors; None where there is none.
 fn first_merger<R: Threads + Sync>(rt: &R, tree: &NormTree) -> Option<u32>
     ensures { IsFirstMerger tree.now.mine tree.now.tree result }
 {
@@ -61,7 +61,7 @@ pub fn is_ended<S: Site, R: Threads + Wait + Sync>(
     }
 }
 
-// The certificate of the holder's tree, or that the budget is used up.
+/// The certificate of the holder's tree, or that the budget is used up.
 fn outcome_of<S: Site>(holder: &Holder<S>) -> Result<Outcome, Fault>
     requires { IsEnded holder.now }
     ensures ends { IfOk result (EndsBy holder.now.mine holder.now.budget holder.now.journal) }

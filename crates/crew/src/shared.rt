@@ -23,10 +23,10 @@ use std::sync::Wait;
 use std::thread::Threads;
 use tree_lock::{Entry, SharedTree, Site, UnnamedList};
 
-// So many workers have a seat; the driver's is seat 0.
+/// So many workers have a seat; the driver's is seat 0.
 const MOST_WORKERS: u32 = 64;
 
-// What a solve begins with: the opening tree and its budget, and the list of mergers and the board, which have no name yet.
+/// What a solve begins with: the opening tree and its budget, and the list of mergers and the board, which have no name yet.
 struct Beginning {
     tree: NormTree,
     budget: Option<u64>,
@@ -34,7 +34,7 @@ struct Beginning {
     unnamed: UnnamedBoard,
 }
 
-// A worker for each seat at the board, with a seat to look from.
+/// A worker for each seat at the board, with a seat to look from.
 fn workers_of<S: Site>(
     alloc: Global,
     shared: &SharedTree<S>,

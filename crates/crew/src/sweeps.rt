@@ -32,7 +32,7 @@ pub struct Crew<'a, S: Site, G: Gate> {
     pub gate: &'a G,
 }
 
-// The workers, each in a thread of its own with its seats. All have ended afterwards.
+/// The workers, each in a thread of its own with its seats. All have ended afterwards.
 fn run_workers<
     S: Site + Send + Sync,
     G: Gate + Sync,
@@ -66,12 +66,12 @@ fn run_workers<
     }
 }
 
-// No mine has so many arcs that more would count.
+/// No mine has so many arcs that more would count.
 fn as_count(length: usize) -> u32 {
     length.min(u32::MAX as usize) as u32
 }
 
-// The seats of each meet the holder's.
+/// The seats of each meet the holder's.
 fn meet_all<S: Site>(board: &Board<S>, workers: &mut [Worker<S>], holder: &mut Holder<S>)
     ensures same { holder.new ≡ holder.old }
     ensures met { All (λ worker. HasMet holder.old.journal worker.asks worker.looks) workers.new }
@@ -82,7 +82,7 @@ fn meet_all<S: Site>(board: &Board<S>, workers: &mut [Worker<S>], holder: &mut H
 }
 
 impl<'a, S: Site + Send + Sync, G: Gate + Sync> Crew<'a, S, G> {
-    // One sweep, by this counter.
+    /// One sweep, by this counter.
     fn sweep_by<L: Lot + Send + Sync, R: Threads + Wait + Sync>(
         &mut self,
         rt: &R,
@@ -110,7 +110,7 @@ impl<'a, S: Site + Send + Sync, G: Gate + Sync> Crew<'a, S, G> {
         Ok(())
     }
 
-    // Each worker's seats meet the holder's.
+    /// Each worker's seats meet the holder's.
     fn meet(&mut self, holder: &mut Holder<S>)
         ensures same { holder.new ≡ holder.old }
         ensures met { All (λ worker. HasMet holder.old.journal worker.asks worker.looks) self.new.workers.items }
@@ -118,7 +118,7 @@ impl<'a, S: Site + Send + Sync, G: Gate + Sync> Crew<'a, S, G> {
         meet_all(self.board, &mut self.workers, holder);
     }
 
-    // One sweep, with a counter of its own.
+    /// One sweep, with a counter of its own.
     fn sweep<R: Threads + Wait + Sync>(
         &mut self,
         rt: &R,
@@ -133,7 +133,7 @@ impl<'a, S: Site + Send + Sync, G: Gate + Sync> Crew<'a, S, G> {
         self.sweep_by::<Brand, R>(rt, alloc, shared, unnamed)
     }
 
-    // Makes the route of the next sweep over the tree.
+    /// Makes the route of the next sweep over the tree.
     fn renew(&mut self, alloc: Global, tree: &NormTree) -> Result<(), Fault>
         ensures { IfErr result (λ e. e ≡ no_memory) }
     {
@@ -141,8 +141,8 @@ impl<'a, S: Site + Send + Sync, G: Gate + Sync> Crew<'a, S, G> {
         Ok(())
     }
 
-    // A sweep under the lock, and the driver's decision after it, when it has the holder for itself. It answers the holder, and
-    // whether the solve has ended. Where it was refused the holder is given up.
+    /// A sweep under the lock, and the driver's decision after it, when it has the holder for itself. It answers the holder, and
+    /// whether the solve has ended. Where it was refused the holder is given up.
     fn round<R: Threads + Wait + Sync>(
         &mut self,
         rt: &R,

@@ -10,16 +10,16 @@ use proposals::{Board, DrawSeat, Draws, Lot, WorkerSeat};
 use std::sync::{MutexGuard, Wait};
 use tree_lock::{Holder, LookSeat, SharedTree, Site, Verdict};
 
-// So many asks of its own a worker serves before it lets go of the lock. Two that hand the lock over at each ask sleep and wake
-// one another each time, which takes longer than what is done with it.
+/// So many asks of its own a worker serves before it lets go of the lock. Two that hand the lock over at each ask sleep and wake
+/// one another each time, which takes longer than what is done with it.
 const ASKS_IN_TURN: u32 = 64;
 
-// So often a worker looks for a reply to its ask while another has the lock, before it waits for the lock: whoever has it answers
-// all asks at each of its own.
+/// So often a worker looks for a reply to its ask while another has the lock, before it waits for the lock: whoever has it answers
+/// all asks at each of its own.
 const LOOKS_BEFORE_WAITING: u32 = 1_000;
 
-// The lock, while a worker has it, and how many asks more it may serve with it. It is not `Drop`: it ends by `end`, or by `left`
-// after the last ask.
+/// The lock, while a worker has it, and how many asks more it may serve with it. It is not `Drop`: it ends by `end`, or by `left`
+/// after the last ask.
 struct Turn<'a, S: Site> {
     holder: MutexGuard<'a, Holder<S>>,
     asks: u32,
@@ -35,7 +35,7 @@ impl<'a, S: Site> Turn<'a, S> {
         }
     }
 
-    // The same after an ask; None after the last, and then the lock is free.
+    /// The same after an ask; None after the last, and then the lock is free.
     fn left(self) -> Option<Turn<'a, S>>
         ensures ends { self.entry.asks ≤ 1 → result ≡ None }
         ensures fewer { IfSome result (λ turn. suc turn.asks ≡ self.entry.asks) }
@@ -51,7 +51,7 @@ impl<'a, S: Site> Turn<'a, S> {
         })
     }
 
-    // Frees the lock.
+    /// Frees the lock.
     fn end(self) {
         let Turn { holder, asks: _ } = self;
         MutexGuard::unlock(holder);
@@ -86,8 +86,8 @@ impl<S: Site> Worker<S> {
         }
     }
 
-    // Whether the version that is published now shows the arc as a merger arc; no where there is no version. It is left before
-    // an ask, so that whoever publishes waits for one test at most.
+    /// Whether the version that is published now shows the arc as a merger arc; no where there is no version. It is left before
+    /// an ask, so that whoever publishes waits for one test at most.
     fn sees_merger(&mut self, arc: u32) -> bool
         ensures { IsTrue result → arc < arcs S.mine }
     {
@@ -107,16 +107,16 @@ impl<S: Site> Worker<S> {
         }
     }
 
-    // Collects the reply to its ask, and answers whether the worker is to go on: not where the budget is used up. None where
-    // there is no reply.
+    /// Collects the reply to its ask, and answers whether the worker is to go on: not where the budget is used up. None where
+    /// there is no reply.
     fn collect<G: Gate, L: Lot>(&mut self, sweep: &Sweep<S, G, L>) -> Option<bool> {
         let reply = sweep.board.collect(&mut self.asks)?;
         sweep.gate.served(self.number);
         Some(reply.verdict != Verdict::Spent)
     }
 
-    // Serves the board with the lock, and collects the reply to its ask. It answers whether the worker is to go on, and the lock
-    // where it keeps it. It is not to go on where memory was refused; an ask that was not answered then stays open.
+    /// Serves the board with the lock, and collects the reply to its ask. It answers whether the worker is to go on, and the lock
+    /// where it keeps it. It is not to go on where memory was refused; an ask that was not answered then stays open.
     fn serve<'a, G: Gate, L: Lot, R: Wait>(
         &mut self,
         rt: &R,
@@ -132,8 +132,8 @@ impl<S: Site> Worker<S> {
         (goes_on, turn.left())
     }
 
-    // Collects the reply of whoever has the lock, or serves once the lock is free. It waits for the lock only where it found it
-    // taken so often.
+    /// Collects the reply of whoever has the lock, or serves once the lock is free. It waits for the lock only where it found it
+    /// taken so often.
     fn meet_holder<'a, G: Gate, L: Lot, R: Wait>(
         &mut self,
         rt: &R,
@@ -152,8 +152,8 @@ impl<S: Site> Worker<S> {
         self.serve(rt, sweep, Turn::begin(sweep.shared.lock(rt)))
     }
 
-    // Asks for the arc, serves where nobody answered yet, and collects. It answers whether the worker is to go on, and the lock
-    // where it keeps it. It is not to go on where the budget is used up, or memory was refused.
+    /// Asks for the arc, serves where nobody answered yet, and collects. It answers whether the worker is to go on, and the lock
+    /// where it keeps it. It is not to go on where the budget is used up, or memory was refused.
     fn propose<'a, G: Gate, L: Lot, R: Wait>(
         &mut self,
         rt: &R,
@@ -172,7 +172,7 @@ impl<S: Site> Worker<S> {
         }
     }
 
-    // Goes over the arcs of a chunk, and frees the lock. It answers whether the worker is to go on.
+    /// Goes over the arcs of a chunk, and frees the lock. It answers whether the worker is to go on.
     fn go_over<'a, G: Gate, L: Lot, R: Wait>(
         &mut self,
         rt: &R,

@@ -9,7 +9,7 @@ use tree_lock::{Entry, SharedTree, Site, Verdict};
 
 const ARCS: [u32; 5] = [0, 1, 2, 1, 0];
 
-// The driver decides these arcs in turn. It tells the verdicts, and the budget.
+/// The driver decides these arcs in turn. It tells the verdicts, and the budget.
 struct Decisions;
 
 impl Trial for Decisions {
@@ -33,7 +33,7 @@ impl Trial for Decisions {
     }
 }
 
-// The driver's entries of the arcs with these verdicts.
+/// The driver's entries of the arcs with these verdicts.
 fn entries(verdicts: [Verdict; 5]) -> [Entry; 5] {
     let mut entries = [Entry {
         seat: 0,

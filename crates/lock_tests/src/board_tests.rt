@@ -10,7 +10,7 @@ use std::alloc::Global;
 use std::marker::Brand;
 use std::test::Fail;
 
-// An ask is withdrawn, and another claimed and given back: then nothing is asked, answered or collected.
+/// An ask is withdrawn, and another claimed and given back: then nothing is asked, answered or collected.
 fn asks_go_back<B: Room>(
     alloc: Global,
     unnamed: UnnamedBoard,
@@ -51,7 +51,7 @@ fn a_board_of_one(rt: HostRuntime) -> Result<(), Fail> {
     Ok(())
 }
 
-// The second worker asks, the holder gives the ask back and then answers it, and the reply comes once, to the worker that asked.
+/// The second worker asks, the holder gives the ask back and then answers it, and the reply comes once, to the worker that asked.
 fn reply_comes_back<B: Room>(
     board: &Board<B>,
     first: &mut WorkerSeat<B>,
@@ -85,7 +85,7 @@ fn reply_comes_back<B: Room>(
     ])
 }
 
-// Three replies, one of each verdict.
+/// Three replies, one of each verdict.
 fn replies_come_back<B: Room>(
     alloc: Global,
     unnamed: UnnamedBoard,

@@ -13,7 +13,7 @@ use std::test::Fail;
 use std::thread;
 use std::thread::Threads;
 
-// The reply to an ask that was claimed.
+/// The reply to an ask that was claimed.
 fn wait_for_reply<B: Room, R: Wait>(
     rt: &R,
     board: &Board<B>,
@@ -28,8 +28,8 @@ fn wait_for_reply<B: Room, R: Wait>(
     None
 }
 
-// How a worker and the holder tell each other: the worker that the holder is to rest, the holder that it does, and the worker
-// that it is done.
+/// How a worker and the holder tell each other: the worker that the holder is to rest, the holder that it does, and the worker
+/// that it is done.
 #[derive(Drop)]
 struct Signs {
     rest: AtomicBool,
@@ -37,7 +37,7 @@ struct Signs {
     done: AtomicBool,
 }
 
-// An ask that is not withdrawn is answered, and one that is asked for while the holder rests is withdrawn: what fails of that.
+/// An ask that is not withdrawn is answered, and one that is asked for while the holder rests is withdrawn: what fails of that.
 fn meet<B: Room, R: Wait>(
     rt: &R,
     board: &Board<B>,
@@ -61,7 +61,7 @@ fn meet<B: Room, R: Wait>(
     ])
 }
 
-// Asks for each arc, and withdraws it or collects what it was answered: what fails of that.
+/// Asks for each arc, and withdraws it or collects what it was answered: what fails of that.
 fn ask_for_all<B: Room, R: Wait>(
     rt: &R,
     board: &Board<B>,
@@ -95,7 +95,7 @@ fn ask_for_all<B: Room, R: Wait>(
     ])
 }
 
-// Answers each ask that it claims, where it is not to rest, until the worker is done.
+/// Answers each ask that it claims, where it is not to rest, until the worker is done.
 fn answer_until<B: Room, R: Wait>(
     rt: &R,
     board: &Board<B>,

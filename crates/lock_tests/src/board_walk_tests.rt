@@ -8,14 +8,14 @@ use std::alloc::Global;
 use std::marker::Brand;
 use std::test::Fail;
 
-// What a worker has open, and what it was answered.
+/// What a worker has open, and what it was answered.
 #[derive(Clone, Copy)]
 struct Account {
     open: Option<u32>,
     answered: Option<Verdict>,
 }
 
-// A linear congruence of 64 bits, of which the upper half is used.
+/// A linear congruence of 64 bits, of which the upper half is used.
 #[derive(Drop)]
 struct Dice {
     state: u64,
@@ -32,7 +32,7 @@ impl Dice {
 }
 
 impl Account {
-    // The ask that no answer has come to.
+    /// The ask that no answer has come to.
     fn unanswered(&self) -> Option<u32> {
         match self.answered {
             Some(_) => None,
@@ -84,7 +84,7 @@ fn verdict_of(number: u32) -> Verdict {
     }
 }
 
-// One call of the board and of the account: whether both answer the same.
+/// One call of the board and of the account: whether both answer the same.
 fn calls_agree<B: Room>(
     board: &Board<B>,
     seat: &mut WorkerSeat<B>,
@@ -115,7 +115,7 @@ fn calls_agree<B: Room>(
     }
 }
 
-// So many calls, each of some worker: the number of the first whose answer differs from the account's.
+/// So many calls, each of some worker: the number of the first whose answer differs from the account's.
 fn first_difference<B: Room>(
     alloc: Global,
     unnamed: UnnamedBoard,

@@ -6,7 +6,7 @@ use merging::{pit_by_parts, pit_of};
 use solver::{Mode, OpenGate, find_pit};
 use std::test::*;
 
-// What a gauge has counted.
+/// What a gauge has counted.
 fn counted(gauge: &Gauge) -> Result<Counted, Fault> {
     gauge.counted().ok_or(Fault::no_seat())
 }

@@ -10,7 +10,7 @@ use std::sync::atomic::{AtomicBool, AtomicU32, Ordering};
 use std::test::*;
 use std::thread;
 
-// Holds each of two workers back at its first ask until both have asked, and then the first until the second was served.
+/// Holds each of two workers back at its first ask until both have asked, and then the first until the second was served.
 #[derive(Drop)]
 struct Meeting {
     asked: [AtomicBool; 2],
@@ -27,7 +27,7 @@ impl Meeting {
         }
     }
 
-    // Waits a million turns at most.
+    /// Waits a million turns at most.
     fn wait_for(&self, flag: &AtomicBool) {
         for _turn in 0..1_000_000 {
             if flag.load(Ordering::SeqCst) {
@@ -85,7 +85,7 @@ fn two_workers_work_at_once(rt: HostRuntime) -> Result<(), Fail> {
     Ok(())
 }
 
-// Holds each of eight workers back at its ask until all eight have asked.
+/// Holds each of eight workers back at its ask until all eight have asked.
 #[derive(Drop)]
 struct AllAsked {
     count: AtomicU32,
@@ -198,7 +198,7 @@ fn workers_find_the_pit(rt: HostRuntime) -> Result<(), Fail> {
     Ok(())
 }
 
-// How many of the entries are the driver's.
+/// How many of the entries are the driver's.
 fn of_driver(journal: &[Entry]) -> usize {
     journal.iter().filter(|entry| entry.seat == 0).count()
 }

@@ -8,7 +8,7 @@ use std::alloc::Global;
 use std::marker::Brand;
 use std::test::Fail;
 
-// Two seats draw two chunks. The second None of a seat is no step, so the counter then stands at 4.
+/// Two seats draw two chunks. The second None of a seat is no step, so the counter then stands at 4.
 fn two_seats_draw<L: Lot>(
     alloc: Global,
     unnamed: UnnamedDraws,

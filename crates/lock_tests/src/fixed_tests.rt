@@ -16,7 +16,7 @@ use std::sync::{Arc, Wait};
 use std::test::*;
 use std::thread::Threads;
 
-// Blocks of worth -3, -4, 10 and 2, of which block 2 needs 0, and block 3 needs 0 and 1.
+/// Blocks of worth -3, -4, 10 and 2, of which block 2 needs 0, and block 3 needs 0 and 1.
 fn four_blocks(alloc: Global) -> Result<Instance, Fault>
     ensures { IfOk result (λ mine. mine.blocks ≡ 4) }
 {
@@ -26,7 +26,7 @@ fn four_blocks(alloc: Global) -> Result<Instance, Fault>
     Ok(Instance::new(graph, values))
 }
 
-// Ore below waste that costs as much as the ore is worth.
+/// Ore below waste that costs as much as the ore is worth.
 fn a_tie(alloc: Global) -> Result<Instance, Fault>
     ensures { IfOk result (λ mine. mine.blocks ≡ 2) }
 {
@@ -36,7 +36,7 @@ fn a_tie(alloc: Global) -> Result<Instance, Fault>
     Ok(Instance::new(graph, values))
 }
 
-// The least pit of a mine with fixed blocks.
+/// The least pit of a mine with fixed blocks.
 fn find_least<R: Threads + Wait + Sync>(
     rt: &R,
     alloc: Global,
@@ -54,7 +54,7 @@ fn find_least<R: Threads + Wait + Sync>(
     find_fixed_pit(rt, alloc, mine.share(alloc)?, fixed, &search)
 }
 
-// Whether the outcome is a pit of these blocks.
+/// Whether the outcome is a pit of these blocks.
 fn is_pit(outcome: &Outcome, pit: &[u32]) -> bool {
     match outcome {
         Outcome::Pit(certificate) => certificate.pit.as_slice() == pit,

@@ -10,8 +10,8 @@ use std::sync::Wait;
 use std::test::Fail;
 use tree_lock::{Entry, Holder, LookSeat, SharedTree, Site, Verdict};
 
-// The verdict that the worker's ask is answered by, after a pass over the board under the lock; None where no ask was served,
-// or another one.
+/// The verdict that the worker's ask is answered by, after a pass over the board under the lock; None where no ask was served,
+/// or another one.
 fn answer<S: Site, R: Wait>(
     rt: &R,
     board: &Board<S>,
@@ -27,7 +27,7 @@ fn answer<S: Site, R: Wait>(
     }
 }
 
-// One worker asks for an arc, looks, and asks for it again; then for an arc that there is not.
+/// One worker asks for an arc, looks, and asks for it again; then for an arc that there is not.
 struct AskThenLook;
 
 impl Trial for AskThenLook {
@@ -88,7 +88,7 @@ fn a_look_shows_what_was_answered(rt: HostRuntime) -> Result<(), Fail> {
     Ok(())
 }
 
-// Applies the arcs in turn and tells the seat: whether each was a merger arc, and the seat was told of all.
+/// Applies the arcs in turn and tells the seat: whether each was a merger arc, and the seat was told of all.
 fn all_applied<S: Site, R: Wait>(
     rt: &R,
     holder: &mut Holder<S>,
@@ -105,7 +105,7 @@ fn all_applied<S: Site, R: Wait>(
     Ok(holder.tell(seat) && applied)
 }
 
-// Two seats look while the driver makes three mergers. The first is told of the first merger, the second of all.
+/// Two seats look while the driver makes three mergers. The first is told of the first merger, the second of all.
 struct LooksBesideMergers;
 
 impl Trial for LooksBesideMergers {

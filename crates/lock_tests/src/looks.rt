@@ -25,7 +25,7 @@ pub const LAST: Shown = Shown {
     mergers: [false, false, false],
 };
 
-// Whether the version shows this, and no merger arc where there is no arc.
+/// Whether the version shows this, and no merger arc where there is no arc.
 fn is_shown<V: Origin>(version: &Version<V>, expected: &Shown) -> bool {
     if version.instance().graph().n() != 4 {
         return false;

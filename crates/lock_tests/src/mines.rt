@@ -9,7 +9,7 @@ use std::alloc::Global;
 use std::sync::Arc;
 use std::test::Fail;
 
-// Block 0 needs 1 and 3, and block 2 needs 1. Arc 0 leads from block 0 to 1, arc 1 from 0 to 3, arc 2 from 2 to 1.
+/// Block 0 needs 1 and 3, and block 2 needs 1. Arc 0 leads from block 0 to 1, arc 1 from 0 to 3, arc 2 from 2 to 1.
 fn four_blocks(alloc: Global) -> Result<Arc<Graph>, Fault>
     ensures { IfOk result (λ graph. graph.value.blocks ≡ 4) }
 {
@@ -17,7 +17,7 @@ fn four_blocks(alloc: Global) -> Result<Arc<Graph>, Fault>
     Ok(Arc::new(alloc, Graph::new(alloc, 4, pairs)?)?)
 }
 
-// Block 1 needs block 0.
+/// Block 1 needs block 0.
 fn two_blocks(alloc: Global) -> Result<Arc<Graph>, Fault>
     ensures { IfOk result (λ graph. graph.value.blocks ≡ 2) }
 {
@@ -75,7 +75,7 @@ pub fn three_parts(alloc: Global) -> Result<Instance, Fault> {
     Ok(Instance::new(graph, values))
 }
 
-// The mine that two texts spell, over which this gauge counts.
+/// The mine that two texts spell, over which this gauge counts.
 fn spelled(alloc: Global, model: &str, prec: &str, gauge: Gauge) -> Result<Instance, Fault> {
     if model.len() > 1_000_000 || prec.len() > 1_000_000 {
         return Err(Fault::no_seat());
@@ -120,7 +120,7 @@ pub fn ores_below_waste(alloc: Global, copies: u32) -> Result<Instance, Fail> {
     Ok(spelled(alloc, &model, &prec, Gauge::none())?)
 }
 
-// What a block of the cross section is worth: ore below, waste above and at the sides.
+/// What a block of the cross section is worth: ore below, waste above and at the sides.
 fn worth(depth: u32, place: u32, random: u64) -> i128 {
     let noise = (random >> 40) as i128 % 97;
     if depth > 10 && place > 20 && place < 80 {
@@ -130,7 +130,7 @@ fn worth(depth: u32, place: u32, random: u64) -> i128 {
     }
 }
 
-// The line of a block that needs the three above it, or the two at a side.
+/// The line of a block that needs the three above it, or the two at a side.
 fn prec_line(alloc: Global, block: u32, place: u32) -> Result<String, Fail> {
     let above = block.saturating_sub(100);
     let left = above.saturating_sub(1);

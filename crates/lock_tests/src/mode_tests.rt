@@ -10,7 +10,7 @@ use std::sync::Wait;
 use std::test::*;
 use std::thread::Threads;
 
-// Each way to solve; the budget suffices.
+/// Each way to solve; the budget suffices.
 pub(crate) const MODES: [Mode; 4] = [
     Mode::Single { budget: None },
     Mode::Single { budget: Some(9) },
@@ -22,7 +22,7 @@ pub(crate) const MODES: [Mode; 4] = [
     },
 ];
 
-// What fails of this: each of the two calls finds this pit, the one with a flow that shows it.
+/// What fails of this: each of the two calls finds this pit, the one with a flow that shows it.
 fn failure_in<R: Threads + Wait + Sync>(
     rt: &R,
     alloc: Global,

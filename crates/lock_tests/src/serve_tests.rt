@@ -9,14 +9,14 @@ use std::sync::{MutexGuard, Wait};
 use std::test::Fail;
 use tree_lock::{Entry, Holder, SharedTree, Site, Verdict};
 
-// What three workers ask for at once, and what each is answered.
+/// What three workers ask for at once, and what each is answered.
 #[derive(Clone, Copy)]
 struct Round {
     arcs: [u32; 3],
     verdicts: [Verdict; 3],
 }
 
-// Each worker asks for its arc, the holder serves all of them in one pass, and each collects: what fails of that.
+/// Each worker asks for its arc, the holder serves all of them in one pass, and each collects: what fails of that.
 fn failure_in_round<S: Site, R: Wait>(
     rt: &R,
     holder: &mut Holder<S>,
@@ -49,7 +49,7 @@ fn failure_in_round<S: Site, R: Wait>(
     ]))
 }
 
-// The rounds one after the other, and a pass that finds nothing: what fails first.
+/// The rounds one after the other, and a pass that finds nothing: what fails first.
 #[derive(Clone, Copy)]
 struct Rounds {
     rounds: [Round; 2],
@@ -77,7 +77,7 @@ impl Trial for Rounds {
     }
 }
 
-// The entry of a worker's ask.
+/// The entry of a worker's ask.
 fn entry(seat: u32, arc: u32, verdict: Verdict) -> Entry {
     Entry { seat, arc, verdict }
 }
@@ -140,7 +140,7 @@ fn asks_past_the_budget_are_spent(rt: HostRuntime) -> Result<(), Fail> {
     Ok(())
 }
 
-// A worker asks twice, and one who has the lock for both serves it twice: what fails of that.
+/// A worker asks twice, and one who has the lock for both serves it twice: what fails of that.
 struct LockedPasses;
 
 impl Trial for LockedPasses {

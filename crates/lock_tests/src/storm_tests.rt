@@ -9,7 +9,7 @@ use std::sync::Wait;
 use std::test::*;
 use std::thread::Threads;
 
-// What fails in five runs over the mine of this seed.
+/// What fails in five runs over the mine of this seed.
 fn storm<R: AllocGlobal + Threads + Wait + Sync>(
     rt: &R,
     seed: u64,

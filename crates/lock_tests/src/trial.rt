@@ -33,7 +33,7 @@ pub struct Ended<T: Drop> {
     pub journal: Vec<Entry>,
 }
 
-// What a lock begins with, of which no type has the name yet.
+/// What a lock begins with, of which no type has the name yet.
 struct Beginning {
     tree: NormTree,
     list: UnnamedList,

@@ -14,7 +14,7 @@ use std::sync::Wait;
 use std::test::Fail;
 use versions::{LookSeat, Origin, Publisher, UnnamedList};
 
-// Merges over the arcs in turn, and tells the seat: whether each was a merger arc, and the seat was told of all.
+/// Merges over the arcs in turn, and tells the seat: whether each was a merger arc, and the seat was told of all.
 fn all_published<V: Origin, R: Wait>(
     rt: &R,
     publisher: &mut Publisher<V>,
@@ -30,7 +30,7 @@ fn all_published<V: Origin, R: Wait>(
     Ok(publisher.tell(seat))
 }
 
-// Two seats look while three mergers are made. The first is told of the first merger, the second of all.
+/// Two seats look while three mergers are made. The first is told of the first merger, the second of all.
 fn looks_beside<V: Origin, R: Wait>(
     rt: &R,
     publisher: &mut Publisher<V>,
@@ -56,7 +56,7 @@ fn looks_beside<V: Origin, R: Wait>(
     ]))
 }
 
-// The same with a publisher of its own.
+/// The same with a publisher of its own.
 fn two_seats<V: Origin, R: Wait>(
     rt: &R,
     alloc: Global,
@@ -81,7 +81,7 @@ fn each_look_shows_what_was_published(rt: HostRuntime) -> Result<(), Fail> {
     Ok(())
 }
 
-// Whether a look gives the seat back.
+/// Whether a look gives the seat back.
 fn comes_back<V: Origin>(seat: LookSeat<V>) -> bool {
     match seat.look() {
         Ok(version) => {
@@ -92,7 +92,7 @@ fn comes_back<V: Origin>(seat: LookSeat<V>) -> bool {
     }
 }
 
-// A seat looks on after the publisher is gone.
+/// A seat looks on after the publisher is gone.
 fn look_too_late<V: Origin, R: Wait>(
     rt: &R,
     alloc: Global,

@@ -25,7 +25,7 @@ struct Worker<V: Origin> {
     failed: Option<&'static str>,
 }
 
-// Merges over the arc under the lock, where it is a merger arc still, and tells the seat: what fails of that.
+/// Merges over the arc under the lock, where it is a merger arc still, and tells the seat: what fails of that.
 fn merge<V: Origin, R: Wait>(
     rt: &R,
     publisher: &Mutex<Publisher<V>>,
@@ -42,7 +42,7 @@ fn merge<V: Origin, R: Wait>(
     ])
 }
 
-// Looks at the arc, and where it sees a merger arc merges over it.
+/// Looks at the arc, and where it sees a merger arc merges over it.
 fn try_arc<V: Origin, R: Wait>(
     rt: &R,
     publisher: &Mutex<Publisher<V>>,
@@ -68,14 +68,14 @@ fn try_arc<V: Origin, R: Wait>(
     worker.seat = Some(seat);
 }
 
-// Goes over the arcs again and again.
+/// Goes over the arcs again and again.
 fn work<V: Origin, R: Wait>(rt: &R, publisher: &Mutex<Publisher<V>>, worker: &mut Worker<V>) {
     for k in 0..ROUNDS {
         try_arc(rt, publisher, worker, k % PAIRS);
     }
 }
 
-// What failed for the worker, or that it still sees a merger arc.
+/// What failed for the worker, or that it still sees a merger arc.
 fn failure_of<V: Origin>(worker: Worker<V>) -> Option<&'static str> {
     let Worker { seat, failed } = worker;
     let Some(seat) = seat else {
@@ -94,7 +94,7 @@ fn failure_of<V: Origin>(worker: Worker<V>) -> Option<&'static str> {
     }
 }
 
-// Each worker in a thread of its own; all are joined. It answers whether each could be started.
+/// Each worker in a thread of its own; all are joined. It answers whether each could be started.
 fn sweep<V: Origin + Send + Sync, R: Threads + Wait + Sync>(
     rt: &R,
     publisher: &Mutex<Publisher<V>>,
@@ -112,7 +112,7 @@ fn sweep<V: Origin + Send + Sync, R: Threads + Wait + Sync>(
     })
 }
 
-// What fails first: a worker that could not be started, or what a worker found.
+/// What fails first: a worker that could not be started, or what a worker found.
 fn sweep_failure<V: Origin + Send + Sync, R: Threads + Wait + Sync>(
     rt: &R,
     publisher: &Mutex<Publisher<V>>,
@@ -131,7 +131,7 @@ fn sweep_failure<V: Origin + Send + Sync, R: Threads + Wait + Sync>(
     None
 }
 
-// Three workers with their seats.
+/// Three workers with their seats.
 fn crew<V: Origin>(alloc: Global, seats: &LookSeats<V>) -> Result<Vec<Worker<V>>, Fault> {
     let mut workers = Vec::new(alloc);
     for _ in 0..3 {
@@ -143,7 +143,7 @@ fn crew<V: Origin>(alloc: Global, seats: &LookSeats<V>) -> Result<Vec<Worker<V>>
     Ok(workers)
 }
 
-// Three workers at one tree: what fails first, and the tree in the end.
+/// Three workers at one tree: what fails first, and the tree in the end.
 fn three_workers<V: Origin + Send + Sync, R: Threads + Wait + Sync>(
     rt: &R,
     alloc: Global,

@@ -7,7 +7,7 @@ ghost use Rattle.pit_model.specs.Tree.{is_merger};
 use faults::Fault;
 use norm_tree::NormTree;
 
-// Merges until no merger arc is left. Each merger lowers the tree's rank, so they end.
+/// Merges until no merger arc is left. Each merger lowers the tree's rank, so they end.
 fn merge_all(tree: &mut NormTree)
     ensures mine { tree.new.mine ≡ tree.old.mine }
     ensures none_left { (k : ℕ) → is_merger tree.new.mine tree.new.tree k ≡ false }

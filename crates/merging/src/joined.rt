@@ -13,7 +13,7 @@ use faults::Fault;
 use mine_graph::{Graph, Instance};
 use std::alloc::{AllocError, Global};
 
-// Marks the blocks of a part's pit.
+/// Marks the blocks of a part's pit.
 pub(crate) fn mark_pit(blocks: &[u32], pit: &[u32], marks: &mut [bool])
     requires pit { (i : ℕ) → i < length pit.now → get_or pit.now i 0 < length blocks.now }
     requires blocks { (u : ℕ) → u < length blocks.now → get_or blocks.now u 0 < length marks.old }
@@ -24,7 +24,7 @@ pub(crate) fn mark_pit(blocks: &[u32], pit: &[u32], marks: &mut [bool])
     }
 }
 
-// Writes the amount on each pair of a part where the pair stands in the whole.
+/// Writes the amount on each pair of a part where the pair stands in the whole.
 pub(crate) fn carry_flow(
     whole: &Graph,
     blocks: &[u32],
@@ -51,7 +51,7 @@ pub(crate) fn carry_flow(
     }
 }
 
-// Writes the answer of one part.
+/// Writes the answer of one part.
 fn place_part(instance: &Instance, part: &SolvedPart, marks: &mut [bool], flow: &mut [i128])
     requires part { (set : ℕ → Bool) × IsPart (graph_of instance.now) set part.now.blocks.items (graph_of part.now.mine) }
     requires answer { IsCertificateOf part.now.mine part.now.certificate }
@@ -72,7 +72,7 @@ fn place_part(instance: &Instance, part: &SolvedPart, marks: &mut [bool], flow: 
     );
 }
 
-// Writes the answer of each part.
+/// Writes the answer of each part.
 fn place_parts(instance: &Instance, parts: &[SolvedPart], marks: &mut [bool], flow: &mut [i128])
     requires solved { AreSolved instance.now parts.now }
     requires marks { length marks.old ≡ instance.now.blocks }
@@ -86,7 +86,7 @@ fn place_parts(instance: &Instance, parts: &[SolvedPart], marks: &mut [bool], fl
     }
 }
 
-// The marked blocks, rising.
+/// The marked blocks, rising.
 pub(crate) fn marked(alloc: Global, marks: &[bool]) -> Result<Vec<u32>, AllocError>
     requires { length marks.now < 4294967296 }
     ensures { IfOk result (λ v. v.items ≡ members (length marks.now) (has marks.now)) }

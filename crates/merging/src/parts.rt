@@ -22,7 +22,7 @@ use std::alloc::{AllocError, Global};
 use std::sync::Arc;
 use std::thread::Threads;
 
-// The values of some blocks.
+/// The values of some blocks.
 pub(crate) fn values_of(
     alloc: Global,
     instance: &Instance,
@@ -39,7 +39,7 @@ pub(crate) fn values_of(
     Ok(values)
 }
 
-// The part as an instance, with its certificate.
+/// The part as an instance, with its certificate.
 fn solve_part(alloc: Global, instance: &Instance, part: Part) -> Result<SolvedPart, Fault>
     requires { IsPartOf instance.now part }
     ensures { MatchResult result (IsSolvedPart instance.now part) (λ e. e ≡ no_memory) }
@@ -57,7 +57,7 @@ fn solve_part(alloc: Global, instance: &Instance, part: Part) -> Result<SolvedPa
     })
 }
 
-// The parts, each solved, over as many threads as there are processors.
+/// The parts, each solved, over as many threads as there are processors.
 fn solve_each<R: Threads + Sync>(
     rt: &R,
     alloc: Global,
@@ -80,18 +80,18 @@ fn solve_each<R: Threads + Sync>(
     solved
 }
 
-// More parts than this are solved as one mine, where they have fewer than so many blocks on average: each part is an instance
-// of its own, which takes more memory than what so few blocks need.
+/// More parts than this are solved as one mine, where they have fewer than so many blocks on average: each part is an instance
+/// of its own, which takes more memory than what so few blocks need.
 const MANY_PARTS: u32 = 1 << 16;
 
 const FEW_BLOCKS: u32 = 16;
 
-// Whether so many parts of a mine of so many blocks are to be solved one by one.
+/// Whether so many parts of a mine of so many blocks are to be solved one by one.
 fn are_worth_parting(parts: u32, blocks: u32) -> bool {
     parts >= 2 && (parts <= MANY_PARTS || parts <= blocks / FEW_BLOCKS)
 }
 
-// The certificates of the parts, joined; None where the mine is to be solved as one.
+/// The certificates of the parts, joined; None where the mine is to be solved as one.
 fn join_of_parts<R: Threads + Sync>(
     rt: &R,
     alloc: Global,

@@ -25,7 +25,7 @@ pub enum Replayed {
     Open(u64),
 }
 
-// Decides an entry again, after so many mergers: how many they are then, where the entry has its lawful verdict, else None.
+/// Decides an entry again, after so many mergers: how many they are then, where the entry has its lawful verdict, else None.
 fn decide_again(tree: &mut NormTree, budget: Option<u64>, made: u64, entry: Entry) -> Option<u64>
     requires { made + 1 < 2 ^ 64 }
     ensures mine { tree.new.mine ≡ tree.old.mine }
@@ -47,8 +47,8 @@ fn decide_again(tree: &mut NormTree, budget: Option<u64>, made: u64, entry: Entr
     }
 }
 
-// Decides the entries again, as long as each has its lawful verdict: how many mergers were made, or the number of the first
-// entry, counted from 1, that has another verdict.
+/// Decides the entries again, as long as each has its lawful verdict: how many mergers were made, or the number of the first
+/// entry, counted from 1, that has another verdict.
 fn follow(tree: &mut NormTree, budget: Option<u64>, entries: &[Entry]) -> Result<u64, u64>
     requires { tree.old.tree ≡ opening tree.old.mine }
     ensures mine { tree.new.mine ≡ tree.old.mine }

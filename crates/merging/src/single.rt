@@ -18,7 +18,7 @@ use norm_tree::{BareTree, NormTree};
 use pit_model::budget_suffices;
 use std::alloc::Global;
 
-// The tree with no merger arc left, by mergers in whatever order.
+/// The tree with no merger arc left, by mergers in whatever order.
 fn solved_tree(alloc: Global, instance: &Instance) -> Result<NormTree, Fault>
     ensures mine { IfOk result (λ t. t.mine ≡ instance.now) }
     ensures none_left { IfOk result (λ t. (k : ℕ) → is_merger t.mine t.tree k ≡ false) }
@@ -51,7 +51,7 @@ pub fn pit_of(alloc: Global, instance: &Instance) -> Result<Vec<u32>, Fault>
     tree.pit()
 }
 
-// The pit, by mergers in whatever order.
+/// The pit, by mergers in whatever order.
 fn solve_freely(alloc: Global, instance: &Instance) -> Result<Outcome, Fault>
     ensures solved { IfOk result (IsSolvedAlone instance.now None) }
     ensures refused { IfErr result (λ e. e ≡ no_memory) }
@@ -59,7 +59,7 @@ fn solve_freely(alloc: Global, instance: &Instance) -> Result<Outcome, Fault>
     Ok(Outcome::Pit(certificate_of(alloc, instance)?))
 }
 
-// The pit, where the mergers of the first run end within the budget.
+/// The pit, where the mergers of the first run end within the budget.
 fn solve_by_first_run(alloc: Global, instance: &Instance, budget: u64) -> Result<Outcome, Fault>
     ensures solved { IfOk result (IsSolvedAlone instance.now (Some budget)) }
     ensures refused { IfErr result (λ e. e ≡ no_memory) }
@@ -72,7 +72,7 @@ fn solve_by_first_run(alloc: Global, instance: &Instance, budget: u64) -> Result
     }
 }
 
-// The same. Where no run uses the budget up, the order of the mergers is free.
+/// The same. Where no run uses the budget up, the order of the mergers is free.
 fn solve_within(alloc: Global, instance: &Instance, budget: u64) -> Result<Outcome, Fault>
     ensures solved { IfOk result (IsSolvedAlone instance.now (Some budget)) }
     ensures refused { IfErr result (λ e. e ≡ no_memory) }

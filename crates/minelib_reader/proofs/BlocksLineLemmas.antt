@@ -6,7 +6,7 @@ use Rattle.pit_model.specs.Size.{most_blocks}
 use Rattle.minelib_reader.specs.Checks.{◌>>=◌}
 use Rattle.minelib_reader.specs.Text.{Row}
 use Rattle.std.specs.List.{All}
-use Rattle.minelib_reader.specs.Number.{IsWithin}
+use Rattle.minelib_reader.specs.Number.{IsBounded}
 use Rattle.minelib_reader.specs.Table.{Place, IsWhole}
 use Rattle.minelib_reader.specs.Added.{AddsBlock}
 use Rattle.minelib_reader.specs.Blocks.{attribute_of, attributes_of, front_of, block_line, blocks_from}
@@ -120,7 +120,7 @@ end width i rows places old all none so_far =
 
 -- one block more, with its attributes, keeps the limits
 pub stays_whole : (width : ℕ) (r : Row) (places : List Place) (place : Place) (old new : List ℤ) → IsWhole width places old → length places < most_blocks → AddsBlock width (length places) r place old new
-    → All (IsWithin (10 ^ 18)) new → IsWhole width (places ++ place ∷ []) new
+    → All (IsBounded (10 ^ 18)) new → IsWhole width (places ++ place ∷ []) new
 stays_whole width r places place old new whole lt a small =
     let size = length-append places (place ∷ []) in
     let full : length new ≡ length places * width + width = ap length a.added ∙ length-append old a.own ∙ ap (λ (k : ℕ). k + length a.own) whole.full ∙ ap (λ (k : ℕ). length places * width + k) a.wide in

@@ -5,7 +5,7 @@ use Rattle.faults.specs.declared.fault.Fault.{Fault}
 use Rattle.faults.specs.declared.refusal.Refusal.{Refusal}
 use Rattle.faults.specs.declared.refusal.Refusal.TheVariants.{NoMemory, NegativeColumn, NoSuchColumn}
 use Rattle.faults.specs.declared.source.Source.TheVariants.{Blocks}
-use Rattle.minelib_reader.specs.Number.{IsWithin}
+use Rattle.minelib_reader.specs.Number.{IsBounded}
 use Rattle.faults.specs.Refused.{at_line, no_memory}
 use Rattle.minelib_reader.specs.Table.{Table, attribute_in}
 
@@ -19,7 +19,7 @@ pub record IsColumn (t : Table) (k : ℕ) (values : List ℤ) : Type 0 where
   pub count : length values ≡ length t.places
   pub each : (u : ℕ) → u < length t.places → get_or values u (pos 0) ≡ attribute_in t u k
   pub lawful : IsLawfulBelow t k (length t.places)
-  pub small : All (IsWithin (10 ^ 18)) values
+  pub small : All (IsBounded (10 ^ 18)) values
 
 -- block u is the least that has a negative number in column k
 pub record IsLeastNegative (t : Table) (k u : ℕ) : Type 0 where

@@ -27,8 +27,8 @@ unfoldable pub cut_at : ℕ → List ℕ → Option (List ℕ × List ℕ)
 cut_at b text = option_map (parts_at text) (position (λ x. x == b) text)
 
 -- at most so far from 0
-abbrev pub IsWithin : ℕ → ℤ → Type 0
-IsWithin limit v = (neg_ℤ (pos limit) ≤ℤ v) × (v ≤ℤ pos limit)
+abbrev pub IsBounded : ℕ → ℤ → Type 0
+IsBounded limit v = (neg_ℤ (pos limit) ≤ℤ v) × (v ≤ℤ pos limit)
 
 abbrev pub point : ℕ
 point = 46

@@ -2,7 +2,7 @@
 use Rattle.std.specs.Prelude.{◌≡◌, ℕ, ◌+◌, ◌*◌, ◌^◌, ◌≤◌, ℤ, pos, List, length, get_or}
 use Rattle.std.specs.List.{All}
 use Rattle.pit_model.specs.Size.{most_blocks}
-use Rattle.minelib_reader.specs.Number.{IsWithin}
+use Rattle.minelib_reader.specs.Number.{IsBounded}
 
 -- the place of a block, along x, y and z
 abbrev pub Place : Type 0
@@ -29,4 +29,4 @@ pub record IsWhole (width : ℕ) (places : List Place) (attributes : List ℤ) :
   pub narrow : width ≤ 64
   pub few : length places ≤ most_blocks
   pub full : length attributes ≡ length places * width
-  pub small : All (IsWithin (10 ^ 18)) attributes
+  pub small : All (IsBounded (10 ^ 18)) attributes

@@ -2,11 +2,11 @@
 use Rattle.std.specs.Prelude.{◌≡◌, ℕ, ℤ, pos, neg_ℤ, ◌≤ℤ◌, ◌^◌, ◌<◌, ◌≤◌, List, length, get_or}
 use Rattle.std.specs.List.{All}
 use Rattle.pit_model.specs.Size.{most_blocks}
-use Rattle.minelib_reader.specs.Number.{IsWithin}
+use Rattle.minelib_reader.specs.Number.{IsBounded}
 
 -- each value, in millionths, is within 10^18 of 0
 abbrev pub AreSmall : List ℤ → Type 0
-AreSmall values = All (IsWithin (10 ^ 18)) values
+AreSmall values = All (IsBounded (10 ^ 18)) values
 
 -- at most so many blocks, and a small value for each, so that low and high hold, as an instance of the problem wants them
 pub record IsSmallModel (n : ℕ) (values : List ℤ) : Type 0 where

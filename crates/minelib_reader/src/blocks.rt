@@ -11,7 +11,7 @@ ghost use Rattle.minelib_reader.specs.Answer.{Gives, Answers, AnswersBy, FailsBy
 ghost use Rattle.minelib_reader.specs.Blocks.{in_blocks, width_line, width_of, coordinate_of, front_of, attribute_of, attributes_of, block_line, blocks_from, as_table, table_of};
 ghost use Rattle.minelib_reader.specs.BlocksFault.{IsFirstTableFault};
 ghost use Rattle.minelib_reader.specs.BlocksGrammar.{SpellsTable};
-ghost use Rattle.minelib_reader.specs.Number.{IsWithin};
+ghost use Rattle.minelib_reader.specs.Number.{IsBounded};
 ghost use Rattle.minelib_reader.specs.Table.{Table};
 ghost use Rattle.minelib_reader.specs.Text.{row, rows_of, fields_of};
 ghost use Rattle.pit_model.specs.Size.{most_blocks};
@@ -117,7 +117,7 @@ fn read_front<'a>(width: u32, id: u64, r: Row<'a>) -> Result<Front<'a>, Fault>
 #[tactic(auto, unfolding(crate::specs::Blocks::attribute_of))]
 fn read_attribute(line: u64, field: &[u8]) -> Result<i128, Fault>
     ensures gives { Gives (λ v. v) result (attribute_of line field.now) }
-    ensures small { IfOk result (IsWithin (10 ^ 18)) }
+    ensures small { IfOk result (IsBounded (10 ^ 18)) }
 {
     match decimal(field) {
         Some(value) => Ok(value),
@@ -127,10 +127,10 @@ fn read_attribute(line: u64, field: &[u8]) -> Result<i128, Fault>
 
 /// Adds the attributes of a block, from left to right.
 fn read_attributes(line: u64, text: &[u8], attributes: &mut Vec<i128>) -> Result<(), Fault>
-    requires small { All (IsWithin (10 ^ 18)) attributes.old.items }
+    requires small { All (IsBounded (10 ^ 18)) attributes.old.items }
     ensures ok { IfOk result (λ _. (own : List ℤ) × (attributes_of line (fields_of text.now) ≡ Ok own) × (attributes.new.items ≡ attributes.old.items ++ own)) }
     ensures err { IfErr result (λ e. FailsBy e.refusal e (attributes_of line (fields_of text.now))) }
-    ensures small { All (IsWithin (10 ^ 18)) attributes.new.items }
+    ensures small { All (IsBounded (10 ^ 18)) attributes.new.items }
 {
     let mut rest = text;
     while let Some((field, behind)) = next_field(rest) {
@@ -148,11 +148,11 @@ fn read_block(
     r: Row,
     attributes: &mut Vec<i128>,
 ) -> Result<(i32, i32, i32), Fault>
-    requires small { All (IsWithin (10 ^ 18)) attributes.old.items }
+    requires small { All (IsBounded (10 ^ 18)) attributes.old.items }
     ensures ok { IfOk result (λ place. AddsBlock width id (row r.entry.line (fields_of r.entry.text.now)) place attributes.old.items attributes.new.items) }
     ensures err { IfErr result (λ e. FailsBy e.refusal e (block_line width id (row r.entry.line (fields_of r.entry.text.now)))) }
     ensures known { IfOk result (λ _. id < most_blocks) }
-    ensures small { All (IsWithin (10 ^ 18)) attributes.new.items }
+    ensures small { All (IsBounded (10 ^ 18)) attributes.new.items }
 {
     let front = read_front(width, id, r)?;
     read_attributes(r.line, front.rest, attributes)?;

@@ -4,7 +4,7 @@ ghost use Rattle.std.specs.Prelude.{◌≡◌, true, ◌≤◌, ◌<◌, ◌^◌
 ghost use Rattle.std.specs.Option.{option_map};
 ghost use Rattle.std.specs.Str.{all_ascii_digits};
 ghost use Rattle.std.specs.Str.Parse.{digits_value};
-ghost use Rattle.minelib_reader.specs.Number.{digits_of, whole_of, cut_at, millionths_of, decimal_of, signed_of, IsWithin};
+ghost use Rattle.minelib_reader.specs.Number.{digits_of, whole_of, cut_at, millionths_of, decimal_of, signed_of, IsBounded};
 
 /// A decimal, as a whole number of millionths.
 pub type Decimal = i128;
@@ -122,7 +122,7 @@ fn millionths(text: &[u8]) -> Option<u128>
 #[tactic(auto, unfolding(crate::specs::Number::decimal_of))]
 pub fn decimal(field: &[u8]) -> Option<Decimal>
     ensures value { result ≡ decimal_of field.now }
-    ensures bounded { IfSome result (IsWithin (10 ^ 18)) }
+    ensures bounded { IfSome result (IsBounded (10 ^ 18)) }
 {
     match field {
         [b'-', rest @ ..] => Some(-(millionths(rest)? as i128)),

@@ -1,7 +1,7 @@
 //! A table of blocks, with a place and as many attributes for each.
 //! `blocks` reads one, and `column` takes one attribute of all blocks out of it.
 ghost use Rattle.std.specs.Prelude.{◌≡◌, ◌<◌, ◌≤◌, ◌^◌, length};
-ghost use Rattle.minelib_reader.specs.Number.{IsWithin};
+ghost use Rattle.minelib_reader.specs.Number.{IsBounded};
 ghost use Rattle.pit_model.specs.Size.{most_blocks};
 ghost use Rattle.minelib_reader.specs.Table.{table, place_in, attribute_in, IsWhole};
 
@@ -70,7 +70,7 @@ impl BlockTable {
         requires block { id < length self.now.places }
         requires column { k < self.now.width }
         ensures value { result ≡ attribute_in self.now id k }
-        ensures small { IsWithin (10 ^ 18) result }
+        ensures small { IsBounded (10 ^ 18) result }
     {
         self.attributes[id as usize * self.width as usize + k as usize]
     }

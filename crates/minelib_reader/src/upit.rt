@@ -5,7 +5,7 @@ ghost use Rattle.std.specs.Io.KnownBytes.{Keeps};
 ghost use Rattle.faults.specs.declared.fault.Fault.{Fault as AnyFault};
 ghost use Rattle.faults.specs.declared.source.Source.TheVariants as sources;
 ghost use Rattle.minelib_reader.specs.Answer.{Gives, Answers, AnswersBy, FailsAt};
-ghost use Rattle.minelib_reader.specs.Number.{IsWithin};
+ghost use Rattle.minelib_reader.specs.Number.{IsBounded};
 ghost use Rattle.minelib_reader.specs.Text.{Row as TextRow, row, rows_at, lines_at, fields_of};
 ghost use Rattle.minelib_reader.specs.Upit.{Upit, upit, in_model, due, name_line, type_line, blocks_line, objective_line, value_line, values_from, ended, header_of, upit_of};
 ghost use Rattle.minelib_reader.specs.UpitFault.{IsFirstUpitFault};
@@ -79,7 +79,7 @@ fn read_count(r: Row) -> Result<u32, Fault>
 #[tactic(auto, unfolding(crate::specs::Upit::value_line))]
 fn read_value(id: u32, r: Row) -> Result<Decimal, Fault>
     ensures gives { Gives (λ v. v) result (value_line id (row r.entry.line (fields_of r.entry.text.now))) }
-    ensures small { IfOk result (IsWithin (10 ^ 18)) }
+    ensures small { IfOk result (IsBounded (10 ^ 18)) }
 {
     let Some((first, second)) = two_fields(r.text) else {
         return Err(in_model(Refusal::WrongFieldCount, r.line));

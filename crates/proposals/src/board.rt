@@ -15,7 +15,7 @@ use std::marker::{Model, PhantomData};
 
 type Cells = Table<(), Knows, u64, Asks, Global>;
 
-// An asked arc stands in its word above this, and a claimed one above twice this.
+/// An asked arc stands in its word above this, and a claimed one above twice this.
 pub(crate) const ASKED: u64 = 1 << 32;
 
 /// The words on which workers ask and the holder answers. Workers are numbered from 1.

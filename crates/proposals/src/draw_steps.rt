@@ -22,7 +22,7 @@ impl Play<(), Hand> for Draw {
     ghost then = { Drew };
 }
 
-// A seat that stands for none comes in, to gather the others.
+/// A seat that stands for none comes in, to gather the others.
 pub(crate) struct Sit;
 
 impl Play<(), Hand> for Sit {
@@ -31,7 +31,7 @@ impl Play<(), Hand> for Sit {
     ghost then = { sat };
 }
 
-// The first seat gives one seat away.
+/// The first seat gives one seat away.
 pub(crate) struct Deal;
 
 impl Split<Hand> for Deal {

@@ -86,7 +86,7 @@ impl Play<(), Knows> for Sit {
     ghost then = { sat };
 }
 
-// The holder's seat gives the next worker its seat.
+/// The holder's seat gives the next worker its seat.
 pub(crate) struct Deal;
 
 impl Split<Knows> for Deal {
@@ -97,7 +97,7 @@ impl Split<Knows> for Deal {
     ghost right = { dealt_to };
 }
 
-// A worker's seat takes the holder's in, and gives it back.
+/// A worker's seat takes the holder's in, and gives it back.
 pub(crate) struct Meet;
 
 impl Join<Knows> for Meet {

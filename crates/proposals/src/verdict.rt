@@ -13,7 +13,7 @@ pub struct Reply {
     pub verdict: Verdict,
 }
 
-// What stands in the word of an answered ask.
+/// What stands in the word of an answered ask.
 pub(crate) fn word_of(verdict: Verdict) -> u64
     ensures { result ≡ code verdict }
 {

@@ -10,7 +10,7 @@ use tree_lock::{Holder, Site, Verdict};
 /// Each arc is decided; where memory was refused to that nothing has changed, and the arc is decided again.
 pub struct Applying;
 
-// Decides the arc, where there is one of this number.
+/// Decides the arc, where there is one of this number.
 fn apply<S: Site, R: Wait>(rt: &R, holder: &mut Holder<S>, arc: u32) -> Result<Verdict, Fault> {
     if arc < holder.tree().instance().graph().arcs() {
         holder.apply(rt, arc)
@@ -19,7 +19,7 @@ fn apply<S: Site, R: Wait>(rt: &R, holder: &mut Holder<S>, arc: u32) -> Result<V
     }
 }
 
-// Decides the arc that comes behind so many mergers.
+/// Decides the arc that comes behind so many mergers.
 fn apply_next<S: Site, R: Wait>(
     rt: &R,
     holder: &mut Holder<S>,

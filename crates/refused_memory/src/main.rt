@@ -25,13 +25,13 @@ use tree_lock::Entry;
 use trial::{Trial, try_with};
 use witness::Seen;
 
-// What was seen in a trial.
+/// What was seen in a trial.
 fn tried<T: Trial, R: AllocGlobal + Wait>(rt: &R, trial: &T) -> Result<Seen, Fault> {
     let mine = mine(rt.alloc())?;
     try_with(rt, rt.alloc(), &mine, trial)
 }
 
-// Writes a line on what runs without memory. It answers whether all was as it must be.
+/// Writes a line on what runs without memory. It answers whether all was as it must be.
 fn told_prepared(rt: &HostRuntime, failed: Option<&'static str>) -> bool {
     let written = match failed {
         None => println!(rt; "prepared: all held"),
@@ -40,7 +40,7 @@ fn told_prepared(rt: &HostRuntime, failed: Option<&'static str>) -> bool {
     written.is_ok() && failed.is_none()
 }
 
-// Writes a line on what was seen. It answers whether all was as it must be.
+/// Writes a line on what was seen. It answers whether all was as it must be.
 fn told(rt: &HostRuntime, name: &str, seen: Seen) -> bool {
     let refused = seen.refused;
     let written = match seen.failed {
@@ -50,7 +50,7 @@ fn told(rt: &HostRuntime, name: &str, seen: Seen) -> bool {
     written.is_ok() && seen.failed.is_none()
 }
 
-// Writes a line on each entry of the journal. It answers whether it could.
+/// Writes a line on each entry of the journal. It answers whether it could.
 fn told_of(rt: &HostRuntime, journal: &[Entry]) -> bool {
     for entry in journal {
         if println!(rt; "solve: {} {} {:?}", entry.seat, entry.arc, entry.verdict).is_err() {

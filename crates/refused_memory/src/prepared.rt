@@ -10,7 +10,7 @@ use proposals::{
 use std::alloc::Global;
 use std::marker::Brand;
 
-// The trees, and the board and the counter of which no type has the name yet.
+/// The trees, and the board and the counter of which no type has the name yet.
 #[derive(Drop)]
 struct Prepared {
     traces: [Trace; 3],
@@ -18,7 +18,7 @@ struct Prepared {
     draws: UnnamedDraws,
 }
 
-// An ask is withdrawn, and another claimed and given back: then nothing is asked, answered or collected.
+/// An ask is withdrawn, and another claimed and given back: then nothing is asked, answered or collected.
 fn asks_go_back<B: Room>(
     board: &Board<B>,
     seat: &mut WorkerSeat<B>,
@@ -46,7 +46,7 @@ fn asks_go_back<B: Room>(
     Some("an ask that was given back is withdrawn, and one that is claimed is not")
 }
 
-// Two seats draw two chunks, and then none.
+/// Two seats draw two chunks, and then none.
 fn chunks_are_drawn<L: Lot>(
     draws: &Draws<L>,
     first: &mut DrawSeat<L>,
@@ -62,7 +62,7 @@ fn chunks_are_drawn<L: Lot>(
     Some("no chunk is left")
 }
 
-// Takes the last memory, for the seats, and then runs all. The name of the first thing that was not as it must be.
+/// Takes the last memory, for the seats, and then runs all. The name of the first thing that was not as it must be.
 fn run<B: Room, L: Lot>(alloc: Global, prepared: Prepared) -> Result<Option<&'static str>, Fault>
     requires board { prepared.board ≡ B.board }
     requires arcs { 4294967295 ≡ B.arcs }

@@ -11,7 +11,7 @@ use tree_lock::{Holder, Site, Verdict};
 /// second pass answers the others.
 pub struct Serving;
 
-// Each worker asks for the arc of its place: whether all did.
+/// Each worker asks for the arc of its place: whether all did.
 fn all_ask<S: Site>(board: &Board<S>, workers: &mut [WorkerSeat<S>]) -> bool {
     let mut asked = true;
     for (worker, arc) in workers.iter_mut().zip(ARCS.iter()) {
@@ -20,7 +20,7 @@ fn all_ask<S: Site>(board: &Board<S>, workers: &mut [WorkerSeat<S>]) -> bool {
     asked
 }
 
-// Each worker collects its reply: whether each is that its arc was merged over.
+/// Each worker collects its reply: whether each is that its arc was merged over.
 fn all_applied<S: Site>(board: &Board<S>, workers: &mut [WorkerSeat<S>]) -> bool {
     let mut applied = true;
     for (worker, arc) in workers.iter_mut().zip(ARCS.iter()) {

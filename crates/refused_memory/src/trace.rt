@@ -23,7 +23,7 @@ pub struct Trace {
     strong: [bool; 4],
 }
 
-// The four blocks with their pairs.
+/// The four blocks with their pairs.
 fn pairs(alloc: Global) -> Result<Arc<Graph>, Fault>
     ensures { IfOk result (λ graph. graph.value.blocks ≡ 4) }
 {
@@ -92,7 +92,7 @@ impl Trace {
     }
 }
 
-// Whether these are the parents of the tree's blocks.
+/// Whether these are the parents of the tree's blocks.
 fn has_parents(tree: &NormTree, parents: &[Option<u32>; 4]) -> bool {
     tree.instance().graph().n() == 4
         && (0..4).all(|block| tree.parent(block) == parents[block as usize])

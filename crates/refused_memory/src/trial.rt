@@ -27,7 +27,7 @@ pub trait Trial {
     ) -> Result<(), Fault>;
 }
 
-// What a lock begins with, of which no type has the name yet.
+/// What a lock begins with, of which no type has the name yet.
 struct Beginning {
     tree: NormTree,
     list: UnnamedList,

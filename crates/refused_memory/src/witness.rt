@@ -23,7 +23,7 @@ pub struct Witness<'a, S: Site> {
     pub seen: Seen,
 }
 
-// The tree after so many mergers.
+/// The tree after so many mergers.
 fn tree_after(alloc: Global, mine: &Instance, count: usize) -> Result<NormTree, Fault> {
     let mut tree = NormTree::start(alloc, mine)?;
     for arc in &ARCS[..count.min(ARCS.len())] {
@@ -32,7 +32,7 @@ fn tree_after(alloc: Global, mine: &Instance, count: usize) -> Result<NormTree, 
     Ok(tree)
 }
 
-// Whether the journal has so many mergers, in the order of their arcs.
+/// Whether the journal has so many mergers, in the order of their arcs.
 fn is_journal<S: Site>(holder: &Holder<S>, count: usize) -> bool {
     let journal = holder.journal();
     journal.len() == count
@@ -40,7 +40,7 @@ fn is_journal<S: Site>(holder: &Holder<S>, count: usize) -> bool {
             && entry.verdict == Verdict::Applied)
 }
 
-// Whether the version shows the strong blocks of the tree and its merger arcs.
+/// Whether the version shows the strong blocks of the tree and its merger arcs.
 fn shows<S: Site>(version: &Version<S>, tree: &NormTree) -> bool {
     let blocks = version.instance().graph().n();
     if blocks != tree.instance().graph().n() {
@@ -55,7 +55,7 @@ fn shows<S: Site>(version: &Version<S>, tree: &NormTree) -> bool {
         .all(|arc| version.is_merger(*arc) == tree.is_merger(*arc))
 }
 
-// Whether a look shows the tree. The seat comes back.
+/// Whether a look shows the tree. The seat comes back.
 fn look_shows<S: Site>(seat: LookSeat<S>, tree: &NormTree) -> (LookSeat<S>, bool) {
     match seat.look() {
         Ok(version) => {

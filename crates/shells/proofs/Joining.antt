@@ -12,7 +12,7 @@ use Rattle.pit_model.specs.declared.direction.Direction.{Direction}
 use Rattle.pit_model.specs.Direction.{IsPitToward, ListsPit, nothing}
 use Rattle.pit_model.specs.Mine.{Instance, members, value, worth}
 use Rattle.pit_model.specs.Part.{IsPart}
-use Rattle.minelib_reader.specs.Number.{IsWithin}
+use Rattle.minelib_reader.specs.Number.{IsBounded}
 use Rattle.faults.specs.declared.fault.Fault.{Fault}
 use Rattle.faults.specs.declared.refusal.Refusal.{Refusal}
 use Rattle.faults.specs.declared.refusal.Refusal.TheVariants.{NoMemory}
@@ -196,10 +196,10 @@ is_outside prices graph part other marks ms blocks p ordered same same2 =
 
 -- the values of the rest are within the limits
 pub values_small : (prices : Prices) (factor u : ℕ) (blocks : List ℕ) (values : List ℤ) → ArePrices prices.revenues prices.costs → factor ≤ 100000
-    → ((i : ℕ) → i < length blocks → get_or blocks i 0 < length prices.revenues) → values ≡ map (price_of prices factor) blocks → u < length blocks → IsWithin (10 ^ 23) (get_or values u (pos 0))
+    → ((i : ℕ) → i < length blocks → get_or blocks i 0 < length prices.revenues) → values ≡ map (price_of prices factor) blocks → u < length blocks → IsBounded (10 ^ 23) (get_or values u (pos 0))
 values_small prices factor u blocks values are few inside is l =
     let at : get_or values u (pos 0) ≡ price_of prices factor (get_or blocks u 0) = ap (λ (xs : List ℤ). get_or xs u (pos 0)) is ∙ get_or-map (price_of prices factor) blocks u 0 (pos 0) l in
-    subst (IsWithin (10 ^ 23)) (sym at) (each_small prices factor (get_or blocks u 0) are few (inside u l))
+    subst (IsBounded (10 ^ 23)) (sym at) (each_small prices factor (get_or blocks u 0) are few (inside u l))
 
 -- the instance of the rest
 pub same_instance : (i : Instance) (prices : Prices) (factor : ℕ) (blocks : List ℕ) (part : Graph) → i.blocks ≡ part.blocks → i.values ≡ map (price_of prices factor) blocks → i.pairs ≡ part.pairs → i ≡ rest_at prices factor blocks part

@@ -7,7 +7,7 @@ use Rattle.std.specs.Int.{w128}
 use Rattle.std.proofs.lemmas.Int.{ints, to_z-of_z}
 use Rattle.std.proofs.lemmas.Nat.{mul-le}
 use mir.Val.{SFits}
-use Rattle.minelib_reader.specs.Number.{IsWithin}
+use Rattle.minelib_reader.specs.Number.{IsBounded}
 use Rattle.pit_model.specs.Deposit.{priced}
 use Rattle.pit_model.specs.Sum.{total}
 use Rattle.mine_graph.proofs.Worth.{total-small}
@@ -41,7 +41,7 @@ module _ (f : ℕ) (x r c : ℤ) (is : x ≡ pos f) (few : f ≤ 100000) (r_leas
   pub computed : held (held x *ℤ held r) -ℤ held (pos 1000 *ℤ held c) ≡ priced f r c
   computed = ap (λ y. y -ℤ held (pos 1000 *ℤ held c)) yielded ∙ ap (λ y. pos f *ℤ r -ℤ y) spent
 
-  pub price_small : IsWithin (10 ^ 23) (priced f r c)
+  pub price_small : IsBounded (10 ^ 23) (priced f r c)
   price_small =
       let some = yields f r few r_least r_most in
       let low = some.0 in
@@ -57,7 +57,7 @@ module _ (f : ℕ) (x r c : ℤ) (is : x ≡ pos f) (few : f ≤ 100000) (r_leas
   pub price_held : held (held (held x *ℤ held r) -ℤ held (pos 1000 *ℤ held c)) ≡ priced f r c
   price_held = ap held computed ∙ to_z-of_z w128 (priced f r c) price_fits
 
-pub each_small : (prices : Prices) (factor u : ℕ) → ArePrices prices.revenues prices.costs → factor ≤ 100000 → u < length prices.revenues → IsWithin (10 ^ 23) (price_of prices factor u)
+pub each_small : (prices : Prices) (factor u : ℕ) → ArePrices prices.revenues prices.costs → factor ≤ 100000 → u < length prices.revenues → IsBounded (10 ^ 23) (price_of prices factor u)
 each_small prices factor u are few inside =
     price_small factor (pos factor) (get_or prices.revenues u (pos 0)) (get_or prices.costs u (pos 0)) refl few
     (are.revenue.least u inside) (are.revenue.most u inside) (are.cost.least u inside) (are.cost.most u inside)
@@ -66,7 +66,7 @@ each_small prices factor u are few inside =
 pub sum_fits : (prices : Prices) (factor : ℕ) (blocks : List ℕ) (i : ℕ) → ArePrices prices.revenues prices.costs → factor ≤ 100000 → length blocks ≤ 2 ^ 22 → All (λ u. u < length prices.revenues) blocks → i < length blocks
     → SFits w128 (price_of prices factor (get_or blocks i 0)) × SFits w128 (total i (λ j. price_of prices factor (get_or blocks j 0)) +ℤ price_of prices factor (get_or blocks i 0))
 sum_fits prices factor blocks i are few most inside l =
-    let small : (j : ℕ) → j < length blocks → IsWithin (10 ^ 23) (price_of prices factor (get_or blocks j 0)) = λ j m. each_small prices factor (get_or blocks j 0) are few (All-get_or (λ u. u < length prices.revenues) blocks j 0 m inside) in
+    let small : (j : ℕ) → j < length blocks → IsBounded (10 ^ 23) (price_of prices factor (get_or blocks j 0)) = λ j m. each_small prices factor (get_or blocks j 0) are few (All-get_or (λ u. u < length prices.revenues) blocks j 0 m inside) in
     let rest = total-small i (λ j. price_of prices factor (get_or blocks j 0)) (λ j m. small j (omega arith)) in
     let lower = rest.0 in
     let upper = rest.1 in

@@ -1,7 +1,7 @@
 //! The revenue and the cost of each block: two columns of a table of blocks.
 ghost use Rattle.std.specs.Prelude.{◌≡◌, ◌<◌, ◌≤◌, ◌^◌, pos, ◌≤ℤ◌, map, length, get_or, IfOk, IfErr};
 ghost use Rattle.std.specs.List.{All};
-ghost use Rattle.minelib_reader.specs.Number.{IsWithin};
+ghost use Rattle.minelib_reader.specs.Number.{IsBounded};
 ghost use Rattle.pit_model.specs.Deposit.{priced};
 ghost use Rattle.pit_model.specs.Sum.{total};
 ghost use Rattle.shells.specs.Outermost.{amounts_of};
@@ -38,7 +38,7 @@ fn price(factor: u32, revenue: i128, cost: i128) -> i128
     requires revenue { (pos 0 ≤ℤ revenue) × (revenue ≤ℤ pos (10 ^ 18)) }
     requires cost { (pos 0 ≤ℤ cost) × (cost ≤ℤ pos (10 ^ 18)) }
     ensures value { result ≡ priced factor revenue cost }
-    ensures small { IsWithin (10 ^ 23) result }
+    ensures small { IsBounded (10 ^ 23) result }
 {
     i128::from(factor) * revenue - 1000 * cost
 }
@@ -110,7 +110,7 @@ impl Columns {
         requires block { u < length self.now.revenues }
         requires factor { factor ≤ 100000 }
         ensures value { result ≡ price_of self.now factor u }
-        ensures small { IsWithin (10 ^ 23) result }
+        ensures small { IsBounded (10 ^ 23) result }
     {
         price(factor, self.revenues[u as usize], self.costs[u as usize])
     }

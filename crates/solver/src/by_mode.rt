@@ -40,7 +40,7 @@ pub fn solve<G: Gate + Sync, R: Threads + Wait + Sync>(
     Ok((outcome, Vec::new(alloc)))
 }
 
-// The certificate of a pit. A used-up budget is refused (20).
+/// The certificate of a pit. A used-up budget is refused (20).
 fn certificate_in(outcome: Outcome) -> Result<Certificate, Fault>
     ensures { result ≡ certificate_in outcome }
 {

@@ -109,14 +109,14 @@ impl<V: Origin> Book<V> {
         self.publisher.tell(seat)
     }
 
-    // The lawful verdict on an arc.
+    /// The lawful verdict on an arc.
     fn verdict_on(&self, arc: u32) -> Verdict
         ensures { result ≡ verdict_for V.mine self.now arc }
     {
         lawful_verdict(self.tree(), self.budget, self.applied, arc)
     }
 
-    // Tells the gauge of the instance of a decision.
+    /// Tells the gauge of the instance of a decision.
     fn count(&self, verdict: Verdict) {
         let gauge = self.tree().instance().gauge();
         gauge.decided(verdict == Verdict::Stale);
@@ -144,7 +144,7 @@ impl<V: Origin> Book<V> {
     }
 }
 
-// Makes and publishes the merger of an applied entry, and counts it. Where memory was refused, nothing changed.
+/// Makes and publishes the merger of an applied entry, and counts it. Where memory was refused, nothing changed.
 fn carry_out<V: Origin, R: Wait>(
     rt: &R,
     publisher: &mut Publisher<V>,

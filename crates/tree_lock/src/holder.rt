@@ -8,7 +8,7 @@ ghost use Rattle.pit_model.specs.Mine.{arcs};
 ghost use Rattle.pit_model.specs.Tree.{IsNormalised};
 ghost use Rattle.pit_model.specs.Rank.{positive_worth};
 ghost use Rattle.pit_model.specs.Limits.{IsInstance};
-ghost use Rattle.pit_model.specs.Journal.{applied_count, IsLawful, IsWithin, replay};
+ghost use Rattle.pit_model.specs.Journal.{applied_count, IsLawful, Affords, replay};
 ghost use Rattle.pit_model.specs.Version.{applied_arcs, IsVersion};
 ghost use Rattle.proposals.specs.Ledger.{answered_to, claimed_from};
 ghost use Rattle.tree_lock.specs.Held.{Decides, opened};
@@ -25,7 +25,7 @@ use std::marker::Model;
 use std::sync::Wait;
 use versions::{LookSeat, Publisher};
 
-// The seat under which the driver's entries stand.
+/// The seat under which the driver's entries stand.
 const DRIVER: u32 = 0;
 
 /// To a contract it is its tree, its journal and its budget, the arcs that are published, and what was answered to each worker
@@ -49,7 +49,7 @@ impl<S: Site> Model for Holder<S> {
 }
 
 impl<S: Site> Holder<S> {
-    // The opening tree, with nothing decided.
+    /// The opening tree, with nothing decided.
     pub(crate) fn new(
         alloc: Global,
         publisher: Publisher<S>,
@@ -80,7 +80,7 @@ impl<S: Site> Holder<S> {
         ensures replayed { self.now.tree ≡ replay self.now.mine self.now.journal }
         ensures instance { IsInstance self.now.mine }
         ensures normalised { IsNormalised self.now.mine self.now.tree }
-        ensures within_budget { IsWithin self.now.budget (applied_count self.now.journal) }
+        ensures within_budget { Affords self.now.budget (applied_count self.now.journal) }
         ensures bounded { pos (applied_count self.now.journal) ≤ℤ (positive_worth self.now.mine *ℤ pos (suc self.now.mine.blocks) +ℤ pos self.now.mine.blocks) }
         ensures answered { (i : ℕ) → replies_under (i + 1) self.now.journal ≡ answered_to self.now.seats i }
         ensures unclaimed { (i : ℕ) → claimed_from self.now.seats i ≡ None }

@@ -11,7 +11,7 @@ use proposals::Board;
 use std::sync::Wait;
 
 impl<S: Site> Holder<S> {
-    // Serves one worker, and tells whether an ask of it stood there.
+    /// Serves one worker, and tells whether an ask of it stood there.
     fn serve_one<R: Wait>(&mut self, rt: &R, board: &Board<S>, worker: u32) -> Result<bool, Fault>
         requires { 0 < worker }
         ensures served { IfOk result (ServesOne worker self.old self.new) }

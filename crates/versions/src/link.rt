@@ -8,7 +8,7 @@ pub struct Link {
 }
 
 impl Link {
-    // What a step that adds no link is handed.
+    /// What a step that adds no link is handed.
     pub(crate) fn blank() -> Link {
         Link { arc: 0, next: 0 }
     }

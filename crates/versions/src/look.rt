@@ -89,14 +89,14 @@ impl<V: Origin> LookSeats<V> {
 }
 
 impl<V: Origin> LookSeat<V> {
-    // What it saw or was told of.
+    /// What it saw or was told of.
     pub(crate) fn list(&self) -> &Beginning<V>
         ensures { result.now ≡ self.now }
     {
         &self.list
     }
 
-    // It is told of this list.
+    /// It is told of this list.
     pub(crate) fn learn(&mut self, list: Beginning<V>)
         ensures { self.new ≡ list }
     {

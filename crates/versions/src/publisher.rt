@@ -49,7 +49,7 @@ where
     ghost invariant = { λ p. IsPublished V.mine p.copies.desk.shown.value p.scribe (drop p.copies.behind p.copies.log.items) };
 }
 
-// Shows readers the copy that has taken in every arc. It waits for those that still look at that copy.
+/// Shows readers the copy that has taken in every arc. It waits for those that still look at that copy.
 fn shown<V: Origin, R: Wait>(copies: Copies<V>, rt: &R) -> Copies<V>
     ensures shown { result.desk.shown.value ≡ fold taken_in copies.desk.shown.value (drop copies.behind copies.log.items) }
     ensures none_left { drop result.behind result.log.items ≡ [] }
@@ -58,7 +58,7 @@ fn shown<V: Origin, R: Wait>(copies: Copies<V>, rt: &R) -> Copies<V>
     copies
 }
 
-// The same through a `&mut`.
+/// The same through a `&mut`.
 fn show<V: Origin, R: Wait>(copies: &mut Copies<V>, rt: &R)
     ensures shown { copies.new.desk.shown.value ≡ fold taken_in copies.old.desk.shown.value (drop copies.old.behind copies.old.log.items) }
     ensures none_left { drop copies.new.behind copies.new.log.items ≡ [] }

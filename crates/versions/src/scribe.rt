@@ -144,7 +144,7 @@ impl<V: Origin> Scribe<V> {
         word.compare_exchange::<Confirm, Nothing>(0, 0, &mut seen, &mut offer, &mut self.pen);
     }
 
-    // A new cell: its pen.
+    /// A new cell: its pen.
     fn widen(&self) -> Pen
         ensures { (result.book ≡ V.book) × (result.nib ≡ nib may_write result.nib.key 0) }
     {

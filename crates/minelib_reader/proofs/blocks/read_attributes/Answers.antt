@@ -6,7 +6,7 @@ use Rattle.std.specs.List.{All}
 use Rattle.std.proofs.lemmas.Int.{to_z-of_z}
 use Rattle.std.proofs.lemmas.List.Elements.{All-append, All-cons, All-nil}
 use Rattle.std.proofs.lemmas.Result.{err_from_is_err_and}
-use Rattle.minelib_reader.specs.Number.{IsWithin}
+use Rattle.minelib_reader.specs.Number.{IsBounded}
 use Rattle.minelib_reader.specs.Text.{fields_of}
 use Rattle.minelib_reader.specs.Blocks.{attribute_of, attributes_of}
 use Rattle.minelib_reader.proofs.AnswerLemmas.{fails_map}
@@ -32,7 +32,7 @@ loop-field-preserved c =
     let one = goes_on c.args.line c.in-Some.field.now (fields_of c.in-Some.behind.now) total c.args.attributes.now.items front value s c.in_ok-value.ensures.gives in
     record {
       so_far = subst (λ (vs : List ℤ). SoFar c.args.line (fields_of c.in-Some.behind.now) total c.args.attributes.now.items vs) (sym items) one;
-      small = subst (All (IsWithin (10 ^ 18))) (sym items) (All-append (IsWithin (10 ^ 18)) front (value ∷ []) c.loop-field.invariant.small (All-cons (IsWithin (10 ^ 18)) value [] c.in_ok-value.ensures.small (All-nil (IsWithin (10 ^ 18)))));
+      small = subst (All (IsBounded (10 ^ 18))) (sym items) (All-append (IsBounded (10 ^ 18)) front (value ∷ []) c.loop-field.invariant.small (All-cons (IsBounded (10 ^ 18)) value [] c.in_ok-value.ensures.small (All-nil (IsBounded (10 ^ 18)))));
     }
 
 pub returns-clause-ok : goal.returns-clause-ok

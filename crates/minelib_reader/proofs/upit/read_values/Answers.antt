@@ -2,7 +2,7 @@
 use Rattle.std.proofs.Common.{◌≡◌, ℕ, ℤ, List, ◌∷◌, [], ◌++◌, ◌-◌, ◌+◌, ap, subst, sym, ◌∙◌}
 use Rattle.std.proofs.Common.{rules, arith, length, length-append, ◌^◌}
 use Rattle.std.proofs.lemmas.List.Elements.{All-append, All-cons, All-nil}
-use Rattle.minelib_reader.specs.Number.{IsWithin}
+use Rattle.minelib_reader.specs.Number.{IsBounded}
 use Rattle.minelib_reader.specs.UpitLimits.{AreSmall}
 use mir.Val.{SFits}
 use Rattle.std.specs.Int.{w128}
@@ -49,7 +49,7 @@ loop-id-preserved c =
           (subst (λ (k : ℕ). AreLeft (read ++ value ∷ []) k (c.loop-id.id + 1) left (rows_at t.number t.rest.now) whole) (sym same) next);
       count = same ∙ c.loop-id.invariant.count;
       length = omega (arith, ap length items, length-append read (value ∷ []), c.loop-id.invariant.length);
-      small = subst AreSmall (sym items) (All-append (IsWithin (10 ^ 18)) read (value ∷ []) c.loop-id.invariant.small (All-cons (IsWithin (10 ^ 18)) value [] c.in_ok-value.ensures.small (All-nil (IsWithin (10 ^ 18)))));
+      small = subst AreSmall (sym items) (All-append (IsBounded (10 ^ 18)) read (value ∷ []) c.loop-id.invariant.small (All-cons (IsBounded (10 ^ 18)) value [] c.in_ok-value.ensures.small (All-nil (IsBounded (10 ^ 18)))));
     }
 
 pub returns-clause-gives : goal.returns-clause-gives

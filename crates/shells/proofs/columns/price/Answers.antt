@@ -1,6 +1,6 @@
 -- All that is computed on the way fits.
 use Rattle.std.proofs.Common.{subst, sym, ◌^◌}
-use Rattle.minelib_reader.specs.Number.{IsWithin}
+use Rattle.minelib_reader.specs.Number.{IsBounded}
 use Rattle.shells.proofs.PriceBounds.{difference_fits, price_held, price_small}
 use Rattle.shells.proofs.columns.price.Goals as goal
 
@@ -13,4 +13,4 @@ returns-clause-value c = price_held c.args.factor c.from.result c.args.revenue c
 pub returns-clause-small : goal.returns-clause-small
 returns-clause-small c =
     let args = price_small c.args.factor c.from.result c.args.revenue c.args.cost c.from.ensures c.requires.factor c.requires.revenue.0 c.requires.revenue.1 c.requires.cost.0 c.requires.cost.1 in
-    subst (IsWithin (10 ^ 23)) (sym (price_held c.args.factor c.from.result c.args.revenue c.args.cost c.from.ensures c.requires.factor c.requires.revenue.0 c.requires.revenue.1 c.requires.cost.0 c.requires.cost.1)) args
+    subst (IsBounded (10 ^ 23)) (sym (price_held c.args.factor c.from.result c.args.revenue c.args.cost c.from.ensures c.requires.factor c.requires.revenue.0 c.requires.revenue.1 c.requires.cost.0 c.requires.cost.1)) args
