@@ -164,6 +164,18 @@ def test_less_and_less_memory(mine: Mine, mode: str) -> None:
     assert seen & refused
 
 
+def test_a_file_larger_than_memory_is_not_read(mine: Mine, shim: pathlib.Path) -> None:
+    """Memory is asked for by the file's size before the first read, which would fail here."""
+    with open(mine.folder / "mine.upit", "wb") as file:
+        file.truncate(8 << 30)
+    space = 4 << 30
+    ran = subprocess.run(
+        [PROGRAM, *SOLVE], cwd=mine.folder, env={"LD_PRELOAD": str(shim), "FAIL_READ": "1"}, capture_output=True, text=True, timeout=60,
+        preexec_fn=lambda: resource.setrlimit(resource.RLIMIT_AS, (space, space)),
+    )  # fmt: skip
+    assert (ran.returncode, ran.stdout, ran.stderr) == (1, "", NO_MEMORY)
+
+
 @pytest.mark.parametrize("mode", MODES)
 def test_no_thread_starts(mine: Mine, mode: str, shim: pathlib.Path) -> None:
     env = {"LD_PRELOAD": str(shim), "FAIL_THREAD": "-1"}

@@ -5,6 +5,7 @@ ghost use Rattle.file_runs.specs.Faults.{IsUnmade, IsUnopened};
 
 use faults::{Fault, Refusal, Source};
 use file_runs::{InputFiles, OutputFiles};
+use minelib_reader::InputStream;
 use runs::MineFiles;
 use std::alloc::{AllocError, Global};
 use std::io;
@@ -22,6 +23,12 @@ impl Read for Text<'_> {
         buf[..n].copy_from_slice(&self.left[..n]);
         self.left = &self.left[n..];
         Ok(n)
+    }
+}
+
+impl InputStream for Text<'_> {
+    fn read_once(&mut self, buf: &mut [u8]) -> io::Result<usize> {
+        self.read(buf)
     }
 }
 

@@ -6,23 +6,23 @@ ghost use Rattle.file_runs.specs.Faults.{IsUnopened};
 
 use faults::Fault;
 use gauge::Gauge;
+use minelib_reader::InputStream;
 use runs::MineFiles;
-use std::io::Read;
 
 /// Opens files by their names, each as what it is. Each call leads from a state of the files to a state; what it may lead to is
 /// for each place where files are to say. The streams of two kinds of file are of two types, so that none is taken for another.
 pub trait InputFiles {
-    type Model: Read + Drop;
+    type Model: InputStream + Drop;
 
-    type Prec: Read + Drop;
+    type Prec: InputStream + Drop;
 
-    type Fixed: Read + Drop;
+    type Fixed: InputStream + Drop;
 
-    type Certificate: Read + Drop;
+    type Certificate: InputStream + Drop;
 
-    type Journal: Read + Drop;
+    type Journal: InputStream + Drop;
 
-    type Blocks: Read + Drop;
+    type Blocks: InputStream + Drop;
 
     /// The file of a name was opened as this source.
     ghost opens: { Self → List ℕ → AnySource → Self → Type 0 };

@@ -5,15 +5,14 @@ ghost use Rattle.runs.specs.Solve.{MayRead};
 ghost use Rattle.file_runs.specs.Opened.{IsUnreadIfAny};
 
 use gauge::Gauge;
-use minelib_reader::{FileReader, InBytes};
+use minelib_reader::{FileReader, InBytes, InputStream};
 use runs::MineFiles;
-use std::io::Read;
 
 /// The readers of a mine's files.
 pub(crate) type MineReaders<M, P, X> = MineFiles<FileReader<M>, FileReader<P>, FileReader<X>>;
 
 /// What reads the file of fixed blocks, where there is one.
-fn reader_of<X: Read + Drop>(fixed: Option<X>, gauge: &Gauge) -> Option<FileReader<X>>
+fn reader_of<X: InputStream + Drop>(fixed: Option<X>, gauge: &Gauge) -> Option<FileReader<X>>
     ensures unread { IsUnreadIfAny (⟦<FileReader<X> as InBytes>⟧.progress) result }
     ensures named { is_some result ≡ is_some fixed }
 {
@@ -24,7 +23,7 @@ fn reader_of<X: Read + Drop>(fixed: Option<X>, gauge: &Gauge) -> Option<FileRead
 }
 
 /// What reads the files of a mine, over which a gauge counts.
-pub(crate) fn readers_of<M: Read + Drop, P: Read + Drop, X: Read + Drop>(
+pub(crate) fn readers_of<M: InputStream + Drop, P: InputStream + Drop, X: InputStream + Drop>(
     mine: MineFiles<M, P, X>,
     gauge: &Gauge,
 ) -> MineReaders<M, P, X>

@@ -33,6 +33,11 @@ pub trait InBytes {
         ensures known { Keeps (known_text self.old) (known_text self.new) }
         ensures sound { IsSound self.old → (IsErr result → (progress self.old).allowance ≡ 0) × IsSound self.new };
 
+    /// How many bytes the source holds in all, as far as it says; else 0. No clause speaks of it.
+    fn size(&self) -> u64 {
+        0
+    }
+
     /// What counts over the run that reads from here. No clause speaks of it.
     fn gauge(&self) -> Gauge {
         Gauge::none()

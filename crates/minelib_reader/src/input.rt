@@ -59,6 +59,7 @@ pub struct FileReader<S> {
     stream: S,
     tally: Tally,
     ended: bool,
+    size: u64,
     gauge: Gauge,
 }
 
@@ -78,10 +79,12 @@ impl<S: InputStream + Drop> FileReader<S> {
         ensures known { ⟦<FileReader<S> as InBytes>⟧.known_text result ≡ prepend_known [] (S.remaining stream) }
         ensures sound { S.IsSound stream → ⟦<FileReader<S> as InBytes>⟧.IsSound result }
     {
+        let size = stream.size().min(MOST_BYTES);
         FileReader {
             stream,
             tally: Tally::new(MOST_BYTES),
             ended: false,
+            size,
             gauge,
         }
     }
@@ -131,6 +134,10 @@ impl<S: InputStream + Drop> InBytes for FileReader<S> {
         }
     }
 
+    fn size(&self) -> u64 {
+        self.size
+    }
+
     fn gauge(&self) -> Gauge {
         self.gauge.share()
     }
@@ -138,7 +145,8 @@ impl<S: InputStream + Drop> InBytes for FileReader<S> {
 
 const CHUNK: usize = 65536;
 
-/// All that is left to be read. Refused by `NoMemory`, and by `ReadFailed` with that source and no line.
+/// All that is left to be read. Refused by `NoMemory`, and by `ReadFailed` with that source and no line. Memory for as many bytes
+/// as the source holds is taken before the first is read: a file larger than memory is refused at once.
 pub fn read_all<R: InBytes>(alloc: Global, reader: &mut R, source: Source) -> Result<Vec<u8>, Fault>
     requires countable { (R.progress reader.old).failures < 2 ^ 63 }
     ensures text { MatchResult result
@@ -147,7 +155,7 @@ pub fn read_all<R: InBytes>(alloc: Global, reader: &mut R, source: Source) -> Re
     ensures short { IfOk result (λ v. length v.items ≤ (R.progress reader.old).allowance) }
     ensures known { Keeps (R.known_text reader.old) (R.known_text reader.new) }
 {
-    let mut text = Vec::new(alloc);
+    let mut text = Vec::with_capacity(alloc, reader.size() as usize)?;
     let mut chunk = [0u8; CHUNK];
     loop {
         match reader.read(&mut chunk) {

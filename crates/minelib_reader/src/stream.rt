@@ -1,11 +1,12 @@
 //! The streams of the system under the devices, and one call of theirs at a time.
 //! `Read` and `Write` never say that a call succeeds, so over them alone a device that makes no call and always fails would keep
-//! its promises. Of a stream of this module it may be known that no call fails. Whatever `Read` or `Write` moves is one.
+//! its promises. Of a stream of this module it may be known that no call fails. A file is one, and so is whatever `Write` moves.
 ghost use Rattle.std.specs.Prelude.{IsErr, IsOk, IsTrue};
 ghost use Rattle.std.specs.Io.{ReadsAtMost, WritesAtMost};
 ghost use Rattle.std.specs.Io.KnownBytes.{ReadConsumes, WriteAppends};
 ghost use Rattle.minelib_reader.specs.Device.{TakesSome};
 
+use std::fs::File;
 use std::io;
 use std::io::{ErrorKind, Read, Write};
 
@@ -22,11 +23,23 @@ pub trait InputStream: Read {
         ensures bound { ReadsAtMost result buf.new }
         ensures known { ReadConsumes (Self.remaining self.old) (Self.remaining self.new) result buf.new }
         ensures sound { IsSound self.old → IsOk result × IsSound self.new };
+
+    /// How many bytes it holds, as far as the system says; 0 where it does not, as of a pipe. No clause speaks of it.
+    fn size(&self) -> u64 {
+        0
+    }
 }
 
-impl<S: Read> InputStream for S {
+impl InputStream for File {
     fn read_once(&mut self, buf: &mut [u8]) -> io::Result<usize> {
         self.read(buf)
+    }
+
+    fn size(&self) -> u64 {
+        match self.metadata() {
+            Ok(metadata) => metadata.len(),
+            Err(_) => 0,
+        }
     }
 }
 

@@ -71,7 +71,7 @@ fn first_weak_need(graph: &Graph, strong: &[bool], block: u32) -> Option<u32>
 }
 
 /// The first pair that leads from a block to a weak one, where the block is strong.
-fn first_open_need(graph: &Graph, strong: &[bool], block: u32) -> Option<u32>
+pub(crate) fn first_open_need(graph: &Graph, strong: &[bool], block: u32) -> Option<u32>
     requires labelled { length strong.now ≡ graph.now.blocks }
     requires inside { block < graph.now.blocks }
     ensures own { IfSome result (λ k. first_of graph.now.pairs k ≡ block) }

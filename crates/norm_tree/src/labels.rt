@@ -1,9 +1,9 @@
-//! The label of each block, strong or weak, and the first merger arc by them: by an index, or by a look at each pair.
+//! The label of each block, strong or weak, and the first merger arc by them: by an index, or by a look at each strong block.
 ghost use Rattle.std.specs.Prelude.{◌≡◌, ℕ, ◌<◌, false, length, set, IsTrue, IfOk, IfErr, IfSome, IsNone};
 ghost use Rattle.faults.specs.Refused.{no_memory};
 ghost use Rattle.norm_tree.specs.Labelled.{is_open, label, labelled};
 
-use crate::index::Index;
+use crate::index::{Index, first_open_need};
 use faults::Fault;
 use mine_graph::Graph;
 use std::alloc::Global;
@@ -30,7 +30,7 @@ impl Model for Labels {
     ghost invariant = { λ l. (length l.strong.items ≡ l.graph.value.blocks) × IfSome l.index (λ i. IsIndexed l.graph.value l.strong.items i.marks) };
 }
 
-/// The first pair by number that leads from a strong block to a weak one, by a look at each pair.
+/// The first pair by number that leads from a strong block to a weak one, by a look at the pairs of each strong block.
 fn first_open(graph: &Graph, strong: &[bool]) -> Option<u32>
     requires { length strong.now ≡ graph.now.blocks }
     ensures merger { IfSome result (λ k. IsTrue (is_open (labelled graph.now strong.now) k)) }
@@ -38,10 +38,9 @@ fn first_open(graph: &Graph, strong: &[bool]) -> Option<u32>
     ensures none { IsNone result → (k : ℕ) → is_open (labelled graph.now strong.now) k ≡ false }
 {
     graph.law();
-    for k in 0..graph.arcs() {
-        let (from, to) = graph.arc(k);
-        if strong[from as usize] && !strong[to as usize] {
-            return Some(k);
+    for block in 0..graph.n() {
+        if let Some(arc) = first_open_need(graph, strong, block) {
+            return Some(arc);
         }
     }
     None

@@ -3,7 +3,7 @@
 
 use faults::Source;
 use minelib_reader::{
-    DeviceFailed, FileReader, InBytes, OutBytes, StreamWriter, read_all, write_all,
+    DeviceFailed, FileReader, InBytes, InputStream, OutBytes, StreamWriter, read_all, write_all,
 };
 use std::io;
 use std::io::{ErrorKind, Read, Write};
@@ -53,6 +53,12 @@ impl Read for FakeStream<'_> {
             }
             _ => Ok(0),
         }
+    }
+}
+
+impl InputStream for FakeStream<'_> {
+    fn read_once(&mut self, buf: &mut [u8]) -> io::Result<usize> {
+        self.read(buf)
     }
 }
 
