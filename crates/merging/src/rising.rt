@@ -20,17 +20,19 @@ use std::marker::Model;
 pub struct RisingMine {
     tree: BareTree,
     order: LowestLabel,
+    /// The strong blocks of the solve before, which stay strong as values grow: a guess at those of the next.
+    strong: Vec<bool>,
 }
 
 impl Model for RisingMine {
-    ghost use Rattle.std.specs.Prelude.{◌≡◌};
+    ghost use Rattle.std.specs.Prelude.{◌≡◌, length};
     ghost use Rattle.pit_model.specs.Mine.{Instance};
 
     ghost Value = { Instance };
 
     ghost view = { λ r. r.tree.mine };
 
-    ghost invariant = { λ r. r.order ≡ r.tree.mine.blocks };
+    ghost invariant = { λ r. (r.order ≡ r.tree.mine.blocks) × (length r.strong.items ≡ r.tree.mine.blocks) };
 }
 
 impl RisingMine {
@@ -41,7 +43,12 @@ impl RisingMine {
     {
         let tree = BareTree::start(alloc, instance)?;
         let order = LowestLabel::new(alloc, &tree)?;
-        Ok(RisingMine { tree, order })
+        let strong = vec![in alloc; false; instance.graph().n() as usize]?;
+        Ok(RisingMine {
+            tree,
+            order,
+            strong,
+        })
     }
 
     /// The mine as it is now.
@@ -73,14 +80,20 @@ impl RisingMine {
         let RisingMine {
             mut tree,
             mut order,
+            strong,
         } = self;
         order.wait_anew(&tree);
         take_turns(&mut order, &mut tree);
-        let solved = merge_rest(NormTree::from_bare(tree)?)?;
+        let solved = merge_rest(NormTree::from_guess(tree, strong)?)?;
         solved.law();
         let pit = solved.pit()?;
         order.finish(&pit);
-        let tree = solved.into_bare();
-        Ok((RisingMine { tree, order }, pit))
+        let (tree, strong) = solved.into_bare();
+        let mine = RisingMine {
+            tree,
+            order,
+            strong,
+        };
+        Ok((mine, pit))
     }
 }

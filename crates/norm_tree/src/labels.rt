@@ -85,6 +85,18 @@ impl Labels {
         let _ = &self.strong;
     }
 
+    /// The labels alone, by block.
+    pub(crate) fn into_strong(self) -> Vec<bool>
+        ensures { result.items ≡ self.strong }
+    {
+        let Labels {
+            graph: _,
+            strong,
+            index: _,
+        } = self;
+        strong
+    }
+
     /// The label of a block.
     pub(crate) fn is_strong(&self, block: u32) -> bool
         requires { block < self.now.graph.blocks }
