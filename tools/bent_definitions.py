@@ -1,0 +1,92 @@
+#!/usr/bin/env python3
+"""Bends each definition that contracts cite, one at a time, and looks whether the laws over the definitions refuse it.
+
+    tools/bent_definitions.py [--only WORD] [--jobs 2] [--results FILE]      by hand; about half a minute each
+
+A definition that could be changed in one quantifier, sign or number while all stays proved would be pinned by nothing but the
+reader's eye. tools/bent_definitions.txt has a change of each; it is made in a copy of crates/pit_model, which is proved there
+alone, so that what refuses it is a law or an example beside the definitions and no crate above. What stays proved is named, and
+the status is 1. The gate tries a few more of the kind (crates/pit_model/must-fail).
+"""
+
+import argparse
+import concurrent.futures
+import pathlib
+import re
+import shutil
+import subprocess
+import sys
+import tempfile
+from typing import NamedTuple
+
+from crates import TOP
+
+BENDS = TOP / "tools" / "bent_definitions.txt"
+CRATE = "pit_model"
+
+
+class Bend(NamedTuple):
+    """A definition by its name and file, the words that stand there once, and what takes their place."""
+
+    name: str
+    file: str
+    old: str
+    new: str
+
+
+def bends() -> list[Bend]:
+    blocks = re.split(r"\n\s*\n", BENDS.read_text().strip())[1:]
+    return [Bend(*block.split("\n")) for block in blocks]
+
+
+def copy_crate(folder: pathlib.Path) -> pathlib.Path:
+    """The crate alone, with what an earlier proof of it left."""
+    shutil.copytree(TOP / "crates" / CRATE, folder / "crates" / CRATE)
+    (folder / "crates.txt").write_text(f"{CRATE}:\n")
+    shutil.copy(TOP / "HANDLES", folder)
+    return folder / "crates" / CRATE
+
+
+def told(bend: Bend) -> str:
+    """`refused`, with the first error's words; or that the bent definition is proved, or can't be tried."""
+    with tempfile.TemporaryDirectory() as folder:
+        crate = copy_crate(pathlib.Path(folder))
+        spec = crate / "specs" / bend.file
+        text = spec.read_text()
+        if text.count(bend.old) != 1:
+            return f"NOT TRIED: the words stand in {bend.file} {text.count(bend.old)} times"
+        spec.write_text(text.replace(bend.old, bend.new))
+        ran = subprocess.run(["rt", "check", "--jobs", "1"], cwd=crate, capture_output=True, text=True, errors="replace")
+    said = ran.stdout + ran.stderr
+    if "logic=proved" in said:
+        return "PROVED"
+    errors = re.findall(r"^\./(\S+?):\d+:\d+: error: (.*)$", said, re.MULTILINE)
+    scope = [it for it in errors if it[0] == f"specs/{bend.file}"]
+    if scope:
+        return f"NOT TRIED: {scope[0][1][:120]}"
+    return f"refused in {errors[0][0]}" if errors else f"refused: {said.strip().splitlines()[-1][:120]}"
+
+
+def main() -> int:
+    parser = argparse.ArgumentParser(description=__doc__, formatter_class=argparse.RawDescriptionHelpFormatter)
+    parser.add_argument("--only", default="", metavar="WORD", help="the definitions alone whose name has this word")
+    parser.add_argument("--jobs", type=int, default=2)
+    parser.add_argument("--results", type=pathlib.Path)
+    given = parser.parse_args()
+    tried = [bend for bend in bends() if given.only in bend.name]
+    rows = ["# Bent definitions", "", f"`tools/bent_definitions.py`: {len(tried)} changes, each proved in `{CRATE}` alone.", ""]
+    rows += ["| definition | in place of | stands | |", "|---|---|---|---|"]
+    loose = []
+    with concurrent.futures.ThreadPoolExecutor(given.jobs) as pool:
+        for bend, said in zip(tried, pool.map(told, tried)):
+            rows.append(f"| `{bend.name}` | `{bend.old}` | `{bend.new}` | {said} |".replace("||", r"\|\|"))
+            print(f"{bend.name}: {said}", flush=True)
+            loose += [] if said.startswith("refused") else [bend.name]
+    if given.results:
+        given.results.write_text("\n".join(rows) + "\n")
+    print(f"{len(tried)} bent, {len(tried) - len(loose)} refused" + (f"; not refused: {', '.join(loose)}" if loose else ""))
+    return 1 if loose else 0
+
+
+if __name__ == "__main__":
+    sys.exit(main())
