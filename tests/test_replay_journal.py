@@ -117,6 +117,14 @@ def test_the_limits_of_numbers(journal: str, wanted: tuple[str, str, int]) -> No
     assert replayed(NINE, FOUR_PAIRS, journal) == wanted
 
 
+def test_a_mine_that_is_not_lawful_is_refused() -> None:
+    no_mine = ("", "the model, the precedence or the fixed file is not lawful\n", 1)
+    empty = journal_of(2, 2, "none")
+    assert replayed(["1", "1"], "0 1 1\n1 1 0\n", empty) == no_mine
+    assert replayed(["1", "1.0000001"], "", empty) == no_mine
+    assert replayed(["1", "1"], "0 1 2\n", empty) == no_mine
+
+
 def test_it_answers_as_a_command(tmp_path: pathlib.Path) -> None:
     files = {"model": model_of(["-3", "5"]), "prec": "1 1 0\n", "journal": journal_of(2, 1, "none", "1 0 1")}
     for name, text in files.items():

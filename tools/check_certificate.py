@@ -6,7 +6,7 @@
 It writes yes where the blocks are closed, the flow leaves no deficit in them and no excess outside, none comes in from
 outside, and each block is reached, by steps along pairs and back over pairs with flow, from one with an excess; and else no
 (status 4). A yes shows the smallest closed set of greatest worth (Picard 1976). A text that is no certificate is refused by
-its first fault (status 1). The model, the precedence file and the fixed file are taken to be lawful.
+its first fault, and a mine that is none without one (status 1).
 
 With fixed blocks, all that the forced ones need must be in, all that needs barred ones out, and no flow touch either; the
 conditions on excess and reach are then those of the other blocks alone. A yes shows the smallest of the best closed sets that
@@ -15,6 +15,8 @@ file is refused.
 """
 import argparse
 import decimal
+import graphlib
+import re
 import sys
 
 WORDS = {3: "wrong header", 4: "over the limit", 5: "not a whole number", 7: "id out of place",
@@ -25,8 +27,11 @@ Fault = type("Fault", (Exception,), {})
 class Fixed:
     """The blocks forced in and barred, as listed; and what follows: all that must be dug, and all that must be left."""
 
-    def __init__(self, text, pairs):
+    def __init__(self, text, n, pairs):
         rows = [fields for _, fields in rows_of(text)[0]]
+        demand_mine(all(len(row) == 2 and row[0] in (b"in", b"out") and re.fullmatch(rb"\d{1,10}", row[1]) for row in rows))
+        ids = [int(block) for _, block in rows]
+        demand_mine(all(block < after for block, after in zip(ids, [*ids[1:], n])))
         self.forced, self.barred = ([int(block) for word, block in rows if word == named] for named in (b"in", b"out"))
         self.dug = closure(self.forced, pairs)
         self.left = closure(self.barred, [(p, u) for u, p in pairs])
@@ -88,10 +93,32 @@ class Lines:
         self.demand(not fields, 13)
 
 
+def demand_mine(holds):
+    if not holds:
+        raise Fault("the model, the precedence or the fixed file is not lawful\n")
+
+
 def read_mine(model, prec):
-    """The values in millionths, and the pairs (u, p) of "u needs p" in order."""
-    values = [int(decimal.Decimal(fields[1].decode()).scaleb(6)) for _, fields in rows_of(model)[0][4:]]
-    return values, sorted((int(fields[0]), int(p)) for _, fields in rows_of(prec)[0] for p in fields[2:])
+    """The values in millionths, and the pairs (u, p) of "u needs p" in order; arc k is the k-th of them, from 0."""
+    text = b"\n".join(b" ".join(fields) for _, fields in rows_of(model)[0])
+    found = re.fullmatch(rb"NAME:(?: [^\n]*)?\nTYPE: UPIT\nNBLOCKS: (\d{1,10})\nOBJECTIVE_FUNCTION:(.*)", text, re.DOTALL)
+    lines = found[2].split(b"\n")[1:] if found else []
+    demand_mine(found and found[2][:1] in (b"", b"\n") and int(found[1]) == len(lines) <= 2**22)
+    for block, line in enumerate(lines):
+        demand_mine(re.fullmatch(rb"\d{1,10} [+-]?\d{1,12}(\.\d{1,6})?", line) and int(line.split()[0]) == block)
+    values = [int(decimal.Decimal(line.split()[1].decode()).scaleb(6)) for line in lines]
+    needs, last = {}, -1
+    for _, fields in rows_of(prec)[0]:
+        demand_mine(len(fields) > 1 and all(re.fullmatch(rb"\d{1,10}", field) for field in fields))
+        block, few, *those = map(int, fields)
+        demand_mine(last < block < len(values) and few == len(those) == len(set(those)) and block not in those)
+        demand_mine(all(p < len(values) for p in those))
+        needs[block], last = those, block
+    try:
+        graphlib.TopologicalSorter(needs).prepare()
+    except graphlib.CycleError:
+        demand_mine(False)
+    return values, sorted((u, p) for u in needs for p in needs[u])
 
 
 def read_certificate(text, n, pairs, fixed):
@@ -157,9 +184,9 @@ def certifies(values, pairs, fixed, pit, flow):
 
 def answer(model, prec, text, fixed=b""):
     """What goes to standard output and to standard error, and the exit status."""
-    values, pairs = read_mine(model, prec)
     try:
-        settled = Fixed(fixed, pairs)
+        values, pairs = read_mine(model, prec)
+        settled = Fixed(fixed, len(values), pairs)
         pit, flow = read_certificate(text, len(values), pairs, settled)
     except Fault as fault:
         return "", str(fault), 1
