@@ -1,5 +1,5 @@
 # `make try` runs the program at once, unproved; `make` proves it, builds it and solves the small mine; `make test` runs the gate.
-.PHONY: all try build demo install test test-program test-plan sweep storm bench setup
+.PHONY: all try build demo install test test-program test-plan mutants sweep storm bench setup
 
 SMALL_MINE = examples/small_mine
 PROGRAM = build/pitshell
@@ -40,6 +40,7 @@ install:
 test: setup
 	tools/uncited.py
 	tools/named.py
+	tools/mutants.py --read
 	rt ci
 	tools/build.py --copy || $(MAKE) build
 	$(MAKE) test-program test-plan
@@ -53,6 +54,10 @@ test-program: setup
 test-plan: setup
 	test -x build/pitshell || $(MAKE) build
 	/usr/bin/python3 -m pytest python/tests -q -p no:cacheprovider
+
+# Tries all mutants, also those that the gate leaves, for an hour or two. tools/mutants.py CRATE tries those of a crate.
+mutants:
+	tools/mutants.py
 
 # Lets each request for memory, each thread, each read and each write of every row go wrong in turn, and changes each byte of
 # certificates, journals and fixed files to each other byte; tests/test_sweeps.py and tests/test_hostile_files.py do a part of it.
