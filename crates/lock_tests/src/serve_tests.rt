@@ -5,7 +5,8 @@ use crate::mines::dug_whole;
 use crate::trial::{Trial, try_with};
 use faults::Fault;
 use proposals::{Board, WorkerSeat};
-use std::sync::{MutexGuard, Wait};
+use std::alloc::Global;
+use std::sync::Wait;
 use std::test::Fail;
 use tree_lock::{Entry, Holder, SharedTree, Site, Verdict};
 
@@ -77,114 +78,85 @@ impl Trial for Rounds {
     }
 }
 
-/// The entry of a worker's ask.
-fn entry(seat: u32, arc: u32, verdict: Verdict) -> Entry {
-    Entry { seat, arc, verdict }
+/// The round in which arc 0 is merged over.
+const FIRST: Round = Round {
+    arcs: [0, 0, 2],
+    verdicts: [Verdict::Applied, Verdict::Stale, Verdict::Stale],
+};
+
+/// An entry by its seat, its arc and its verdict.
+type Line = (u32, u32, Verdict);
+
+const WITHOUT_A_BUDGET: [Line; 6] = [
+    (1, 0, Verdict::Applied),
+    (2, 0, Verdict::Stale),
+    (3, 2, Verdict::Stale),
+    (1, 1, Verdict::Applied),
+    (2, 2, Verdict::Applied),
+    (3, 2, Verdict::Stale),
+];
+
+const UNDER_A_BUDGET_OF_ONE: [Line; 6] = [
+    (1, 0, Verdict::Applied),
+    (2, 0, Verdict::Stale),
+    (3, 2, Verdict::Stale),
+    (1, 1, Verdict::Spent),
+    (2, 2, Verdict::Stale),
+    (3, 2, Verdict::Stale),
+];
+
+/// Whether the journal has these entries.
+fn has_entries(journal: &[Entry], lines: &[Line]) -> bool {
+    for (entry, (seat, arc, verdict)) in journal.iter().zip(lines) {
+        if entry.seat != *seat || entry.arc != *arc || entry.verdict != *verdict {
+            return false;
+        }
+    }
+    journal.len() == lines.len()
+}
+
+/// The round that comes behind it.
+fn second(verdicts: [Verdict; 3]) -> Round {
+    Round {
+        arcs: [1, 2, 2],
+        verdicts,
+    }
+}
+
+/// What fails of two rounds of which the second has these verdicts, and of their journal.
+fn failure_in_two<R: Wait>(
+    rt: &R,
+    alloc: Global,
+    budget: Option<u64>,
+    verdicts: [Verdict; 3],
+    lines: &[Line],
+) -> Result<Option<&'static str>, Fault> {
+    let mine = dug_whole(alloc)?;
+    let rounds = Rounds {
+        rounds: [FIRST, second(verdicts)],
+    };
+    let ended = try_with(rt, alloc, &mine, 3, budget, &rounds)?;
+    if ended.seen.is_some() {
+        return Ok(ended.seen);
+    }
+    Ok(first_failure(&[(
+        "the journal has each entry",
+        has_entries(&ended.journal, lines),
+    )]))
 }
 
 #[test]
 fn asks_are_served_in_the_order_of_workers(rt: HostRuntime) -> Result<(), Fail> {
-    let rounds = Rounds {
-        rounds: [
-            Round {
-                arcs: [0, 0, 2],
-                verdicts: [Verdict::Applied, Verdict::Stale, Verdict::Stale],
-            },
-            Round {
-                arcs: [1, 2, 2],
-                verdicts: [Verdict::Applied, Verdict::Applied, Verdict::Stale],
-            },
-        ],
-    };
-    let mine = dug_whole(rt.alloc())?;
-    let ended = try_with(&rt, rt.alloc(), &mine, 3, None, &rounds)?;
-    assert_eq!(rt; ended.seen, None);
-    let journal = [
-        entry(1, 0, Verdict::Applied),
-        entry(2, 0, Verdict::Stale),
-        entry(3, 2, Verdict::Stale),
-        entry(1, 1, Verdict::Applied),
-        entry(2, 2, Verdict::Applied),
-        entry(3, 2, Verdict::Stale),
-    ];
-    assert_eq!(rt; ended.journal.as_slice(), journal.as_slice());
+    let verdicts = [Verdict::Applied, Verdict::Applied, Verdict::Stale];
+    let failed = failure_in_two(&rt, rt.alloc(), None, verdicts, &WITHOUT_A_BUDGET)?;
+    assert_eq!(rt; failed, None);
     Ok(())
 }
 
 #[test]
 fn asks_past_the_budget_are_spent(rt: HostRuntime) -> Result<(), Fail> {
-    let rounds = Rounds {
-        rounds: [
-            Round {
-                arcs: [0, 0, 2],
-                verdicts: [Verdict::Applied, Verdict::Stale, Verdict::Stale],
-            },
-            Round {
-                arcs: [1, 2, 2],
-                verdicts: [Verdict::Spent, Verdict::Stale, Verdict::Stale],
-            },
-        ],
-    };
-    let mine = dug_whole(rt.alloc())?;
-    let ended = try_with(&rt, rt.alloc(), &mine, 3, Some(1), &rounds)?;
-    assert_eq!(rt; ended.seen, None);
-    let journal = [
-        entry(1, 0, Verdict::Applied),
-        entry(2, 0, Verdict::Stale),
-        entry(3, 2, Verdict::Stale),
-        entry(1, 1, Verdict::Spent),
-        entry(2, 2, Verdict::Stale),
-        entry(3, 2, Verdict::Stale),
-    ];
-    assert_eq!(rt; ended.journal.as_slice(), journal.as_slice());
-    Ok(())
-}
-
-/// A worker asks twice, and one who has the lock for both serves it twice: what fails of that.
-struct LockedPasses;
-
-impl Trial for LockedPasses {
-    type Seen = Option<&'static str>;
-
-    fn at<S: Site, R: Wait>(
-        &self,
-        rt: &R,
-        board: &Board<S>,
-        workers: &mut [WorkerSeat<S>],
-        shared: &mut SharedTree<S>,
-    ) -> Result<Option<&'static str>, Fault> {
-        let Some(worker) = workers.first_mut() else {
-            return Ok(Some("there is a worker"));
-        };
-        let mut holder = shared.lock(rt);
-        let mut answered = true;
-        for arc in 0..2 {
-            let asked = ask_for(board, worker, arc);
-            let served = holder.serve(rt, board).is_ok_and(|count: u32| count == 1);
-            let applied = match board.collect(worker) {
-                Some(reply) => reply.arc == arc && reply.verdict == Verdict::Applied,
-                None => false,
-            };
-            answered = answered && asked && served && applied;
-        }
-        MutexGuard::unlock(holder);
-        let served_after = shared.serve(rt, board)?;
-        Ok(first_failure(&[
-            ("each ask is served while the lock is kept", answered),
-            (
-                "the lock is free again, and no ask is left",
-                served_after == 0,
-            ),
-        ]))
-    }
-}
-
-#[test]
-fn one_lock_serves_two_asks(rt: HostRuntime) -> Result<(), Fail> {
-    let mine = dug_whole(rt.alloc())?;
-    let ended = try_with(&rt, rt.alloc(), &mine, 1, None, &LockedPasses)?;
-    assert_eq!(rt; ended.seen, None);
-    let journal = [entry(1, 0, Verdict::Applied), entry(1, 1, Verdict::Applied)];
-    assert_eq!(rt; ended.journal.as_slice(), journal.as_slice());
+    let verdicts = [Verdict::Spent, Verdict::Stale, Verdict::Stale];
+    let failed = failure_in_two(&rt, rt.alloc(), Some(1), verdicts, &UNDER_A_BUDGET_OF_ONE)?;
+    assert_eq!(rt; failed, None);
     Ok(())
 }
