@@ -1,6 +1,7 @@
 pub mod WriteLemmas
 pub mod WholeLemmas
 pub mod Numbers
+mod PlaceLemmas
 pub mod TextLemmas
 pub mod LineLemmas
 pub mod Continues

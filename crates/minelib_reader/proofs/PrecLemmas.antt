@@ -1,12 +1,15 @@
 -- Reading the predecessors of a block one after the other, with marks for those that were seen.
-use Rattle.std.proofs.Common.{◌≡◌, ◌≢◌, ℕ, ◌+◌, ◌<◌, Bool, true, false, eqb, ◌||◌, List, [], ◌∷◌, ◌++◌, length, get_or, set, Result, Ok, Err, refl, sym, ap, ◌∙◌, append_assoc, arith, get_or-set_same, get_or-set_other, eq-eqb}
+use Rattle.std.proofs.Common.{◌≡◌, ◌≢◌, ℕ, ◌+◌, ◌<◌, Bool, true, false, eqb, ◌||◌, List, [], ◌∷◌, ◌++◌, length, get_or, set, Result, Ok, Err, refl, sym, ap, ◌∙◌, append_assoc, arith, tests, rules, Some, ltb, ◌≤◌, get_or-set_same, get_or-set_other, eq-eqb}
 use Rattle.std.proofs.lemmas.List.{append-nil}
-use Rattle.std.proofs.lemmas.Bool.{eqb-true, eqb-false}
-use Rattle.std.proofs.lemmas.List.Folds.{list_any-append}
+use Rattle.std.proofs.lemmas.Bool.{eqb-true, eqb-false, ne_eqb}
+use Rattle.std.proofs.lemmas.List.Folds.{list_any-append, list_any_none}
+use Rattle.std.proofs.lemmas.List.Elements.{All-nil, All-push, All-weaker}
+use Rattle.std.specs.List.{All}
 use Rattle.faults.specs.declared.fault.Fault.{Fault}
 use Rattle.minelib_reader.specs.Checks.{◌>>=◌}
 use Rattle.minelib_reader.specs.Marks.{AreMarked}
 use Rattle.pit_model.specs.Fixed.{is_among}
+use Rattle.minelib_reader.specs.Number.{whole_of}
 use Rattle.minelib_reader.specs.Prec.{need_of, needs_from, pairs_of}
 
 abbrev Needs : Type 0
@@ -72,6 +75,47 @@ ends n id line marks total old now s = sym s.read ∙ ap (λ (xs : List ℕ). Ok
 
 pub begins : (n id line : ℕ) (marks : List ℕ) (rest : List (List ℕ)) (old : List (ℕ × ℕ)) → AreMarked n id marks [] → SoFar n id line marks rest (needs_from n id line [] rest) old old
 begins n id line marks rest old marked = record { seen = []; read = same (needs_from n id line [] rest); marked = marked; pushed = sym (append-nil old) }
+  where
+    same : (r : Needs) → seen_then [] r ≡ r
+    same (Ok ps) = refl
+    same (Err e) = refl
+
+-- a block that is none of those seen, nor the block itself, is read
+pub need_new : (n id line : ℕ) (seen field : List ℕ) (p : ℕ) → whole_of field ≡ Some p → p < n → p ≢ id → All (λ q. q < p) seen → need_of n id line seen field ≡ Ok p
+unfolding need_of
+need_new n id line seen field p whole below other under =
+    let a : ltb p n ≡ true = search (tests, rules) in
+    let b : eqb p id ≡ false = ne_eqb p id other in
+    let c : is_among seen p ≡ false = list_any_none (λ q. eqb q p) seen (All-weaker (λ q. q < p) (λ q. eqb q p ≡ false) (λ q lt. ne_eqb q p (λ same. omega (arith, lt, same))) seen under) in
+    rw (whole, a, b, c) refl
+
+-- what a loop over the fields keeps as long as the blocks rise
+pub record Rises (n id : ℕ) (rest all : List (List ℕ)) (least : ℕ) (old now : List (ℕ × ℕ)) : Type 0 where
+  pub seen : List ℕ
+  pub read : (line : ℕ) → seen_then seen (needs_from n id line seen rest) ≡ needs_from n id line [] all
+  pub under : All (λ q. q < least) seen
+  pub pushed : now ≡ old ++ pairs_of id seen
+
+pub rises_on : (n id : ℕ) (f : List ℕ) (rest all : List (List ℕ)) (least : ℕ) (old now : List (ℕ × ℕ)) (p : ℕ) → whole_of f ≡ Some p → p < n → p ≢ id → least ≤ p
+    → Rises n id (f ∷ rest) all least old now → Rises n id rest all (p + 1) old (now ++ (id, p) ∷ [])
+unfolding needs_from
+rises_on n id f rest all least old now p whole below other le s =
+    let under : All (λ q. q < p) s.seen = All-weaker (λ q. q < least) (λ q. q < p) (λ q lt. omega (arith, lt, le)) s.seen s.under in
+    record {
+      seen = s.seen ++ p ∷ [];
+      read = λ line.
+          let h = need_new n id line s.seen f p whole below other under in
+          let one : seen_then s.seen (needs_from n id line s.seen (f ∷ rest)) ≡ seen_then (s.seen ++ p ∷ []) (needs_from n id line (s.seen ++ p ∷ []) rest) = rw h (regroup s.seen p (needs_from n id line (s.seen ++ p ∷ []) rest)) in sym one ∙ s.read line;
+      under = All-push (λ q. q < p + 1) s.seen p (All-weaker (λ q. q < p) (λ q. q < p + 1) (λ q lt. omega (arith, lt)) s.seen under) (omega arith);
+      pushed = ap (λ (ps : List (ℕ × ℕ)). ps ++ (id, p) ∷ []) s.pushed ∙ append_assoc old (pairs_of id s.seen) ((id, p) ∷ []) ∙ ap (λ (ps : List (ℕ × ℕ)). old ++ ps) (map-append_pairs id s.seen p);
+    }
+
+pub rises_to_end : (n id : ℕ) (all : List (List ℕ)) (least : ℕ) (old now : List (ℕ × ℕ)) → Rises n id [] all least old now → (ps : List ℕ) × ((line : ℕ) → needs_from n id line [] all ≡ Ok ps) × (now ≡ old ++ pairs_of id ps)
+unfolding needs_from
+rises_to_end n id all least old now s = (s.seen, λ line. sym (s.read line) ∙ ap (λ (xs : List ℕ). Ok xs) (append-nil s.seen), s.pushed)
+
+pub rises_from : (n id : ℕ) (all : List (List ℕ)) (old : List (ℕ × ℕ)) → Rises n id all all 0 old old
+rises_from n id all old = record { seen = []; read = λ line. same (needs_from n id line [] all); under = All-nil (λ q. q < 0); pushed = sym (append-nil old) }
   where
     same : (r : Needs) → seen_then [] r ≡ r
     same (Ok ps) = refl

@@ -6,6 +6,8 @@ ghost use Rattle.std.specs.Str.{all_ascii_digits};
 ghost use Rattle.std.specs.Str.Parse.{digits_value};
 ghost use Rattle.minelib_reader.specs.Number.{digits_of, whole_of, cut_at, millionths_of, decimal_of, signed_of, IsBounded};
 
+use memchr::memchr;
+
 /// A decimal, as a whole number of millionths.
 pub type Decimal = i128;
 
@@ -77,7 +79,7 @@ fn place_of(text: &[u8], byte: u8) -> Option<usize>
     ensures value { result ≡ position (λ x. x == byte) text.now }
     ensures inside { IfSome result (λ at. at < length text.now) }
 {
-    text.iter().position(|b| *b == byte)
+    memchr(byte, text)
 }
 
 /// What stands before and after the first such byte.

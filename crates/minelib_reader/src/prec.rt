@@ -1,7 +1,7 @@
 //! The text of a precedence file (`.prec`): for a block a line with its id, how many blocks it needs, and these.
 //! Each line is checked in the order of `specs/Prec.antt`; the first fault ends the reading.
 //! Blocks seen on a line are marked by its id plus one, so that ids, which rise, need no clearing of the marks.
-ghost use Rattle.std.specs.Prelude.{◌≡◌, ◌≢◌, ◌==◌, if◌then◌else◌, ◌↔◌, ℕ, List, ◌≤◌, ◌+◌, ◌<◌, ◌^◌, ◌++◌, [], length, IfOk, IfErr, Ok, Err};
+ghost use Rattle.std.specs.Prelude.{◌≡◌, ◌≢◌, ◌==◌, if◌then◌else◌, ◌↔◌, ℕ, List, ◌≤◌, ◌+◌, ◌<◌, ◌^◌, ◌++◌, [], length, IfOk, IfErr, IsTrue, Ok, Err};
 ghost use Rattle.std.specs.Io.KnownBytes.{Keeps};
 ghost use Rattle.std.specs.List.{All};
 ghost use Rattle.faults.specs.declared.fault.Fault.{Fault as AnyFault};
@@ -18,8 +18,7 @@ ghost use Rattle.minelib_reader.specs.Text.{row, fields_of};
 
 use crate::device::InBytes;
 use crate::input::read_all;
-use crate::lines::{count_fields, first_two, next_whole};
-use crate::number::whole_number;
+use crate::lines::{count_fields, next_whole};
 use crate::rows::{Row, Rows};
 use faults::{Fault, Refusal, Source};
 use gauge::Gauge;
@@ -72,8 +71,34 @@ fn read_need(n: u32, id: u32, line: u64, marks: &[u32], whole: Option<u64>) -> R
     Ok(p)
 }
 
-/// Adds the pairs of a block, from left to right, and answers how many they are.
-fn read_needs(
+/// Adds the pairs of a block as long as its predecessors rise, so that none stands twice and no mark is wanted. Answers whether
+/// these were all; where not, also for a fault, there may be pairs too many.
+fn push_rising(n: u32, id: u32, text: &[u8], pairs: &mut Vec<(u32, u32)>) -> bool
+    requires known { id < n }
+    ensures all { IsTrue result → (ps : List ℕ) × ((line : ℕ) → needs_from n id line [] (fields_of text.now) ≡ Ok ps) × (pairs.new.items ≡ pairs.old.items ++ pairs_of id ps) }
+    ensures kept { (more : List (ℕ × ℕ)) × (pairs.new.items ≡ pairs.old.items ++ more) }
+{
+    let mut least = 0u64;
+    let mut rest = text;
+    while let Some((whole, behind)) = next_whole(rest) {
+        let Some(p) = whole else {
+            return false;
+        };
+        if p < least || p >= u64::from(n) || p == u64::from(id) {
+            return false;
+        }
+        let Ok(()) = pairs.push((id, p as u32)) else {
+            return false;
+        };
+        least = p + 1;
+        rest = behind;
+    }
+    true
+}
+
+/// Adds the pairs of a block, from left to right, and answers how many they are. Predecessors seen on the line are marked, in
+/// whatever order they come.
+fn marked_needs(
     n: u32,
     id: u32,
     line: u64,
@@ -101,6 +126,32 @@ fn read_needs(
     Ok((pairs.len() - before) as u64)
 }
 
+/// Adds the pairs of a block, from left to right, and answers how many they are.
+fn read_needs(
+    n: u32,
+    id: u32,
+    line: u64,
+    marks: &mut Vec<u32>,
+    text: &[u8],
+    pairs: &mut Vec<(u32, u32)>,
+) -> Result<u64, Fault>
+    requires sizes { length marks.old.items ≡ n }
+    requires known { id < n }
+    requires old_marks { All (λ m. m ≤ id) marks.old.items }
+    ensures ok { IfOk result (λ _. (ps : List ℕ) × (needs_from n id line [] (fields_of text.now) ≡ Ok ps) × (pairs.new.items ≡ pairs.old.items ++ pairs_of id ps)) }
+    ensures named { IfOk result (λ named. named ≡ length (fields_of text.now)) }
+    ensures err { IfErr result (λ e. FailsBy e.refusal e (needs_from n id line [] (fields_of text.now))) }
+    ensures sizes { length marks.new.items ≡ n }
+    ensures new_marks { All (λ m. m ≤ id + 1) marks.new.items }
+{
+    let before = pairs.len();
+    if push_rising(n, id, text, pairs) {
+        return Ok((pairs.len() - before) as u64);
+    }
+    pairs.truncate(before);
+    marked_needs(n, id, line, marks, text, pairs)
+}
+
 /// The fault of a line with too many predecessors in all, as it says itself.
 fn over_limit(line: u64, count: u64, rest: &[u8]) -> Fault
     ensures { result ≡ in_precedence (if length (fields_of rest.now) == count then OverLimit else WrongFieldCount) line }
@@ -123,19 +174,22 @@ fn read_front<'a>(n: u32, before: Before, r: Row<'a>) -> Result<Front<'a>, Fault
     ensures rising { IfOk result (λ f. before.from ≤ f.id) }
     ensures few { IfOk result (λ f. before.total + f.count ≤ most_pairs) }
 {
-    let Some((first, second, rest)) = first_two(r.text) else {
+    let Some((first, rest)) = next_whole(r.text) else {
         return Err(in_precedence(Refusal::WrongFieldCount, r.line));
     };
-    let Some(id) = whole_number(first) else {
+    let Some((second, rest)) = next_whole(rest) else {
+        return Err(in_precedence(Refusal::WrongFieldCount, r.line));
+    };
+    let Some(id) = first else {
         return Err(in_precedence(Refusal::NotWhole, r.line));
     };
     if id >= u64::from(n) || id < u64::from(before.from) {
         return Err(in_precedence(Refusal::IdOutOfPlace, r.line));
     }
-    let Some(count) = whole_number(second) else {
+    let Some(count) = second else {
         return Err(in_precedence(Refusal::NotWhole, r.line));
     };
-    if before.total + count > MOST_PAIRS {
+    if count > MOST_PAIRS - before.total {
         return Err(over_limit(r.line, count, rest));
     }
     let id = id as u32;

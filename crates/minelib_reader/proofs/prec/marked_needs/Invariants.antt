@@ -4,7 +4,7 @@ use Rattle.std.specs.List.{All}
 use Rattle.minelib_reader.specs.Text.{fields_of}
 use Rattle.minelib_reader.specs.Prec.{needs_from}
 use Rattle.minelib_reader.proofs.PrecLemmas.{SoFar}
-use Rattle.minelib_reader.proofs.prec.read_needs.Given as goal
+use Rattle.minelib_reader.proofs.prec.marked_needs.Given as goal
 
 abbrev pub invariant-loop-whole : goal.invariant-loop-whole
 invariant-loop-whole l = record {
