@@ -37,10 +37,23 @@ unfolding digits_of
 whole_is ds some few all = grind (arith, all)
 
 -- the first field is the digits at the front
-pub whole_first : (text rest : List ℕ) (skipped len value : ℕ) → skipped ≡ prefix_len is_blank text → rest ≡ drop skipped text → len ≤ length rest → all_ascii_digits (take len rest) ≡ true → value ≡ digits_value 10 (take len rest)
+whole_first : (text rest : List ℕ) (skipped len value : ℕ) → skipped ≡ prefix_len is_blank text → rest ≡ drop skipped text → len ≤ length rest → all_ascii_digits (take len rest) ≡ true → value ≡ digits_value 10 (take len rest)
     → 0 < len → len ≤ 10 → (len ≡ length rest) ⊎ (is_blank (get_or rest len 0) ≡ true) → (fields_of text ≡ take len rest ∷ fields_of (drop len rest)) × (Some value ≡ whole_of (take len rest))
 whole_first text rest skipped len value e r inside all v some few end =
     let size = length-take len rest in (
       some_field text rest skipped len e r (ends rest len inside all end) some,
       sym (whole_is (take len rest) (omega (arith, size, inside, some)) (omega (arith, size, inside, few)) all ∙ ap (λ (n : ℕ). Some n) (sym v)),
     )
+
+-- a digit at the front is no blank
+no_blank_first : (rest : List ℕ) (len : ℕ) → len ≤ length rest → all_ascii_digits (take len rest) ≡ true → 0 < len → 0 ≡ prefix_len is_blank rest
+no_blank_first [] len inside all some = absurd (omega (arith, inside, some))
+no_blank_first (c ∷ cs) zero inside all some = absurd (omega (arith, some))
+no_blank_first (c ∷ cs) (suc k) inside all some =
+    let parts = and_parts (is_ascii_digit c) (all_ascii_digits (take k cs)) all in
+    sym (ap (λ (v : Bool). cond v (1 + prefix_len is_blank cs) 0) (not_blank c parts.0))
+
+-- the same of a text that begins with them
+pub whole_at_front : (rest : List ℕ) (len value : ℕ) → len ≤ length rest → all_ascii_digits (take len rest) ≡ true → value ≡ digits_value 10 (take len rest)
+    → 0 < len → len ≤ 10 → (len ≡ length rest) ⊎ (is_blank (get_or rest len 0) ≡ true) → (fields_of rest ≡ take len rest ∷ fields_of (drop len rest)) × (Some value ≡ whole_of (take len rest))
+whole_at_front rest len value inside all v some few end = whole_first rest rest 0 len value (no_blank_first rest len inside all some) refl inside all v some few end

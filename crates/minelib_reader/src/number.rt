@@ -15,6 +15,7 @@ pub type Decimal = i128;
 pub(crate) const MOST_DIGITS: usize = 10;
 
 /// The number that the digits at the front write, and how many they are; of more than `most`, the first `most`.
+#[inline(always)]
 pub(crate) fn front_digits(text: &[u8], most: usize) -> (u64, usize)
     requires { most ≤ 19 }
     ensures inside { result.1 ≤ length text.now }

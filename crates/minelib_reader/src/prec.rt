@@ -18,7 +18,7 @@ ghost use Rattle.minelib_reader.specs.Text.{row, fields_of};
 
 use crate::device::InBytes;
 use crate::input::read_all;
-use crate::lines::{count_fields, next_whole};
+use crate::lines::{count_fields, has_fields, next_whole, plain_whole};
 use crate::rows::{Row, Rows};
 use faults::{Fault, Refusal, Source};
 use gauge::Gauge;
@@ -80,10 +80,7 @@ fn push_rising(n: u32, id: u32, text: &[u8], pairs: &mut Vec<(u32, u32)>) -> boo
 {
     let mut least = 0u64;
     let mut rest = text;
-    while let Some((whole, behind)) = next_whole(rest) {
-        let Some(p) = whole else {
-            return false;
-        };
+    while let Some((p, behind)) = plain_whole(rest) {
         if p < least || p >= u64::from(n) || p == u64::from(id) {
             return false;
         }
@@ -92,6 +89,9 @@ fn push_rising(n: u32, id: u32, text: &[u8], pairs: &mut Vec<(u32, u32)>) -> boo
         };
         least = p + 1;
         rest = behind;
+    }
+    if has_fields(rest) {
+        return false;
     }
     true
 }

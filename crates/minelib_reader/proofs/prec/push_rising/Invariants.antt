@@ -4,8 +4,8 @@ use Rattle.minelib_reader.specs.Text.{fields_of}
 use Rattle.minelib_reader.proofs.PrecLemmas.{Rises}
 use Rattle.minelib_reader.proofs.prec.push_rising.Given as goal
 
-abbrev pub invariant-loop-whole : goal.invariant-loop-whole
-invariant-loop-whole l = Rises l.n l.id (fields_of l.rest) (fields_of l.fn.text) l.least l.initial.pairs.items l.pairs.items
+abbrev pub invariant-loop-p : goal.invariant-loop-p
+invariant-loop-p l = Rises l.n l.id (fields_of l.rest) (fields_of l.fn.text) l.least l.initial.pairs.items l.pairs.items
 
-abbrev pub decreases-loop-whole : goal.decreases-loop-whole
-decreases-loop-whole l = length l.rest
+abbrev pub decreases-loop-p : goal.decreases-loop-p
+decreases-loop-p l = length l.rest
