@@ -1,7 +1,8 @@
 //! The numbers that a field writes: whole numbers, and decimals as millionths.
 //! The lines of a file are read by them; the limits of each number are the caller's.
-ghost use Rattle.std.specs.Prelude.{◌≡◌, true, ◌≤◌, ◌<◌, ◌^◌, ◌*◌, ◌-◌, ◌+◌, ◌==◌, length, take, IfSome, position};
+ghost use Rattle.std.specs.Prelude.{◌≡◌, true, false, slice_index, ◌≤◌, ◌<◌, ◌^◌, ◌*◌, ◌-◌, ◌+◌, ◌==◌, length, take, IfSome, position};
 ghost use Rattle.std.specs.Option.{option_map};
+ghost use Rattle.std.specs.Char.{is_ascii_digit};
 ghost use Rattle.std.specs.Str.{all_ascii_digits};
 ghost use Rattle.std.specs.Str.Parse.{digits_value};
 ghost use Rattle.minelib_reader.specs.Number.{digits_of, whole_of, cut_at, millionths_of, decimal_of, signed_of, IsBounded};
@@ -14,11 +15,15 @@ pub type Decimal = i128;
 /// The most digits of a whole number.
 pub(crate) const MOST_DIGITS: usize = 10;
 
+/// So many digits are always less than a word of 64 bits holds.
+const MOST_IN_WORD: usize = 19;
+
 /// The number that the digits at the front write, and how many they are; of more than `most`, the first `most`.
 #[inline(always)]
 pub(crate) fn front_digits(text: &[u8], most: usize) -> (u64, usize)
     requires { most ≤ 19 }
     ensures inside { result.1 ≤ length text.now }
+    ensures stops { result.1 < length text.now → result.1 < most → is_ascii_digit (slice_index text.now result.1) ≡ false }
     ensures digits { all_ascii_digits (take result.1 text.now) ≡ true }
     ensures value { result.0 ≡ digits_value 10 (take result.1 text.now) }
     ensures small { result.0 < 10 ^ result.1 }
@@ -34,9 +39,9 @@ pub(crate) fn front_digits(text: &[u8], most: usize) -> (u64, usize)
     (value, end)
 }
 
-/// The number that 1 to `most` digits write, which stand alone in the text.
+/// The same as `digits` gives, at whatever length.
 #[tactic(auto, unfolding(crate::specs::Number::digits_of))]
-pub fn digits(text: &[u8], most: usize) -> Option<u128>
+fn long_digits(text: &[u8], most: usize) -> Option<u128>
     requires { most ≤ 38 }
     ensures value { result ≡ digits_of most text.now }
     ensures small { IfSome result (λ n. n < 10 ^ length text.now) }
@@ -54,6 +59,24 @@ pub fn digits(text: &[u8], most: usize) -> Option<u128>
         value = value * 10 + u128::from(text[i] - b'0');
     }
     Some(value)
+}
+
+/// The number that 1 to `most` digits write, which stand alone in the text.
+pub fn digits(text: &[u8], most: usize) -> Option<u128>
+    requires { most ≤ 38 }
+    ensures value { result ≡ digits_of most text.now }
+    ensures small { IfSome result (λ n. n < 10 ^ length text.now) }
+    ensures short { IfSome result (λ _. length text.now ≤ most) }
+    ensures bounded { IfSome result (λ n. n < 10 ^ most) }
+{
+    if text.is_empty() || text.len() > most || text.len() > MOST_IN_WORD {
+        return long_digits(text, most);
+    }
+    let (value, len) = front_digits(text, MOST_IN_WORD);
+    if len < text.len() {
+        return None;
+    }
+    Some(u128::from(value))
 }
 
 /// A whole number: 1 to 10 digits.
