@@ -1,5 +1,5 @@
 -- Each way round the loop adds one pair.
-use Rattle.std.proofs.Common.{◌+◌, ◌∷◌, ℕ, List, subst, sym, ◌∙◌, arith}
+use Rattle.std.proofs.Common.{◌+◌, ℕ, List, subst, sym, ◌∙◌, arith}
 use Rattle.minelib_reader.specs.Text.{fields_of}
 use Rattle.minelib_reader.proofs.PrecLemmas.{Rises, rises_on, rises_to_end}
 use Rattle.minelib_reader.proofs.prec.push_rising.Goals as goal
