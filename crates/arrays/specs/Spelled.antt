@@ -1,0 +1,35 @@
+-- The mine that arrays spell: a value for each block, and which blocks each needs in compressed rows.
+use Rattle.std.specs.Prelude.{◌≡◌, ℕ, ◌+◌, ◌<◌, ◌≤◌, ℤ, List, length, get_or}
+use Rattle.pit_model.specs.Graph.{first_of, second_of, AreSamePairs}
+use Rattle.pit_model.specs.Mine.{Instance, instance_of}
+
+-- a row of places for each block, one behind the other from the first place to the last: that of block u begins at place
+-- `starts[u]` and ends before place `starts[u + 1]`
+pub record AreRows (blocks places : ℕ) (starts : List ℕ) : Type 0 where
+  pub count : length starts ≡ blocks + 1
+  pub first : get_or starts 0 0 ≡ 0
+  pub rising : (u : ℕ) → u < blocks → get_or starts u 0 ≤ get_or starts (u + 1) 0
+  pub last : get_or starts blocks 0 ≡ places
+
+-- place k lies in the row of block u
+abbrev pub IsInRow : List ℕ → ℕ → ℕ → Type 0
+IsInRow starts u k = (get_or starts u 0 ≤ k) × (k < get_or starts (u + 1) 0)
+
+-- a pair for each place: the block in whose row it lies needs the block that stands there
+pub record SpellPairs (starts needs : List ℕ) (pairs : List (ℕ × ℕ)) : Type 0 where
+  pub count : length pairs ≡ length needs
+  pub block : (k : ℕ) → k < length needs → IsInRow starts (first_of pairs k) k
+  pub needed : (k : ℕ) → k < length needs → second_of pairs k ≡ get_or needs k 0
+
+-- as many blocks as values, and the pairs of the rows
+pub record SpellMine (values : List ℤ) (starts needs : List ℕ) (mine : Instance) : Type 0 where
+  pub blocks : mine.blocks ≡ length values
+  pub values_are : mine.values ≡ values
+  pub rows : AreRows mine.blocks (length needs) starts
+  pub pairs_are : SpellPairs starts needs mine.pairs
+
+-- the same mine in memory, where the pairs stand in another order
+pub record IsSpelled (values : List ℤ) (starts needs : List ℕ) (mine : Instance) : Type 0 where
+  pub pairs : List (ℕ × ℕ)
+  pub spelled : SpellMine values starts needs (instance_of mine.blocks mine.values pairs)
+  pub same : AreSamePairs pairs mine.pairs
