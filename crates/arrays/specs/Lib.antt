@@ -1,3 +1,4 @@
 pub mod Spelled
+pub mod Fixing
 pub mod Refused
 pub mod Solved

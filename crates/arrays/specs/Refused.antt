@@ -2,8 +2,10 @@
 use Rattle.std.specs.Prelude.{◌≡◌, ◌⊎◌, ℕ, ◌^◌, ◌<◌, ◌≤◌, List, length, get_or}
 use Rattle.faults.specs.Words.{number_of}
 use Rattle.faults.specs.declared.refusal.Refusal.{Refusal}
-use Rattle.faults.specs.declared.refusal.Refusal.TheVariants.{NoMemory, OverLimit, IdOutOfPlace, PredecessorOutOfRange, NeedsItself, PredecessorTwice, Cycle, CountsDiffer}
+use Rattle.faults.specs.declared.refusal.Refusal.TheVariants.{NoMemory, OverLimit, IdOutOfPlace, PredecessorOutOfRange, NeedsItself, PredecessorTwice, Cycle, CountsDiffer, WrongHeader, FixedClash}
+use Rattle.pit_model.specs.Graph.{AreSamePairs}
 use Rattle.pit_model.specs.Cycle.{IsCycleList}
+use Rattle.arrays.specs.Fixing.{AreForBlocks, RefusesFixing}
 use Rattle.arrays.specs.Spelled.{AreRows, IsInRow, SpellPairs}
 
 -- too many blocks, or too many pairs
@@ -36,11 +38,16 @@ RefusesMine blocks starts needs PredecessorTwice place = IsNamedTwice starts nee
 RefusesMine blocks starts needs (Cycle list) place = (pairs : List (ℕ × ℕ)) × SpellPairs starts needs pairs × IsCycleList pairs blocks list.items
 RefusesMine blocks starts needs _ place = ⊥
 
--- or there is not a mark for each block
-abbrev pub RefusesSolve : ℕ → List ℕ → List ℕ → List ℕ → Refusal → ℕ → Type 0
-RefusesSolve blocks starts needs marks CountsDiffer place = length marks ≡ blocks → ⊥
-RefusesSolve blocks starts needs marks refusal place = RefusesMine blocks starts needs refusal place
+-- or there is not a mark for each block, or neither a number for each block nor none; or a number says nothing; or a barred
+-- block must be dug, by the pairs in whatever order
+abbrev pub RefusesSolve : ℕ → List ℕ → List ℕ → List ℕ → List ℕ → Refusal → ℕ → Type 0
+RefusesSolve blocks starts needs numbers marks CountsDiffer place = (length marks ≡ blocks) × AreForBlocks blocks numbers → ⊥
+RefusesSolve blocks starts needs numbers marks WrongHeader place = (place < length numbers) × (2 < get_or numbers place 0)
+RefusesSolve blocks starts needs numbers marks (FixedClash block) place =
+    (spelled pairs : List (ℕ × ℕ)) × SpellPairs starts needs spelled × AreSamePairs spelled pairs × RefusesFixing pairs numbers (FixedClash block) place
+RefusesSolve blocks starts needs numbers marks refusal place = RefusesMine blocks starts needs refusal place
 
 -- the number of why no pit is marked
-abbrev pub IsRefusedBy : ℕ → List ℕ → List ℕ → List ℕ → ℕ → ℕ → Type 0
-IsRefusedBy blocks starts needs marks number place = (refusal : Refusal) × (number ≡ number_of refusal) × RefusesSolve blocks starts needs marks refusal place
+abbrev pub IsRefusedBy : ℕ → List ℕ → List ℕ → List ℕ → List ℕ → ℕ → ℕ → Type 0
+IsRefusedBy blocks starts needs numbers marks number place =
+    (refusal : Refusal) × (number ≡ number_of refusal) × RefusesSolve blocks starts needs numbers marks refusal place

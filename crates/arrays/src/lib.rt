@@ -1,6 +1,7 @@
 //! Mines that are given as arrays, as C and Python hold them, and answers that are written into arrays.
 #![tactic(auto)]
 
+mod fixing;
 mod marks;
 mod mine;
 mod needs;

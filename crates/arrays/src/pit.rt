@@ -1,29 +1,58 @@
 //! The pit of a mine that arrays spell, by one thread.
 ghost use Rattle.std.specs.Prelude.{◌≡◌, length, IfOk, IfErr};
+ghost use Rattle.solver.specs.Searched.{IsFound};
+ghost use Rattle.arrays.specs.Fixing.{AreForBlocks, RefusesFixing, fixed_by, toward};
 ghost use Rattle.arrays.specs.Refused.{RefusesSolve};
 ghost use Rattle.arrays.specs.Solved.{MarkPit};
 
+use crate::fixing::{first_unknown, fixed_by, toward};
 use crate::marks::write_marks;
 use crate::mine::mine_of;
 use crate::unsound::Unsound;
 use faults::Refusal;
-use merging::pit_of;
+use mine_graph::Instance;
+use solver::{FoundPit, find_pit_alone};
 use std::alloc::Global;
 
-/// Marks the pit of the mine that the arrays spell, and answers its worth. Refused as `mine_of` is, and where there is not a mark
-/// for each block (17); the marks are then as they were.
+/// The pit of a mine with the blocks that the numbers fix: the smallest of the best sets, or the greatest.
+fn pit_of(
+    alloc: Global,
+    mine: Instance,
+    numbers: &[u8],
+    greatest: bool,
+) -> Result<FoundPit, Unsound>
+    requires { AreForBlocks mine.blocks numbers.now }
+    ensures found { IfOk result (IsFound (toward greatest) mine (fixed_by numbers.now)) }
+    ensures refused { IfErr result (λ e. RefusesFixing mine.pairs numbers.now e.refusal e.place) }
+{
+    mine.law();
+    let fixed = fixed_by(alloc, mine.graph(), numbers)?;
+    match find_pit_alone(alloc, mine, &fixed, toward(greatest)) {
+        Ok(found) => Ok(found),
+        Err(_) => Err(Unsound {
+            refusal: Refusal::NoMemory,
+            place: 0,
+        }),
+    }
+}
+
+/// Marks the pit of the mine that the arrays spell, and answers its worth. A number of 1 forces its block in, 2 bars it, and 0
+/// leaves it open; there may be none at all. Refused as `mine_of` is; where there is not a mark for each block, or numbers for only
+/// some (17); by a number above 2 (3); and where a barred block must be dug (21). The marks are then as they were.
 pub fn mark_pit(
     alloc: Global,
     values: &[i64],
     starts: &[u32],
     needs: &[u32],
+    numbers: &[u8],
+    greatest: bool,
     marks: &mut [u8],
 ) -> Result<i128, Unsound>
-    ensures marked { IfOk result (MarkPit values.now starts.now needs.now marks.new) }
-    ensures refused { IfErr result (λ e. RefusesSolve (length values.now) starts.now needs.now marks.old e.refusal e.place) }
+    ensures marked { IfOk result (MarkPit values.now starts.now needs.now numbers.now greatest marks.new) }
+    ensures refused { IfErr result (λ e. RefusesSolve (length values.now) starts.now needs.now numbers.now marks.old e.refusal e.place) }
     ensures kept { IfErr result (λ _. marks.new ≡ marks.old) }
 {
-    if marks.len() != values.len() {
+    if marks.len() != values.len() || (numbers.len() != 0 && numbers.len() != values.len()) {
         return Err(Unsound {
             refusal: Refusal::CountsDiffer,
             place: 0,
@@ -31,14 +60,13 @@ pub fn mark_pit(
     }
     let mine = mine_of(alloc, values, starts, needs)?;
     mine.law();
-    match pit_of(alloc, &mine) {
-        Ok(pit) => {
-            write_marks(&pit, marks);
-            Ok(mine.worth(&pit))
-        }
-        Err(fault) => Err(Unsound {
-            refusal: fault.refusal,
-            place: 0,
-        }),
+    if let Some(place) = first_unknown(numbers) {
+        return Err(Unsound {
+            refusal: Refusal::WrongHeader,
+            place,
+        });
     }
+    let found = pit_of(alloc, mine, numbers, greatest)?;
+    write_marks(&found.blocks, marks);
+    Ok(found.worth)
 }

@@ -66,7 +66,7 @@ fn unmarked(alloc: Global, marks: &[bool]) -> Result<Vec<u32>, AllocError>
 }
 
 /// The numbers below n that are not on a rising list, rising.
-fn outside(alloc: Global, n: u32, found: &[u32]) -> Result<Vec<u32>, AllocError>
+pub(crate) fn outside(alloc: Global, n: u32, found: &[u32]) -> Result<Vec<u32>, AllocError>
     requires { (i : ℕ) → i < length found.now → get_or found.now i 0 < n }
     ensures { IfOk result (λ list. (set : ℕ → Bool) → found.now ≡ members n set → list.items ≡ members n (λ u. not (set u))) }
 {

@@ -1,6 +1,7 @@
 //! Solves an instance in the mode that is asked for: by one thread, by its parts, or by workers at one tree.
 #![tactic(auto)]
 
+mod alone;
 mod by_mode;
 mod given_up;
 mod greatest;
@@ -8,6 +9,7 @@ mod mode;
 mod search;
 mod with_fixed;
 
+pub use alone::find_pit_alone;
 pub use by_mode::{find_certificate, find_pit, solve};
 pub use crew::{Entry, Gate, OpenGate, Verdict, solve_shared};
 pub use given_up::find_fixed_pit;

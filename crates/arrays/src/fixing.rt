@@ -1,0 +1,79 @@
+//! Blocks forced in and blocks barred, as an array has them: 1 and 2, and 0 for a block that is neither.
+ghost use Rattle.std.specs.Prelude.{◌≡◌, ◌==◌, ◌<◌, ◌≤◌, ◌^◌, ℕ, length, get_or, IfOk, IfErr, IfSome};
+ghost use Rattle.pit_model.specs.Fixed.{fixed_of};
+ghost use Rattle.pit_model.specs.Mine.{members};
+ghost use Rattle.mine_graph.specs.FixedBlocks.{IsFixedOf};
+ghost use Rattle.arrays.specs.Fixing.{AreForBlocks, RefusesFixing, fixed_by, toward};
+
+use crate::unsound::Unsound;
+use faults::Refusal;
+use mine_graph::{Fixed, Graph};
+use pit_model::Direction;
+use std::alloc::{AllocError, Global};
+
+/// The direction that is asked for.
+pub fn toward(greatest: bool) -> Direction
+    ensures { result ≡ toward greatest }
+{
+    if greatest {
+        Direction::Greatest
+    } else {
+        Direction::Least
+    }
+}
+
+/// The first place of a number that says nothing.
+pub fn first_unknown(numbers: &[u8]) -> Option<u32>
+    requires { length numbers.now ≤ 2 ^ 22 }
+    ensures { IfSome result (λ k. (k < length numbers.now) × (2 < get_or numbers.now k 0)) }
+{
+    for k in 0..numbers.len() {
+        if numbers[k] > 2 {
+            return Some(k as u32);
+        }
+    }
+    None
+}
+
+/// The blocks with a number, rising.
+fn blocks_with(alloc: Global, numbers: &[u8], number: u8) -> Result<Vec<u32>, AllocError>
+    requires { length numbers.now ≤ 2 ^ 22 }
+    ensures { IfOk result (λ list. list.items ≡ members (length numbers.now) (λ u. get_or numbers.now u 0 == number)) }
+{
+    let n = numbers.len() as u32;
+    (0..n)
+        .filter(|&u| numbers[u as usize] == number)
+        .collect(alloc)
+}
+
+/// What numbers fix of a graph's blocks. Refused for want of memory, and by the least barred block that must be dug (21).
+pub fn fixed_by(alloc: Global, graph: &Graph, numbers: &[u8]) -> Result<Fixed, Unsound>
+    requires { AreForBlocks graph.now.blocks numbers.now }
+    ensures fixes { IfOk result (λ f. fixed_of f.lists ≡ fixed_by numbers.now) }
+    ensures of_graph { IfOk result (IsFixedOf graph.now) }
+    ensures refused { IfErr result (λ e. RefusesFixing graph.now.pairs numbers.now e.refusal e.place) }
+{
+    if numbers.len() == 0 {
+        return Ok(Fixed::none());
+    }
+    graph.law();
+    let forced = blocks_with(alloc, numbers, 1)?;
+    let barred = blocks_with(alloc, numbers, 2)?;
+    match Fixed::new(alloc, graph, forced, barred) {
+        Ok(fixed) => Ok(fixed),
+        Err(fault) => Err(Unsound {
+            place: clash_of(&fault.refusal),
+            refusal: fault.refusal,
+        }),
+    }
+}
+
+/// The block of a clash; of another refusal 0.
+fn clash_of(refusal: &Refusal) -> u32
+    ensures { (block : ℕ) → refusal.now ≡ Refusal.FixedClash block → result ≡ block }
+{
+    match refusal {
+        Refusal::FixedClash(block) => *block,
+        _ => 0,
+    }
+}

@@ -1,0 +1,49 @@
+"""The shared library: where it lies, and what its functions take."""
+
+import ctypes
+import os
+from pathlib import Path
+
+import numpy as np
+from numpy.ctypeslib import ndpointer
+
+
+class Found(ctypes.Structure):
+    """`PitshellFound` of include/pitshell.h."""
+
+    _fields_ = [("worth_high", ctypes.c_int64), ("worth_low", ctypes.c_uint64), ("place", ctypes.c_uint32)]
+
+    @property
+    def worth(self) -> int:
+        return (self.worth_high << 64) + self.worth_low
+
+
+def _find() -> Path:
+    """Beside this package, as a wheel has it; else what `make library` built; PITSHELL_LIBRARY names another."""
+    named = os.environ.get("PITSHELL_LIBRARY")
+    here = Path(__file__).resolve().parent
+    places = [Path(named)] if named else [here / "libpitshell.so", here.parents[1] / "build" / "libpitshell.so"]
+    for place in places:
+        if place.exists():
+            return place
+    raise ImportError(f"no libpitshell.so at {' or '.join(map(str, places))}: make library builds it")
+
+
+def _slice(dtype: type, flags: str = "C_CONTIGUOUS") -> list:
+    return [ndpointer(dtype=dtype, ndim=1, flags=flags), ctypes.c_size_t]
+
+
+# ctypes lets go of Python's lock while a function runs, so other threads go on.
+_library = ctypes.CDLL(str(_find()))
+
+solve = _library.pitshell_solve
+solve.restype = ctypes.c_uint32
+solve.argtypes = [
+    *_slice(np.int64),
+    *_slice(np.uint32),
+    *_slice(np.uint32),
+    *_slice(np.uint8),
+    ctypes.c_bool,
+    *_slice(np.uint8, "C_CONTIGUOUS,WRITEABLE"),
+    ctypes.POINTER(Found),
+]
