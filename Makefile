@@ -1,5 +1,5 @@
 # `make try` runs the program at once, unproved; `make` proves it, builds it and solves the small mine; `make test` runs the gate.
-.PHONY: all try build demo install test test-program test-plan mutants sweep storm bench setup
+.PHONY: all try build library wheel demo install test test-program test-plan test-library mutants sweep storm bench setup
 
 SMALL_MINE = examples/small_mine
 PROGRAM = build/pitshell
@@ -19,6 +19,15 @@ try:
 # Proves the program and all below it, with a line for each crate, and links it; where nothing changed since, it takes a minute.
 build:
 	tools/build.py
+
+# Proves what C and Python call, and links build/libpitshell.so and build/libpitshell.a for include/pitshell.h.
+library:
+	tools/build.py --library
+
+# The Python package with that library in it, for this machine's processor and its C library or a later one, in build/.
+wheel:
+	test -x build/libpitshell.so || $(MAKE) library
+	tools/wheel.sh
 
 demo:
 	build/pitshell solve --model $(SMALL_MINE)/mine.upit --prec $(SMALL_MINE)/mine.prec > build/pit.txt
@@ -43,7 +52,8 @@ test: setup
 	tools/mutants.py --read
 	rt ci
 	tools/build.py --copy || $(MAKE) build
-	$(MAKE) test-program test-plan
+	$(MAKE) library
+	$(MAKE) test-program test-plan test-library
 
 # The tests of the built program and of the tools beside it alone.
 test-program: setup
@@ -58,6 +68,11 @@ test-plan: setup
 # Tries all mutants, also those that the gate leaves, for an hour or two. tools/mutants.py CRATE tries those of a crate.
 mutants:
 	tools/mutants.py
+
+# The library through its Python package and its header.
+test-library: setup
+	test -x build/libpitshell.so || $(MAKE) library
+	PYTHONPATH=python /usr/bin/python3 -m pytest python/tests/test_library.py -q -p no:cacheprovider
 
 # Lets each request for memory, each thread, each read and each write of every row go wrong in turn, and changes each byte of
 # certificates, journals and fixed files to each other byte; tests/test_sweeps.py and tests/test_hostile_files.py do a part of it.

@@ -3,6 +3,7 @@
 
     tools/build.py             what an earlier run proved and nothing changed since is taken from there
     tools/build.py --copy      proves nothing: copies the program that the gate has just proved and linked
+    tools/build.py --library   proves what C calls and each crate below it, and links build/libpitshell.so and libpitshell.a
 
 The output of a crate that is not proved is printed whole. Beside the program, build/pitshell.version says what was built: the
 program's own line, the commit, and the SHA-256 of the program.
@@ -14,10 +15,12 @@ import shutil
 import subprocess
 import sys
 import time
+from pathlib import Path
 
 from crates import TOP, in_order
 
 PROGRAM = "pitshell"
+LIBRARY = "pitshell_c"
 
 
 def functions(said: str) -> str:
@@ -48,8 +51,29 @@ def copy_program() -> None:
     (build / f"{PROGRAM}.version").write_text(f"{said}commit {commit()}\nsha256 {sha256}\n")
 
 
-def prove_all() -> bool:
-    order = in_order(PROGRAM)
+def heap() -> Path:
+    """The toolchain's calls of malloc, realloc and free, which a library takes along."""
+    said = subprocess.run(["rt", "doc"], capture_output=True, text=True, check=True).stdout.strip()
+    return Path(said).parent / "c" / "liblibc_c.a"
+
+
+def link_library() -> None:
+    """One file that needs the C library alone, and that shows no other name than those of include/pitshell.h."""
+    build = TOP / "build"
+    build.mkdir(exist_ok=True)
+    proved = TOP / "crates" / LIBRARY / "out" / f"lib{LIBRARY}.a"
+    names = build / "libpitshell.names"
+    names.write_text("{ global: pitshell_*; local: *; };\n")
+    flags = ["-Wl,-soname,libpitshell.so", "-Wl,-z,now", "-Wl,-z,noexecstack", f"-Wl,--version-script={names}"]
+    archives = ["-Wl,--whole-archive", proved, "-Wl,--no-whole-archive", heap()]
+    subprocess.run(["cc", "-shared", "-o", build / "libpitshell.so", *flags, *archives], check=True)
+    names.unlink()
+    both = f"CREATE {build}/libpitshell.a\nADDLIB {proved}\nADDLIB {heap()}\nSAVE\nEND\n"
+    subprocess.run(["ar", "-M"], input=both, text=True, check=True)
+
+
+def prove_all(last: str) -> bool:
+    order = in_order(last)
     for place, crate in enumerate(order, 1):
         started = time.monotonic()
         print(f"[{place}/{len(order)}] {crate} ...", end=" ", flush=True)
@@ -64,9 +88,11 @@ def prove_all() -> bool:
 def main() -> int:
     parser = argparse.ArgumentParser(description=__doc__, formatter_class=argparse.RawDescriptionHelpFormatter)
     parser.add_argument("--copy", action="store_true", help="copy what was proved before, and prove nothing")
-    if not parser.parse_args().copy and not prove_all():
+    parser.add_argument("--library", action="store_true", help="the library for C and Python in place of the program")
+    asked = parser.parse_args()
+    if not asked.copy and not prove_all(LIBRARY if asked.library else PROGRAM):
         return 1
-    copy_program()
+    link_library() if asked.library else copy_program()
     return 0
 
 

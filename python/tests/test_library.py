@@ -116,7 +116,7 @@ def test_the_header_is_c(tmp_path):
 int main(void) {
     int64_t values[] = {-3000000, 5000000};
     uint32_t starts[] = {0, 0, 1}, needs[] = {0};
-    uint8_t numbers[1], marks[2];
+    uint8_t numbers[1] = {0}, marks[2];
     struct pitshell_found found;
     uint32_t done = pitshell_solve(values, 2, starts, 3, needs, 1, numbers, 0, false, marks, 2, &found);
     return !(done == PITSHELL_DONE && marks[0] == 1 && marks[1] == 1 && found.worth_low == 2000000 && found.worth_high == 0);

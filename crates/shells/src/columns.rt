@@ -65,6 +65,19 @@ impl Columns {
         Columns::watched(alloc, table, revenue, cost, Gauge::none())
     }
 
+    /// These revenues and costs.
+    pub fn new(revenues: Vec<i128>, costs: Vec<i128>) -> Columns
+        requires { ArePrices revenues.items costs.items }
+        ensures revenues { result.revenues ≡ revenues.items }
+        ensures costs { result.costs ≡ costs.items }
+    {
+        Columns {
+            revenues,
+            costs,
+            gauge: Gauge::none(),
+        }
+    }
+
     /// The same as `of` gives, over whose instances this gauge counts.
     pub fn watched(
         alloc: Global,

@@ -1,6 +1,7 @@
 //! Nested pits of a mine by price factor: each is solved on what the shell before leaves, and joined with that.
 #![tactic(auto)]
 
+mod alone;
 mod columns;
 mod factors;
 mod growing;
@@ -11,6 +12,7 @@ mod outermost;
 mod plan;
 mod rising;
 
+pub use alone::shells_alone;
 pub use columns::Columns;
 pub use factors::Factors;
 pub use laws::{limits_of_factors, limits_of_prices};
