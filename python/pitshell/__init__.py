@@ -13,6 +13,8 @@ package, which turns what it is given into arrays and refusals into exceptions, 
 from __future__ import annotations
 
 import ctypes
+import operator
+from collections.abc import Sequence
 from dataclasses import dataclass
 from typing import Any, Literal
 
@@ -20,10 +22,10 @@ import numpy as np
 from numpy.typing import ArrayLike, NDArray
 
 from . import _library
-from ._arrays import millionths, rows
+from ._arrays import Millionths, millionths, rows
 from ._refusals import NoMemory, Refusal
 
-__all__ = ["BARRED", "FORCED", "FREE", "NoMemory", "Pit", "Refusal", "solve"]
+__all__ = ["BARRED", "FORCED", "FREE", "NoMemory", "Pit", "Refusal", "Shells", "shells", "solve"]
 
 
 @dataclass(frozen=True)
@@ -35,7 +37,19 @@ class Pit:
     rounded: int
 
 
+@dataclass(frozen=True)
+class Shells:
+    """first: for each block the number, from 0, of the first factor whose pit holds it, or how many factors there are; int32,
+    shape (blocks,). worths: of each pit, in billionths, in its own factor's values. rounded: how many amounts were rounded."""
+
+    first: NDArray[np.int32]
+    worths: list[int]
+    rounded: int
+
+
 FREE, FORCED, BARRED = 0, 1, 2
+MOST_AMOUNT = 10**18
+MOST_FACTOR, MOST_FACTORS = 100_000, 1000
 
 
 def _refuse(number: int, place: int, starts: NDArray[np.uint32], needs: NDArray[np.uint32]) -> None:
@@ -57,7 +71,7 @@ def _numbers(fixed: ArrayLike | None) -> NDArray[np.uint8]:
     if array.dtype != np.uint8:
         # What is no number of 8 bits becomes 255, which fixes nothing and is refused.
         array = np.where((array < 0) | (array > 255), 255, array)
-    return np.ascontiguousarray(array, dtype=np.uint8)
+    return np.require(array, np.uint8, ["C_CONTIGUOUS", "ALIGNED"])
 
 
 def solve(values: ArrayLike, needs: Any, fixed: ArrayLike | None = None, pit: Literal["least", "greatest"] = "least") -> Pit:
@@ -71,6 +85,8 @@ def solve(values: ArrayLike, needs: Any, fixed: ArrayLike | None = None, pit: Li
     fixed: FORCED (1), BARRED (2) or FREE (0) for each block, shape (blocks,): the best set that holds each forced block and none
     that is barred.
     pit: which of several sets of greatest worth.
+
+    Other threads of Python go on meanwhile, and must not write to these arrays.
 
     Raises Refusal where the arrays are no mine, or one over the limits of 4,194,304 blocks and 67,108,864 pairs, and where a
     barred block must be dug.
@@ -102,3 +118,51 @@ def solve(values: ArrayLike, needs: Any, fixed: ArrayLike | None = None, pit: Li
     if number != 0:
         _refuse(number, found.place, starts, needed)
     return Pit(marks.view(np.bool_), found.worth, amounts.rounded)
+
+
+def _column(amounts: ArrayLike, name: str) -> Millionths:
+    column = millionths(amounts, name)
+    wrong = np.flatnonzero(column.amounts < 0)
+    if wrong.size:
+        raise Refusal(15, block=int(wrong[0]))
+    if (column.amounts > MOST_AMOUNT).any():
+        raise Refusal(4)
+    return column
+
+
+def _factors(factors: Sequence[int]) -> list[int]:
+    listed = [operator.index(factor) for factor in factors]
+    if len(listed) > MOST_FACTORS or any(not 0 <= factor <= MOST_FACTOR for factor in listed):
+        raise Refusal(4)
+    if any(after <= before for before, after in zip(listed, listed[1:])):
+        raise Refusal(19)
+    return listed
+
+
+def shells(revenues: ArrayLike, costs: ArrayLike, needs: Any, factors: Sequence[int]) -> Shells:
+    """Nested pits: the ultimate pit where a block is worth factor * revenue - 1000 * cost, for each rising factor in per mille.
+
+    revenues, costs: of each block, shape (blocks,), not negative; as `values` of `solve`. needs: as there.
+
+    Each pit is found by the library, the last factor's first; that of a lesser factor lies within that of a greater one, so the
+    blocks outside are barred. That pits nest is proved of the definitions; that they are joined rightly here is tested.
+    """
+    revenue, cost = _column(revenues, "revenues"), _column(costs, "costs")
+    listed = _factors(factors)
+    blocks = len(revenue.amounts)
+    if len(cost.amounts) != blocks:
+        raise Refusal(17)
+    if listed and blocks and listed[-1] * int(revenue.amounts.max()) + 1000 * int(cost.amounts.max()) >= 2**63:
+        raise OverflowError("at the greatest factor a value does not fit 64 bits of billionths")
+    rows_of_needs = rows(needs, blocks)
+    first = np.full(blocks, len(listed), dtype=np.int32)
+    worths: list[int] = []
+    fixed = np.full(blocks, FREE, dtype=np.uint8)
+    if not listed:
+        solve(np.zeros(blocks, dtype=np.int64), rows_of_needs)
+    for number in range(len(listed) - 1, -1, -1):
+        found = solve(listed[number] * revenue.amounts - 1000 * cost.amounts, rows_of_needs, fixed)
+        first[found.in_pit] = number
+        fixed[~found.in_pit] = BARRED
+        worths.append(found.worth)
+    return Shells(first, worths[::-1], revenue.rounded + cost.rounded)

@@ -10,6 +10,8 @@ import numpy as np
 from numpy.typing import ArrayLike, NDArray
 
 MILLION = 1_000_000
+# What the library takes for granted of memory.
+PLAIN = ["C_CONTIGUOUS", "ALIGNED"]
 MOST_MILLIONTHS = 2**63 - 1
 
 
@@ -54,7 +56,7 @@ def millionths(values: ArrayLike, name: str = "values") -> Millionths:
     if array.ndim != 1:
         raise ValueError(f"{name} has shape {array.shape} and not (blocks,)")
     if array.dtype == np.int64 or (np.issubdtype(array.dtype, np.integer) and np.can_cast(array.dtype, np.int64)):
-        return Millionths(np.ascontiguousarray(array, dtype=np.int64), 0)
+        return Millionths(np.require(array, np.int64, PLAIN), 0)
     if np.issubdtype(array.dtype, np.floating):
         return _of_floats(array)
     if array.dtype == object:
@@ -64,7 +66,7 @@ def millionths(values: ArrayLike, name: str = "values") -> Millionths:
 
 def _whole(array: ArrayLike, name: str) -> NDArray[np.uint32]:
     """Whole numbers as 32 bits without a sign. A negative one, or one too large, becomes the largest, which no mine has."""
-    array = np.ascontiguousarray(array)
+    array = np.require(array, requirements=PLAIN)
     if array.ndim != 1:
         raise ValueError(f"{name} has shape {array.shape} and not one dimension")
     if array.dtype == np.uint32:

@@ -29,11 +29,11 @@ def _find() -> Path:
     raise ImportError(f"no libpitshell.so at {' or '.join(map(str, places))}: make library builds it")
 
 
-def _slice(dtype: type, flags: str = "C_CONTIGUOUS") -> list:
+def _slice(dtype: type, flags: str = "C_CONTIGUOUS,ALIGNED") -> list:
     return [ndpointer(dtype=dtype, ndim=1, flags=flags), ctypes.c_size_t]
 
 
-# ctypes lets go of Python's lock while a function runs, so other threads go on.
+# ctypes lets go of Python's lock while a function runs, so other threads go on; they must not write to the arrays meanwhile.
 _library = ctypes.CDLL(str(_find()))
 
 solve = _library.pitshell_solve
@@ -44,6 +44,6 @@ solve.argtypes = [
     *_slice(np.uint32),
     *_slice(np.uint8),
     ctypes.c_bool,
-    *_slice(np.uint8, "C_CONTIGUOUS,WRITEABLE"),
+    *_slice(np.uint8, "C_CONTIGUOUS,ALIGNED,WRITEABLE"),
     ctypes.POINTER(Found),
 ]

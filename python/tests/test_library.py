@@ -76,6 +76,37 @@ def test_values_in_each_form():
     assert pitshell.solve([Decimal("0.1234567"), Decimal("0.2")], NEEDS).rounded == 1
 
 
+@pytest.mark.parametrize("seed", range(20))
+def test_shells_are_the_pit_of_each_factor(seed):
+    rng = random.Random(seed)
+    values, pairs = random_mine(rng)
+    revenues = np.abs(values) % 1000
+    costs = np.array([rng.randint(0, 500) for _ in values], dtype=np.int64)
+    factors = sorted(rng.sample(range(3000), rng.randint(0, 5)))
+    found = pitshell.shells(revenues, costs, pairs, factors)
+    for number, factor in enumerate(factors):
+        pit = pitshell.solve(factor * revenues - 1000 * costs, pairs)
+        assert (found.first <= number).tolist() == pit.in_pit.tolist() and found.worths[number] == pit.worth
+    assert (found.first <= len(factors)).all() and len(found.worths) == len(factors)
+
+
+@pytest.mark.parametrize("revenues, factors, number", [([-1, 0], [1], 15), ([0, 0], [2, 1], 19), ([0, 0], [100_001], 4), ([0], [1], 17)])
+def test_shells_that_are_refused(revenues, factors, number):
+    with pytest.raises(pitshell.Refusal) as refused:
+        pitshell.shells(np.array(revenues), np.zeros(2, dtype=np.int64), NEEDS, factors)
+    assert refused.value.number == number
+
+
+def test_arrays_that_lie_askew():
+    raw = np.zeros(17, dtype=np.uint8)
+    askew = raw[1:].view(np.int64)
+    askew[:] = TWO
+    assert not askew.flags.aligned
+    backward = TWO[::-1].copy()[::-1]
+    for values in (askew, backward, TWO.astype(">i8")):
+        assert pitshell.solve(values, NEEDS).worth == 2_000_000
+
+
 REFUSED = [
     (TWO, [[1, 2]], 8),
     (TWO, [[1, -1]], 8),
