@@ -1,5 +1,4 @@
 pub mod Spelling
 pub mod Repeats
 pub mod Marking
-pub mod Numbers
 pub mod Numbered

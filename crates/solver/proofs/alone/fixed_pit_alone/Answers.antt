@@ -1,18 +1,11 @@
 -- Where nothing is fixed, the pit of the mine; else the pit of the rest, joined with what must be dug.
 use Rattle.std.proofs.Common.{◌≡◌, ℕ, ◌<◌, ap, sym, subst, ◌∙◌, List, length, get_or}
-use Rattle.std.proofs.lemmas.Bool.{true≢false}
-use Rattle.std.proofs.lemmas.Result.{IfErr-weaker, IfOk-weaker, err_from_is_err_and}
-use Rattle.pit_model.specs.Direction.{nothing}
-use Rattle.pit_model.specs.Fixed.{fixed_of}
 use Rattle.pit_model.specs.Graph.{Graph}
 use Rattle.pit_model.specs.Mine.{members}
 use Rattle.certificate.specs.Check.{open_in}
-use Rattle.mine_graph.specs.FixedBlocks.{no_lists}
 use Rattle.merging.proofs.Resting.{none_both}
 use Rattle.merging.specs.Rest.{ListsJoined}
-use Rattle.solver.specs.Modes.{EndsWithin}
-use Rattle.solver.specs.Searched.{OfSearched, RefusesSearch}
-use Rattle.solver.proofs.Searching.{found_inside, is_rest_of, joined_pit, plain_refused, plain_search, rest_refused, searched_of_rest}
+use Rattle.solver.proofs.Searching.{found_inside, joined_pit}
 use Rattle.solver.proofs.alone.fixed_pit_alone.Goals as goal
 
 pub join_pit-requires-clause-blocks : goal.join_pit-requires-clause-blocks
