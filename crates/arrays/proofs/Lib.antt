@@ -2,3 +2,4 @@ pub mod Spelling
 pub mod Repeats
 pub mod Marking
 pub mod Numbered
+pub mod OneMine

@@ -33,3 +33,7 @@ pub record IsSpelled (values : List ℤ) (starts needs : List ℕ) (mine : Insta
   pub pairs : List (ℕ × ℕ)
   pub spelled : SpellMine values starts needs (instance_of mine.blocks mine.values pairs)
   pub same : AreSamePairs pairs mine.pairs
+
+-- the law: arrays spell one mine at most
+abbrev pub ArraysSpellOneMine : Type 0
+ArraysSpellOneMine = (values : List ℤ) (starts needs : List ℕ) (mine other : Instance) → SpellMine values starts needs mine → SpellMine values starts needs other → mine ≡ other

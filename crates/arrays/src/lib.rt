@@ -10,7 +10,7 @@ mod pit;
 mod rows;
 mod unsound;
 
-pub use mine::mine_of;
+pub use mine::{arrays_spell_one_mine, mine_of};
 pub use parts::{Parts, parts_of};
 pub use pit::mark_pit;
 pub use unsound::Unsound;

@@ -1,7 +1,7 @@
 //! The mine that arrays spell, or why they spell none.
 ghost use Rattle.std.specs.Prelude.{◌≡◌, ◌<◌, ◌≤◌, ◌^◌, ℕ, pos, neg_ℤ, ◌≤ℤ◌, length, get_or, IfOk, IfErr};
 ghost use Rattle.pit_model.specs.Graph.{AreApart, AreInRange, AreSamePairs};
-ghost use Rattle.arrays.specs.Spelled.{AreRows, IsSpelled, SpellPairs};
+ghost use Rattle.arrays.specs.Spelled.{AreRows, ArraysSpellOneMine, IsSpelled, SpellPairs};
 ghost use Rattle.arrays.specs.Refused.{RefusesMine, RefusesPairs};
 
 use crate::needs::{first_of_itself, first_outside, first_repeated};
@@ -15,6 +15,11 @@ use std::sync::Arc;
 const MOST_BLOCKS: usize = 4_194_304;
 
 const MOST_PAIRS: usize = 67_108_864;
+
+/// Arrays spell one mine at most.
+pub fn arrays_spell_one_mine()
+    ensures { ArraysSpellOneMine }
+{}
 
 /// The same value as a wider number.
 fn wide(value: i64) -> i128
