@@ -19,6 +19,3 @@ first_place b text (Some k) h =
     let e : position_or_len (is_byte b) text ≡ k = position_or_len_is (is_byte b) text k 0 (omega (arith, high)) (λ j lt. not_true _ (h.0.before j (omega arith) lt)) (λ lt. h.1) in
     let test : ltb k (length text) ≡ true = search (tests, rules) in
     sym (rw (e, test) refl)
-
-pub first_inside : (b : ℕ) (text : List ℕ) (k : ℕ) → IsFirstByte (is_byte b) text (Some k) → k < length text
-first_inside b text k h = h.0.high

@@ -113,10 +113,3 @@ rises_on n id f rest all least old now p whole below other le s =
 pub rises_to_end : (n id : ℕ) (all : List (List ℕ)) (least : ℕ) (old now : List (ℕ × ℕ)) → Rises n id [] all least old now → (ps : List ℕ) × ((line : ℕ) → needs_from n id line [] all ≡ Ok ps) × (now ≡ old ++ pairs_of id ps)
 unfolding needs_from
 rises_to_end n id all least old now s = (s.seen, λ line. sym (s.read line) ∙ ap (λ (xs : List ℕ). Ok xs) (append-nil s.seen), s.pushed)
-
-pub rises_from : (n id : ℕ) (all : List (List ℕ)) (old : List (ℕ × ℕ)) → Rises n id all all 0 old old
-rises_from n id all old = record { seen = []; read = λ line. same (needs_from n id line [] all); under = All-nil (λ q. q < 0); pushed = sym (append-nil old) }
-  where
-    same : (r : Needs) → seen_then [] r ≡ r
-    same (Ok ps) = refl
-    same (Err e) = refl
