@@ -6,7 +6,7 @@
     tools/build.py --library   proves what C calls and each crate below it, and links build/libpitshell.so and libpitshell.a
 
 The output of a crate that is not proved is printed whole. Beside the program, build/pitshell.version says what was built: the
-program's own line, the commit, and the SHA-256 of the program.
+program's own line, the commit, the SHA-256 of the program, and the toolchain that proved it.
 """
 import argparse
 import hashlib
@@ -48,7 +48,8 @@ def copy_program() -> None:
     shutil.copy2(TOP / "crates" / PROGRAM / "out" / PROGRAM, program)
     said = subprocess.run([program, "--version"], capture_output=True, text=True, check=True).stdout
     sha256 = hashlib.sha256(program.read_bytes()).hexdigest()
-    (build / f"{PROGRAM}.version").write_text(f"{said}commit {commit()}\nsha256 {sha256}\n")
+    toolchain = subprocess.run(["rt", "version"], capture_output=True, text=True, check=True).stdout
+    (build / f"{PROGRAM}.version").write_text(f"{said}commit {commit()}\nsha256 {sha256}\nproved with {toolchain}")
 
 
 def heap() -> Path:

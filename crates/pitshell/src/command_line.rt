@@ -201,10 +201,10 @@ fn solve_command<'a>(alloc: Global) -> Result<Command<'a>, AllocError> {
     with_told(alloc, solve)
 }
 
-/// `pitshell` with its subcommands. Its version names the toolchain that proves it, as `rt version` tells it.
+/// `pitshell` with its subcommands. Its version is the release.
 pub fn command<'a>(alloc: Global) -> Result<Command<'a>, AllocError> {
     Command::new(alloc, "pitshell")
-        .version("0.1.0 (rattle-kit-13f logic dac8208d650f15bf)")
+        .version("0.1.0")
         .about("Finds the ultimate pit of a mine with a proved solver")
         .after_help(STATUSES)
         .subcommand_required(true)
