@@ -33,11 +33,16 @@ CHECK_SCRIPT = """#!/bin/sh
 # Checks the shell of factor {factor} of "{title}": the files' hashes, then the certificate by the proved program, then by
 # a short program in Python that shares nothing with it. PITSHELL names the program, PYTHON the interpreter.
 set -eu
+program=${{PITSHELL:-pitshell}}
+case $program in
+/*) ;;
+*/*) program=$PWD/$program ;;
+esac
 cd "$(dirname "$0")"
 sha256sum --check --quiet hashes.txt
 echo "hashes: yes"
 printf 'pitshell check: '
-"${{PITSHELL:-pitshell}}" check --model {model} --prec {prec} --certificate {certificate}
+"$program" check --model {model} --prec {prec} --certificate {certificate}
 printf 'check_certificate.py: '
 "${{PYTHON:-python3}}" check_certificate.py {model} {prec} {certificate}
 """
