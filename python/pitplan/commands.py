@@ -18,12 +18,13 @@ from .project import Project
 
 PREPARED = [files.BLOCKS, files.MODEL, files.PREC]
 PIT_MODEL, PITS = "pit.upit", "pits.csv"
-WITHOUT = "the shells are those without the fixed blocks of the project: pitplan pit keeps to them"
 PICTURES = {"pit_by_pit": "pit_by_pit.png", "plans": "plans.png", "sections": "sections.png"}
 REPORT, VIEW = "report.html", "view.html"
 WRITTEN = {
     *PREPARED,
     files.FIXED,
+    files.REST_BLOCKS,
+    files.REST_PREC,
     files.RECORD,
     files.TABLE,
     files.SHELLS,
@@ -47,35 +48,44 @@ def prepare(project: Project, folder: Path, progress: Progress) -> dict[str, Any
 
 def written(plan: Plan) -> list[str]:
     """The files of a plan for the program."""
-    return [*PREPARED, files.FIXED] if plan.project.fixed else PREPARED
+    return [*PREPARED, files.FIXED, files.REST_BLOCKS, files.REST_PREC] if plan.project.fixed else PREPARED
 
 
 def pit(project: Project, folder: Path, factor: int, progress: Progress) -> tuple[pd.DataFrame, dict[str, Any]]:
     """Prepares, and solves the pit of one factor with the project's fixed blocks and without them; gives a table with a row of
-    each, and the record. blocks.csv has the pit with them.
+    each, and the record. blocks.csv has the pit with them, and of the project's lesser factors the shells within it, by which the
+    best case is dug.
 
-    Raises PlanError where the project has no fixed blocks, and ProgramError where they clash.
+    Raises PlanError where the project has no fixed blocks.
     """
     if project.fixed is None:
         raise PlanError(f"{project.path}: [fixed] is missing: it says which blocks must be dug and which may not be")
-    project = replace(
-        project, schedule=replace(project.schedule, factors=(factor,), chosen=None, reference_added=False)
-    )
+    within = tuple(sorted({factor, *(inner for inner in project.schedule.factors if inner < factor)}))
+    schedule = replace(project.schedule, factors=within, chosen=None, reference_added=False)
+    project = replace(project, schedule=schedule)
     demand_apart(project, folder)
     plan = prepare_plan(project, progress=progress)
     with files.staged(folder) as stage:
         record = write_prepared(plan, stage, progress)
-        files.write_model(stage / PIT_MODEL, project.title, audits.values_at(stage / files.BLOCKS, factor))
-        mine = (stage / PIT_MODEL, stage / files.PREC)
-        with progress.step("solving with the fixed blocks and without"):
-            keeping = run.solve_pit(*mine, stage / files.FIXED, factor)
-            free = run.solve_pit(*mine, None, factor)
-        table = pd.concat([analyse.shells(plan, solution) for solution in (keeping, free)], ignore_index=True)
+        keeping = run.solve(plan, stage, progress)
+        free = run.solve_files(stage / files.BLOCKS, stage / files.PREC, within)
+        check_fixed(plan, keeping, factor, stage, progress)
+        table = pd.concat([analyse.shells(plan, solution).tail(1) for solution in (keeping, free)], ignore_index=True)
         table.insert(0, "fixed_blocks", ["kept", "free"])
         write_table(analyse.blocks(plan, keeping), stage)
         shown(table).to_csv(stage / PITS, index=False)
         finish(plan, record, [*written(plan), PIT_MODEL, files.TABLE, PITS], stage)
     return table, record
+
+
+def check_fixed(plan: Plan, solution: run.Solution, factor: int, stage: Path, progress: Progress) -> None:
+    """Writes the mine at a factor, and raises PlanError where the shell is not the pit that the program finds by `--fixed`."""
+    if plan.settled is None:
+        return
+    with progress.step(f"solving factor {factor} by itself, with the fixed blocks"):
+        files.write_model(stage / PIT_MODEL, plan.project.title, audits.values_at(stage / files.BLOCKS, factor))
+        pit = run.solve_pit(stage / PIT_MODEL, stage / files.PREC, stage / files.FIXED, factor)
+    run.demand_same(solution, pit, factor)
 
 
 def shells(project: Project, folder: Path, progress: Progress) -> tuple[pd.DataFrame, dict[str, Any]]:
@@ -92,12 +102,12 @@ def shells(project: Project, folder: Path, progress: Progress) -> tuple[pd.DataF
             write_table(analyse.blocks(plan, solution), stage)
             shown(table).to_csv(stage / files.SHELLS, index=False)
             record["notes"] += analyse.edge_notes(plan, solution)
-            record["notes"] += [WITHOUT] if project.fixed else []
         chosen = analyse.chosen_factor(table, project.schedule)
+        check_fixed(plan, solution, chosen, stage, progress)
         record["shells"] = {"factors": list(project.schedule.factors), "chosen": chosen, "program": identity}
         with progress.step("drawing"):
             draw(plan, solution, table, chosen, stage)
-        names = [*written(plan), files.ANSWER, files.TABLE, files.SHELLS, *PICTURES.values()]
+        names = [*written(plan), *([PIT_MODEL] if project.fixed else []), files.ANSWER, files.TABLE, files.SHELLS, *PICTURES.values()]
         finish(plan, record, names, stage)
         write_report(project, table, record, stage)
     return table, record

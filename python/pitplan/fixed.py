@@ -1,5 +1,8 @@
 """Blocks that must be dug and blocks that may not be, as planners know them: by columns of the table, by the surface as mined, and
-by areas on the map. Cells without rock are never among them."""
+by areas on the map. Cells without rock are never among them.
+
+All that a block needs which must be dug is dug with it, and all that needs a block which may not be dug is left with it. What is
+neither is the rest, and the best pit that keeps to the fixed blocks is the rest's own pit with what must be dug."""
 
 from __future__ import annotations
 
@@ -14,7 +17,9 @@ from . import text
 from .errors import PlanError
 from .grid import Grid
 from .project import Area, Project
-from .table import HEADER_ROWS, at_row, demand_columns, numbers_of, read_columns
+from .slopes import Walls
+from .table import at_row, called, demand_columns, numbers_of, read_columns
+from .trim import used_blocks, users_of
 
 
 @dataclass(frozen=True)
@@ -31,6 +36,32 @@ class FixedBlocks:
 
 
 NOTHING = FixedBlocks(np.zeros(0, dtype=np.int64), np.zeros(0, dtype=np.int64))
+
+
+@dataclass(frozen=True)
+class Settled:
+    """What is dug and what is left in every pit that keeps to the fixed blocks: a truth for each cell."""
+
+    dug: np.ndarray
+    left: np.ndarray
+
+    @property
+    def rest(self) -> np.ndarray:
+        """The cells of which a pit is still to be found."""
+        return ~(self.dug | self.left)
+
+
+def settled(fixed: FixedBlocks, grid: Grid, walls: Walls) -> Settled:
+    """What follows from the fixed blocks by the needs."""
+    dug = used_blocks(grid, walls, marks(grid, fixed.forced))
+    return Settled(dug, users_of(grid, walls, marks(grid, fixed.barred)))
+
+
+def marks(grid: Grid, cells: np.ndarray) -> np.ndarray:
+    """A truth for each cell: whether it is one of these."""
+    found = np.zeros(grid.count, dtype=bool)
+    found[cells] = True
+    return found
 
 
 def of_table(frame: pd.DataFrame, grid: Grid, project: Project, source: str = "table") -> FixedBlocks:
@@ -53,7 +84,7 @@ def of_table(frame: pd.DataFrame, grid: Grid, project: Project, source: str = "t
         barred |= in_area(grid, area) & rock
     both = forced & barred
     if both.any():
-        raise PlanError(f"{source} row {int(both.argmax()) + HEADER_ROWS}: the block must be dug and may not be dug")
+        raise PlanError(f"{source}: {called(frame, project, int(both.argmax()))} must be dug and may not be dug")
     notes.insert(0, f"{int(forced.sum()):,} blocks must be dug and {int(barred.sum()):,} may not be")
     return FixedBlocks(np.sort(grid.rows[forced]), np.sort(grid.rows[barred]), tuple(notes))
 

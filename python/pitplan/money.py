@@ -16,6 +16,7 @@ import pandas as pd
 
 from .errors import PlanError
 from .exact import Exact, Rounding
+from .fixed import Settled
 from .grid import MOST_BLOCKS, Grid
 from .project import GRADE_UNITS, ByRock, Metal, Project
 from .table import at_row
@@ -64,6 +65,15 @@ class Values:
             revenue = np.concatenate([nothing, self.revenue[self.ore]])
             return revenue, np.concatenate([self.mining, self.processing[self.ore]])
         return np.where(self.pays, self.revenue, 0), self.mining + np.where(self.pays, self.processing, 0)
+
+    def nodes_of_rest(self, settled: Settled) -> tuple[np.ndarray, np.ndarray]:
+        """Revenue and cost in millionths of every node of the rest; 0 where what becomes of it is settled.
+
+        A block that is dug in any case may still be processed or not, so its processing node is of the rest.
+        """
+        is_open = np.concatenate([settled.rest, ~settled.left[self.processed]])
+        revenue, cost = self.nodes()
+        return np.where(is_open, revenue, 0), np.where(is_open, cost, 0)
 
     def greatest_value(self, factor: int) -> np.ndarray:
         """The most that each cell can be worth at a factor, in billionths: less than 0 where it cannot pay for itself."""

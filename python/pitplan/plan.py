@@ -3,7 +3,7 @@
 from __future__ import annotations
 
 import sys
-from dataclasses import dataclass, field
+from dataclasses import dataclass, field, replace
 from pathlib import Path
 from typing import Any, Optional, Union
 
@@ -12,8 +12,8 @@ import pandas as pd
 
 from . import files, fixed as fixing, grid as grids, money, slopes, table as tables, trim
 from .errors import PlanError
-from .files import Pairs
-from .fixed import NOTHING, FixedBlocks
+from .files import Needs, Pairs
+from .fixed import NOTHING, FixedBlocks, Settled
 from .grid import Grid
 from .money import Values
 from .progress import Progress, silent
@@ -39,6 +39,7 @@ class Plan:
     filled  how many empty fields were taken as 0
     notes   sentences that a planner should read before trusting the plan
     fixed   blocks that must be dug, and blocks that may not be
+    settled what is dug and what is left for their sake; None where the project has no `[fixed]`
     """
 
     project: Project
@@ -51,6 +52,11 @@ class Plan:
     filled: int = 0
     notes: list[str] = field(default_factory=list)
     fixed: FixedBlocks = NOTHING
+    settled: Optional[Settled] = None
+
+    def called(self, cell: int) -> str:
+        """What the planner calls the block of a cell."""
+        return tables.called(self.table, self.project, int((self.grid.rows == cell).argmax()))
 
     @property
     def blocks(self) -> pd.DataFrame:
@@ -62,16 +68,28 @@ class Plan:
             frame[name if name == "revenue" else f"{name}_cost"] = getattr(self.values, name)[ids] / MILLION
         return frame.sort_values("id").reset_index(drop=True)
 
+    @property
+    def needs(self) -> Needs:
+        """The needs of the whole mine."""
+        return Needs(self.grid, self.walls, self.used, self.values.processed)
+
+    @property
+    def needs_of_rest(self) -> Needs:
+        """Those of the blocks that fixed ones settle nothing of; where nothing is fixed, all."""
+        return replace(self.needs, settled=self.settled)
+
     def write(self, folder: Path) -> dict[str, Any]:
-        """Writes mine.blocks, mine.upit and mine.prec into a folder, and mine.fixed where the project has `[fixed]`; gives the
-        record of what was done. Raises PlanError."""
+        """Writes mine.blocks, mine.upit and mine.prec into a folder, and where the project has `[fixed]` mine.fixed, and the rest's
+        rest.blocks and rest.prec; gives the record of what was done. Raises PlanError."""
         nodes = self.values.nodes()
         processed = self.values.processed
         files.write_blocks(folder / files.BLOCKS, self.grid, processed, nodes)
         files.write_model(folder / files.MODEL, self.project.title, nodes[0] - nodes[1])
-        if self.project.fixed is not None:
+        pairs = files.write_prec(folder / files.PREC, self.needs)
+        if self.settled is not None:
             fixing.write(folder / files.FIXED, self.fixed)
-        pairs = files.write_prec(folder / files.PREC, self.grid, self.walls, self.used, processed)
+            files.write_blocks(folder / files.REST_BLOCKS, self.grid, processed, self.values.nodes_of_rest(self.settled))
+            files.write_prec(folder / files.REST_PREC, self.needs_of_rest)
         if pairs.written + pairs.processing > MOST_PAIRS:
             raise PlanError(
                 f"{pairs.written + pairs.processing:,} needs, and the program takes at most {MOST_PAIRS:,}: "
@@ -172,7 +190,22 @@ def plan_of(project: Project, frame: pd.DataFrame, grid: Grid, walls: Walls, sou
     values = money.values_of(frame, grid, project, source)
     fixed = fixing.of_table(frame, grid, project, source)
     used = trim.used_blocks(grid, walls, wanted(values, project, fixed))
-    return Plan(project, frame, grid, values, walls, used, source, fixed=fixed)
+    plan = Plan(project, frame, grid, values, walls, used, source, fixed=fixed)
+    if project.fixed is not None:
+        plan.settled = fixing.settled(fixed, grid, walls)
+        demand_no_clash(plan, plan.settled)
+    return plan
+
+
+def demand_no_clash(plan: Plan, settled: Settled) -> None:
+    """Raises PlanError where a block must be dug that needs one which may not be."""
+    forced, barred = plan.fixed.forced, plan.fixed.barred
+    clash = forced[settled.left[forced]]
+    if len(clash):
+        needs = trim.used_blocks(plan.grid, plan.walls, fixing.marks(plan.grid, clash[:1]))
+        first, second = plan.called(clash[0]), plan.called(barred[needs[barred]][0])
+        more = f", and so it is with {len(clash) - 1:,} blocks more" if len(clash) > 1 else ""
+        raise PlanError(f"{plan.source}: {first} must be dug and needs {second}, which may not be dug{more}")
 
 
 def wanted(values: Values, project: Project, fixed: FixedBlocks) -> np.ndarray:
@@ -201,6 +234,10 @@ def notes_of(plan: Plan) -> list[str]:
     notes += [pattern.sentence() for pattern in plan.walls.patterns]
     notes += plan.values.notes
     notes += plan.fixed.notes
+    if plan.settled is not None:
+        rock = plan.values.tonnes > 0
+        dug, left = (int(np.count_nonzero(cells & rock)) for cells in (plan.settled.dug, plan.settled.left))
+        notes.append(f"for their sake {dug:,} blocks are dug in every pit and {left:,} in none")
     if plan.project.schedule.reference_added:
         notes.append("factor 1000, the price as given, was added to the factors")
     for name, rounding in plan.values.roundings.items():

@@ -180,6 +180,12 @@ def demand_ids(frame: pd.DataFrame, name: Optional[str], source: str) -> None:
         raise at_row(source, row, name, f"{frame[name].iloc[row]} stands in row {first + HEADER_ROWS} too")
 
 
+def called(frame: pd.DataFrame, project: Project, row: int) -> str:
+    """What a planner calls the block of a row, counted from 0: by its id, where there is one, and the file's row."""
+    name, place = project.table.id, row + HEADER_ROWS
+    return f"block {frame[name].iloc[row]} (row {place})" if name else f"the block of row {place}"
+
+
 def at_row(source: str, row: int, column: str, why: str) -> PlanError:
     """`row` counts the blocks from 0."""
     return PlanError(f"{source} row {row + HEADER_ROWS} column {column}: {why}")

@@ -30,8 +30,23 @@ def used_blocks(grid: Grid, walls: Walls, paying: np.ndarray) -> np.ndarray:
     return used.ravel()
 
 
+def users_of(grid: Grid, walls: Walls, needed: np.ndarray) -> np.ndarray:
+    """The given blocks and all that need them, directly or through others: a truth for each cell."""
+    found = grid.cube(needed).copy()
+    code = grid.cube(walls.code)
+    present = [number for number in range(len(walls.patterns)) if (walls.code == number).any()]
+    for level in range(1, grid.shape[0]):
+        for number in present:
+            users = np.zeros_like(found[level])
+            for east, north, up in walls.patterns[number].offsets:
+                if up <= level:
+                    mark(users, found[level - up], -east, -north)
+            found[level] |= users & (code[level] == number)
+    return found.ravel()
+
+
 def mark(above: np.ndarray, blocks: np.ndarray, east: int, north: int) -> None:
-    """Marks, in a level above, the blocks that lie so many steps east and north of the given ones."""
+    """Marks, in another level, the blocks that lie so many steps east and north of the given ones."""
     rows, columns = blocks.shape
     if abs(north) >= rows or abs(east) >= columns:
         return

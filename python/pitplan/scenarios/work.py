@@ -91,7 +91,8 @@ def plan_of(shared: Shared, scenario: Scenario) -> Plan:
     values = money.values_of(frame, shared.grid, project, scenario.label)
     # The same nodes in every scenario, so that one file of needs serves: those without metal here are worth nothing.
     values = replace(values, ore=shared.ore) if values.cutoff == "moving" else values
-    return Plan(project, frame, shared.grid, values, Walls((), np.zeros(0)), np.zeros(0, bool), scenario.label)
+    walls, used = Walls((), np.zeros(0)), np.zeros(0, bool)
+    return Plan(project, frame, shared.grid, values, walls, used, scenario.label, settled=shared.settled)
 
 
 def write_answer(shared: Shared, scenario: Scenario) -> None:
@@ -99,8 +100,10 @@ def write_answer(shared: Shared, scenario: Scenario) -> None:
     plan = plan_of(shared, scenario)
     with tempfile.TemporaryDirectory(prefix="pitplan-") as place:
         blocks = Path(place) / files.BLOCKS
-        files.write_blocks(blocks, plan.grid, plan.values.processed, plan.values.nodes())
+        nodes = plan.values.nodes() if plan.settled is None else plan.values.nodes_of_rest(plan.settled)
+        files.write_blocks(blocks, plan.grid, plan.values.processed, nodes)
         solution = run.solve_files(blocks, shared.folder / files.PREC, plan.project.schedule.factors)
+        solution = run.joined(solution, plan.settled, plan.values)
     cells = analyse.cells_of(plan, solution)
     table = table_of(plan, cells, solution)
     factors = np.array(plan.project.schedule.factors)
