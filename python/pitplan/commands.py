@@ -9,7 +9,7 @@ from typing import Any
 import numpy as np
 import pandas as pd
 
-from . import analyse, audit as audits, export as exports, files, pictures, report, run, view as views
+from . import absent, analyse, audit as audits, export as exports, files, pictures, report, run, view as views
 from .errors import PlanError
 from .pictures import Scene
 from .plan import Plan, prepare as prepare_plan
@@ -69,6 +69,7 @@ def pit(project: Project, folder: Path, factor: int, progress: Progress) -> tupl
         record = write_prepared(plan, stage, progress)
         keeping = run.solve(plan, stage, progress)
         free = run.solve_files(stage / files.BLOCKS, stage / files.PREC, within)
+        absent.demand_known(free.entry, plan.grid, project, plan.source)
         check_fixed(plan, keeping, factor, stage, progress)
         table = pd.concat([analyse.shells(plan, solution).tail(1) for solution in (keeping, free)], ignore_index=True)
         table.insert(0, "fixed_blocks", ["kept", "free"])

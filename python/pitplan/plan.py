@@ -10,7 +10,7 @@ from typing import Any, Optional, Union
 import numpy as np
 import pandas as pd
 
-from . import files, fixed as fixing, grid as grids, money, slopes, table as tables, trim
+from . import absent, files, fixed as fixing, grid as grids, money, slopes, table as tables, trim
 from .errors import PlanError
 from .files import Needs, Pairs
 from .fixed import NOTHING, FixedBlocks, Settled
@@ -128,8 +128,8 @@ class Plan:
             "origin": list(self.grid.origin),
             "size": list(self.grid.size),
             "cells": self.grid.count,
-            "cells_taken_as_air": self.grid.count - len(self.table),
-            "of_these_below_a_block": cells_below_blocks(self.grid),
+            "cells_without_a_row": self.grid.count - len(self.table),
+            "of_these_not_above_the_highest_of_their_column": len(absent.unknown_cells(self.grid)),
             "greatest_shift_of_a_centre": greatest_shift(self.table, self.grid, self.project),
         }
 
@@ -174,7 +174,7 @@ def prepare(
         checked = tables.read(project) if table is None else tables.checked(table, project)
         frame = checked.frame
     with progress.step("laying the grid"):
-        grid = grids.of_table(frame, project, source)
+        frame, grid = absent.with_rows(frame, grids.of_table(frame, project, source), project)
     with progress.step("laying the walls"):
         region = slopes.regions_of(frame, grid, project.table.region)
         walls = slopes.walls_of(region, grid, project.slopes)
@@ -220,11 +220,7 @@ def notes_of(plan: Plan) -> list[str]:
     grid, count = plan.grid, len(plan.table)
     levels, rows, columns = grid.shape
     notes = [f"{count:,} blocks lie on a grid of {columns} x {rows} x {levels} = {grid.count:,} cells"]
-    if grid.count > count:
-        notes.append(f"{grid.count - count:,} cells have no row and are taken as air, which costs nothing to dig")
-    below = cells_below_blocks(grid)
-    if below:
-        notes.append(f"WARNING: {below:,} of these cells lie below a block of the table: is rock missing from it?")
+    notes += absent.notes(plan.table, grid, plan.project)
     if plan.values.cutoff == "moving":
         notes.append(f"{len(plan.values.ore):,} blocks have a node for processing: the cut-off moves with the price")
     else:
@@ -246,15 +242,6 @@ def notes_of(plan: Plan) -> list[str]:
                 f"{name}: {rounding.changed:,} of {rounding.values:,} amounts were rounded, by {rounding.largest:.2g} at most"
             )
     return notes
-
-
-def cells_below_blocks(grid: Grid) -> int:
-    """How many cells without a row lie below one that has a row: holes that are dug for nothing."""
-    filled = np.zeros(grid.count, dtype=bool)
-    filled[grid.rows] = True
-    cube = grid.cube(filled)
-    above = np.maximum.accumulate(cube, axis=0)
-    return int(np.count_nonzero(above & ~cube))
 
 
 def greatest_shift(table: pd.DataFrame, grid: Grid, project: Project) -> float:

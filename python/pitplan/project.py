@@ -24,8 +24,17 @@ PATTERNS = ("1:5", "1:9")
 
 
 @dataclass(frozen=True)
+class AbsentRock:
+    """What lies in cells that the table has no row of: tonnes a cell, and codes of rock and region, "" where none is given."""
+
+    tonnes: float
+    rock: str
+    region: str
+
+
+@dataclass(frozen=True)
 class TableColumns:
-    """Where the table is, and which of its columns say what."""
+    """Where the table is, which of its columns say what, and what lies where it has no row: "refuse", "air" or a rock."""
 
     file: Path
     x: str
@@ -37,6 +46,7 @@ class TableColumns:
     region: Optional[str]
     separator: str
     empty: str
+    absent: Union[str, AbsentRock]
 
 
 @dataclass(frozen=True)
@@ -229,9 +239,23 @@ def read_table(section: Section, folder: Path) -> TableColumns:
         region=section.optional_text("region"),
         separator=section.text("separator", ","),
         empty=section.choice("empty", ("refuse", "zero"), "refuse"),
+        absent=read_absent(section),
     )
     section.finish()
+    for name, code in (("rock", columns.rock), ("region", columns.region)):
+        if isinstance(columns.absent, AbsentRock) and bool(getattr(columns.absent, name)) != bool(code):
+            raise section.wrong("absent", f"needs a {name} where, and only where, a column of the table is its {name}")
     return columns
+
+
+def read_absent(section: Section) -> Union[str, AbsentRock]:
+    if not section.has("absent") or not isinstance(section.data["absent"], dict):
+        return section.choice("absent", ("refuse", "air"), "refuse")
+    rock = section.section("absent")
+    tonnes = float(rock.number("tonnes", least=0))
+    absent = AbsentRock(tonnes, rock.optional_text("rock") or "", rock.optional_text("region") or "")
+    rock.finish()
+    return absent
 
 
 def read_grid(section: Section) -> GridRules:

@@ -15,7 +15,7 @@ from typing import Optional, Union
 import numpy as np
 import pandas as pd
 
-from . import files
+from . import absent, files
 from .errors import BudgetUsedUp, PlanError, ProgramError
 from .fixed import Settled
 from .money import Values
@@ -115,7 +115,7 @@ def solve(plan: Plan, folder: Optional[Path] = None, progress: Progress = silent
     """The shells of a plan at all its factors, with its fixed blocks; its files are those in `folder`, or are written for the time
     being.
 
-    Raises ProgramError where the program is missing or refuses.
+    Raises ProgramError where the program is missing or refuses, and PlanError where a shell reaches ground that is not known.
     """
     if folder is None:
         with tempfile.TemporaryDirectory(prefix="pitplan-") as place:
@@ -125,7 +125,9 @@ def solve(plan: Plan, folder: Optional[Path] = None, progress: Progress = silent
     names = (files.BLOCKS, files.PREC) if plan.settled is None else (files.REST_BLOCKS, files.REST_PREC)
     with progress.step(f"solving {len(factors)} factors"):
         rest = solve_files(folder / names[0], folder / names[1], factors)
-    return joined(rest, plan.settled, plan.values)
+    solution = joined(rest, plan.settled, plan.values)
+    absent.demand_known(solution.entry, plan.grid, plan.project, plan.source)
+    return solution
 
 
 def joined(rest: Solution, settled: Optional[Settled], values: Values) -> Solution:

@@ -11,7 +11,7 @@ from pathlib import Path
 import numpy as np
 import pandas as pd
 
-from .. import analyse, files, money, run
+from .. import absent, analyse, files, money, run
 from ..errors import PlanError, ProgramError
 from ..files import staged_file
 from ..plan import Plan
@@ -104,6 +104,7 @@ def write_answer(shared: Shared, scenario: Scenario) -> None:
         files.write_blocks(blocks, plan.grid, plan.values.processed, nodes)
         solution = run.solve_files(blocks, shared.folder / files.PREC, plan.project.schedule.factors)
         solution = run.joined(solution, plan.settled, plan.values)
+        absent.demand_known(solution.entry, plan.grid, plan.project, plan.source)
     cells = analyse.cells_of(plan, solution)
     table = table_of(plan, cells, solution)
     factors = np.array(plan.project.schedule.factors)
