@@ -60,6 +60,10 @@ class Grid:
         (x, y, z), (dx, dy, dz) = self.origin, self.size
         return x + column * dx, y + row * dy, z - level * dz
 
+    def elevations(self) -> np.ndarray:
+        """Metres of the centres of each level, from the top."""
+        return self.origin[2] - np.arange(self.shape[0]) * self.size[2]
+
     def extent(self) -> tuple[float, float, float, float, float, float]:
         """West, east, south, north, floor and top of the box in metres."""
         (x, y, z), (dx, dy, dz), (levels, rows, columns) = self.origin, self.size, self.shape

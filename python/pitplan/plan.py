@@ -69,6 +69,11 @@ class Plan:
         return frame.sort_values("id").reset_index(drop=True)
 
     @property
+    def reference(self) -> float:
+        """The elevation in metres of the top of the level below which mining costs more."""
+        return self.grid.extent()[5] - self.values.first_level * self.grid.size[2]
+
+    @property
     def needs(self) -> Needs:
         """The needs of the whole mine."""
         return Needs(self.grid, self.walls, self.used, self.values.processed)
@@ -187,7 +192,7 @@ def prepare(
 
 def plan_of(project: Project, frame: pd.DataFrame, grid: Grid, walls: Walls, source: str) -> Plan:
     """A plan of a checked table, without notes. Raises PlanError where its blocks cannot be weighed."""
-    values = money.values_of(frame, grid, project, source)
+    values = money.values_of(frame, grid, project, source, lambda paying: trim.used_blocks(grid, walls, paying))
     fixed = fixing.of_table(frame, grid, project, source)
     used = trim.used_blocks(grid, walls, wanted(values, project, fixed))
     plan = Plan(project, frame, grid, values, walls, used, source, fixed=fixed)
@@ -229,6 +234,11 @@ def notes_of(plan: Plan) -> list[str]:
         notes.append(f"{plan.filled:,} empty fields were taken as 0")
     notes += [pattern.sentence() for pattern in plan.walls.patterns]
     notes += plan.values.notes
+    if plan.project.money.mining_cost_per_level and plan.project.money.mining_cost_reference is None:
+        notes.append(
+            f"mining costs more for each level below that of {plan.reference - grid.size[2]:.10g} to {plan.reference:.10g} m, the "
+            "highest of which ore needs a block: [money] mining_cost_reference names another elevation"
+        )
     notes += plan.fixed.notes
     if plan.settled is not None:
         rock = plan.values.tonnes > 0

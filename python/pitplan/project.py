@@ -81,11 +81,18 @@ class Metal:
 
 @dataclass(frozen=True)
 class Money:
-    """Costs a tonne, how many decimals of the currency are kept, and whether the cut-off moves with the price."""
+    """Costs a tonne, how many decimals of the currency are kept, and whether the cut-off moves with the price.
+
+    mining_cost_per_level     more a tonne for each level below the one that holds the reference
+    mining_cost_reference     an elevation in metres; None: the top of the highest block that any ore needs
+    mining_cost_by_elevation  pairs of an elevation in metres and what mining costs more there, a tonne; rising
+    """
 
     currency: str
     mining_cost: ByRock
     mining_cost_per_level: Decimal
+    mining_cost_reference: Optional[Decimal]
+    mining_cost_by_elevation: tuple[tuple[Decimal, Decimal], ...]
     processing_cost: ByRock
     decimals: int
     cutoff: str
@@ -275,12 +282,30 @@ def read_money(section: Section) -> Money:
         currency=section.text("currency", "USD"),
         mining_cost=section.by_rock("mining_cost"),
         mining_cost_per_level=section.number("mining_cost_per_level", Decimal(0), least=0),
+        mining_cost_reference=section.number("mining_cost_reference") if section.has("mining_cost_reference") else None,
+        mining_cost_by_elevation=read_by_elevation(section),
         processing_cost=section.by_rock("processing_cost"),
         decimals=section.whole("decimals", 6, 0, 6),
         cutoff=section.choice("cutoff", ("moving", "fixed"), "moving"),
     )
     section.finish()
+    if money.mining_cost_reference is not None and not section.has("mining_cost_per_level"):
+        raise section.wrong("mining_cost_reference", "says from where on mining_cost_per_level is added, which is missing")
+    if money.mining_cost_by_elevation and section.has("mining_cost_per_level"):
+        raise section.wrong("mining_cost_by_elevation", "give it or mining_cost_per_level, not both")
     return money
+
+
+def read_by_elevation(section: Section) -> tuple[tuple[Decimal, Decimal], ...]:
+    """Pairs of elevation and added cost, by rising elevation."""
+    if not section.has("mining_cost_by_elevation"):
+        return ()
+    pairs = sorted(section.pairs("mining_cost_by_elevation", "elevation, cost a tonne"))
+    if any(cost < 0 for _, cost in pairs):
+        raise section.wrong("mining_cost_by_elevation", "a cost may not be negative")
+    if len({elevation for elevation, _ in pairs}) < len(pairs):
+        raise section.wrong("mining_cost_by_elevation", "an elevation is named twice")
+    return tuple(pairs)
 
 
 def read_metal(section: Section) -> Metal:
@@ -319,7 +344,7 @@ def read_wall(section: Section) -> Wall:
     if given == ["angle"]:
         angles = ((0.0, float(section.number("angle"))),)
     if given == ["azimuths"]:
-        angles = section.pairs("azimuths")
+        angles = tuple((float(azimuth), float(angle)) for azimuth, angle in section.pairs("azimuths", "azimuth, angle"))
     if any(not 1 <= angle <= 90 for _, angle in angles):
         raise section.wrong(given[0], "a wall angle is from 1 to 90 degrees")
     if any(not 0 <= azimuth < 360 for azimuth, _ in angles) or len({azimuth for azimuth, _ in angles}) < len(angles):

@@ -101,11 +101,12 @@ class Section:
             raise self.wrong(key, f"must be a list of {count} numbers")
         return [float(self.as_number(key, item)) for item in value]
 
-    def pairs(self, key: str) -> tuple[tuple[float, float], ...]:
+    def pairs(self, key: str, of: str) -> tuple[tuple[Decimal, Decimal], ...]:
+        """A list of pairs of numbers; `of` names the two."""
         value = self.get(key)
         if not isinstance(value, list) or not value or any(not isinstance(p, list) or len(p) != 2 for p in value):
-            raise self.wrong(key, "must be a list of pairs [azimuth, angle]")
-        return tuple((float(self.as_number(key, a)), float(self.as_number(key, b))) for a, b in value)
+            raise self.wrong(key, f"must be a list of pairs [{of}]")
+        return tuple((self.as_number(key, a), self.as_number(key, b)) for a, b in value)
 
     def names(self, key: str) -> Optional[tuple[str, ...]]:
         """Codes as texts: one, or a list of them; None where the key is missing."""

@@ -20,6 +20,26 @@ from pitplan import PlanError
         ("mining_cost = 2", "mining_cost = -2", "[money] mining_cost: may not be negative"),
         ("mining_cost = 2", "mining_cost = 2\ndecimals = 7", "[money] decimals: must be a whole number from 0 to 6"),
         ("mining_cost = 2", 'mining_cost = 2\ncutoff = "loose"', '[money] cutoff: "loose" is none of moving, fixed'),
+        (
+            "mining_cost = 2",
+            "mining_cost = 2\nmining_cost_reference = 100",
+            "[money] mining_cost_reference: says from where on mining_cost_per_level is added, which is missing",
+        ),
+        (
+            "mining_cost = 2",
+            "mining_cost = 2\nmining_cost_per_level = 1\nmining_cost_by_elevation = [[10, 1]]",
+            "[money] mining_cost_by_elevation: give it or mining_cost_per_level, not both",
+        ),
+        (
+            "mining_cost = 2",
+            "mining_cost = 2\nmining_cost_by_elevation = [[10, 1], [10, 2]]",
+            "[money] mining_cost_by_elevation: an elevation is named twice",
+        ),
+        (
+            "mining_cost = 2",
+            "mining_cost = 2\nmining_cost_by_elevation = [10, 1]",
+            "[money] mining_cost_by_elevation: must be a list of pairs [elevation, cost a tonne]",
+        ),
         ("recovery = 0.5", "recovery = 50", "[metals 1] recovery: must lie from 0 to 1"),
         ('unit = "percent"', 'unit = "ppm"', '[metals 1] unit: "ppm" is none of percent, fraction, gram_per_tonne'),
         ("[10, 10, 10]", "[10, 10]", "[grid] size: must be a list of 3 numbers"),

@@ -104,7 +104,7 @@ def read_shared(folder: Path) -> Shared:
     grid = files.grid_of(record["grid"], arrays.pop("cells"))
     ore = arrays.pop("ore")
     settled = Settled(arrays.pop("dug"), arrays.pop("left")) if "dug" in arrays else None
-    project = load(folder / PROJECT)
+    project = referred(load(folder / PROJECT), record["mining_cost_reference"])
     return Shared(folder, project, pd.DataFrame(arrays), grid, ore, record, settled)
 
 
@@ -113,8 +113,16 @@ def key_of(parts: dict[str, Any]) -> str:
     return hashlib.sha256(json.dumps(parts, sort_keys=True, default=repr).encode()).hexdigest()[:20]
 
 
-def meaning(project: Project) -> dict[str, Any]:
+def referred(project: Project, reference: float) -> Project:
+    """The project with the elevation in metres from which on mining costs more, which is one for all scenarios."""
+    if not project.money.mining_cost_per_level:
+        return project
+    return replace(project, money=replace(project.money, mining_cost_reference=Decimal(repr(reference))))
+
+
+def meaning(project: Project, reference: float) -> dict[str, Any]:
     """What of a project changes a scenario's answer; prices stand beside it, and the table has a hash of its own."""
+    project = referred(project, reference)
     without_prices = [asdict(replace(metal, price=Decimal(0))) for metal in project.metals]
     parts = {"money": asdict(project.money), "metals": without_prices, "slopes": asdict(project.slopes)}
     return {**parts, "factors": list(project.schedule.factors)}

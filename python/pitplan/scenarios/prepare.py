@@ -89,7 +89,7 @@ def list_of(base: Base, plan: Plan, read: Models, program: dict[str, str]) -> li
     project, settled = base.project, arrays_of_settled(plan)
     walls = {"code": base.walls.code, **{str(k): np.array(p.offsets) for k, p in enumerate(base.walls.patterns)}}
     common = {
-        "project": folders.meaning(project),
+        "project": folders.meaning(project, plan.reference),
         "blocks": folders.hash_of_arrays({**arrays_of(base), **walls, **settled}),
         "program": program["sha256"],
     }
@@ -112,6 +112,7 @@ def write_record(plan: Plan, scenarios: list[Scenario], program: dict[str, str],
         "factors": list(plan.project.schedule.factors),
         "program": program,
         "grid": {"shape": plan.grid.shape, "origin": plan.grid.origin, "size": plan.grid.size},
+        "mining_cost_reference": plan.reference,
         "notes": [note for note in plan.notes if "amounts were rounded" not in note],
         "files": files.hashes(stage, written),
         "scenarios": [vars(scenario) for scenario in scenarios],
