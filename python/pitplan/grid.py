@@ -12,6 +12,8 @@ from .project import GridRules, Project, TableColumns
 from .table import at_row
 
 MOST_BLOCKS = 4_194_304
+# Up to this share of the rows may lie off the grid that the others make: these are named then.
+FEW = 0.01
 
 
 @dataclass(frozen=True)
@@ -110,19 +112,29 @@ def axis_of(frame: pd.DataFrame, name: str, k: int, rules: GridRules, source: st
     if rules.size is not None:
         size = rules.size[k]
     elif len(gaps) == 0:
-        raise PlanError(f"{source} column {name}: all blocks lie at {first:g}: give the blocks' size as [grid] size")
+        raise PlanError(f"{source} column {name}: all blocks lie at {first:.10g}: give the blocks' size as [grid] size")
     else:
-        size = float(gaps.min())
+        size = step_of(values, gaps, rules.tolerance)
         size = float(distinct[-1] - first) / round(float(distinct[-1] - first) / size)
     first = most_common_lattice(values, first, size, rules.tolerance)
     place = np.rint((values - first) / size)
     off = np.abs(values - (first + place * size))
     if off.max() > rules.tolerance:
         row = int((off > rules.tolerance).argmax())
-        why = f"{values[row]:g} is off the grid {first:g}, {first + size:g}, {first + 2 * size:g}, .. by {off[row]:g} m"
+        centres = ", ".join(f"{first + steps * size:.10g}" for steps in range(3))
+        why = f"{values[row]:.10g} is off the grid {centres}, .. by {off[row]:g} m"
         raise at_row(source, row, name, f"{why}: reblock sub-blocks first, and turn a rotated model to its own axes")
     least = place.min()
     return Axis(float(first + least * size), size, int(place.max() - least) + 1, (place - least).astype(np.int64))
+
+
+def step_of(values: np.ndarray, gaps: np.ndarray, tolerance: float) -> float:
+    """The step between centres: the smallest gap, or the most common one where but a few centres are off it, which are mistakes then."""
+    steps, counts = np.unique(gaps.round(6), return_counts=True)
+    usual = float(steps[counts.argmax()])
+    first = most_common_lattice(values, float(values.min()), usual, tolerance)
+    off = np.abs((values - first) - np.rint((values - first) / usual) * usual) > tolerance
+    return usual if 0 < off.mean() < FEW else float(gaps.min())
 
 
 def most_common_lattice(values: np.ndarray, first: float, size: float, tolerance: float) -> float:

@@ -186,7 +186,7 @@ def prepare(
     with progress.step("weighing the blocks"):
         plan = plan_of(project, frame, grid, walls, source)
     plan.filled = checked.filled
-    plan.notes = notes_of(plan)
+    plan.notes = [*checked.notes, *notes_of(plan)]
     return plan
 
 

@@ -2,6 +2,7 @@
 
 from __future__ import annotations
 
+import codecs
 import tomllib
 from dataclasses import dataclass
 from decimal import Decimal
@@ -44,7 +45,9 @@ class TableColumns:
     id: Optional[str]
     rock: Optional[str]
     region: Optional[str]
-    separator: str
+    separator: Optional[str]
+    decimal: Optional[str]
+    encoding: str
     empty: str
     absent: Union[str, AbsentRock]
 
@@ -187,10 +190,11 @@ def load(path: Union[str, Path]) -> Project:
     """Reads a project. Raises PlanError, with the file, the section and the key, where something is missing or wrong."""
     path = Path(path)
     try:
-        with open(path, "rb") as file:
-            data = tomllib.load(file, parse_float=Decimal)
+        data = tomllib.loads(path.read_text(encoding="utf-8-sig"), parse_float=Decimal)
     except OSError as error:
         raise PlanError(f"{path}: cannot be read: {error.strerror}") from error
+    except UnicodeDecodeError as error:
+        raise PlanError(f"{path}: is not written in UTF-8: save it so") from error
     except tomllib.TOMLDecodeError as error:
         raise PlanError(f"{path}: {error}") from error
     return of_data(data, path)
@@ -201,7 +205,7 @@ def of_data(data: dict, path: Path) -> Project:
     output = top.section("output", optional=True)
     project = Project(
         path=path,
-        title=top.text("title", path.parent.name or "plan"),
+        title=read_title(top, path.parent.name or "plan"),
         table=read_table(top.section("table"), path.parent),
         grid=read_grid(top.section("grid", optional=True)),
         money=read_money(top.section("money")),
@@ -216,6 +220,14 @@ def of_data(data: dict, path: Path) -> Project:
     top.finish()
     demand_agreement(project)
     return project
+
+
+def read_title(top: Section, default: str) -> str:
+    """A title of one line, since the program's model has it in one."""
+    title = top.text("title", default)
+    if not title.isprintable():
+        raise top.wrong("title", "must be one line of plain text")
+    return title
 
 
 def demand_agreement(project: Project) -> None:
@@ -244,7 +256,9 @@ def read_table(section: Section, folder: Path) -> TableColumns:
         id=section.optional_text("id"),
         rock=section.optional_text("rock"),
         region=section.optional_text("region"),
-        separator=section.text("separator", ","),
+        separator=section.optional_text("separator"),
+        decimal=section.choice("decimal", (".", ","), None) if section.has("decimal") else None,
+        encoding=read_encoding(section),
         empty=section.choice("empty", ("refuse", "zero"), "refuse"),
         absent=read_absent(section),
     )
@@ -253,6 +267,16 @@ def read_table(section: Section, folder: Path) -> TableColumns:
         if isinstance(columns.absent, AbsentRock) and bool(getattr(columns.absent, name)) != bool(code):
             raise section.wrong("absent", f"needs a {name} where, and only where, a column of the table is its {name}")
     return columns
+
+
+def read_encoding(section: Section) -> str:
+    """A name that Python knows; of UTF-8 a byte-order mark is passed over."""
+    name = section.text("encoding", "utf-8")
+    try:
+        known = codecs.lookup(name).name
+    except LookupError as error:
+        raise section.wrong("encoding", f'"{name}" is no encoding: such are utf-8, cp1252 and utf-16') from error
+    return "utf-8-sig" if known == "utf-8" else known
 
 
 def read_absent(section: Section) -> Union[str, AbsentRock]:

@@ -61,7 +61,16 @@ def test_rock_above_the_surface_must_be_dug(plan_folder, tmp_path):
     (tmp_path / "mined.csv").write_text(points)
     plan = prepare(load(plan_folder(rows(3, 1, 3), with_section('[fixed]\nsurface = "mined.csv"\n'))))
     assert plan.fixed.forced.tolist() == [0, 1, 4]
-    assert any("1 columns of blocks have no point" in note for note in plan.notes)
+    assert any("1 columns of blocks lie beyond all points" in note for note in plan.notes)
+
+
+def test_a_surface_of_few_points_is_laid_between_them(plan_folder, tmp_path):
+    """A plane that falls from 31 m in the west to 1 m in the east, by its corners alone: over the columns at 5, 15 and 25 m it lies
+    at 26, 16 and 6 m."""
+    (tmp_path / "mined.csv").write_text("x,y,z\n0,-50,31\n0,50,31\n30,-50,1\n30,50,1\n")
+    plan = prepare(load(plan_folder(rows(3, 1, 3), with_section('[fixed]\nsurface = "mined.csv"\n'))))
+    assert plan.fixed.forced.tolist() == [1, 2, 5]
+    assert any("over 3 columns of blocks the surface was laid between the points round them" in note for note in plan.notes)
 
 
 def test_areas_on_the_map(plan_folder, tmp_path):

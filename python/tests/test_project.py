@@ -7,6 +7,15 @@ import pitplan
 from pitplan import PlanError
 
 
+def test_a_byte_order_mark_is_passed_over_and_another_encoding_is_refused(plan_folder):
+    path = plan_folder(rows(2, 2, 2))
+    path.write_bytes(PROJECT.encode("utf-8-sig"))
+    assert pitplan.load(path).title == "Test hill"
+    path.write_bytes(PROJECT.replace("Test hill", "H\u00fcgel").encode("cp1252"))
+    with pytest.raises(PlanError, match="is not written in UTF-8"):
+        pitplan.load(path)
+
+
 @pytest.mark.parametrize(
     "old, new, words",
     [
@@ -16,6 +25,9 @@ from pitplan import PlanError
             "mining_cost = 2\nminning_cost = 2",
             "[money] minning_cost: is no key here; mining_cost is",
         ),
+        ('title = "Test hill"', 'title = """Test\nhill"""', "title: must be one line of plain text"),
+        ('id = "name"', 'id = "name"\nencoding = "utf-9"', '[table] encoding: "utf-9" is no encoding: such are utf-8, cp1252'),
+        ('id = "name"', 'id = "name"\ndecimal = ";"', '[table] decimal: ";" is none of ., ,'),
         ("mining_cost = 2", "mining_cost = true", "[money] mining_cost: True is not a number"),
         ("mining_cost = 2", "mining_cost = -2", "[money] mining_cost: may not be negative"),
         ("mining_cost = 2", "mining_cost = 2\ndecimals = 7", "[money] decimals: must be a whole number from 0 to 6"),

@@ -18,6 +18,7 @@ from ..plan import Plan, notes_of, plan_of
 from ..project import Metal, Project, Scenarios
 from ..slopes import Walls
 from ..table import HEADER_ROWS, at_row
+from ..table_format import format_of
 
 
 @dataclass(frozen=True)
@@ -81,7 +82,7 @@ def column_lists(project: Project) -> dict[str, list[str]]:
     if not asked:
         return {}
     columns = project.table
-    header = list(tables.read_header(columns.file, columns.separator))
+    header = list(tables.read_header(columns.file, format_of(columns.file, columns)))
     lists = {}
     for metal, names in asked.items():
         lists[metal] = [found for name in names for found in (fnmatch.filter(header, name) if "*" in name else [name])]
@@ -123,7 +124,7 @@ def read_model(path: Path, base: Base) -> np.ndarray:
     source, grades = str(path), [metal.column for metal in metals]
     places = [columns.x, columns.y, columns.z]
     codes = [columns.id] if columns.id else []
-    frame = tables.read_columns(path, columns.separator, codes, [*codes, *places, *grades])
+    frame, _ = tables.read_as_written(path, columns, codes, [*codes, *places, *grades])
     by_id = columns.id is not None and columns.id in frame.columns
     tables.demand_columns(frame, [*(codes if by_id else places), *grades], source)
     at = rows_by_id(frame, base, source) if by_id else rows_by_place(frame, base, source)
