@@ -3,7 +3,9 @@
 from __future__ import annotations
 
 import argparse
+import signal
 import sys
+import threading
 from pathlib import Path
 from typing import Any, Optional, Sequence
 
@@ -14,6 +16,9 @@ from . import commands, report, scenarios
 from .errors import PlanError
 from .progress import Progress, on_standard_error, silent
 from .project import REFERENCE_FACTOR, Project, load
+
+# As a shell has it: 128 and the signal's number.
+INTERRUPTED = 130
 
 
 def parser() -> argparse.ArgumentParser:
@@ -83,12 +88,14 @@ def positive(text: str) -> int:
 
 
 def main(arguments: Optional[Sequence[str]] = None) -> int:
-    """Runs one subcommand: 0 where it is done, 1 where the input is refused, with a sentence on standard error.
+    """Runs one subcommand: 0 where it is done, 1 where the input is refused, with a sentence on standard error, 130 where it was
+    interrupted.
 
     `scenario` ends with the status of its scenario.
     """
     options = parser().parse_args(arguments)
     progress = silent if getattr(options, "quiet", False) else on_standard_error()
+    end_where_asked()
     try:
         if options.command == "scenario":
             outcome = scenarios.one(options.folder, options.number)
@@ -106,7 +113,16 @@ def main(arguments: Optional[Sequence[str]] = None) -> int:
     except (PlanError, minelib.MinelibError) as error:
         print(f"pitplan: {error}", file=sys.stderr)
         return 1
+    except KeyboardInterrupt:
+        print("pitplan: interrupted", file=sys.stderr)
+        return INTERRUPTED
     return 0
+
+
+def end_where_asked() -> None:
+    """Lets a request to end (SIGTERM) unwind as an interruption does, so that nothing half written stays behind."""
+    if threading.current_thread() is threading.main_thread():
+        signal.signal(signal.SIGTERM, lambda number, frame: sys.exit(128 + number))
 
 
 def run_command(options: argparse.Namespace, project: Project, folder: Path, progress: Progress) -> None:

@@ -2,8 +2,10 @@
 
 import json
 import os
+import signal
 import subprocess
 import sys
+import time
 import xml.etree.ElementTree as xml
 from decimal import Decimal
 
@@ -270,6 +272,25 @@ def test_the_command_line_refuses_in_one_sentence(plan_folder, capsys):
     path = plan_folder(rows(3, 3, 3), PROJECT, ("mining_cost = 2", "mining_cost = -2"))
     assert main(["prepare", str(path)]) == 1
     assert capsys.readouterr().err == f"pitplan: {path}: [money] mining_cost: may not be negative\n"
+
+
+@pytest.mark.parametrize(("asked", "status", "said"), [(signal.SIGINT, 130, "pitplan: interrupted"), (signal.SIGTERM, 143, "")])
+def test_a_run_that_is_ended_says_so_in_one_line_and_leaves_nothing(plan_folder, tmp_path, asked, status, said):
+    """While a program runs that never ends."""
+    slow = tmp_path / "slow"
+    slow.write_text(f"#!/bin/sh\n[ $1 = --version ] && exit 0\ntouch {tmp_path}/began\nexec sleep 60\n")
+    slow.chmod(0o755)
+    path = plan_folder(rows(4, 4, 3, **ORE))
+    words = [str(ROOT / "tools" / "pitplan"), "shells", str(path), "--quiet"]
+    ran = subprocess.Popen(words, env={**os.environ, "PITSHELL": str(slow)}, stderr=subprocess.PIPE, text=True)
+    for _ in range(600):
+        if (tmp_path / "began").exists():
+            break
+        time.sleep(0.05)
+    ran.send_signal(asked)
+    _, err = ran.communicate(timeout=30)
+    assert (ran.returncode, err.strip()) == (status, said)
+    assert list((path.parent / "plan").iterdir()) == []
 
 
 def test_the_script_runs_by_itself(plan_folder):
