@@ -21,11 +21,13 @@ from .exact import Exact, Rounding
 from .fixed import Settled
 from .grid import MOST_BLOCKS, Grid
 from .project import GRADE_UNITS, ByRock, Metal, Money, Project
-from .table import at_row
+from .table import HEADER_ROWS, at_row
 
 MILLIONTHS = 6
 # The files' decimals have twelve digits before the point, and a fixed cut-off adds two amounts.
 GREATEST = 10**17
+# By unit the grade of pure metal, and a mean grade that hardly any mine reaches.
+GRADES = {"percent": (100.0, 10.0), "fraction": (1.0, 0.1), "gram_per_tonne": (1e6, 100.0)}
 # From a truth for each cell to one whether it is such a cell, or needed by one.
 Needed = Callable[[np.ndarray], np.ndarray]
 
@@ -217,7 +219,7 @@ def spread_values(rows: Rows, metal: dict[str, Exact], kept: dict[str, tuple[np.
         metal={name: grid.spread(amounts.floats()) for name, amounts in metal.items()},
         cutoff=cutoff,
         roundings={name: rounding for name, (_, rounding) in kept.items()},
-        notes=tuple(rock_notes(rows.project, rows.rock, tonnes > 0)),
+        notes=(*grade_notes(rows), *rock_notes(rows.project, rows.rock, tonnes > 0)),
         first_level=first,
     )
 
@@ -225,6 +227,24 @@ def spread_values(rows: Rows, metal: dict[str, Exact], kept: dict[str, tuple[np.
 def whole_numbers(values: np.ndarray) -> np.ndarray:
     """The same numbers as Python's own, which have no limit of size."""
     return np.asarray(values, dtype=np.int64).astype(object)
+
+
+def grade_notes(rows: Rows) -> list[str]:
+    """Warnings of grades that a unit hardly allows: more than all of the rock, or a mean that few mines have."""
+    notes = []
+    for metal in rows.project.metals:
+        grades, (whole, usual) = rows.frame[metal.column].to_numpy(), GRADES[metal.unit]
+        some = grades[grades > 0]
+        if len(some) and some.max() > whole:
+            row = int((grades > whole).argmax()) + HEADER_ROWS
+            notes.append(
+                f"WARNING: {np.count_nonzero(some > whole):,} grades of {metal.name} are above {whole:,g} {metal.sign}, the first in row {row}"
+            )
+        elif len(some) and some.mean() > usual:
+            notes.append(
+                f'WARNING: the mean grade of {metal.name}, where there is any, is {some.mean():.4g} {metal.sign}: is the unit "{metal.unit}" right?'
+            )
+    return notes
 
 
 def rock_notes(project: Project, rock: np.ndarray, solid: np.ndarray) -> list[str]:

@@ -147,6 +147,24 @@ def test_missing_prices_and_huge_amounts_are_refused(plan_folder, change, words)
         pitplan.prepare(plan_folder(table, PROJECT, change))
 
 
+@pytest.mark.parametrize(
+    ("unit", "grade", "said"),
+    [
+        ("percent", 100.5, "WARNING: 2 grades of copper are above 100 %, the first in row 3"),
+        ("percent", 11, 'WARNING: the mean grade of copper, where there is any, is 11 %: is the unit "percent" right?'),
+        ("fraction", 0.336, 'WARNING: the mean grade of copper, where there is any, is 0.336 t/t: is the unit "fraction" right?'),
+        ("gram_per_tonne", 4000, 'is 4000 g/t: is the unit "gram_per_tonne" right?'),
+        ("percent", 9, ""),
+        ("gram_per_tonne", 90, ""),
+    ],
+)
+def test_grades_that_a_unit_hardly_allows_are_warned_of(plan_folder, unit, grade, said):
+    table = rows(2, 1, 2, cu=lambda i, j, k: grade * i)
+    notes = pitplan.prepare(plan_folder(table, PROJECT, ('unit = "percent"', f'unit = "{unit}"'))).notes
+    warned = [note for note in notes if "grade" in note]
+    assert len(warned) == bool(said) and all(note.endswith(said) for note in warned)
+
+
 def test_rocks_without_recovery_are_told(plan_folder):
     table = rows(2, 1, 2, cu=lambda i, j, k: 0.5, rock=lambda i, j, k: "RS"[k])
     plan = pitplan.prepare(plan_folder(table, PROJECT, ("recovery = 0.5", "recovery = { R = 0.5, OLD = 0.4 }")))
