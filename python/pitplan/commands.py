@@ -27,6 +27,7 @@ WRITTEN = {
     files.RECORD,
     files.TABLE,
     files.SHELLS,
+    files.YEARS,
     files.ANSWER,
     REPORT,
     VIEW,
@@ -91,13 +92,14 @@ def shells(project: Project, folder: Path, progress: Progress) -> tuple[pd.DataF
             (stage / files.ANSWER).write_bytes(solution.answer)
             write_table(analyse.blocks(plan, solution), stage)
             shown(table).to_csv(stage / files.SHELLS, index=False)
+            shown(analyse.years(plan, solution)).to_csv(stage / files.YEARS, index=False)
             record["notes"] += analyse.edge_notes(plan, solution)
             record["notes"] += [WITHOUT] if project.fixed else []
         chosen = analyse.chosen_factor(table, project.schedule)
         record["shells"] = {"factors": list(project.schedule.factors), "chosen": chosen, "program": identity}
         with progress.step("drawing"):
             draw(plan, solution, table, chosen, stage)
-        names = [*written(plan), files.ANSWER, files.TABLE, files.SHELLS, *PICTURES.values()]
+        names = [*written(plan), files.ANSWER, files.TABLE, files.SHELLS, files.YEARS, *PICTURES.values()]
         finish(plan, record, names, stage)
         write_report(project, table, record, stage)
     return table, record
@@ -128,12 +130,15 @@ def finish(plan: Plan, record: dict[str, Any], names: list[str], stage: Path) ->
 
 
 def shown(table: pd.DataFrame) -> pd.DataFrame:
-    """The table of shells as shells.csv has it: sums to a thousandth, grades and ratios to a millionth."""
+    """A table as shells.csv and years.csv have it: sums to a thousandth, grades and ratios to a millionth."""
     result = table.copy()
-    result["worth_at_factor"] = result["worth_at_factor"].map("{:f}".format)
+    if "worth_at_factor" in result:
+        result["worth_at_factor"] = result["worth_at_factor"].map("{:f}".format)
     for name in result.columns:
         if result[name].dtype == np.float64:
-            result[name] = result[name].round(6 if name.startswith("grade_") or name in ("strip_ratio", "years") else 3)
+            places = 6 if name.startswith("grade_") or name in ("strip_ratio", "years") else 3
+            # A hair below nothing is rounded to -0.0, which is no amount.
+            result[name] = result[name].round(places) + 0.0
     return result
 
 

@@ -22,7 +22,7 @@ from .needs import ABSENT, slices
 from .slopes import Walls
 
 BLOCKS, MODEL, PREC, FIXED = "mine.blocks", "mine.upit", "mine.prec", "mine.fixed"
-RECORD, TABLE, SHELLS, ANSWER = "prepare.json", "blocks.csv", "shells.csv", "shells.txt"
+RECORD, TABLE, SHELLS, YEARS, ANSWER = "prepare.json", "blocks.csv", "shells.csv", "years.csv", "shells.txt"
 CHUNK = 200_000
 
 

@@ -32,6 +32,7 @@ def test_shells_write_tables_pictures_and_a_page_that_needs_no_other_file(solved
             "prepare.json",
             "blocks.csv",
             "shells.csv",
+            "years.csv",
             "shells.txt",
             "report.html",
         }
