@@ -9,7 +9,7 @@ from typing import Any
 import numpy as np
 import pandas as pd
 
-from . import analyse, audit as audits, export as exports, files, pictures, report, run, view as views
+from . import analyse, audit as audits, export as exports, files, pictures, report, run, view as views, yearly
 from .errors import PlanError
 from .pictures import Scene
 from .plan import Plan, prepare as prepare_plan
@@ -19,7 +19,12 @@ from .project import Project
 PREPARED = [files.BLOCKS, files.MODEL, files.PREC]
 PIT_MODEL, PITS = "pit.upit", "pits.csv"
 WITHOUT = "the shells are those without the fixed blocks of the project: pitplan pit keeps to them"
-PICTURES = {"pit_by_pit": "pit_by_pit.png", "plans": "plans.png", "sections": "sections.png"}
+PICTURES = {
+    "pit_by_pit": "pit_by_pit.png",
+    "years": "years.png",
+    "plans": "plans.png",
+    "sections": "sections.png",
+}
 REPORT, VIEW = "report.html", "view.html"
 WRITTEN = {
     *PREPARED,
@@ -92,13 +97,15 @@ def shells(project: Project, folder: Path, progress: Progress) -> tuple[pd.DataF
             (stage / files.ANSWER).write_bytes(solution.answer)
             write_table(analyse.blocks(plan, solution), stage)
             shown(table).to_csv(stage / files.SHELLS, index=False)
-            shown(analyse.years(plan, solution)).to_csv(stage / files.YEARS, index=False)
+            years = analyse.years(plan, solution)
+            shown(years).to_csv(stage / files.YEARS, index=False)
             record["notes"] += analyse.edge_notes(plan, solution)
             record["notes"] += [WITHOUT] if project.fixed else []
         chosen = analyse.chosen_factor(table, project.schedule)
         record["shells"] = {"factors": list(project.schedule.factors), "chosen": chosen, "program": identity}
         with progress.step("drawing"):
             draw(plan, solution, table, chosen, stage)
+            yearly.picture(years, project, chosen, stage / PICTURES["years"])
         names = [*written(plan), files.ANSWER, files.TABLE, files.SHELLS, files.YEARS, *PICTURES.values()]
         finish(plan, record, names, stage)
         write_report(project, table, record, stage)
