@@ -320,7 +320,7 @@ def read_schedule(section: Section) -> Schedule:
     schedule = Schedule(
         factors=factors,
         chosen=chosen,
-        rate=float(section.number("rate", least=0)),
+        rate=read_rate(section),
         ore_per_year=float(section.number("ore_per_year", least=1)),
         rock_per_year=float(section.number("rock_per_year", least=1)) if section.has("rock_per_year") else None,
         discounting=section.choice("discounting", DISCOUNTINGS, DISCOUNTINGS[0]),
@@ -328,6 +328,13 @@ def read_schedule(section: Section) -> Schedule:
     )
     section.finish()
     return schedule
+
+
+def read_rate(section: Section) -> float:
+    rate = section.number("rate", least=0)
+    if rate > 1:
+        raise section.wrong("rate", f"{rate} is above 1: it is a yearly rate, such as 0.08 for 8 % a year")
+    return float(rate)
 
 
 def read_fixed(section: Section, folder: Path) -> FixedRules:
