@@ -8,6 +8,7 @@ from matplotlib import pyplot as plt
 
 import pitplan
 from pitplan import yearly
+from pitplan.scenarios import pictures as many
 
 YEARS = pd.DataFrame(
     [
@@ -82,3 +83,70 @@ def test_years_that_earn_nothing_are_drawn_too(plan_folder, panels, cash):
     assert np.isfinite([low, high]).all() and high > 0
     size = 1 if min(cash) == 0 else 1e6 if min(cash) <= -10e6 else 1e3
     assert low <= min(cash) / size
+
+
+def scenarios_at(*prices):
+    """Eleven models at each price: at the price 100 they have 0 to 10 kt at factor 500 and 10 kt more at 1000; each further
+    100 adds 100 kt. They are worth ten times as much in dollars."""
+    records = []
+    for number, price in enumerate(prices):
+        for model in range(11):
+            for factor, more in ((500, 0), (1000, 10_000)):
+                tonnes = float(1000 * model + more + 100_000 * (price / 100 - 1))
+                records.append((11 * number + model + 1, f"m{model}", float(price), factor, tonnes, f"{10 * tonnes:.9f}"))
+    names = ["scenario", "model", "price_copper", "factor", "tonnes", "worth_at_factor"]
+    return pd.DataFrame(records, columns=names)
+
+
+def corners(collection):
+    """The least and the greatest height of a band at each factor."""
+    path = collection.get_paths()[0].vertices
+    return {x: (min(path[path[:, 0] == x, 1]), max(path[path[:, 0] == x, 1])) for x in (500, 1000)}
+
+
+def test_each_set_of_prices_has_a_band_and_a_median_of_its_own(panels):
+    figure, axes = panels
+    many.draw_spread(figure, list(axes), scenarios_at(300, 100.5, 200), "USD")
+    for axis, size in zip(axes, (1, 10)):
+        starts = [500, 100_000, 200_000]
+        assert len(axis.collections) == 3 and len(axis.lines) == 3
+        for start, shown, line in zip(starts, axis.collections, axis.lines):
+            # A tenth of eleven models from 0 to 10 lie below 1, and a tenth above 9.
+            low, high, middle = (size * (start + 1000 * k) for k in (1, 9, 5))
+            more = 10_000 * size
+            np.testing.assert_allclose(corners(shown)[500], (low, high))
+            np.testing.assert_allclose(corners(shown)[1000], (low + more, high + more))
+            np.testing.assert_allclose(line.get_ydata(), [middle, middle + more])
+        assert len({line.get_color() for line in axis.lines}) == 3
+    names = [text.get_text() for text in figure.legends[0].get_texts()]
+    assert names == ["copper 100.5", "copper 200", "copper 300"]
+    assert figure.legends[0].get_title().get_text() == "medians and eight in ten of the models, by prices"
+
+
+def test_many_sets_of_prices_are_medians_alone(panels):
+    figure, axes = panels
+    many.draw_spread(figure, list(axes), scenarios_at(*range(100, 3100, 100)), "USD")
+    for axis in axes:
+        assert not axis.collections and len(axis.lines) == 30
+    names = [text.get_text() for text in figure.legends[0].get_texts()]
+    assert names == [f"copper {price:,}" for price in range(100, 3100, 300)]
+
+
+def test_six_sets_have_bands_and_seven_have_none(panels):
+    figure, axes = panels
+    many.draw_spread(figure, list(axes)[:1], scenarios_at(*range(100, 700, 100)), "USD")
+    many.draw_spread(figure, list(axes)[1:], scenarios_at(*range(100, 800, 100)), "USD")
+    assert [len(axis.collections) for axis in axes] == [6, 0] and [len(axis.lines) for axis in axes] == [6, 7]
+
+
+def test_the_projects_own_prices_have_the_band_of_all_models_too(panels):
+    figure, axes = panels
+    many.draw_spread(figure, list(axes), scenarios_at(100).drop(columns="price_copper"), "USD")
+    assert [corners(shown)[1000] for shown in axes[0].collections] == [(10_000, 20_000), (11_000, 19_000)]
+    assert [text.get_text() for text in figure.legends[0].get_texts()] == ["all", "eight in ten", "median"]
+
+
+def test_one_set_of_prices_is_named(panels):
+    figure, axes = panels
+    many.draw_spread(figure, list(axes), scenarios_at(100), "USD")
+    assert [text.get_text() for text in figure.legends[0].get_texts()] == ["all", "eight in ten", "median, copper 100"]
