@@ -7,7 +7,8 @@ from conftest import PROJECT, rows
 from matplotlib import pyplot as plt
 
 import pitplan
-from pitplan import yearly
+from pitplan import pictures, yearly
+from pitplan.grid import Grid
 from pitplan.scenarios import pictures as many
 
 YEARS = pd.DataFrame(
@@ -150,3 +151,56 @@ def test_one_set_of_prices_is_named(panels):
     figure, axes = panels
     many.draw_spread(figure, list(axes), scenarios_at(100), "USD")
     assert [text.get_text() for text in figure.legends[0].get_texts()] == ["all", "eight in ten", "median, copper 100"]
+
+
+def at_a_zone(origin=(430010.0, 6512012.5, 806.25)):
+    """A hill of 24 x 20 x 12 blocks at coordinates of a map's zone, with a pit in its middle."""
+    grid = Grid((12, 20, 24), origin, (20.0, 25.0, 12.5), np.arange(12 * 20 * 24))
+    level, row, column = np.indices(grid.shape)
+    inside = abs(row - 10) + abs(column - 12) + 2 * level < 12
+    return grid, np.where(inside, 1000, 0)
+
+
+def drawn_of(monkeypatch, module, draw):
+    """The figure that a picture would write, drawn."""
+    figures = []
+    monkeypatch.setattr(module, "finish", lambda figure, path: (figure.canvas.draw(), figures.append(figure)))
+    draw()
+    plt.close("all")
+    return figures[0]
+
+
+def demand_plain_coordinates(figure):
+    """Every tick of every map is all its digits, and no two of an axis overlap."""
+    for axis in (axis for axis in figure.axes if axis.get_xlabel()):
+        for side in (axis.xaxis, axis.yaxis):
+            low, high = sorted(side.get_view_interval())
+            ticks = [tick for tick in side.get_major_ticks() if low <= tick.get_loc() <= high]
+            assert side.get_offset_text().get_text() == "" and len(ticks) >= 2
+            assert [float(tick.label1.get_text()) for tick in ticks] == [tick.get_loc() for tick in ticks]
+            assert all(set(tick.label1.get_text()) <= set("0123456789.") for tick in ticks)
+            boxes = [tick.label1.get_window_extent() for tick in ticks]
+            assert not any(one.overlaps(other) for one, other in zip(boxes, boxes[1:]))
+
+
+def test_plans_and_sections_have_coordinates_in_full(monkeypatch):
+    grid, factor = at_a_zone()
+    metal = pitplan.project.Metal("copper", "cu", "percent", 0, 0, 1)
+    scene = pictures.Scene(grid, factor, np.ones(grid.shape, dtype=bool), np.ones(grid.shape), metal, 1000)
+    for draw in (pictures.plans, pictures.sections):
+        figure = drawn_of(monkeypatch, pictures, lambda draw=draw: draw(scene, None))
+        demand_plain_coordinates(figure)
+        titles = [axis.get_title(loc="left") for axis in figure.axes]
+    # Row 10 from 6512012.5 by 25 m, and column 12 from 430010 by 20 m.
+    assert titles[0] == "Shells, west to east at north 6512262.5"
+    assert titles[2] == "Shells, south to north at east 430250"
+
+
+def test_probabilities_have_coordinates_in_full(monkeypatch):
+    grid, factor = at_a_zone()
+    likely = many.Likely(grid, factor / 1000, np.ones(grid.shape, dtype=bool), 1000, 3)
+    for draw in (many.plans, many.sections):
+        figure = drawn_of(monkeypatch, many, lambda draw=draw: draw(likely, None))
+        demand_plain_coordinates(figure)
+        titles = [axis.get_title(loc="left") for axis in figure.axes]
+    assert titles[:2] == ["West to east at north 6512262.5", "South to north at east 430250"]

@@ -14,9 +14,9 @@ from matplotlib.colors import BoundaryNorm, ListedColormap, to_rgba
 from matplotlib.figure import Figure
 from matplotlib.lines import Line2D
 
-from ..grid import Grid
+from ..grid import Grid, metres
 from ..outlines import edges
-from ..pictures import GROUND, MAP, STYLE, busiest, finish, panels, plt, scaled
+from ..pictures import GROUND, MAP, STYLE, busiest, finish, name_axes, panels, plt, scaled
 
 STEPS = np.linspace(0, 1, 11)
 COLOURS = ListedColormap(plt.get_cmap("viridis_r")(np.linspace(0.02, 1, len(STEPS) - 1)))
@@ -58,10 +58,9 @@ def plans(likely: Likely, path: Path) -> None:
         axes[0].set_title("Any level")
         for axis, number in zip(axes[1:], levels_to_show(likely)):
             draw(axis, likely.shown[number], likely.solid[number], extent)
-            axis.set_title(f"Level {top - (number + 1) * height:g} to {top - number * height:g} m")
+            axis.set_title(f"Level {metres(top - (number + 1) * height)} to {metres(top - number * height)} m")
         for axis in axes:
-            axis.set_xlabel("east, m")
-            axis.set_ylabel("north, m")
+            name_axes(axis, "east", "north")
         explain(figure, axes, likely)
         finish(figure, path)
 
@@ -79,14 +78,13 @@ def sections(likely: Likely, path: Path) -> None:
             (slice(None, None, -1), slice(None), column),
         )
         places = (
-            ((west, east, bottom, top), f"West to east at north {float(y):g}", "east, m"),
-            ((south, north, bottom, top), f"South to north at east {float(x):g}", "north, m"),
+            ((west, east, bottom, top), f"West to east at north {metres(y)}", "east"),
+            ((south, north, bottom, top), f"South to north at east {metres(x)}", "north"),
         )
         for axis, cut, (extent, title, label) in zip(axes, cuts, places):
             draw(axis, likely.shown[cut], likely.solid[cut], extent)
             axis.set_title(title)
-            axis.set_xlabel(label)
-            axis.set_ylabel("elevation, m")
+            name_axes(axis, label, "elevation")
         explain(figure, list(axes), likely)
         finish(figure, path)
 
