@@ -9,7 +9,7 @@ from typing import Any
 import numpy as np
 import pandas as pd
 
-from . import absent, analyse, audit as audits, export as exports, files, pictures, report, run, view as views
+from . import absent, analyse, audit as audits, export as exports, files, pictures, report, run, view as views, yearly
 from .errors import PlanError
 from .pictures import Scene
 from .plan import Plan, prepare as prepare_plan
@@ -18,7 +18,12 @@ from .project import Project
 
 PREPARED = [files.BLOCKS, files.MODEL, files.PREC]
 PIT_MODEL, PITS = "pit.upit", "pits.csv"
-PICTURES = {"pit_by_pit": "pit_by_pit.png", "plans": "plans.png", "sections": "sections.png"}
+PICTURES = {
+    "pit_by_pit": "pit_by_pit.png",
+    "years": "years.png",
+    "plans": "plans.png",
+    "sections": "sections.png",
+}
 REPORT, VIEW = "report.html", "view.html"
 WRITTEN = {
     *PREPARED,
@@ -28,6 +33,7 @@ WRITTEN = {
     files.RECORD,
     files.TABLE,
     files.SHELLS,
+    files.YEARS,
     files.ANSWER,
     REPORT,
     VIEW,
@@ -102,13 +108,16 @@ def shells(project: Project, folder: Path, progress: Progress) -> tuple[pd.DataF
             (stage / files.ANSWER).write_bytes(solution.answer)
             write_table(analyse.blocks(plan, solution), stage)
             shown(table).to_csv(stage / files.SHELLS, index=False)
+            years = analyse.years(plan, solution)
+            shown(years).to_csv(stage / files.YEARS, index=False)
             record["notes"] += analyse.edge_notes(plan, solution)
         chosen = analyse.chosen_factor(table, project.schedule)
         check_fixed(plan, solution, chosen, stage, progress)
         record["shells"] = {"factors": list(project.schedule.factors), "chosen": chosen, "program": identity}
         with progress.step("drawing"):
             draw(plan, solution, table, chosen, stage)
-        names = [*written(plan), *([PIT_MODEL] if project.fixed else []), files.ANSWER, files.TABLE, files.SHELLS, *PICTURES.values()]
+            yearly.picture(years, project, chosen, stage / PICTURES["years"])
+        names = [*written(plan), *([PIT_MODEL] if project.fixed else []), files.ANSWER, files.TABLE, files.SHELLS, files.YEARS, *PICTURES.values()]
         finish(plan, record, names, stage)
         write_report(project, table, record, stage)
     return table, record
@@ -139,12 +148,15 @@ def finish(plan: Plan, record: dict[str, Any], names: list[str], stage: Path) ->
 
 
 def shown(table: pd.DataFrame) -> pd.DataFrame:
-    """The table of shells as shells.csv has it: sums to a thousandth, grades and ratios to a millionth."""
+    """A table as shells.csv and years.csv have it: sums to a thousandth, grades and ratios to a millionth."""
     result = table.copy()
-    result["worth_at_factor"] = result["worth_at_factor"].map("{:f}".format)
+    if "worth_at_factor" in result:
+        result["worth_at_factor"] = result["worth_at_factor"].map("{:f}".format)
     for name in result.columns:
         if result[name].dtype == np.float64:
-            result[name] = result[name].round(6 if name.startswith("grade_") or name in ("strip_ratio", "years") else 3)
+            places = 6 if name.startswith("grade_") or name in ("strip_ratio", "years") else 3
+            # A hair below nothing is rounded to -0.0, which is no amount.
+            result[name] = result[name].round(places) + 0.0
     return result
 
 

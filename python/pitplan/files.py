@@ -24,7 +24,7 @@ from .slopes import Walls
 
 BLOCKS, MODEL, PREC, FIXED = "mine.blocks", "mine.upit", "mine.prec", "mine.fixed"
 REST_BLOCKS, REST_PREC = "rest.blocks", "rest.prec"
-RECORD, TABLE, SHELLS, ANSWER = "prepare.json", "blocks.csv", "shells.csv", "shells.txt"
+RECORD, TABLE, SHELLS, YEARS, ANSWER = "prepare.json", "blocks.csv", "shells.csv", "years.csv", "shells.txt"
 CHUNK = 200_000
 
 

@@ -16,6 +16,11 @@ MOST_BLOCKS = 4_194_304
 FEW = 0.01
 
 
+def metres(value: float) -> str:
+    """A coordinate with all its digits, to a tenth of a millimetre: 6512640, not 6.51264e+06."""
+    return f"{round(float(value), 4):.15g}"
+
+
 @dataclass(frozen=True)
 class Grid:
     """All cells of the box round the table's blocks.
@@ -112,7 +117,7 @@ def axis_of(frame: pd.DataFrame, name: str, k: int, rules: GridRules, source: st
     if rules.size is not None:
         size = rules.size[k]
     elif len(gaps) == 0:
-        raise PlanError(f"{source} column {name}: all blocks lie at {first:.10g}: give the blocks' size as [grid] size")
+        raise PlanError(f"{source} column {name}: all blocks lie at {metres(first)}: give the blocks' size as [grid] size")
     else:
         size = step_of(values, gaps, rules.tolerance)
         size = float(distinct[-1] - first) / round(float(distinct[-1] - first) / size)
@@ -121,8 +126,8 @@ def axis_of(frame: pd.DataFrame, name: str, k: int, rules: GridRules, source: st
     off = np.abs(values - (first + place * size))
     if off.max() > rules.tolerance:
         row = int((off > rules.tolerance).argmax())
-        centres = ", ".join(f"{first + steps * size:.10g}" for steps in range(3))
-        why = f"{values[row]:.10g} is off the grid {centres}, .. by {off[row]:g} m"
+        steps = ", ".join(metres(first + number * size) for number in range(3))
+        why = f"{metres(values[row])} is off the grid {steps}, .. by {off[row]:g} m"
         raise at_row(source, row, name, f"{why}: reblock sub-blocks first, and turn a rotated model to its own axes")
     least = place.min()
     return Axis(float(first + least * size), size, int(place.max() - least) + 1, (place - least).astype(np.int64))

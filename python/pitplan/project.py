@@ -22,6 +22,7 @@ GRADE_UNITS = {"percent": Decimal("0.01"), "fraction": Decimal(1), "gram_per_ton
 METAL_UNITS = {"percent": "t", "fraction": "t", "gram_per_tonne": "g"}
 GRADE_SIGNS = {"percent": "%", "fraction": "t/t", "gram_per_tonne": "g/t"}
 PATTERNS = ("1:5", "1:9")
+DISCOUNTINGS = ("continuous", "end_of_year", "mid_year")
 
 
 @dataclass(frozen=True)
@@ -145,13 +146,15 @@ class FixedRules:
 
 @dataclass(frozen=True)
 class Schedule:
-    """Price factors in per mille, and what discounting needs: a yearly rate and yearly capacities in tonnes."""
+    """Price factors in per mille, and what discounting needs: a yearly rate, yearly capacities in tonnes, and the moment that
+    cash is discounted from: that when it flows, or the end or the middle of its year."""
 
     factors: tuple[int, ...]
     chosen: Optional[int]
     rate: float
     ore_per_year: float
     rock_per_year: Optional[float]
+    discounting: str
     reference_added: bool
 
 
@@ -390,13 +393,21 @@ def read_schedule(section: Section) -> Schedule:
     schedule = Schedule(
         factors=factors,
         chosen=chosen,
-        rate=float(section.number("rate", least=0)),
+        rate=read_rate(section),
         ore_per_year=float(section.number("ore_per_year", least=1)),
         rock_per_year=float(section.number("rock_per_year", least=1)) if section.has("rock_per_year") else None,
+        discounting=section.choice("discounting", DISCOUNTINGS, DISCOUNTINGS[0]),
         reference_added=REFERENCE_FACTOR not in asked,
     )
     section.finish()
     return schedule
+
+
+def read_rate(section: Section) -> float:
+    rate = section.number("rate", least=0)
+    if rate > 1:
+        raise section.wrong("rate", f"{rate} is above 1: it is a yearly rate, such as 0.08 for 8 % a year")
+    return float(rate)
 
 
 def read_fixed(section: Section, folder: Path) -> FixedRules:

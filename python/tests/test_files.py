@@ -34,13 +34,14 @@ def test_shells_write_tables_pictures_and_a_page_that_needs_no_other_file(solved
             "prepare.json",
             "blocks.csv",
             "shells.csv",
+            "years.csv",
             "shells.txt",
             "report.html",
         }
         | pictures
     )
     page = (folder / "report.html").read_text()
-    assert page.count('<img src="data:image/png;base64,') == 3 and "http" not in page.replace("http-equiv", "")
+    assert page.count('<img src="data:image/png;base64,') == 4 and "http" not in page.replace("http-equiv", "")
     for name in pictures:
         assert (folder / name).read_bytes().startswith(b"\x89PNG")
 

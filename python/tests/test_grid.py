@@ -42,6 +42,15 @@ def test_centres_may_lie_off_by_the_tolerance(plan_folder):
         pitplan.prepare(plan_folder(table))
 
 
+def test_coordinates_of_seven_digits_are_told_in_full(plan_folder):
+    table = rows(4, 3, 2)
+    table["y"] += 6_512_000
+    table.loc[5, "y"] += 0.25
+    with pytest.raises(PlanError) as said:
+        pitplan.prepare(plan_folder(table))
+    assert "row 7 column y: 6512015.25 is off the grid 6512005, 6512015, 6512025, .. by 0.25 m" in str(said.value)
+
+
 def split(table, chosen):
     """The block of that row as its eight sub-blocks of half the size."""
     row = table.iloc[chosen]

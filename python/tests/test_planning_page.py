@@ -48,3 +48,16 @@ def test_the_pairs_of_the_page_are_those_of_the_example(tmp_path):
     plan.used[:] = True
     whole = plan.write(tmp_path)["needs"]["written"]
     assert f"of the example's {whole:,} pairs {written:,} are written" in PAGE
+
+
+def test_the_net_present_values_of_the_page_are_those_of_the_example():
+    plan = pitplan.prepare(EXAMPLE)
+    table = pitplan.shells(plan, pitplan.solve(plan)).set_index("factor")
+    best, worst = table["npv_best"], table["npv_worst"]
+    mean = (best + worst)[:1000].sort_values()
+    assert f"that of factor {table['worth'].idxmax()} with {table['blocks'][1000]} blocks" in PAGE
+    assert f"the worst case has its best at {worst.idxmax()}," in PAGE
+    assert 1 < 100 * (best.max() / best[800] - 1) and 100 * (best.max() / best[850] - 1) < 1
+    assert f"while the worst case loses {100 * (1 - worst[1000] / worst[850]):.1f} %" in PAGE
+    behind = 100 * (1 - mean.iloc[-2] / mean.iloc[-1])
+    assert f"{mean.index[-1]} ({mean.index[-2]} is behind it by {behind:.2f} %)" in PAGE

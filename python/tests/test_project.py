@@ -70,7 +70,22 @@ def test_a_byte_order_mark_is_passed_over_and_another_encoding_is_refused(plan_f
             "azimuths = [0, 40]",
             "[slopes.walls 1] azimuths: must be a list of pairs [azimuth, angle]",
         ),
-        ("[500, 1000, 1500]", "[500.5]", "[shells] factors: Decimal('500.5') is not a whole number of per mille"),
+        ("[500, 1000, 1500]", "[500.5]", "[shells] factors: 500.5 is not a whole number of per mille from 0 to 100,000"),
+        (
+            "[500, 1000, 1500]",
+            "[0.3, 1]",
+            "[shells] factors: 0.3 is not a whole number of per mille from 0 to 100,000: 1000 is the price as given, and "
+            "300 is 0.3 of it",
+        ),
+        ("[500, 1000, 1500]", "[1000, true]", "[shells] factors: True is not a whole number of per mille"),
+        ("[500, 1000, 1500]", "[1000, -5]", "[shells] factors: -5 is not a whole number of per mille"),
+        (
+            "[500, 1000, 1500]",
+            "{ from = 1300, to = 300, step = 50 }",
+            "[shells] factors: from 1300 to 300 there is no factor: from may not be above to",
+        ),
+        ("[500, 1000, 1500]", "{ from = 300, step = 50 }", "[shells.factors] to: is missing"),
+        ("rate = 0.1", "rate = 8", "[shells] rate: 8 is above 1: it is a yearly rate, such as 0.08 for 8 % a year"),
         ("[500, 1000, 1500]", "[]", "[shells] factors: must be a list of factors, or { from, to, step }"),
         ("rate = 0.1", "rate = 0.1\nchosen = 900", "[shells] chosen: 900 is not among the factors"),
         ("ore_per_year = 100", "", "[shells] ore_per_year: is missing"),
@@ -87,6 +102,12 @@ def test_a_mistake_is_named_by_section_and_key(plan_folder, old, new, words):
     with pytest.raises(PlanError) as said:
         pitplan.load(path)
     assert str(said.value).startswith(f"{path}: {words}")
+
+
+@pytest.mark.parametrize("item", ["500.5", "1e9", "inf", "nan", "200_000"])
+def test_a_number_that_is_no_share_of_the_price_is_not_turned_into_one(plan_folder, item):
+    with pytest.raises(PlanError, match="is not a whole number of per mille from 0 to 100,000$"):
+        pitplan.load(plan_folder(rows(2, 2, 2), PROJECT, ("[500, 1000, 1500]", f"[{item}]")))
 
 
 def test_broken_toml_is_named_by_its_line(plan_folder):
