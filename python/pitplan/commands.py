@@ -2,6 +2,7 @@
 
 from __future__ import annotations
 
+import os
 from dataclasses import replace
 from pathlib import Path
 from typing import Any
@@ -15,6 +16,7 @@ from .pictures import Scene
 from .plan import Plan, prepare as prepare_plan
 from .progress import Progress
 from .project import Project
+from .verify import demand, verify
 
 PREPARED = [files.BLOCKS, files.MODEL, files.PREC]
 PIT_MODEL, PITS = "pit.upit", "pits.csv"
@@ -57,12 +59,14 @@ def written(plan: Plan) -> list[str]:
     return [*PREPARED, files.FIXED, files.REST_BLOCKS, files.REST_PREC] if plan.project.fixed else PREPARED
 
 
-def pit(project: Project, folder: Path, factor: int, progress: Progress) -> tuple[pd.DataFrame, dict[str, Any]]:
+def pit(
+    project: Project, folder: Path, factor: int, progress: Progress, verifies: bool = True
+) -> tuple[pd.DataFrame, dict[str, Any]]:
     """Prepares, and solves the pit of one factor with the project's fixed blocks and without them; gives a table with a row of
     each, and the record. blocks.csv has the pit with them, and of the project's lesser factors the shells within it, by which the
     best case is dug.
 
-    Raises PlanError where the project has no fixed blocks.
+    Raises PlanError where the project has no fixed blocks, and where what is written is not right, unless it is not verified.
     """
     if project.fixed is None:
         raise PlanError(f"{project.path}: [fixed] is missing: it says which blocks must be dug and which may not be")
@@ -81,8 +85,24 @@ def pit(project: Project, folder: Path, factor: int, progress: Progress) -> tupl
         table.insert(0, "fixed_blocks", ["kept", "free"])
         write_table(analyse.blocks(plan, keeping), stage)
         shown(table).to_csv(stage / PITS, index=False)
+        note_verified(plan, record, stage, verifies, progress)
         finish(plan, record, [*written(plan), PIT_MODEL, files.TABLE, PITS], stage)
     return table, record
+
+
+def note_verified(plan: Plan, record: dict[str, Any], stage: Path, verifies: bool, progress: Progress) -> None:
+    """Looks at all numbers that are written a second time, and notes in the record what was looked at.
+
+    Raises PlanError where one is not right.
+    """
+    record["project"] = os.path.relpath(plan.project.path, stage.parent)
+    record["verified"] = []
+    if verifies:
+        files.write_json(stage / files.RECORD, record)
+        with progress.step("verifying"):
+            rules = verify(stage, plan.project)
+        demand(rules)
+        record["verified"] = [f"{rule.name}: {rule.holds}" for rule in rules]
 
 
 def check_fixed(plan: Plan, solution: run.Solution, factor: int, stage: Path, progress: Progress) -> None:
@@ -95,8 +115,13 @@ def check_fixed(plan: Plan, solution: run.Solution, factor: int, stage: Path, pr
     run.demand_same(solution, pit, factor)
 
 
-def shells(project: Project, folder: Path, progress: Progress) -> tuple[pd.DataFrame, dict[str, Any]]:
-    """Prepares, runs the program, and writes tables, pictures and the report; gives the table of shells and the record."""
+def shells(
+    project: Project, folder: Path, progress: Progress, verifies: bool = True
+) -> tuple[pd.DataFrame, dict[str, Any]]:
+    """Prepares, runs the program, and writes tables, pictures and the report; gives the table of shells and the record.
+
+    Raises PlanError where what is written is not right, unless it is not verified.
+    """
     demand_apart(project, folder)
     identity = run.identity()
     plan = prepare_plan(project, progress=progress)
@@ -104,23 +129,29 @@ def shells(project: Project, folder: Path, progress: Progress) -> tuple[pd.DataF
         record = write_prepared(plan, stage, progress)
         solution = run.solve(plan, stage, progress)
         with progress.step("counting the shells"):
-            table = analyse.shells(plan, solution)
-            (stage / files.ANSWER).write_bytes(solution.answer)
-            write_table(analyse.blocks(plan, solution), stage)
-            shown(table).to_csv(stage / files.SHELLS, index=False)
-            years = analyse.years(plan, solution)
-            shown(years).to_csv(stage / files.YEARS, index=False)
+            table, years = write_tables(plan, solution, stage)
             record["notes"] += analyse.edge_notes(plan, solution)
         chosen = analyse.chosen_factor(table, project.schedule)
         check_fixed(plan, solution, chosen, stage, progress)
         record["shells"] = {"factors": list(project.schedule.factors), "chosen": chosen, "program": identity}
+        note_verified(plan, record, stage, verifies, progress)
         with progress.step("drawing"):
             draw(plan, solution, table, chosen, stage)
             yearly.picture(years, project, chosen, stage / PICTURES["years"])
-        names = [*written(plan), *([PIT_MODEL] if project.fixed else []), files.ANSWER, files.TABLE, files.SHELLS, files.YEARS, *PICTURES.values()]
-        finish(plan, record, names, stage)
+        names = [*written(plan), *([PIT_MODEL] if project.fixed else []), files.ANSWER, files.TABLE, files.SHELLS, files.YEARS]
+        finish(plan, record, [*names, *PICTURES.values()], stage)
         write_report(project, table, record, stage)
     return table, record
+
+
+def write_tables(plan: Plan, solution: run.Solution, stage: Path) -> tuple[pd.DataFrame, pd.DataFrame]:
+    """Writes the program's answer, blocks.csv, shells.csv and years.csv; gives the last two."""
+    table, years = analyse.shells(plan, solution), analyse.years(plan, solution)
+    (stage / files.ANSWER).write_bytes(solution.answer)
+    write_table(analyse.blocks(plan, solution), stage)
+    shown(table).to_csv(stage / files.SHELLS, index=False)
+    shown(years).to_csv(stage / files.YEARS, index=False)
+    return table, years
 
 
 def demand_apart(project: Project, folder: Path) -> None:
@@ -182,6 +213,7 @@ def write_report(project: Project, table: pd.DataFrame, record: dict[str, Any], 
         "chosen": record["shells"]["chosen"],
         "pictures": {name: stage / file for name, file in PICTURES.items()},
         "notes": record["notes"],
+        "verified": record["verified"],
         "files": {**record["inputs"], **record["files"]},
         "program": record["shells"]["program"],
     }

@@ -111,6 +111,7 @@ class Plan:
             "grid": self.record_of_grid(),
             "money": {
                 "cutoff": self.values.cutoff,
+                "mining_cost_reference": self.reference,
                 "decimals": project.money.decimals,
                 "processing_nodes": len(self.values.processed),
                 "rounded": {name: rounding.as_json() for name, rounding in self.values.roundings.items()},
