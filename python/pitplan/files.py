@@ -19,7 +19,7 @@ from . import text
 from .errors import PlanError
 from .grid import Grid
 from .needs import ABSENT, slices
-from .slopes import Walls
+from .walls import Walls
 
 BLOCKS, MODEL, PREC, FIXED = "mine.blocks", "mine.upit", "mine.prec", "mine.fixed"
 RECORD, TABLE, SHELLS, ANSWER = "prepare.json", "blocks.csv", "shells.csv", "shells.txt"

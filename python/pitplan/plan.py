@@ -10,7 +10,7 @@ from typing import Any, Optional, Union
 import numpy as np
 import pandas as pd
 
-from . import files, fixed as fixing, grid as grids, money, slopes, table as tables, trim
+from . import files, fixed as fixing, grid as grids, money, table as tables, trim, walls as laying
 from .errors import PlanError
 from .files import Pairs
 from .fixed import NOTHING, FixedBlocks
@@ -18,7 +18,7 @@ from .grid import Grid
 from .money import Values
 from .progress import Progress, silent
 from .project import Project, load
-from .slopes import Walls
+from .walls import Walls
 
 MOST_PAIRS = 67_108_864
 MILLION = 1_000_000
@@ -158,8 +158,8 @@ def prepare(
     with progress.step("laying the grid"):
         grid = grids.of_table(frame, project, source)
     with progress.step("laying the walls"):
-        region = slopes.regions_of(frame, grid, project.table.region)
-        walls = slopes.walls_of(region, grid, project.slopes)
+        region = laying.regions_of(frame, grid, project.table.region)
+        walls = laying.walls_of(region, grid, project.slopes)
     with progress.step("weighing the blocks"):
         plan = plan_of(project, frame, grid, walls, source)
     plan.filled = checked.filled

@@ -65,9 +65,13 @@ def reached(offsets, levels):
     return found
 
 
+def least_list(angle, size, levels):
+    return slopes.offsets_of(slopes.cone(((0.0, float(angle)),), size, levels))
+
+
 @given(st.integers(20, 80), st.integers(1, 5), st.sampled_from([CUBE, FLAT, (5.0, 10.0, 4.0)]))
 def test_a_cone_reaches_exactly_the_cone(angle, levels, size):
-    offsets = slopes.cone(((0.0, float(angle)),), size, levels)
+    offsets = least_list(angle, size, levels)
     dx, dy, dz = size
     for up, cells in enumerate(reached(offsets, levels)):
         far = up * dz / math.tan(math.radians(angle)) + 1e-6
@@ -78,11 +82,30 @@ def test_a_cone_reaches_exactly_the_cone(angle, levels, size):
 
 @given(st.integers(25, 75), st.integers(2, 5))
 def test_no_step_of_a_cone_can_be_left_out(angle, levels):
-    offsets = slopes.cone(((0.0, float(angle)),), FLAT, levels)
+    offsets = least_list(angle, FLAT, levels)
     whole = reached(offsets, levels)
     for step in offsets:
         less = reached([other for other in offsets if other != step], levels)
         assert less[step[2]] != whole[step[2]]
+
+
+def least_in_the_open(cone):
+    """The least list of steps to all cells of a cone where all blocks have it and the grid has no sides."""
+    south, west = cone.shape[1] // 2, cone.shape[2] // 2
+    found, cells = [], [{(0, 0)}]
+    for up in range(1, len(cone)):
+        wanted = {(int(x) - west, int(y) - south) for y, x in np.argwhere(cone[up])}
+        led = {(x + a, y + b) for a, b, c in found for x, y in cells[up - c]}
+        found += [(x, y, up) for x, y in wanted - led]
+        cells.append(wanted | led)
+    return found
+
+
+@given(st.tuples(*[st.integers(35, 55)] * 4), st.integers(2, 8), st.sampled_from([CUBE, FLAT, (5.0, 10.0, 4.0)]))
+def test_the_list_is_at_most_a_fifth_longer_than_the_least(angles, levels, size):
+    cone = slopes.cone(tuple(zip((0.0, 90.0, 180.0, 270.0), map(float, angles))), size, levels)
+    assert set(least_in_the_open(cone)) <= set(slopes.offsets_of(cone))
+    assert len(slopes.offsets_of(cone)) <= 1.2 * len(least_in_the_open(cone))
 
 
 def test_walls_of_1_to_5_and_1_to_9_by_geometry():
@@ -100,13 +123,13 @@ def test_walls_that_stand_upright_and_lists_without_width():
     assert slopes.wall_angles(((0, 0, 1),), CUBE) == pytest.approx(np.full(360, 90.0))
     line = slopes.wall_angles(((0, 0, 1), (1, 0, 1)), CUBE)
     assert line[90] == pytest.approx(45) and line[270] == pytest.approx(90) and line[0] == pytest.approx(90)
-    assert slopes.cone(((0.0, 90.0),), CUBE, 4) == ((0, 0, 1),)
+    assert least_list(90, CUBE, 4) == ((0, 0, 1),)
 
 
 @given(st.integers(25, 75), st.integers(1, 8))
 def test_errors_are_those_of_a_high_wall(angle, levels):
     """The wall of 60 levels that the list makes, step by step, is less than a list's height of steps off the computed one."""
-    offsets = slopes.cone(((0.0, float(angle)),), CUBE, levels)
+    offsets = least_list(angle, CUBE, levels)
     computed = slopes.wall_angles(offsets, CUBE)
     for azimuth, axis in ((0, 1), (90, 0)):
         steps = [(step[axis], step[2]) for step in offsets if step[1 - axis] == 0]

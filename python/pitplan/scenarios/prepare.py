@@ -82,7 +82,7 @@ def write_shared(base: Base, plan: Plan, stage: Path) -> None:
 def list_of(base: Base, read: Models, program: dict[str, str]) -> list[Scenario]:
     """Every model at every set of prices, in this order, with the keys of their answers."""
     project = base.project
-    walls = {"code": base.walls.code, **{str(k): np.array(p.offsets) for k, p in enumerate(base.walls.patterns)}}
+    walls = {"code": base.walls.code, **{str(k): p.cone for k, p in enumerate(base.walls.patterns)}}
     common = {
         "project": folders.meaning(project),
         "blocks": folders.hash_of_arrays({**arrays_of(base), **walls}),
