@@ -84,8 +84,8 @@ class Pairs:
     processing: int
 
 
-def write_prec(path: Path, grid: Grid, walls: Walls, used: np.ndarray, processed: np.ndarray) -> Pairs:
-    """The needs of the used blocks, and of each processing node its block."""
+def write_prec(path: Path, grid: Grid, walls: Walls, used: np.ndarray, processed: np.ndarray, most: int) -> Pairs:
+    """The needs of the used blocks, and of each processing node its block. Needs above the most are counted alone."""
     written = clipped = 0
     with open(path, "wb") as file:
         for part in slices(grid, walls, np.flatnonzero(used)):
@@ -93,7 +93,7 @@ def write_prec(path: Path, grid: Grid, walls: Walls, used: np.ndarray, processed
             some = count > 0
             written += int(count.sum())
             clipped += part.clipped
-            if some.any():
+            if some.any() and written <= most:
                 heads = [text.whole(part.ids[some]), text.whole(count[some])]
                 file.write(text.ragged(heads, part.needs[some], ABSENT))
         for start in range(0, len(processed), CHUNK):

@@ -71,13 +71,21 @@ class Plan:
         files.write_model(folder / files.MODEL, self.project.title, nodes[0] - nodes[1])
         if self.project.fixed is not None:
             fixing.write(folder / files.FIXED, self.fixed)
-        pairs = files.write_prec(folder / files.PREC, self.grid, self.walls, self.used, processed)
-        if pairs.written + pairs.processing > MOST_PAIRS:
+        return self.record(self.write_needs(folder / files.PREC))
+
+    def write_needs(self, path: Path) -> Pairs:
+        """Writes the needs of the used blocks and of the processing nodes. Raises PlanError where the program takes fewer."""
+        pairs = files.write_prec(path, self.grid, self.walls, self.used, self.values.processed, MOST_PAIRS)
+        count = pairs.written + pairs.processing
+        if count > MOST_PAIRS:
+            fewer = "give fewer [slopes] levels"
+            if self.project.slopes.levels is None:
+                chosen = max(pattern.levels for pattern in self.walls.patterns)
+                fewer = f"give [slopes] levels, fewer than the {chosen} that were chosen"
             raise PlanError(
-                f"{pairs.written + pairs.processing:,} needs, and the program takes at most {MOST_PAIRS:,}: "
-                "give fewer [slopes] levels, or a smaller model"
+                f"{count:,} needs, and the program takes at most {MOST_PAIRS:,}: {fewer}, or a smaller model"
             )
-        return self.record(pairs)
+        return pairs
 
     def record(self, pairs: Pairs) -> dict[str, Any]:
         """All that was rounded, dropped, clipped or added between the table and the files."""

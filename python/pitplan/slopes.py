@@ -14,7 +14,7 @@ import numpy as np
 
 from . import cones
 from .errors import PlanError
-from .project import Slopes, Wall
+from .project import MOST_LEVELS, Slopes, Wall
 
 Offset = tuple[int, int, int]
 # Pairs of azimuth and angle in degrees.
@@ -26,6 +26,8 @@ PATTERN_OFFSETS = {"1:5": FIVE, "1:9": NINE}
 # Centres that lie on the cone but for the noise of floats count as within.
 SLACK = 1e-9
 AZIMUTHS = np.arange(0.0, 360.0, 1.0)
+# Where a project names no levels, there are as many as keep every wall within so many degrees of the asked.
+STEEPER = 0.5
 
 
 @dataclass(frozen=True)
@@ -88,13 +90,18 @@ def cotangents(angles: Angles, azimuths: np.ndarray) -> np.ndarray:
 
 def cone(angles: Angles, size: tuple[float, float, float], levels: int, widened: float = 1.0) -> np.ndarray:
     """The cells within the asked walls: for each level up to the highest a truth for each row and column round the block."""
+    return within(angles, size, np.arange(levels + 1), widened)
+
+
+def within(angles: Angles, size: tuple[float, float, float], ups: np.ndarray, widened: float = 1.0) -> np.ndarray:
+    """The cells of a cone at the given levels up."""
     dx, dy, dz = size
-    reach = levels * dz * widened * float(cotangents(angles, AZIMUTHS).max())
+    reach = int(ups.max()) * dz * widened * float(cotangents(angles, AZIMUTHS).max())
     wide, broad = int(reach / dx + SLACK), int(reach / dy + SLACK)
     east, north = np.meshgrid(np.arange(-wide, wide + 1) * dx, np.arange(-broad, broad + 1) * dy)
     flatness = widened * cotangents(angles, np.degrees(np.arctan2(east, north)))
     distance = np.hypot(east, north)
-    return np.stack([distance <= up * dz * flatness * (1 + SLACK) + SLACK for up in range(levels + 1)])
+    return np.stack([distance <= up * dz * flatness * (1 + SLACK) + SLACK for up in ups])
 
 
 def offsets_of(cone: np.ndarray) -> tuple[Offset, ...]:
@@ -166,8 +173,9 @@ def pattern_of(wall: Wall, size: tuple[float, float, float], slopes: Slopes) -> 
         angles = wall_angles(offsets, size)
         return Pattern(f"{where}, {wall.pattern}", cones.of_steps(offsets), offsets, angles, np.zeros(0))
     asked = np.degrees(np.arctan2(1.0, cotangents(wall.angles, AZIMUTHS)))
-    widened = widening(wall, size, slopes.levels, asked) if slopes.never_steeper else 1.0
-    cells = cone(wall.angles, size, slopes.levels, widened)
+    levels = levels_of(wall, size, asked) if slopes.levels is None else slopes.levels
+    widened = widening(wall, size, levels, asked) if slopes.never_steeper else 1.0
+    cells = cone(wall.angles, size, levels, widened)
     angles = angles_of_cone(cells, size)
     said = (
         " ".join(f"{angle:g} at {azimuth:g}" for azimuth, angle in wall.angles)
@@ -175,6 +183,16 @@ def pattern_of(wall: Wall, size: tuple[float, float, float], slopes: Slopes) -> 
         else f"{wall.angles[0][1]:g}"
     )
     return Pattern(f"{where}, {said} degrees", cells, offsets_of(cells), angles, angles - asked, widened)
+
+
+def levels_of(wall: Wall, size: tuple[float, float, float], asked: np.ndarray) -> int:
+    """The least number of levels, up to the most, with which no wall is steeper than asked by more than STEEPER degrees."""
+    hull: list[Point] = []
+    for levels in range(1, MOST_LEVELS + 1):
+        hull = hull_of(sorted({*hull, *rim_of(within(wall.angles, size, np.array([levels]))[0], levels, size)}))
+        if (angles_of(set(hull)) - asked).max() <= STEEPER:
+            return levels
+    return MOST_LEVELS
 
 
 def widening(wall: Wall, size: tuple[float, float, float], levels: int, asked: np.ndarray) -> float:

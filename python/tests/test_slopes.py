@@ -160,6 +160,59 @@ def test_never_steeper_than_asked():
     assert all(cells <= more for cells, more in zip(inside, reached(bound.offsets, 6)))
 
 
+WALL = st.one_of(
+    st.tuples(st.tuples(st.just(0.0), st.integers(25, 75).map(float))),
+    st.tuples(*[st.integers(35, 60).map(float)] * 4).map(lambda angles: tuple(zip((0.0, 90.0, 180.0, 270.0), angles))),
+).map(lambda angles: Wall(None, None, angles))
+
+
+@given(WALL, st.sampled_from([CUBE, FLAT, (5.0, 10.0, 4.0)]))
+def test_levels_left_out_are_the_fewest_that_hold_the_walls_to_half_a_degree(wall, size):
+    chosen = slopes.pattern_of(wall, size, Slopes(None, False, (wall,)))
+    given_ = [slopes.pattern_of(wall, size, Slopes(levels, False, (wall,))) for levels in range(1, chosen.levels + 1)]
+    assert chosen.offsets == given_[-1].offsets
+    assert chosen.errors.max() <= 0.5 or chosen.levels == 40
+    assert all(fewer.errors.max() > 0.5 for fewer in given_[:-1])
+
+
+def test_levels_left_out_by_hand():
+    """Walls that go out one block in ten levels: (1, 0) comes in at level 10, (1, 1) at 15 and (2, 1) at 23.
+
+    Of the corners (1/10, 0) and (1/15, 1/15) the line lies 0.0894 from the block, which is 84.9 degrees and so 0.6 too
+    steep; with (2/23, 1/23) between them the lines lie 0.0958 and 0.0941 from it, 84.5 and 84.6 degrees.
+    """
+    wall = Wall(None, None, ((0.0, math.degrees(math.atan(10))),))
+    pattern = slopes.pattern_of(wall, CUBE, Slopes(None, False, (wall,)))
+    assert pattern.levels == 23 and pattern.errors.max() == pytest.approx(0.34, abs=0.005)
+    few = slopes.pattern_of(wall, CUBE, Slopes(22, False, (wall,)))
+    assert few.errors.max() == pytest.approx(0.60, abs=0.005)
+
+
+def test_forty_levels_are_the_end_and_the_walls_say_what_came_out():
+    """Blocks of 100 x 100 x 1 m: 45 degrees lead out by 0.4 blocks in 40 levels, so nothing but the column is dug."""
+    wall = Wall(None, None, ((0.0, 45.0),))
+    pattern = slopes.pattern_of(wall, (100.0, 100.0, 1.0), Slopes(None, False, (wall,)))
+    assert pattern.levels == 40 and pattern.offsets == ((0, 0, 1),)
+    words = "1 needs a block over 40 levels make walls of 90.0 to 90.0 degrees, +45.0 to +45.0 degrees off the asked"
+    assert words in pattern.sentence()
+
+
+def test_never_steeper_widens_the_cone_of_the_levels_that_are_chosen():
+    wall = Wall(None, None, ((0.0, 45.0),))
+    free, bound = (slopes.pattern_of(wall, FLAT, Slopes(None, never, (wall,))) for never in (False, True))
+    assert bound.levels == free.levels and bound.errors.max() <= 1e-6 < free.errors.max()
+
+
+def test_each_wall_entry_takes_its_own_levels_and_the_record_names_them(plan_folder, tmp_path):
+    table = rows(4, 3, 2, region=lambda i, j, k: "soft" if i < 2 else "hard")
+    steep = f"angle = {math.degrees(math.atan(10)):.9f}"
+    entries = f'region = "hard"\n{steep}\n[[slopes.walls]]\nregion = "soft"\npattern = "1:9"'
+    plan = pitplan.prepare(plan_folder(table, PROJECT, ("levels = 3\n", ""), ('pattern = "1:5"', entries)))
+    assert [walls["levels"] for walls in plan.write(tmp_path)["walls"]] == [23, 1]
+    assert any("needs a block over 23 levels make walls" in note for note in plan.notes)
+    assert any("9 needs a block over 1 level make walls" in note for note in plan.notes)
+
+
 def test_azimuth_90_is_the_east_wall(plan_folder):
     """Flat in the east, steep in the west: the needs of a block lie to its east."""
     angles = "azimuths = [[0, 60], [90, 30], [180, 60], [270, 80]]"

@@ -137,7 +137,7 @@ SHAPE = st.tuples(st.integers(2, 7), st.integers(1, 8), st.integers(1, 8))
     st.sampled_from(["layers", "columns", "blobs", "noise"]),
     SHAPE,
     st.sampled_from([CUBE, FLAT, TALL]),
-    st.integers(1, 6),
+    st.one_of(st.none(), st.integers(1, 6)),
     st.booleans(),
     st.integers(0, 10**6),
 )

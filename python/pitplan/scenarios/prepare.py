@@ -10,8 +10,7 @@ from typing import Any
 import numpy as np
 
 from .. import files, run
-from ..errors import PlanError
-from ..plan import MOST_PAIRS, Plan
+from ..plan import Plan
 from ..progress import Progress
 from ..project import Project
 from . import folder as folders
@@ -66,12 +65,7 @@ def arrays_of(base: Base) -> dict[str, np.ndarray]:
 def write_shared(base: Base, plan: Plan, stage: Path) -> None:
     """Base, needs, the project, and the planner's rows, for which probabilities are told."""
     np.savez_compressed(stage / folders.BASE, ore=plan.values.processed, **arrays_of(base))
-    pairs = files.write_prec(stage / files.PREC, plan.grid, plan.walls, plan.used, plan.values.processed)
-    if pairs.written + pairs.processing > MOST_PAIRS:
-        raise PlanError(
-            f"{pairs.written + pairs.processing:,} needs, and the program takes at most {MOST_PAIRS:,}: "
-            "give fewer [slopes] levels, or a smaller model"
-        )
+    plan.write_needs(stage / files.PREC)
     shutil.copyfile(base.project.path, stage / folders.PROJECT)
     frame = plan.blocks
     grades = [metal.column for metal in base.project.metals]
