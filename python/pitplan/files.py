@@ -20,7 +20,7 @@ from .errors import PlanError
 from .fixed import Settled
 from .grid import Grid
 from .needs import ABSENT, slices
-from .slopes import Walls
+from .walls import Walls
 
 BLOCKS, MODEL, PREC, FIXED = "mine.blocks", "mine.upit", "mine.prec", "mine.fixed"
 REST_BLOCKS, REST_PREC = "rest.blocks", "rest.prec"
@@ -119,8 +119,8 @@ class Needs:
         return nodes[some], self.processed[some]
 
 
-def write_prec(path: Path, needs: Needs) -> Pairs:
-    """A line for each block and each processing node that needs others."""
+def write_prec(path: Path, needs: Needs, most: int) -> Pairs:
+    """A line for each block and each processing node that needs others. Needs above the most are counted alone."""
     written = clipped = 0
     nodes, blocks = needs.binding()
     with open(path, "wb") as file:
@@ -130,7 +130,7 @@ def write_prec(path: Path, needs: Needs) -> Pairs:
             some = count > 0
             written += int(count.sum())
             clipped += part.clipped
-            if some.any():
+            if some.any() and written <= most:
                 heads = [text.whole(part.ids[some]), text.whole(count[some])]
                 file.write(text.ragged(heads, needed[some], ABSENT))
         for start in range(0, len(nodes), CHUNK):

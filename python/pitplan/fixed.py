@@ -18,7 +18,7 @@ from .errors import PlanError
 from .grid import Grid
 from .packages import load
 from .project import Area, Project
-from .slopes import Walls
+from .walls import Walls
 from .table import at_row, called, demand_columns, numbers_of, read_columns
 from .table_format import TableFormat, guessed_separator
 from .trim import used_blocks, users_of

@@ -10,7 +10,7 @@ from typing import Any, Optional, Union
 import numpy as np
 import pandas as pd
 
-from . import absent, files, fixed as fixing, grid as grids, money, slopes, table as tables, trim
+from . import absent, files, fixed as fixing, grid as grids, money, table as tables, trim, walls as laying
 from .errors import PlanError
 from .files import Needs, Pairs
 from .fixed import NOTHING, FixedBlocks, Settled
@@ -18,7 +18,7 @@ from .grid import Grid
 from .money import Values
 from .progress import Progress, silent
 from .project import Project, load
-from .slopes import Walls
+from .walls import Walls
 
 MOST_PAIRS = 67_108_864
 MILLION = 1_000_000
@@ -90,17 +90,26 @@ class Plan:
         processed = self.values.processed
         files.write_blocks(folder / files.BLOCKS, self.grid, processed, nodes)
         files.write_model(folder / files.MODEL, self.project.title, nodes[0] - nodes[1])
-        pairs = files.write_prec(folder / files.PREC, self.needs)
+        pairs = self.write_needs(folder / files.PREC, self.needs)
         if self.settled is not None:
             fixing.write(folder / files.FIXED, self.fixed)
             files.write_blocks(folder / files.REST_BLOCKS, self.grid, processed, self.values.nodes_of_rest(self.settled))
-            files.write_prec(folder / files.REST_PREC, self.needs_of_rest)
-        if pairs.written + pairs.processing > MOST_PAIRS:
-            raise PlanError(
-                f"{pairs.written + pairs.processing:,} needs, and the program takes at most {MOST_PAIRS:,}: "
-                "give fewer [slopes] levels, or a smaller model"
-            )
+            self.write_needs(folder / files.REST_PREC, self.needs_of_rest)
         return self.record(pairs)
+
+    def write_needs(self, path: Path, needs: Needs) -> Pairs:
+        """Writes needs of the plan. Raises PlanError where the program takes fewer."""
+        pairs = files.write_prec(path, needs, MOST_PAIRS)
+        count = pairs.written + pairs.processing
+        if count > MOST_PAIRS:
+            fewer = "give fewer [slopes] levels"
+            if self.project.slopes.levels is None:
+                chosen = max(pattern.levels for pattern in self.walls.patterns)
+                fewer = f"give [slopes] levels, fewer than the {chosen} that were chosen"
+            raise PlanError(
+                f"{count:,} needs, and the program takes at most {MOST_PAIRS:,}: {fewer}, or a smaller model"
+            )
+        return pairs
 
     def record(self, pairs: Pairs) -> dict[str, Any]:
         """All that was rounded, dropped, clipped or added between the table and the files."""
@@ -182,8 +191,8 @@ def prepare(
     with progress.step("laying the grid"):
         frame, grid = absent.with_rows(frame, grids.of_table(frame, project, source), project)
     with progress.step("laying the walls"):
-        region = slopes.regions_of(frame, grid, project.table.region)
-        walls = slopes.walls_of(region, grid, project.slopes)
+        region = laying.regions_of(frame, grid, project.table.region)
+        walls = laying.walls_of(region, grid, project.slopes)
     with progress.step("weighing the blocks"):
         plan = plan_of(project, frame, grid, walls, source)
     plan.filled = checked.filled

@@ -23,6 +23,7 @@ METAL_UNITS = {"percent": "t", "fraction": "t", "gram_per_tonne": "g"}
 GRADE_SIGNS = {"percent": "%", "fraction": "t/t", "gram_per_tonne": "g/t"}
 PATTERNS = ("1:5", "1:9")
 DISCOUNTINGS = ("continuous", "end_of_year", "mid_year")
+MOST_LEVELS = 40
 
 
 @dataclass(frozen=True)
@@ -113,9 +114,12 @@ class Wall:
 
 @dataclass(frozen=True)
 class Slopes:
-    """All walls, over how many levels their needs reach, and whether none may be steeper than asked."""
+    """All walls, over how many levels their needs reach, and whether none may be steeper than asked.
 
-    levels: int
+    levels  None where each wall entry takes as many as its angles need
+    """
+
+    levels: Optional[int]
     never_steeper: bool
     walls: tuple[Wall, ...]
 
@@ -350,7 +354,7 @@ def read_metal(section: Section) -> Metal:
 
 def read_slopes(section: Section) -> Slopes:
     slopes = Slopes(
-        levels=section.whole("levels", 8, 1, 40),
+        levels=section.whole("levels", 1, 1, MOST_LEVELS) if section.has("levels") else None,
         never_steeper=section.truth("never_steeper", False),
         walls=tuple(read_wall(wall) for wall in section.sections("walls")),
     )

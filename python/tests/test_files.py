@@ -209,6 +209,14 @@ def test_what_is_above_a_limit_is_refused(plan_folder, monkeypatch, solved, modu
         )
 
 
+def test_levels_that_were_chosen_are_named_where_their_needs_are_too_many(plan_folder, monkeypatch):
+    monkeypatch.setattr("pitplan.plan.MOST_PAIRS", 100)
+    path = plan_folder(rows(6, 6, 4, **ORE), PROJECT, ("levels = 3\n", ""), ('pattern = "1:5"', "angle = 30"))
+    words = r"needs, and the program takes at most 100: give \[slopes\] levels, fewer than the 7 that were chosen"
+    with pytest.raises(PlanError, match=words):
+        commands.prepare(load(path), path.parent / "out", silent)
+
+
 def test_nothing_half_written_stays(plan_folder, monkeypatch):
     project = load(plan_folder(rows(4, 4, 3, **ORE)))
     monkeypatch.setattr(files, "write_prec", lambda *_: (_ for _ in ()).throw(OSError(28, "No space left on device")))

@@ -33,13 +33,20 @@ def test_the_table_of_cutoffs_is_that_of_the_example():
         assert float(100 * (1 - less / whole)) == pytest.approx(share, abs=0.05)
 
 
-@pytest.mark.parametrize("levels, steeper, needs", [(2, 11.3, 9), (3, 3.4, 21), (8, 1.7, 25), (20, 0.3, 61)])
+@pytest.mark.parametrize("levels, steeper, needs", [(2, 11.3, 9), (3, 3.4, 21), (8, 1.7, 25), (17, 0.5, 37), (20, 0.3, 61)])
 def test_the_angles_of_the_west_walls_are_those_of_the_page(levels, steeper, needs):
     project = pitplan.load(EXAMPLE)
     plan = pitplan.prepare(replace(project, slopes=replace(project.slopes, levels=levels)))
     west = plan.walls.patterns[0]
     assert len(west.offsets) == needs and west.errors.max() == pytest.approx(steeper, abs=0.05)
     assert re.search(rf"{steeper} (degrees )?with {levels} (levels )?\({needs}", PAGE)
+
+
+def test_the_levels_that_the_page_says_are_chosen():
+    project = pitplan.load(EXAMPLE)
+    plan = pitplan.prepare(replace(project, slopes=replace(project.slopes, levels=None)))
+    chosen = [pattern.levels for pattern in plan.walls.patterns]
+    assert "for the example's walls these are {} and {} levels".format(*chosen) in PAGE
 
 
 def test_the_pairs_of_the_page_are_those_of_the_example(tmp_path):

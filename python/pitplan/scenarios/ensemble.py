@@ -11,14 +11,14 @@ from typing import Iterator
 import numpy as np
 import pandas as pd
 
-from .. import absent, grid as grids, slopes, table as tables
+from .. import absent, grid as grids, table as tables, walls as laying
 from ..errors import PlanError
 from ..grid import Grid
 from ..plan import Plan, notes_of, plan_of
 from ..project import Metal, Project, Scenarios
-from ..slopes import Walls
 from ..table import HEADER_ROWS, at_row
 from ..table_format import format_of
+from ..walls import Walls
 
 
 @dataclass(frozen=True)
@@ -71,8 +71,8 @@ def read_base(project: Project) -> Base:
     in_table = [metal for metal in project.metals if scenarios_of(project).columns and metal.name not in lists]
     checked = tables.read(replace(project, metals=(*simulated, *in_table)))
     frame, grid = absent.with_rows(checked.frame, grids.of_table(checked.frame, project, checked.source), project)
-    region = slopes.regions_of(frame, grid, project.table.region)
-    walls = slopes.walls_of(region, grid, project.slopes)
+    region = laying.regions_of(frame, grid, project.table.region)
+    walls = laying.walls_of(region, grid, project.slopes)
     return Base(project, frame, grid, walls, lists, checked.source, checked.filled, len(checked.frame))
 
 

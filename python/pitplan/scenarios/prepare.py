@@ -10,8 +10,7 @@ from typing import Any
 import numpy as np
 
 from .. import files, run
-from ..errors import PlanError
-from ..plan import MOST_PAIRS, Plan
+from ..plan import Plan
 from ..progress import Progress
 from ..project import Project
 from . import folder as folders
@@ -71,12 +70,7 @@ def arrays_of_settled(plan: Plan) -> dict[str, np.ndarray]:
 def write_shared(base: Base, plan: Plan, stage: Path) -> None:
     """Base, needs, the project, and the planner's rows, for which probabilities are told."""
     np.savez_compressed(stage / folders.BASE, ore=plan.values.processed, **arrays_of(base), **arrays_of_settled(plan))
-    pairs = files.write_prec(stage / files.PREC, plan.needs_of_rest)
-    if pairs.written + pairs.processing > MOST_PAIRS:
-        raise PlanError(
-            f"{pairs.written + pairs.processing:,} needs, and the program takes at most {MOST_PAIRS:,}: "
-            "give fewer [slopes] levels, or a smaller model"
-        )
+    plan.write_needs(stage / files.PREC, plan.needs_of_rest)
     shutil.copyfile(base.project.path, stage / folders.PROJECT)
     frame = plan.blocks
     grades = [metal.column for metal in base.project.metals]
@@ -87,7 +81,7 @@ def write_shared(base: Base, plan: Plan, stage: Path) -> None:
 def list_of(base: Base, plan: Plan, read: Models, program: dict[str, str]) -> list[Scenario]:
     """Every model at every set of prices, in this order, with the keys of their answers."""
     project, settled = base.project, arrays_of_settled(plan)
-    walls = {"code": base.walls.code, **{str(k): np.array(p.offsets) for k, p in enumerate(base.walls.patterns)}}
+    walls = {"code": base.walls.code, **{str(k): p.cone for k, p in enumerate(base.walls.patterns)}}
     common = {
         "project": folders.meaning(project, plan.reference),
         "blocks": folders.hash_of_arrays({**arrays_of(base), **walls, **settled}),

@@ -15,7 +15,7 @@ from .. import absent, analyse, files, money, run
 from ..errors import PlanError, ProgramError
 from ..files import staged_file
 from ..plan import Plan
-from ..slopes import Walls
+from ..walls import Walls
 from . import folder as folders
 from .ensemble import priced
 from .folder import Scenario, Shared
@@ -91,7 +91,7 @@ def plan_of(shared: Shared, scenario: Scenario) -> Plan:
     values = money.values_of(frame, shared.grid, project, scenario.label)
     # The same nodes in every scenario, so that one file of needs serves: those without metal here are worth nothing.
     values = replace(values, ore=shared.ore) if values.cutoff == "moving" else values
-    walls, used = Walls((), np.zeros(0)), np.zeros(0, bool)
+    walls, used = Walls((), np.zeros(0), (), np.zeros(0)), np.zeros(0, bool)
     return Plan(project, frame, shared.grid, values, walls, used, scenario.label, settled=shared.settled)
 
 
