@@ -63,13 +63,14 @@ def test_what_is_right_is_told_rule_by_rule(answered, copied, capsys):
     assert [line.split(":")[0] for line in capsys.readouterr().out.splitlines()] == [
         "blocks",
         "walls",
+        "levels",
         "fixed",
         "money",
         "shells",
         "worth",
         "years",
     ]
-    assert len(answered[1]["verified"]) == 7
+    assert len(answered[1]["verified"]) == 8
     assert "no block of any shell leaves one standing" in (copied / "report.html").read_text()
 
 
@@ -150,6 +151,27 @@ def refused(plan_folder, table=None, text=TEXT, *changes):
     return str(said.value)
 
 
+def two_regions():
+    """Ore at the floor, in rock that stands at 35 degrees, under rock that stands at 65."""
+    return rows(15, 15, 6, cu=lambda i, j, k: 30 if (i, j, k) == (7, 7, 0) else 0, region=lambda i, j, k: "12"[int(k > 0)])
+
+
+LEVELS = ("levels = 3", "levels = 5")
+STEEP_ABOVE = '[[slopes.walls]]\nregion = "1"\nangle = 35\n[[slopes.walls]]\nregion = "2"\nangle = 65'
+MIXED = [("[[slopes.walls]]\npattern = \"1:5\"", STEEP_ABOVE)]
+
+
+def test_needs_that_steeper_walls_on_the_way_do_not_lead_to_are_found(plan_folder, monkeypatch):
+    monkeypatch.setattr("pitplan.walls.not_led", lambda steps, code, grid: np.zeros(len(code), dtype=bool))
+    assert "walls: block b7-7-0, dug at 500, needs a block that is not" in refused(plan_folder, two_regions(), PROJECT, LEVELS, *MIXED)
+
+
+def test_too_few_levels_are_found(plan_folder, monkeypatch):
+    monkeypatch.setattr("pitplan.slopes.levels_of", lambda *_: 3)
+    said = refused(plan_folder, two_regions(), PROJECT, ("levels = 3\n", ""), *MIXED)
+    assert "levels: wall entry 1: over 3 levels it comes out" in said and "degrees steeper than asked" in said
+
+
 def test_capacity_that_is_caught_up_is_found(plan_folder, monkeypatch):
     """Years as the greater of two cumulative sums: mill time that is lost while stripping comes back."""
 
@@ -214,4 +236,4 @@ def test_random_plans_are_right(plan_folder, seed, cutoff, discounting):
     commands.write_tables(plan, solve(plan), folder)
     record["shells"] = {"factors": list(plan.project.schedule.factors)}
     (folder / "prepare.json").write_text(json.dumps(record))
-    assert [rule.differences for rule in verify(folder, plan.project)] == [()] * 7
+    assert [rule.differences for rule in verify(folder, plan.project)] == [()] * 8

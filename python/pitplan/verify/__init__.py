@@ -14,7 +14,7 @@ from ..project import Project
 from . import answer as answers, fixed, money, sums, walls, years
 from .answer import Rule
 
-CHECKS = (fixed.verify_places, walls.verify, fixed.verify, money.verify, sums.verify, sums.verify_worth, years.verify)
+CHECKS = (fixed.verify_places, walls.verify, walls.verify_steepness, fixed.verify, money.verify, sums.verify, sums.verify_worth, years.verify)
 
 
 def verify(folder: Path, project: Optional[Project] = None) -> list[Rule]:

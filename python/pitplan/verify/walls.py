@@ -7,12 +7,15 @@ from dataclasses import dataclass
 
 import numpy as np
 from scipy.ndimage import maximum_filter1d
+from scipy.spatial import ConvexHull, QhullError
 
 from ..project import Wall
 from .answer import NOTHING, UNDUG, Answer, Rule, rule
 
 NEIGHBOURS = {"1:5": 1, "1:9": 2}
 HAIR = 1e-9
+STEEPER = 0.5
+MOST_LEVELS = 40
 
 
 @dataclass(frozen=True)
@@ -86,6 +89,41 @@ def verify(answer: Answer) -> Rule:
             standing = np.maximum.reduce([latest(part, run) for run in inside]) > dug[up:][wide]
             wrong[up:][wide] |= standing & mine[up:][wide]
     return rule("walls", holds(answer), *told(answer, wrong))
+
+
+def verify_steepness(answer: Answer) -> Rule:
+    """Where the project leaves the levels open, no high wall comes out too much steeper than asked, or there are the most levels."""
+    slopes, differences = answer.project.slopes, []
+    if slopes.levels is not None:
+        return rule("levels", f"the needs reach over {slopes.levels} levels, as the project says", [])
+    for number, wall in enumerate(slopes.walls):
+        levels = answer.levels(wall)
+        steeper = 0.0 if wall.pattern else float((high_walls(wall, answer.size, levels) - asked(wall)).max())
+        if steeper > STEEPER + 1e-6 and levels < MOST_LEVELS:
+            differences.append(f"wall entry {number + 1}: over {levels} levels it comes out {steeper:.2f} degrees steeper than asked")
+    return rule("levels", f"no wall comes out more than {STEEPER} degrees steeper than asked, or needs reach over {MOST_LEVELS} levels", differences)
+
+
+def asked(wall: Wall) -> np.ndarray:
+    """Degrees, by whole azimuth."""
+    return np.degrees(np.arctan2(1.0, flatness(wall, np.arange(360.0))))
+
+
+def high_walls(wall: Wall, size: tuple[float, float, float], levels: int) -> np.ndarray:
+    """Degrees, by whole azimuth, of the high walls that cones upon cones make: their sides are those of the cone's convex hull."""
+    points = []
+    for up in range(1, levels + 1):
+        inside = cone(wall, size, up)
+        north, east = (np.argwhere(inside) - len(inside) // 2).T
+        points.append(np.stack([east * size[0], north * size[1]], axis=1) / (up * size[2]))
+    try:
+        sides = ConvexHull(np.concatenate(points)).equations
+    except QhullError:
+        return np.full(360, 90.0)
+    azimuth = np.radians(np.arange(360.0))
+    along = sides[:, :2] @ np.stack([np.sin(azimuth), np.cos(azimuth)])
+    reach = np.where(along > 1e-12, -sides[:, 2:] / np.where(along > 1e-12, along, 1.0), np.inf).min(axis=0)
+    return np.degrees(np.arctan2(1.0, np.maximum(reach, 0.0)))
 
 
 def needed_by(answer: Answer, blocks: np.ndarray) -> np.ndarray:
