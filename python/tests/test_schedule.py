@@ -121,7 +121,7 @@ blocks = st.lists(
     ),
     min_size=CELLS,
     max_size=CELLS,
-).map(lambda cells: tuple(zip(*cells)))
+).filter(lambda cells: any(tonnes for tonnes, _, _ in cells)).map(lambda cells: tuple(zip(*cells)))
 capacities = st.tuples(
     st.sampled_from(["0", "0.08", "0.1", "1"]), st.sampled_from([30, 70, 100, 5000]), st.sampled_from([None, 90, 100, 700])
 )
