@@ -73,15 +73,14 @@ def shells(plan: Plan, solution: Solution) -> pd.DataFrame:
     """
     cells, settings = cells_of(plan, solution), plan.project.schedule
     benches = benches_of(plan, cells)
-    cases = zip(schedules.best_case(benches, settings), schedules.worst_case(benches, settings))
-    rows = []
-    for factor, (best, worst) in zip(settings.factors, cases):
-        inside = (cells.factor > 0) & (cells.factor <= factor)
-        row: dict[str, object] = {"factor": factor, **amounts(plan, cells, inside, factor)}
-        row |= {"npv_best": best.npv, "years": best.end, "npv_worst": worst.npv}
-        row["worth_at_factor"] = solution.worth[factor]
-        rows.append(row)
-    return pd.DataFrame(rows)
+    best, worst = schedules.best_case(benches, settings), schedules.worst_case(benches, settings)
+    table = amounts(plan, cells)
+    table.insert(0, "factor", settings.factors)
+    table["npv_best"] = [years.npv for years in best]
+    table["years"] = [years.end for years in best]
+    table["npv_worst"] = [years.npv for years in worst]
+    table["worth_at_factor"] = [solution.worth[factor] for factor in settings.factors]
+    return table
 
 
 def years(plan: Plan, solution: Solution) -> pd.DataFrame:
@@ -111,25 +110,35 @@ def benches_of(plan: Plan, cells: Cells) -> Benches:
     return benches
 
 
-def amounts(plan: Plan, cells: Cells, inside: np.ndarray, factor: int) -> dict[str, float]:
-    """Tonnes, grades and worth of a pit, without time."""
-    ore = inside & cells.ore
-    tonnes, ore_tonnes = float(cells.tonnes[inside].sum()), float(cells.tonnes[ore].sum())
-    row: dict[str, float] = {
-        "blocks": int(np.count_nonzero(inside & (cells.tonnes > 0))),
+def amounts(plan: Plan, cells: Cells) -> pd.DataFrame:
+    """One row a factor: tonnes, grades and worth of its pit, without time."""
+    pit, ore, content = cells.factor, np.where(cells.ore, cells.factor, 0), cells.content
+    tonnes, ore_tonnes = within(plan, pit, cells.tonnes), within(plan, ore, cells.tonnes)
+    columns = {
+        "blocks": within(plan, pit, cells.tonnes > 0).astype(np.int64),
         "tonnes": tonnes,
         "ore_tonnes": ore_tonnes,
         "waste_tonnes": tonnes - ore_tonnes,
-        "strip_ratio": (tonnes - ore_tonnes) / ore_tonnes if ore_tonnes else float("nan"),
-        "processed_tonnes": float(cells.tonnes[(cells.processed > 0) & (cells.processed <= factor)].sum()),
+        "strip_ratio": ratio(tonnes - ore_tonnes, ore_tonnes),
+        "processed_tonnes": within(plan, cells.processed, cells.tonnes),
     }
     for metal in plan.project.metals:
-        row[f"grade_{metal.name}"] = (
-            float(cells.content[metal.name][ore].sum()) / ore_tonnes if ore_tonnes else float("nan")
-        )
-        row[f"metal_{metal.name}"] = float(plan.values.metal[metal.name][ore].sum())
-    row["worth"] = float(cells.worth[inside].sum())
-    return row
+        columns[f"grade_{metal.name}"] = ratio(within(plan, ore, content[metal.name]), ore_tonnes)
+        columns[f"metal_{metal.name}"] = within(plan, ore, plan.values.metal[metal.name])
+    columns["worth"] = within(plan, pit, cells.worth)
+    return pd.DataFrame(columns)
+
+
+def within(plan: Plan, first: np.ndarray, values: np.ndarray) -> np.ndarray:
+    """For each factor the sum of the values of the cells that come in by then; `first` is each cell's factor, 0: never."""
+    factors, inside = plan.project.schedule.factors, np.flatnonzero(first > 0)
+    places = np.searchsorted(factors, first[inside])
+    return np.cumsum(np.bincount(places, values[inside], minlength=len(factors)))
+
+
+def ratio(amount: np.ndarray, whole: np.ndarray) -> np.ndarray:
+    """A share of nothing is not defined: nan."""
+    return np.divide(amount, whole, out=np.full(len(whole), np.nan), where=whole > 0)
 
 
 def chosen_factor(table: pd.DataFrame, schedule: Schedule) -> int:

@@ -113,6 +113,7 @@ def lasting(amounts: np.ndarray, settings: Schedule) -> np.ndarray:
 
 
 def course_of(amounts: np.ndarray, settings: Schedule) -> Course:
+    """Pieces one after the other from the start on, each as long as its ore or its rock needs."""
     ends = np.cumsum(lasting(amounts, settings))
     nearest = np.rint(ends)
     return Course(amounts, np.where(np.abs(ends - nearest) < HAIR, nearest, ends), settings.rate)
@@ -122,10 +123,10 @@ def discounted(years: Years, settings: Schedule) -> Years:
     """The same years with their cash discounted as the project asks."""
     if settings.discounting not in BEFORE_THE_END:
         return years
-    amounts = years.amounts.copy()
-    moments = np.arange(1, len(amounts) + 1) - BEFORE_THE_END[settings.discounting]
-    amounts[:, -1] = amounts[:, CASH - 1] * (1 + settings.rate) ** -moments
-    return Years(years.end, amounts)
+    *_, cash, _ = years.amounts.T
+    moments = np.arange(1, len(cash) + 1) - BEFORE_THE_END[settings.discounting]
+    present = cash * (1 + settings.rate) ** -moments
+    return Years(years.end, np.column_stack([years.amounts[:, :-1], present]))
 
 
 def best_case(benches: Benches, settings: Schedule) -> list[Years]:

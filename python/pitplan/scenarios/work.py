@@ -9,7 +9,6 @@ from functools import lru_cache
 from pathlib import Path
 
 import numpy as np
-import pandas as pd
 
 from .. import absent, analyse, files, money, run
 from ..errors import PlanError, ProgramError
@@ -106,7 +105,7 @@ def write_answer(shared: Shared, scenario: Scenario) -> None:
         solution = run.joined(solution, plan.settled, plan.values)
         absent.demand_known(solution.entry, plan.grid, plan.project, plan.source)
     cells = analyse.cells_of(plan, solution)
-    table = table_of(plan, cells, solution)
+    table = analyse.amounts(plan, cells).astype(np.float64)
     factors = np.array(plan.project.schedule.factors)
     entry = cells.factor[plan.grid.rows]
     texts = {"worth_at_factor": np.array([f"{worth:f}" for worth in solution.worth], dtype=str)}
@@ -114,12 +113,3 @@ def write_answer(shared: Shared, scenario: Scenario) -> None:
         # The place of a block's least factor in the list, from 1; 0: in no pit.
         places = np.where(entry > 0, np.searchsorted(factors, entry) + 1, 0).astype(np.uint16)
         np.savez_compressed(file, places=places, columns=table.columns.to_numpy().astype(str), table=table, **texts)
-
-
-def table_of(plan: Plan, cells: analyse.Cells, solution: run.Solution) -> pd.DataFrame:
-    """One row a factor: what the pit holds and is worth at the scenario's prices."""
-    rows = []
-    for factor in plan.project.schedule.factors:
-        inside = (cells.factor > 0) & (cells.factor <= factor)
-        rows.append(analyse.amounts(plan, cells, inside, factor))
-    return pd.DataFrame(rows, dtype=np.float64)
