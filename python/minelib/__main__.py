@@ -16,15 +16,15 @@ def add_arguments(parser: argparse.ArgumentParser) -> None:
     parser.add_argument("--out", type=Path, required=True, help="the folder for mine.upit, mine.prec, mine.blocks")
 
 
-def main(arguments: Optional[Sequence[str]] = None) -> int:
-    """0 where the files are written, 1 where they are refused, with a sentence on standard error."""
-    parser = argparse.ArgumentParser(prog="minelib", description="Published MineLib files to those of pitshell.")
+def main(arguments: Optional[Sequence[str]] = None, name: str = "minelib") -> int:
+    """0 where the files are written, 1 where they are refused, with a sentence on standard error; `name` is what was called."""
+    parser = argparse.ArgumentParser(prog=name, description="Published MineLib files to those of pitshell.")
     add_arguments(parser)
     options = parser.parse_args(arguments)
     try:
         record = convert(options.files, options.out)
     except MinelibError as error:
-        print(f"minelib: {error}", file=sys.stderr)
+        print(f"{name.split()[0]}: {error}", file=sys.stderr)
         return 1
     for note in record["notes"]:
         print(note, file=sys.stderr)

@@ -6,12 +6,13 @@
     solution = pitplan.solve(plan)              # the program's shells
     pitplan.blocks(plan, solution)              # plan.blocks with the least factor of each block
     pitplan.shells(plan, solution)              # one row a factor: tonnes, grades, strip ratio, worth, NPV
+    pitplan.years(plan, solution)               # one row a case, factor and year: rock, ore, metal, cash
 
 That a shell is the smallest set of greatest worth that keeps the needs is proved of the program, for the files that it
 reads. This layer, which writes those files, is not proved; `plan.notes` says what it rounded, dropped and clipped.
 """
 
-from .analyse import blocks, shells
+from .analyse import blocks, shells, years
 from .errors import BudgetUsedUp, MissingPackage, PlanError, ProgramError
 from .plan import Plan, prepare
 from .project import Project, load
@@ -30,4 +31,5 @@ __all__ = [
     "prepare",
     "shells",
     "solve",
+    "years",
 ]

@@ -1,8 +1,6 @@
 """Numbers for each shell. All are at the price as given (factor 1000) but for `worth_at_factor`.
 
-Discounting: the worth of a block counts at the time when it is through, with `ore_per_year` processed and, where it is
-given, `rock_per_year` dug. The best case digs shell after shell, each from the top down; the worst case digs the whole
-pit level after level. What a real schedule earns lies between them.
+When a pit is dug, and what it is worth discounted, is told by `schedule`.
 """
 
 from __future__ import annotations
@@ -12,29 +10,11 @@ from dataclasses import dataclass
 import numpy as np
 import pandas as pd
 
+from . import schedule as schedules
 from .plan import MILLION, Plan
 from .project import REFERENCE_FACTOR, Schedule
 from .run import Solution
-
-
-@dataclass(frozen=True)
-class Dug:
-    """Blocks in the order in which they are dug: tonnes, tonnes of ore, and the worth of each, in money."""
-
-    tonnes: np.ndarray
-    ore: np.ndarray
-    worth: np.ndarray
-
-    def years(self, schedule: Schedule) -> np.ndarray:
-        """When each block is through, in years from the start."""
-        years = np.cumsum(self.ore) / schedule.ore_per_year
-        if schedule.rock_per_year is not None:
-            years = np.maximum(years, np.cumsum(self.tonnes) / schedule.rock_per_year)
-        return years
-
-    def present_worths(self, schedule: Schedule) -> np.ndarray:
-        """The discounted worth of each block, in money."""
-        return self.worth / (1.0 + schedule.rate) ** self.years(schedule)
+from .schedule import Benches
 
 
 @dataclass(frozen=True)
@@ -88,61 +68,77 @@ def shells(plan: Plan, solution: Solution) -> pd.DataFrame:
 
     factor per mille; blocks (with rock) in the pit; tonnes, ore_tonnes, waste_tonnes; strip_ratio (waste to ore);
     processed_tonnes at the factor's own price; grade_NAME of the ore in its column's unit, metal_NAME recovered of it
-    (tonnes, or grams); worth, npv_best, npv_worst in money and years at the price as given; worth_at_factor, exact
-    (Decimal), as the program answers it.
+    (tonnes, or grams); worth, npv_best, npv_worst in money and years (of the best case) at the price as given;
+    worth_at_factor, exact (Decimal), as the program answers it. Raises PlanError where it takes too many years.
     """
-    cells, schedule = cells_of(plan, solution), plan.project.schedule
-    best = best_case(cells, schedule)
-    rows = []
-    for number, factor in enumerate(schedule.factors):
-        inside = (cells.factor > 0) & (cells.factor <= factor)
-        row: dict[str, object] = {
-            "factor": factor,
-            **amounts(plan, cells, inside, factor),
-            **best.iloc[number].to_dict(),
-        }
-        dug = dug_in_order(cells, np.flatnonzero(inside))
-        row["npv_worst"] = float(dug.present_worths(schedule).sum())
-        row["worth_at_factor"] = solution.worth[factor]
-        rows.append(row)
-    return pd.DataFrame(rows)
+    cells, settings = cells_of(plan, solution), plan.project.schedule
+    benches = benches_of(plan, cells)
+    best, worst = schedules.best_case(benches, settings), schedules.worst_case(benches, settings)
+    table = amounts(plan, cells)
+    table.insert(0, "factor", settings.factors)
+    table["npv_best"] = [years.npv for years in best]
+    table["years"] = [years.end for years in best]
+    table["npv_worst"] = [years.npv for years in worst]
+    table["worth_at_factor"] = [solution.worth[factor] for factor in settings.factors]
+    return table
 
 
-def amounts(plan: Plan, cells: Cells, inside: np.ndarray, factor: int) -> dict[str, float]:
-    """Tonnes, grades and worth of a pit, without time."""
-    ore = inside & cells.ore
-    tonnes, ore_tonnes = float(cells.tonnes[inside].sum()), float(cells.tonnes[ore].sum())
-    row: dict[str, float] = {
-        "blocks": int(np.count_nonzero(inside & (cells.tonnes > 0))),
+def years(plan: Plan, solution: Solution) -> pd.DataFrame:
+    """One row a case, a factor whose pit is not empty, and a year.
+
+    case best or worst; factor per mille; year from 1; rock_tonnes and, of these, ore_tonnes; metal_NAME recovered (tonnes,
+    or grams); cash, and discounted, the same as it counts for NPV, in money. All at the price as given. Raises PlanError
+    where it takes too many years.
+    """
+    return schedules.table_of(benches_of(plan, cells_of(plan, solution)), plan.project.schedule)
+
+
+def benches_of(plan: Plan, cells: Cells) -> Benches:
+    """The sums that the years are made of. Raises PlanError where there are too many years."""
+    factors, levels = plan.project.schedule.factors, plan.grid.shape[0]
+    inside = np.flatnonzero(cells.factor > 0)
+    _, _, level = plan.grid.indices(inside)
+    piece = np.searchsorted(factors, cells.factor[inside]) * levels + level
+    ore = cells.ore[inside]
+    flows = {"rock_tonnes": cells.tonnes[inside], "ore_tonnes": np.where(ore, cells.tonnes[inside], 0.0)}
+    flows |= {f"metal_{name}": np.where(ore, metal[inside], 0.0) for name, metal in plan.values.metal.items()}
+    flows["cash"] = cells.worth[inside]
+    count = len(factors) * levels
+    sums = np.column_stack([np.bincount(piece, flow, minlength=count) for flow in flows.values()])
+    benches = Benches(factors, tuple(flows), sums.reshape(len(factors), levels, len(flows)))
+    schedules.demand_few_years(benches, plan.project)
+    return benches
+
+
+def amounts(plan: Plan, cells: Cells) -> pd.DataFrame:
+    """One row a factor: tonnes, grades and worth of its pit, without time."""
+    pit, ore, content = cells.factor, np.where(cells.ore, cells.factor, 0), cells.content
+    tonnes, ore_tonnes = within(plan, pit, cells.tonnes), within(plan, ore, cells.tonnes)
+    columns = {
+        "blocks": within(plan, pit, cells.tonnes > 0).astype(np.int64),
         "tonnes": tonnes,
         "ore_tonnes": ore_tonnes,
         "waste_tonnes": tonnes - ore_tonnes,
-        "strip_ratio": (tonnes - ore_tonnes) / ore_tonnes if ore_tonnes else float("nan"),
-        "processed_tonnes": float(cells.tonnes[(cells.processed > 0) & (cells.processed <= factor)].sum()),
+        "strip_ratio": ratio(tonnes - ore_tonnes, ore_tonnes),
+        "processed_tonnes": within(plan, cells.processed, cells.tonnes),
     }
     for metal in plan.project.metals:
-        row[f"grade_{metal.name}"] = (
-            float(cells.content[metal.name][ore].sum()) / ore_tonnes if ore_tonnes else float("nan")
-        )
-        row[f"metal_{metal.name}"] = float(plan.values.metal[metal.name][ore].sum())
-    row["worth"] = float(cells.worth[inside].sum())
-    return row
+        columns[f"grade_{metal.name}"] = ratio(within(plan, ore, content[metal.name]), ore_tonnes)
+        columns[f"metal_{metal.name}"] = within(plan, ore, plan.values.metal[metal.name])
+    columns["worth"] = within(plan, pit, cells.worth)
+    return pd.DataFrame(columns)
 
 
-def dug_in_order(cells: Cells, order: np.ndarray) -> Dug:
-    tonnes = cells.tonnes[order]
-    return Dug(tonnes, np.where(cells.ore[order], tonnes, 0.0), cells.worth[order])
+def within(plan: Plan, first: np.ndarray, values: np.ndarray) -> np.ndarray:
+    """For each factor the sum of the values of the cells that come in by then; `first` is each cell's factor, 0: never."""
+    factors, inside = plan.project.schedule.factors, np.flatnonzero(first > 0)
+    places = np.searchsorted(factors, first[inside])
+    return np.cumsum(np.bincount(places, values[inside], minlength=len(factors)))
 
 
-def best_case(cells: Cells, schedule: Schedule) -> pd.DataFrame:
-    """npv_best and years of each factor. Shell after shell, a lesser pit is a beginning of every greater one's order."""
-    inside = np.flatnonzero(cells.factor > 0)
-    order = inside[np.argsort(cells.factor[inside], kind="stable")]
-    dug = dug_in_order(cells, order)
-    ends = np.searchsorted(cells.factor[order], schedule.factors, side="right")
-    npv = np.concatenate([[0.0], np.cumsum(dug.present_worths(schedule))])
-    years = np.concatenate([[0.0], dug.years(schedule)])
-    return pd.DataFrame({"npv_best": npv[ends], "years": years[ends]})
+def ratio(amount: np.ndarray, whole: np.ndarray) -> np.ndarray:
+    """A share of nothing is not defined: nan."""
+    return np.divide(amount, whole, out=np.full(len(whole), np.nan), where=whole > 0)
 
 
 def chosen_factor(table: pd.DataFrame, schedule: Schedule) -> int:

@@ -19,27 +19,26 @@ from .files import Folder
 
 REPOSITORY = Path(__file__).resolve().parents[2]
 CHECKER = REPOSITORY / "tools" / "check_certificate.py"
-MODEL, PREC, CERTIFICATE, PIT, RECORD, SCRIPT = (
-    "shell.upit",
-    "shell.prec",
-    "shell.cert",
-    "pit.txt",
-    "audit.json",
-    "check.sh",
-)
+MODEL, PREC, FIXED, CERTIFICATE = "shell.upit", "shell.prec", "shell.fixed", "shell.cert"
+PIT, RECORD, SCRIPT = "pit.txt", "audit.json", "check.sh"
 GREATEST = 10**18
 
 CHECK_SCRIPT = """#!/bin/sh
 # Checks the shell of factor {factor} of "{title}": the files' hashes, then the certificate by the proved program, then by
 # a short program in Python that shares nothing with it. PITSHELL names the program, PYTHON the interpreter.
 set -eu
+program=${{PITSHELL:-pitshell}}
+case $program in
+/*) ;;
+*/*) program=$PWD/$program ;;
+esac
 cd "$(dirname "$0")"
 sha256sum --check --quiet hashes.txt
 echo "hashes: yes"
 printf 'pitshell check: '
-"${{PITSHELL:-pitshell}}" check --model {model} --prec {prec} --certificate {certificate}
+"$program" check --model {model} --prec {prec} --certificate {certificate}{fixed}
 printf 'check_certificate.py: '
-"${{PYTHON:-python3}}" check_certificate.py {model} {prec} {certificate}
+"${{PYTHON:-python3}}" check_certificate.py {model} {prec} {certificate}{fixed}
 """
 
 
@@ -65,10 +64,14 @@ def write(stage: Path, folder: Folder, factor: int) -> None:
     files.write_model(stage / MODEL, f"shell {factor} of {folder.record['title']}", values)
     shutil.copyfile(folder.path / files.PREC, stage / PREC)
     shutil.copyfile(CHECKER, stage / CHECKER.name)
-    options = ("--model", stage / MODEL, "--prec", stage / PREC, "--certificate", stage / CERTIFICATE)
+    options = ["--model", stage / MODEL, "--prec", stage / PREC, "--certificate", stage / CERTIFICATE]
+    fixed = [FIXED] if files.FIXED in folder.record["files"] else []
+    for name in fixed:
+        shutil.copyfile(folder.path / files.FIXED, stage / name)
+        options += ["--fixed", stage / name]
     (stage / PIT).write_bytes(run.call("solve", *options))
     worth = demand_same(stage, folder, factor)
-    names = [MODEL, PREC, CERTIFICATE, PIT, CHECKER.name]
+    names = [MODEL, PREC, *fixed, CERTIFICATE, PIT, CHECKER.name]
     hashes = files.hashes(stage, names)
     (stage / "hashes.txt").write_text(
         "".join(f"{digest}  {name}\n" for name, digest in hashes.items()), encoding="ascii"
@@ -89,18 +92,21 @@ def write(stage: Path, folder: Folder, factor: int) -> None:
         "model": MODEL,
         "prec": PREC,
         "certificate": CERTIFICATE,
+        "fixed": "".join(f" --fixed {name}" for name in fixed),
     }
     (stage / SCRIPT).write_text(CHECK_SCRIPT.format(**words), encoding="utf-8")
     (stage / SCRIPT).chmod(0o755)
 
 
 def demand_same(stage: Path, folder: Folder, factor: int) -> Decimal:
-    """The shell's worth, once the audited pit holds the same nodes with the same worth. Raises PlanError where it does not."""
-    solution = run.read_answer((folder.path / files.ANSWER).read_bytes())
+    """The shell's worth, once the audited pit holds the same of the table's blocks, and is worth the same, as blocks.csv and shells.csv
+    say of the shell. Raises PlanError where it does not."""
     lines = (stage / PIT).read_text(encoding="ascii").split("\n")
     pit = np.array(lines[4:-1], dtype=np.int64)
     worth = Decimal(lines[3].split()[1]) / 1000
-    expected = np.flatnonzero((solution.entry > 0) & (solution.entry <= factor))
-    if not np.array_equal(pit, expected) or worth != solution.worth[factor]:
+    shells = pd.read_csv(folder.path / files.SHELLS, index_col="factor", dtype={"worth_at_factor": str})
+    ids, first = folder.blocks["id"].to_numpy(), folder.blocks["factor"].to_numpy()
+    expected = ids[(first > 0) & (first <= factor)]
+    if not np.array_equal(np.intersect1d(pit, ids), expected) or worth != Decimal(shells["worth_at_factor"][factor]):
         raise PlanError(f"{stage / PIT}: the audited pit is not the shell of factor {factor}")
     return worth

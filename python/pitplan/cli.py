@@ -1,9 +1,11 @@
-"""The command line: `pitplan prepare | shells | pit | view | export | audit | scenarios | convert`, and what these need."""
+"""The command line: `pitplan prepare | shells | pit | verify | view | export | audit | scenarios | convert`, and what these need."""
 
 from __future__ import annotations
 
 import argparse
+import signal
 import sys
+import threading
 from pathlib import Path
 from typing import Any, Optional, Sequence
 
@@ -14,6 +16,10 @@ from . import commands, report, scenarios
 from .errors import PlanError
 from .progress import Progress, on_standard_error, silent
 from .project import REFERENCE_FACTOR, Project, load
+from .verify import demand, verify
+
+# As a shell has it: 128 and the signal's number.
+INTERRUPTED = 130
 
 
 def parser() -> argparse.ArgumentParser:
@@ -34,10 +40,14 @@ def parser() -> argparse.ArgumentParser:
         sub.add_argument("--quiet", action="store_true", help="tell no progress on standard error")
         if name == "export":
             sub.add_argument("--to", required=True, choices=("csv", "vti", "dxf"))
+        if name in ("pit", "shells"):
+            sub.add_argument("--no-verify", action="store_true", help="leave out the second look at every number")
         if name in ("pit", "export", "audit"):
             is_needed = name == "audit"
             kind = positive if name == "pit" else int
             sub.add_argument("--factor", type=kind, required=is_needed, default=None if is_needed else REFERENCE_FACTOR)
+    text = "look a second time at every number of a folder that shells or pit has written"
+    subs.add_parser("verify", help=text, description=text).add_argument("folder", type=Path, help="the folder of the plan")
     add_scenarios(subs)
     text = "write other people's files as the program's"
     kinds = subs.add_parser("convert", help=text, description=text).add_subparsers(dest="kind", required=True)
@@ -83,12 +93,14 @@ def positive(text: str) -> int:
 
 
 def main(arguments: Optional[Sequence[str]] = None) -> int:
-    """Runs one subcommand: 0 where it is done, 1 where the input is refused, with a sentence on standard error.
+    """Runs one subcommand: 0 where it is done, 1 where the input is refused, with a sentence on standard error, 130 where it was
+    interrupted.
 
     `scenario` ends with the status of its scenario.
     """
     options = parser().parse_args(arguments)
     progress = silent if getattr(options, "quiet", False) else on_standard_error()
+    end_where_asked()
     try:
         if options.command == "scenario":
             outcome = scenarios.one(options.folder, options.number)
@@ -97,6 +109,8 @@ def main(arguments: Optional[Sequence[str]] = None) -> int:
             return outcome.status
         if options.command in ("scenarios", "gather"):
             run_scenarios(options, progress)
+        elif options.command == "verify":
+            tell_verified(options.folder)
         elif options.command == "convert":
             tell_notes(minelib.convert(options.files, options.out)["notes"])
             print(options.out)
@@ -106,7 +120,16 @@ def main(arguments: Optional[Sequence[str]] = None) -> int:
     except (PlanError, minelib.MinelibError) as error:
         print(f"pitplan: {error}", file=sys.stderr)
         return 1
+    except KeyboardInterrupt:
+        print("pitplan: interrupted", file=sys.stderr)
+        return INTERRUPTED
     return 0
+
+
+def end_where_asked() -> None:
+    """Lets a request to end (SIGTERM) unwind as an interruption does, so that nothing half written stays behind."""
+    if threading.current_thread() is threading.main_thread():
+        signal.signal(signal.SIGTERM, lambda number, frame: sys.exit(128 + number))
 
 
 def run_command(options: argparse.Namespace, project: Project, folder: Path, progress: Progress) -> None:
@@ -115,14 +138,14 @@ def run_command(options: argparse.Namespace, project: Project, folder: Path, pro
         tell_notes(record["notes"])
         print(folder)
     elif options.command == "shells":
-        table, record = commands.shells(project, folder, progress)
+        table, record = commands.shells(project, folder, progress, not options.no_verify)
         columns = report.columns_of(table, project)
         print_table([heading for _, heading, _, _ in columns], report.cells_of(table, columns))
         tell_notes(record["notes"])
         print(folder / commands.REPORT)
     elif options.command == "pit":
         folder = options.out or project.folder / "pit"
-        table, record = commands.pit(project, folder, options.factor, progress)
+        table, record = commands.pit(project, folder, options.factor, progress, not options.no_verify)
         columns = report.columns_of(table, project)
         lines = [[name, *row] for name, row in zip(table["fixed_blocks"], report.cells_of(table, columns))]
         print_table(["fixed, blocks", *(heading for _, heading, _, _ in columns)], lines)
@@ -134,6 +157,14 @@ def run_command(options: argparse.Namespace, project: Project, folder: Path, pro
         print(commands.export(folder, options.to, options.factor, progress))
     else:
         print(commands.audit(folder, options.factor, progress))
+
+
+def tell_verified(folder: Path) -> None:
+    """A line for each rule that holds. Raises PlanError where one does not."""
+    rules = verify(folder)
+    demand(rules)
+    for rule in rules:
+        print(f"{rule.name}: {rule.holds}")
 
 
 def run_scenarios(options: argparse.Namespace, progress: Progress) -> None:

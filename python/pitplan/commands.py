@@ -2,6 +2,7 @@
 
 from __future__ import annotations
 
+import os
 from dataclasses import replace
 from pathlib import Path
 from typing import Any
@@ -9,24 +10,32 @@ from typing import Any
 import numpy as np
 import pandas as pd
 
-from . import analyse, audit as audits, export as exports, files, pictures, report, run, view as views
+from . import absent, analyse, audit as audits, export as exports, files, pictures, report, run, view as views, yearly
 from .errors import PlanError
 from .pictures import Scene
 from .plan import Plan, prepare as prepare_plan
 from .progress import Progress
 from .project import Project
+from .verify import demand, verify
 
 PREPARED = [files.BLOCKS, files.MODEL, files.PREC]
 PIT_MODEL, PITS = "pit.upit", "pits.csv"
-WITHOUT = "the shells are those without the fixed blocks of the project: pitplan pit keeps to them"
-PICTURES = {"pit_by_pit": "pit_by_pit.png", "plans": "plans.png", "sections": "sections.png"}
+PICTURES = {
+    "pit_by_pit": "pit_by_pit.png",
+    "years": "years.png",
+    "plans": "plans.png",
+    "sections": "sections.png",
+}
 REPORT, VIEW = "report.html", "view.html"
 WRITTEN = {
     *PREPARED,
     files.FIXED,
+    files.REST_BLOCKS,
+    files.REST_PREC,
     files.RECORD,
     files.TABLE,
     files.SHELLS,
+    files.YEARS,
     files.ANSWER,
     REPORT,
     VIEW,
@@ -47,39 +56,72 @@ def prepare(project: Project, folder: Path, progress: Progress) -> dict[str, Any
 
 def written(plan: Plan) -> list[str]:
     """The files of a plan for the program."""
-    return [*PREPARED, files.FIXED] if plan.project.fixed else PREPARED
+    return [*PREPARED, files.FIXED, files.REST_BLOCKS, files.REST_PREC] if plan.project.fixed else PREPARED
 
 
-def pit(project: Project, folder: Path, factor: int, progress: Progress) -> tuple[pd.DataFrame, dict[str, Any]]:
+def pit(
+    project: Project, folder: Path, factor: int, progress: Progress, verifies: bool = True
+) -> tuple[pd.DataFrame, dict[str, Any]]:
     """Prepares, and solves the pit of one factor with the project's fixed blocks and without them; gives a table with a row of
-    each, and the record. blocks.csv has the pit with them.
+    each, and the record. blocks.csv has the pit with them, and of the project's lesser factors the shells within it, by which the
+    best case is dug.
 
-    Raises PlanError where the project has no fixed blocks, and ProgramError where they clash.
+    Raises PlanError where the project has no fixed blocks, and where what is written is not right, unless it is not verified.
     """
     if project.fixed is None:
         raise PlanError(f"{project.path}: [fixed] is missing: it says which blocks must be dug and which may not be")
-    project = replace(
-        project, schedule=replace(project.schedule, factors=(factor,), chosen=None, reference_added=False)
-    )
+    within = tuple(sorted({factor, *(inner for inner in project.schedule.factors if inner < factor)}))
+    schedule = replace(project.schedule, factors=within, chosen=None, reference_added=False)
+    project = replace(project, schedule=schedule)
     demand_apart(project, folder)
     plan = prepare_plan(project, progress=progress)
     with files.staged(folder) as stage:
         record = write_prepared(plan, stage, progress)
-        files.write_model(stage / PIT_MODEL, project.title, audits.values_at(stage / files.BLOCKS, factor))
-        mine = (stage / PIT_MODEL, stage / files.PREC)
-        with progress.step("solving with the fixed blocks and without"):
-            keeping = run.solve_pit(*mine, stage / files.FIXED, factor)
-            free = run.solve_pit(*mine, None, factor)
-        table = pd.concat([analyse.shells(plan, solution) for solution in (keeping, free)], ignore_index=True)
+        keeping = run.solve(plan, stage, progress)
+        free = run.solve_files(stage / files.BLOCKS, stage / files.PREC, within)
+        absent.demand_known(free.entry, plan.grid, project, plan.source)
+        check_fixed(plan, keeping, factor, stage, progress)
+        table = pd.concat([analyse.shells(plan, solution).tail(1) for solution in (keeping, free)], ignore_index=True)
         table.insert(0, "fixed_blocks", ["kept", "free"])
         write_table(analyse.blocks(plan, keeping), stage)
         shown(table).to_csv(stage / PITS, index=False)
+        note_verified(plan, record, stage, verifies, progress)
         finish(plan, record, [*written(plan), PIT_MODEL, files.TABLE, PITS], stage)
     return table, record
 
 
-def shells(project: Project, folder: Path, progress: Progress) -> tuple[pd.DataFrame, dict[str, Any]]:
-    """Prepares, runs the program, and writes tables, pictures and the report; gives the table of shells and the record."""
+def note_verified(plan: Plan, record: dict[str, Any], stage: Path, verifies: bool, progress: Progress) -> None:
+    """Looks at all numbers that are written a second time, and notes in the record what was looked at.
+
+    Raises PlanError where one is not right.
+    """
+    record["project"] = os.path.relpath(plan.project.path, stage.parent)
+    record["verified"] = []
+    if verifies:
+        files.write_json(stage / files.RECORD, record)
+        with progress.step("verifying"):
+            rules = verify(stage, plan.project)
+        demand(rules)
+        record["verified"] = [f"{rule.name}: {rule.holds}" for rule in rules]
+
+
+def check_fixed(plan: Plan, solution: run.Solution, factor: int, stage: Path, progress: Progress) -> None:
+    """Writes the mine at a factor, and raises PlanError where the shell is not the pit that the program finds by `--fixed`."""
+    if plan.settled is None:
+        return
+    with progress.step(f"solving factor {factor} by itself, with the fixed blocks"):
+        files.write_model(stage / PIT_MODEL, plan.project.title, audits.values_at(stage / files.BLOCKS, factor))
+        pit = run.solve_pit(stage / PIT_MODEL, stage / files.PREC, stage / files.FIXED, factor)
+    run.demand_same(solution, pit, factor)
+
+
+def shells(
+    project: Project, folder: Path, progress: Progress, verifies: bool = True
+) -> tuple[pd.DataFrame, dict[str, Any]]:
+    """Prepares, runs the program, and writes tables, pictures and the report; gives the table of shells and the record.
+
+    Raises PlanError where what is written is not right, unless it is not verified.
+    """
     demand_apart(project, folder)
     identity = run.identity()
     plan = prepare_plan(project, progress=progress)
@@ -87,20 +129,29 @@ def shells(project: Project, folder: Path, progress: Progress) -> tuple[pd.DataF
         record = write_prepared(plan, stage, progress)
         solution = run.solve(plan, stage, progress)
         with progress.step("counting the shells"):
-            table = analyse.shells(plan, solution)
-            (stage / files.ANSWER).write_bytes(solution.answer)
-            write_table(analyse.blocks(plan, solution), stage)
-            shown(table).to_csv(stage / files.SHELLS, index=False)
+            table, years = write_tables(plan, solution, stage)
             record["notes"] += analyse.edge_notes(plan, solution)
-            record["notes"] += [WITHOUT] if project.fixed else []
         chosen = analyse.chosen_factor(table, project.schedule)
+        check_fixed(plan, solution, chosen, stage, progress)
         record["shells"] = {"factors": list(project.schedule.factors), "chosen": chosen, "program": identity}
+        note_verified(plan, record, stage, verifies, progress)
         with progress.step("drawing"):
             draw(plan, solution, table, chosen, stage)
-        names = [*written(plan), files.ANSWER, files.TABLE, files.SHELLS, *PICTURES.values()]
-        finish(plan, record, names, stage)
+            yearly.picture(years, project, chosen, stage / PICTURES["years"])
+        names = [*written(plan), *([PIT_MODEL] if project.fixed else []), files.ANSWER, files.TABLE, files.SHELLS, files.YEARS]
+        finish(plan, record, [*names, *PICTURES.values()], stage)
         write_report(project, table, record, stage)
     return table, record
+
+
+def write_tables(plan: Plan, solution: run.Solution, stage: Path) -> tuple[pd.DataFrame, pd.DataFrame]:
+    """Writes the program's answer, blocks.csv, shells.csv and years.csv; gives the last two."""
+    table, years = analyse.shells(plan, solution), analyse.years(plan, solution)
+    (stage / files.ANSWER).write_bytes(solution.answer)
+    write_table(analyse.blocks(plan, solution), stage)
+    shown(table).to_csv(stage / files.SHELLS, index=False)
+    shown(years).to_csv(stage / files.YEARS, index=False)
+    return table, years
 
 
 def demand_apart(project: Project, folder: Path) -> None:
@@ -128,12 +179,15 @@ def finish(plan: Plan, record: dict[str, Any], names: list[str], stage: Path) ->
 
 
 def shown(table: pd.DataFrame) -> pd.DataFrame:
-    """The table of shells as shells.csv has it: sums to a thousandth, grades and ratios to a millionth."""
+    """A table as shells.csv and years.csv have it: sums to a thousandth, grades and ratios to a millionth."""
     result = table.copy()
-    result["worth_at_factor"] = result["worth_at_factor"].map("{:f}".format)
+    if "worth_at_factor" in result:
+        result["worth_at_factor"] = result["worth_at_factor"].map("{:f}".format)
     for name in result.columns:
         if result[name].dtype == np.float64:
-            result[name] = result[name].round(6 if name.startswith("grade_") or name in ("strip_ratio", "years") else 3)
+            places = 6 if name.startswith("grade_") or name in ("strip_ratio", "years") else 3
+            # A hair below nothing is rounded to -0.0, which is no amount.
+            result[name] = result[name].round(places) + 0.0
     return result
 
 
@@ -159,6 +213,7 @@ def write_report(project: Project, table: pd.DataFrame, record: dict[str, Any], 
         "chosen": record["shells"]["chosen"],
         "pictures": {name: stage / file for name, file in PICTURES.items()},
         "notes": record["notes"],
+        "verified": record["verified"],
         "files": {**record["inputs"], **record["files"]},
         "program": record["shells"]["program"],
     }

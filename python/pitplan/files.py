@@ -10,19 +10,21 @@ import tempfile
 from contextlib import contextmanager
 from dataclasses import dataclass
 from pathlib import Path
-from typing import Any, Iterator
+from typing import Any, Iterator, Optional
 
 import numpy as np
 import pandas as pd
 
 from . import text
 from .errors import PlanError
+from .fixed import Settled
 from .grid import Grid
 from .needs import ABSENT, slices
-from .slopes import Walls
+from .walls import Walls
 
 BLOCKS, MODEL, PREC, FIXED = "mine.blocks", "mine.upit", "mine.prec", "mine.fixed"
-RECORD, TABLE, SHELLS, ANSWER = "prepare.json", "blocks.csv", "shells.csv", "shells.txt"
+REST_BLOCKS, REST_PREC = "rest.blocks", "rest.prec"
+RECORD, TABLE, SHELLS, YEARS, ANSWER = "prepare.json", "blocks.csv", "shells.csv", "years.csv", "shells.txt"
 CHUNK = 200_000
 
 
@@ -84,23 +86,58 @@ class Pairs:
     processing: int
 
 
-def write_prec(path: Path, grid: Grid, walls: Walls, used: np.ndarray, processed: np.ndarray) -> Pairs:
-    """The needs of the used blocks, and of each processing node its block."""
+@dataclass(frozen=True)
+class Needs:
+    """What is written of needs: those of the used blocks by the walls, and of each processing node its block.
+
+    settled  where it is given, the needs of the rest alone: what is dug already is needed no more
+    """
+
+    grid: Grid
+    walls: Walls
+    used: np.ndarray
+    processed: np.ndarray
+    settled: Optional[Settled] = None
+
+    @property
+    def blocks(self) -> np.ndarray:
+        """The blocks whose needs are written, rising."""
+        return np.flatnonzero(self.used if self.settled is None else self.used & self.settled.rest)
+
+    def open(self, needs: np.ndarray) -> np.ndarray:
+        """Needed blocks without those that are dug already, in whose place stands ABSENT."""
+        if self.settled is None:
+            return needs
+        return np.where((needs != ABSENT) & self.settled.dug[needs], ABSENT, needs)
+
+    def binding(self) -> tuple[np.ndarray, np.ndarray]:
+        """The processing nodes that need their block, and these blocks."""
+        nodes = self.grid.count + np.arange(len(self.processed))
+        if self.settled is None:
+            return nodes, self.processed
+        some = self.settled.rest[self.processed]
+        return nodes[some], self.processed[some]
+
+
+def write_prec(path: Path, needs: Needs, most: int) -> Pairs:
+    """A line for each block and each processing node that needs others. Needs above the most are counted alone."""
     written = clipped = 0
+    nodes, blocks = needs.binding()
     with open(path, "wb") as file:
-        for part in slices(grid, walls, np.flatnonzero(used)):
-            count = (part.needs != ABSENT).sum(axis=1)
+        for part in slices(needs.grid, needs.walls, needs.blocks):
+            needed = needs.open(part.needs)
+            count = (needed != ABSENT).sum(axis=1)
             some = count > 0
             written += int(count.sum())
             clipped += part.clipped
-            if some.any():
+            if some.any() and written <= most:
                 heads = [text.whole(part.ids[some]), text.whole(count[some])]
-                file.write(text.ragged(heads, part.needs[some], ABSENT))
-        for start in range(0, len(processed), CHUNK):
-            needed = processed[start : start + CHUNK]
-            ids = np.arange(grid.count + start, grid.count + start + len(needed))
-            file.write(text.lines([text.whole(ids), text.whole(np.ones(len(ids))), text.whole(needed)]))
-    return Pairs(written, clipped, len(processed))
+                file.write(text.ragged(heads, needed[some], ABSENT))
+        for start in range(0, len(nodes), CHUNK):
+            part_of = slice(start, start + CHUNK)
+            ones = np.ones(len(nodes[part_of]))
+            file.write(text.lines([text.whole(nodes[part_of]), text.whole(ones), text.whole(blocks[part_of])]))
+    return Pairs(written, clipped, len(nodes))
 
 
 def hash_of(path: Path) -> str:

@@ -1,5 +1,8 @@
 """Blocks that must be dug and blocks that may not be, as planners know them: by columns of the table, by the surface as mined, and
-by areas on the map. Cells without rock are never among them."""
+by areas on the map. Cells without rock are never among them.
+
+All that a block needs which must be dug is dug with it, and all that needs a block which may not be dug is left with it. What is
+neither is the rest, and the best pit that keeps to the fixed blocks is the rest's own pit with what must be dug."""
 
 from __future__ import annotations
 
@@ -13,8 +16,12 @@ import pandas as pd
 from . import text
 from .errors import PlanError
 from .grid import Grid
+from .packages import load
 from .project import Area, Project
-from .table import HEADER_ROWS, at_row, demand_columns, numbers_of, read_columns
+from .walls import Walls
+from .table import at_row, called, demand_columns, numbers_of, read_columns
+from .table_format import TableFormat, guessed_separator
+from .trim import used_blocks, users_of
 
 
 @dataclass(frozen=True)
@@ -33,6 +40,32 @@ class FixedBlocks:
 NOTHING = FixedBlocks(np.zeros(0, dtype=np.int64), np.zeros(0, dtype=np.int64))
 
 
+@dataclass(frozen=True)
+class Settled:
+    """What is dug and what is left in every pit that keeps to the fixed blocks: a truth for each cell."""
+
+    dug: np.ndarray
+    left: np.ndarray
+
+    @property
+    def rest(self) -> np.ndarray:
+        """The cells of which a pit is still to be found."""
+        return ~(self.dug | self.left)
+
+
+def settled(fixed: FixedBlocks, grid: Grid, walls: Walls) -> Settled:
+    """What follows from the fixed blocks by the needs."""
+    dug = used_blocks(grid, walls, marks(grid, fixed.forced))
+    return Settled(dug, users_of(grid, walls, marks(grid, fixed.barred)))
+
+
+def marks(grid: Grid, cells: np.ndarray) -> np.ndarray:
+    """A truth for each cell: whether it is one of these."""
+    found = np.zeros(grid.count, dtype=bool)
+    found[cells] = True
+    return found
+
+
 def of_table(frame: pd.DataFrame, grid: Grid, project: Project, source: str = "table") -> FixedBlocks:
     """What `[fixed]` says of the rows of a checked table; nothing where there is no such section.
 
@@ -45,15 +78,14 @@ def of_table(frame: pd.DataFrame, grid: Grid, project: Project, source: str = "t
     forced, barred = marked(frame, rules.forced) & rock, marked(frame, rules.barred) & rock
     notes = []
     if rules.surface is not None:
-        above, unknown = above_surface(grid, rules.surface)
-        forced |= above & rock
-        if unknown:
-            notes.append(f"{rules.surface}: {unknown:,} columns of blocks have no point and are taken as not mined")
+        surface = surface_of(grid, rules.surface)
+        forced |= (grid.centres(grid.rows)[2] > surface.height[grid.rows % grid.per_level]) & rock
+        notes += surface.notes(rules.surface, grid)
     for area in rules.areas:
         barred |= in_area(grid, area) & rock
     both = forced & barred
     if both.any():
-        raise PlanError(f"{source} row {int(both.argmax()) + HEADER_ROWS}: the block must be dug and may not be dug")
+        raise PlanError(f"{source}: {called(frame, project, int(both.argmax()))} must be dug and may not be dug")
     notes.insert(0, f"{int(forced.sum()):,} blocks must be dug and {int(barred.sum()):,} may not be")
     return FixedBlocks(np.sort(grid.rows[forced]), np.sort(grid.rows[barred]), tuple(notes))
 
@@ -63,11 +95,27 @@ def marked(frame: pd.DataFrame, column: Optional[str]) -> np.ndarray:
     return np.zeros(len(frame), dtype=bool) if column is None else frame[column].to_numpy() > 0
 
 
-def above_surface(grid: Grid, file: Path) -> tuple[np.ndarray, int]:
-    """Which rows have their centre above the surface, and how many columns of blocks have no point over them.
+@dataclass(frozen=True)
+class Surface:
+    """The ground as mined over each column of blocks: its height in metres, infinite where nothing is known of it; and whether the
+    height was told by points round the column, since none lies over it."""
 
-    The surface over a column of blocks is the mean of the points that lie over it.
-    """
+    height: np.ndarray
+    between: np.ndarray
+
+    def notes(self, file: Path, grid: Grid) -> list[str]:
+        """How many columns of the table's blocks have no point over them."""
+        over = np.unique(grid.rows % grid.per_level)
+        between, unknown = np.count_nonzero(self.between[over]), np.count_nonzero(np.isinf(self.height[over]))
+        found = [f"{file}: over {between:,} columns of blocks the surface was laid between the points round them"] if between else []
+        if unknown:
+            found.append(f"WARNING: {file}: {unknown:,} columns of blocks lie beyond all points and are taken as not mined")
+        return found
+
+
+def surface_of(grid: Grid, file: Path) -> Surface:
+    """The surface over a column of blocks is the mean of the points that lie over it. Where there is none it is that of the
+    triangles between the points, at the column's centre."""
     points = numbers_in(file, ("x", "y", "z"))
     (x, y, _), (dx, dy, _), (_, rows, columns) = grid.origin, grid.size, grid.shape
     column = np.floor((points[:, 0] - x) / dx + 0.5).astype(int)
@@ -77,8 +125,21 @@ def above_surface(grid: Grid, file: Path) -> tuple[np.ndarray, int]:
     count = np.bincount(place, minlength=rows * columns)
     total = np.bincount(place, weights=points[inside, 2], minlength=rows * columns)
     height = np.where(count > 0, total / np.maximum(count, 1), np.inf)
-    over = grid.rows % grid.per_level
-    return grid.centres(grid.rows)[2] > height[over], int(np.count_nonzero(count[np.unique(over)] == 0))
+    empty = np.flatnonzero(count == 0)
+    height[empty] = between_points(points, *grid.centres(empty)[:2])
+    return Surface(height, (count == 0) & np.isfinite(height))
+
+
+def between_points(points: np.ndarray, x: np.ndarray, y: np.ndarray) -> np.ndarray:
+    """Heights in the triangles (Delaunay's) between points x, y, z; infinite beyond them, and where the points make no triangle."""
+    places = np.unique(points[:, :2], axis=0)
+    if not len(x) or np.linalg.matrix_rank(places - places[0]) < 2:
+        return np.full(len(x), np.inf)
+    interpolate = load("scipy.interpolate", "python3-scipy", "[fixed] surface")
+    # About the points' middle, since coordinates of seven digits leave little room for differences.
+    middle = places.mean(axis=0)
+    heights = interpolate.LinearNDInterpolator(points[:, :2] - middle, points[:, 2], fill_value=np.inf)
+    return np.asarray(heights(x - middle[0], y - middle[1]))
 
 
 def in_area(grid: Grid, area: Area) -> np.ndarray:
@@ -102,7 +163,7 @@ def within(x: np.ndarray, y: np.ndarray, corners: np.ndarray) -> np.ndarray:
 
 def numbers_in(file: Path, names: tuple[str, ...]) -> np.ndarray:
     """Columns of a CSV file as numbers. Raises PlanError, with file, row and column, where one is missing or is no number."""
-    frame = read_columns(file, ",", [], list(names))
+    frame = read_columns(file, TableFormat(guessed_separator(file, "utf-8-sig"), ".", "utf-8-sig"), [], list(names))
     demand_columns(frame, list(names), str(file))
     columns = [numbers_of(frame[name], str(file), name) for name in names]
     for name, numbers in zip(names, columns):

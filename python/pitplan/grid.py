@@ -12,6 +12,13 @@ from .project import GridRules, Project, TableColumns
 from .table import at_row
 
 MOST_BLOCKS = 4_194_304
+# Up to this share of the rows may lie off the grid that the others make: these are named then.
+FEW = 0.01
+
+
+def metres(value: float) -> str:
+    """A coordinate with all its digits, to a tenth of a millimetre: 6512640, not 6.51264e+06."""
+    return f"{round(float(value), 4):.15g}"
 
 
 @dataclass(frozen=True)
@@ -60,6 +67,10 @@ class Grid:
         (x, y, z), (dx, dy, dz) = self.origin, self.size
         return x + column * dx, y + row * dy, z - level * dz
 
+    def elevations(self) -> np.ndarray:
+        """Metres of the centres of each level, from the top."""
+        return self.origin[2] - np.arange(self.shape[0]) * self.size[2]
+
     def extent(self) -> tuple[float, float, float, float, float, float]:
         """West, east, south, north, floor and top of the box in metres."""
         (x, y, z), (dx, dy, dz), (levels, rows, columns) = self.origin, self.size, self.shape
@@ -106,19 +117,29 @@ def axis_of(frame: pd.DataFrame, name: str, k: int, rules: GridRules, source: st
     if rules.size is not None:
         size = rules.size[k]
     elif len(gaps) == 0:
-        raise PlanError(f"{source} column {name}: all blocks lie at {first:g}: give the blocks' size as [grid] size")
+        raise PlanError(f"{source} column {name}: all blocks lie at {metres(first)}: give the blocks' size as [grid] size")
     else:
-        size = float(gaps.min())
+        size = step_of(values, gaps, rules.tolerance)
         size = float(distinct[-1] - first) / round(float(distinct[-1] - first) / size)
     first = most_common_lattice(values, first, size, rules.tolerance)
     place = np.rint((values - first) / size)
     off = np.abs(values - (first + place * size))
     if off.max() > rules.tolerance:
         row = int((off > rules.tolerance).argmax())
-        why = f"{values[row]:g} is off the grid {first:g}, {first + size:g}, {first + 2 * size:g}, .. by {off[row]:g} m"
+        steps = ", ".join(metres(first + number * size) for number in range(3))
+        why = f"{metres(values[row])} is off the grid {steps}, .. by {off[row]:g} m"
         raise at_row(source, row, name, f"{why}: reblock sub-blocks first, and turn a rotated model to its own axes")
     least = place.min()
     return Axis(float(first + least * size), size, int(place.max() - least) + 1, (place - least).astype(np.int64))
+
+
+def step_of(values: np.ndarray, gaps: np.ndarray, tolerance: float) -> float:
+    """The step between centres: the smallest gap, or the most common one where but a few centres are off it, which are mistakes then."""
+    steps, counts = np.unique(gaps.round(6), return_counts=True)
+    usual = float(steps[counts.argmax()])
+    first = most_common_lattice(values, float(values.min()), usual, tolerance)
+    off = np.abs((values - first) - np.rint((values - first) / usual) * usual) > tolerance
+    return usual if 0 < off.mean() < FEW else float(gaps.min())
 
 
 def most_common_lattice(values: np.ndarray, first: float, size: float, tolerance: float) -> float:

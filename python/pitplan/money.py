@@ -8,21 +8,28 @@ there is one node a block, and what is ore is settled at the reference price.
 
 from __future__ import annotations
 
+import math
 from dataclasses import dataclass
 from decimal import Decimal
+from typing import Callable, Optional
 
 import numpy as np
 import pandas as pd
 
 from .errors import PlanError
 from .exact import Exact, Rounding
+from .fixed import Settled
 from .grid import MOST_BLOCKS, Grid
-from .project import GRADE_UNITS, ByRock, Metal, Project
-from .table import at_row
+from .project import GRADE_UNITS, ByRock, Metal, Money, Project
+from .table import HEADER_ROWS, at_row
 
 MILLIONTHS = 6
 # The files' decimals have twelve digits before the point, and a fixed cut-off adds two amounts.
 GREATEST = 10**17
+# By unit the grade of pure metal, and a mean grade that hardly any mine reaches.
+GRADES = {"percent": (100.0, 10.0), "fraction": (1.0, 0.1), "gram_per_tonne": (1e6, 100.0)}
+# From a truth for each cell to one whether it is such a cell, or needed by one.
+Needed = Callable[[np.ndarray], np.ndarray]
 
 
 @dataclass(frozen=True)
@@ -35,6 +42,7 @@ class Values:
     ore         ids of the blocks with a revenue, rising
     tonnes, metal   for reports: tonnes of rock, and the recovered quantity of each metal
     cutoff      "moving" or "fixed"
+    first_level the level below which each costs more to mine, by `mining_cost_per_level`
     """
 
     mining: np.ndarray
@@ -46,6 +54,7 @@ class Values:
     cutoff: str
     roundings: dict[str, Rounding]
     notes: tuple[str, ...]
+    first_level: int
 
     @property
     def processed(self) -> np.ndarray:
@@ -64,6 +73,15 @@ class Values:
             revenue = np.concatenate([nothing, self.revenue[self.ore]])
             return revenue, np.concatenate([self.mining, self.processing[self.ore]])
         return np.where(self.pays, self.revenue, 0), self.mining + np.where(self.pays, self.processing, 0)
+
+    def nodes_of_rest(self, settled: Settled) -> tuple[np.ndarray, np.ndarray]:
+        """Revenue and cost in millionths of every node of the rest; 0 where what becomes of it is settled.
+
+        A block that is dug in any case may still be processed or not, so its processing node is of the rest.
+        """
+        is_open = np.concatenate([settled.rest, ~settled.left[self.processed]])
+        revenue, cost = self.nodes()
+        return np.where(is_open, revenue, 0), np.where(is_open, cost, 0)
 
     def greatest_value(self, factor: int) -> np.ndarray:
         """The most that each cell can be worth at a factor, in billionths: less than 0 where it cannot pay for itself."""
@@ -101,11 +119,16 @@ class Rows:
         table = Exact.of_decimals([price.get(code, Decimal(0)) for code in codes])
         return Exact(table.whole[inverse], table.places)
 
-    def mining(self) -> Exact:
-        """Cost of mining, which rises with the level below the highest."""
+    def mining(self, first_level: int) -> Exact:
+        """Cost of mining; it rises with each level below the first one, or goes by the elevation of the block's centre."""
         money, solid = self.project.money, np.array(self.tonnes.whole > 0, dtype=bool)
         _, _, level = self.grid.indices(self.grid.rows)
-        deeper = Exact(whole_numbers(level), 0).times(self.every(money.mining_cost_per_level))
+        if money.mining_cost_by_elevation:
+            more = Exact.of_decimals([added_cost(money, z) for z in self.grid.elevations()])
+            deeper = Exact(more.whole[level], more.places)
+        else:
+            steps = whole_numbers(np.maximum(level - first_level, 0))
+            deeper = Exact(steps, 0).times(self.every(money.mining_cost_per_level))
         return self.tonnes.times(self.by_rock(money.mining_cost, solid, "mining_cost").plus(deeper))
 
     def recovered(self, metal: Metal) -> Exact:
@@ -126,8 +149,12 @@ class Rows:
         return millionths.astype(np.int64), rounding
 
 
-def values_of(frame: pd.DataFrame, grid: Grid, project: Project, source: str = "table") -> Values:
+def values_of(
+    frame: pd.DataFrame, grid: Grid, project: Project, source: str = "table", needed: Optional[Needed] = None
+) -> Values:
     """The values of a checked table's blocks, exact but for one rounding to the decimals that the project asks for.
+
+    `needed` gives the blocks that others need; it is asked where no elevation says from where on mining costs more.
 
     Raises PlanError where a rock has no cost, an amount is 10^11 or more, or there are too many nodes.
     """
@@ -140,12 +167,39 @@ def values_of(frame: pd.DataFrame, grid: Grid, project: Project, source: str = "
         selling = selling.plus(metal[m.name].times(rows.every(m.selling_cost)))
     yields = np.array(revenue.whole > 0, dtype=bool)
     treatment = rows.tonnes.times(rows.by_rock(project.money.processing_cost, yields, "processing_cost"))
-    amounts = {"mining cost": rows.mining(), "revenue": revenue, "processing cost": treatment.plus(selling)}
+    amounts = {"revenue": revenue, "processing cost": treatment.plus(selling)}
     kept = {name: rows.millionths(value, name) for name, value in amounts.items()}
-    return spread_values(rows, metal, kept)
+    pays = grid.spread(kept["revenue"][0] > kept["processing cost"][0], False)
+    first = first_level(project, grid, pays, needed)
+    kept["mining cost"] = rows.millionths(rows.mining(first), "mining cost")
+    return spread_values(rows, metal, kept, first)
 
 
-def spread_values(rows: Rows, metal: dict[str, Exact], kept: dict[str, tuple[np.ndarray, Rounding]]) -> Values:
+def first_level(project: Project, grid: Grid, pays: np.ndarray, needed: Optional[Needed]) -> int:
+    """The level below which mining costs more: that which holds the reference (from its floor to its top, the top with it), else the
+    highest of which ore needs a block with a row."""
+    reference, top, height = project.money.mining_cost_reference, grid.extent()[5], grid.size[2]
+    if reference is not None:
+        return math.floor((top - float(reference)) / height + 1e-9)
+    if not project.money.mining_cost_per_level or needed is None:
+        return 0
+    levels = grid.rows[needed(pays)[grid.rows]] // grid.per_level
+    return int(levels.min()) if len(levels) else 0
+
+
+def added_cost(money: Money, elevation: float) -> Decimal:
+    """What mining a tonne costs more at an elevation: linear between two that are named, kept to a millionth, and the same beyond them."""
+    pairs = money.mining_cost_by_elevation
+    at = Decimal(repr(elevation))
+    if at <= pairs[0][0]:
+        return pairs[0][1]
+    for (low, cost), (high, then) in zip(pairs, pairs[1:]):
+        if at <= high:
+            return (cost + (then - cost) * (at - low) / (high - low)).quantize(Decimal("1e-6"))
+    return pairs[-1][1]
+
+
+def spread_values(rows: Rows, metal: dict[str, Exact], kept: dict[str, tuple[np.ndarray, Rounding]], first: int) -> Values:
     """From one value a row of the table to one a cell. Raises PlanError where there are too many nodes."""
     grid, cutoff = rows.grid, rows.project.money.cutoff
     revenue, tonnes = kept["revenue"][0], rows.tonnes.floats()
@@ -165,13 +219,32 @@ def spread_values(rows: Rows, metal: dict[str, Exact], kept: dict[str, tuple[np.
         metal={name: grid.spread(amounts.floats()) for name, amounts in metal.items()},
         cutoff=cutoff,
         roundings={name: rounding for name, (_, rounding) in kept.items()},
-        notes=tuple(rock_notes(rows.project, rows.rock, tonnes > 0)),
+        notes=(*grade_notes(rows), *rock_notes(rows.project, rows.rock, tonnes > 0)),
+        first_level=first,
     )
 
 
 def whole_numbers(values: np.ndarray) -> np.ndarray:
     """The same numbers as Python's own, which have no limit of size."""
     return np.asarray(values, dtype=np.int64).astype(object)
+
+
+def grade_notes(rows: Rows) -> list[str]:
+    """Warnings of grades that a unit hardly allows: more than all of the rock, or a mean that few mines have."""
+    notes = []
+    for metal in rows.project.metals:
+        grades, (whole, usual) = rows.frame[metal.column].to_numpy(), GRADES[metal.unit]
+        some = grades[grades > 0]
+        if len(some) and some.max() > whole:
+            row = int((grades > whole).argmax()) + HEADER_ROWS
+            notes.append(
+                f"WARNING: {np.count_nonzero(some > whole):,} grades of {metal.name} are above {whole:,g} {metal.sign}, the first in row {row}"
+            )
+        elif len(some) and some.mean() > usual:
+            notes.append(
+                f'WARNING: the mean grade of {metal.name}, where there is any, is {some.mean():.4g} {metal.sign}: is the unit "{metal.unit}" right?'
+            )
+    return notes
 
 
 def rock_notes(project: Project, rock: np.ndarray, solid: np.ndarray) -> list[str]:

@@ -8,7 +8,7 @@ from typing import Iterator
 import numpy as np
 
 from .grid import Grid
-from .slopes import Walls
+from .walls import StepList, Walls
 
 ABSENT = -1
 # Fields of a slice: enough for numpy to be fast, few enough to stay within tens of megabytes.
@@ -20,8 +20,8 @@ class Slice:
     """Some blocks with their needs.
 
     ids      the blocks, rising
-    needs    for each block a row of the blocks that it needs, rising, with ABSENT between them
-    clipped  how many needs leave the grid at its sides, where nothing is known of the ground
+    needs    for each block a row of the blocks that it needs, rising, with ABSENT between and behind them
+    clipped  how many needs of the least lists leave the grid at its sides, where nothing is known of the ground
     """
 
     ids: np.ndarray
@@ -31,25 +31,46 @@ class Slice:
 
 def slices(grid: Grid, walls: Walls, blocks: np.ndarray) -> Iterator[Slice]:
     """The needs of the given blocks, whose ids rise. Needs above the highest level are none: there is nothing to dig."""
-    most = max(len(pattern.offsets) for pattern in walls.patterns)
+    most = max((len(walls.lists[number].steps) for number in np.unique(walls.list_of[blocks])), default=1)
     step = max(1, FIELDS // most)
     for start in range(0, len(blocks), step):
-        yield slice_of(grid, walls, blocks[start : start + step], most)
+        yield slice_of(grid, walls, blocks[start : start + step])
 
 
-def slice_of(grid: Grid, walls: Walls, ids: np.ndarray, most: int) -> Slice:
+def slice_of(grid: Grid, walls: Walls, ids: np.ndarray) -> Slice:
+    mine = walls.list_of[ids]
+    found = [(mine == number, listed(grid, walls, ids[mine == number], walls.lists[number])) for number in np.unique(mine)]
+    needs = np.full((len(ids), max(part.shape[1] for _, (part, _) in found)), ABSENT, dtype=np.int64)
+    for rows, (part, _) in found:
+        needs[rows, : part.shape[1]] = part
+    return Slice(ids, needs, sum(clipped for _, (_, clipped) in found))
+
+
+def listed(grid: Grid, walls: Walls, ids: np.ndarray, steps: StepList) -> tuple[np.ndarray, int]:
+    """The needs of blocks that have one list, a row a block, and how many steps that are always written leave the sides."""
     column, row, level = (part[:, None] for part in grid.indices(ids))
-    needs = np.full((len(ids), most), ABSENT, dtype=np.int64)
-    clipped = 0
-    for number, pattern in enumerate(walls.patterns):
-        mine = walls.code[ids] == number
-        if not mine.any():
-            continue
-        # From the highest level down, and there from the south-west: so the needed ids rise.
-        east, north, up = np.array(sorted(pattern.offsets, key=lambda step: (-step[2], step[1], step[0]))).T
-        x, y, z = column[mine] + east, row[mine] + north, level[mine] - up
-        beside = (x < 0) | (x >= grid.shape[2]) | (y < 0) | (y >= grid.shape[1])
-        clipped += int(np.count_nonzero(beside & (z >= 0)))
-        needed = (z * grid.shape[1] + y) * grid.shape[2] + x
-        needs[np.flatnonzero(mine)[:, None], np.arange(len(up))] = np.where(beside | (z < 0), ABSENT, needed)
-    return Slice(ids, needs, clipped)
+    east, north, up = steps.steps.T
+    x, y, z = column + east, row + north, level - up
+    below_top = z >= 0
+    beside = (x < 0) | (x >= grid.shape[2]) | (y < 0) | (y >= grid.shape[1])
+    clipped = int(np.count_nonzero((beside & below_top)[:, steps.always]))
+    there = below_top & ~beside
+    if not steps.always.all():
+        there &= ~led_on(grid, walls, ids, steps, there)
+        return packed(there, (z * grid.shape[1] + y) * grid.shape[2] + x), clipped
+    return np.where(there, (z * grid.shape[1] + y) * grid.shape[2] + x, ABSENT), clipped
+
+
+def led_on(grid: Grid, walls: Walls, ids: np.ndarray, steps: StepList, there: np.ndarray) -> np.ndarray:
+    """Whether walls on the way lead on to a step, where there is a block: then it goes unwritten."""
+    east, north, up = steps.via.T
+    way = ids[:, None] + (north - up * grid.shape[1]) * grid.shape[2] + east
+    return steps.led[np.arange(len(up)), walls.code[np.where(there, way, ids[:, None])]]
+
+
+def packed(there: np.ndarray, values: np.ndarray) -> np.ndarray:
+    """The values that are there, each row's from its first column on."""
+    count = there.sum(axis=1)
+    result = np.full((len(there), int(count.max(initial=0))), ABSENT, dtype=np.int64)
+    result[np.arange(result.shape[1]) < count[:, None]] = values[there]
+    return result

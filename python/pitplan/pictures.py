@@ -18,8 +18,9 @@ from matplotlib.collections import LineCollection  # noqa: E402
 from matplotlib.colors import BoundaryNorm, ListedColormap  # noqa: E402
 from matplotlib.figure import Figure  # noqa: E402
 from matplotlib.image import AxesImage  # noqa: E402
+from matplotlib.ticker import MaxNLocator  # noqa: E402
 
-from .grid import Grid  # noqa: E402
+from .grid import Grid, metres  # noqa: E402
 from .outlines import edges  # noqa: E402
 from .project import Metal  # noqa: E402
 
@@ -31,8 +32,12 @@ STYLE = {
     "axes.titlesize": 10,
     "axes.titlelocation": "left",
     "savefig.dpi": 120,
+    # Coordinates of seven digits stand in full beside the axes.
+    "axes.formatter.useoffset": False,
+    "axes.formatter.limits": (-6, 9),
 }
 MOST_TICKS = 11
+MOST_COORDINATES = 6
 # Rows are shown from the bottom of the picture up, each cell as it is.
 MAP: dict[str, Any] = {"origin": "lower", "interpolation": "nearest"}
 
@@ -157,10 +162,9 @@ def plans(scene: Scene, path: Path) -> None:
         height = scene.grid.size[2]
         for axis, number in zip(axes[1:], levels_to_show(scene)):
             draw_shells(figure, axis, scene, scene.level(number))
-            axis.set_title(f"Shells on the level {top - (number + 1) * height:g} to {top - number * height:g} m")
+            axis.set_title(f"Shells on the level {metres(top - (number + 1) * height)} to {metres(top - number * height)} m")
         for axis in axes:
-            axis.set_xlabel("east, m")
-            axis.set_ylabel("north, m")
+            name_axes(axis, "east", "north")
         finish(figure, path)
 
 
@@ -172,17 +176,23 @@ def sections(scene: Scene, path: Path) -> None:
         x, y, _ = scene.grid.centres(np.array(row * scene.grid.shape[2] + column))
         figure, axes = panels(east - west, top - bottom)
         cuts = (
-            (scene.from_west_to_east(row), f"west to east at north {float(y):g}", "east, m"),
-            (scene.from_south_to_north(column), f"south to north at east {float(x):g}", "north, m"),
+            (scene.from_west_to_east(row), f"west to east at north {metres(y)}", "east"),
+            (scene.from_south_to_north(column), f"south to north at east {metres(x)}", "north"),
         )
         for (plane, where, label), left, right in zip(cuts, axes[::2], axes[1::2]):
             draw_shells(figure, left, scene, plane)
             left.set_title(f"Shells, {where}")
             draw_grade(figure, right, scene, plane)
             for axis in (left, right):
-                axis.set_xlabel(label)
-                axis.set_ylabel("elevation, m")
+                name_axes(axis, label, "elevation")
         finish(figure, path)
+
+
+def name_axes(axis: Axes, across: str, up: str) -> None:
+    """Labels in metres, and so few ticks below that coordinates of seven digits keep apart."""
+    axis.set_xlabel(f"{across}, m")
+    axis.set_ylabel(f"{up}, m")
+    axis.xaxis.set_major_locator(MaxNLocator(MOST_COORDINATES, steps=[1, 2, 2.5, 5, 10]))
 
 
 def panels(wide: float, high: float) -> tuple[Figure, list[Axes]]:

@@ -3,22 +3,22 @@
 from __future__ import annotations
 
 import sys
-from dataclasses import dataclass, field
+from dataclasses import dataclass, field, replace
 from pathlib import Path
 from typing import Any, Optional, Union
 
 import numpy as np
 import pandas as pd
 
-from . import files, fixed as fixing, grid as grids, money, slopes, table as tables, trim
+from . import absent, files, fixed as fixing, grid as grids, money, table as tables, trim, walls as laying
 from .errors import PlanError
-from .files import Pairs
-from .fixed import NOTHING, FixedBlocks
+from .files import Needs, Pairs
+from .fixed import NOTHING, FixedBlocks, Settled
 from .grid import Grid
 from .money import Values
 from .progress import Progress, silent
 from .project import Project, load
-from .slopes import Walls
+from .walls import Walls
 
 MOST_PAIRS = 67_108_864
 MILLION = 1_000_000
@@ -39,6 +39,7 @@ class Plan:
     filled  how many empty fields were taken as 0
     notes   sentences that a planner should read before trusting the plan
     fixed   blocks that must be dug, and blocks that may not be
+    settled what is dug and what is left for their sake; None where the project has no `[fixed]`
     """
 
     project: Project
@@ -51,6 +52,11 @@ class Plan:
     filled: int = 0
     notes: list[str] = field(default_factory=list)
     fixed: FixedBlocks = NOTHING
+    settled: Optional[Settled] = None
+
+    def called(self, cell: int) -> str:
+        """What the planner calls the block of a cell."""
+        return tables.called(self.table, self.project, int((self.grid.rows == cell).argmax()))
 
     @property
     def blocks(self) -> pd.DataFrame:
@@ -62,22 +68,48 @@ class Plan:
             frame[name if name == "revenue" else f"{name}_cost"] = getattr(self.values, name)[ids] / MILLION
         return frame.sort_values("id").reset_index(drop=True)
 
+    @property
+    def reference(self) -> float:
+        """The elevation in metres of the top of the level below which mining costs more."""
+        return self.grid.extent()[5] - self.values.first_level * self.grid.size[2]
+
+    @property
+    def needs(self) -> Needs:
+        """The needs of the whole mine."""
+        return Needs(self.grid, self.walls, self.used, self.values.processed)
+
+    @property
+    def needs_of_rest(self) -> Needs:
+        """Those of the blocks that fixed ones settle nothing of; where nothing is fixed, all."""
+        return replace(self.needs, settled=self.settled)
+
     def write(self, folder: Path) -> dict[str, Any]:
-        """Writes mine.blocks, mine.upit and mine.prec into a folder, and mine.fixed where the project has `[fixed]`; gives the
-        record of what was done. Raises PlanError."""
+        """Writes mine.blocks, mine.upit and mine.prec into a folder, and where the project has `[fixed]` mine.fixed, and the rest's
+        rest.blocks and rest.prec; gives the record of what was done. Raises PlanError."""
         nodes = self.values.nodes()
         processed = self.values.processed
         files.write_blocks(folder / files.BLOCKS, self.grid, processed, nodes)
         files.write_model(folder / files.MODEL, self.project.title, nodes[0] - nodes[1])
-        if self.project.fixed is not None:
+        pairs = self.write_needs(folder / files.PREC, self.needs)
+        if self.settled is not None:
             fixing.write(folder / files.FIXED, self.fixed)
-        pairs = files.write_prec(folder / files.PREC, self.grid, self.walls, self.used, processed)
-        if pairs.written + pairs.processing > MOST_PAIRS:
-            raise PlanError(
-                f"{pairs.written + pairs.processing:,} needs, and the program takes at most {MOST_PAIRS:,}: "
-                "give fewer [slopes] levels, or a smaller model"
-            )
+            files.write_blocks(folder / files.REST_BLOCKS, self.grid, processed, self.values.nodes_of_rest(self.settled))
+            self.write_needs(folder / files.REST_PREC, self.needs_of_rest)
         return self.record(pairs)
+
+    def write_needs(self, path: Path, needs: Needs) -> Pairs:
+        """Writes needs of the plan. Raises PlanError where the program takes fewer."""
+        pairs = files.write_prec(path, needs, MOST_PAIRS)
+        count = pairs.written + pairs.processing
+        if count > MOST_PAIRS:
+            fewer = "give fewer [slopes] levels"
+            if self.project.slopes.levels is None:
+                chosen = max(pattern.levels for pattern in self.walls.patterns)
+                fewer = f"give [slopes] levels, fewer than the {chosen} that were chosen"
+            raise PlanError(
+                f"{count:,} needs, and the program takes at most {MOST_PAIRS:,}: {fewer}, or a smaller model"
+            )
+        return pairs
 
     def record(self, pairs: Pairs) -> dict[str, Any]:
         """All that was rounded, dropped, clipped or added between the table and the files."""
@@ -88,6 +120,7 @@ class Plan:
             "grid": self.record_of_grid(),
             "money": {
                 "cutoff": self.values.cutoff,
+                "mining_cost_reference": self.reference,
                 "decimals": project.money.decimals,
                 "processing_nodes": len(self.values.processed),
                 "rounded": {name: rounding.as_json() for name, rounding in self.values.roundings.items()},
@@ -110,8 +143,8 @@ class Plan:
             "origin": list(self.grid.origin),
             "size": list(self.grid.size),
             "cells": self.grid.count,
-            "cells_taken_as_air": self.grid.count - len(self.table),
-            "of_these_below_a_block": cells_below_blocks(self.grid),
+            "cells_without_a_row": self.grid.count - len(self.table),
+            "of_these_not_above_the_highest_of_their_column": len(absent.unknown_cells(self.grid)),
             "greatest_shift_of_a_centre": greatest_shift(self.table, self.grid, self.project),
         }
 
@@ -156,23 +189,38 @@ def prepare(
         checked = tables.read(project) if table is None else tables.checked(table, project)
         frame = checked.frame
     with progress.step("laying the grid"):
-        grid = grids.of_table(frame, project, source)
+        frame, grid = absent.with_rows(frame, grids.of_table(frame, project, source), project)
     with progress.step("laying the walls"):
-        region = slopes.regions_of(frame, grid, project.table.region)
-        walls = slopes.walls_of(region, grid, project.slopes)
+        region = laying.regions_of(frame, grid, project.table.region)
+        walls = laying.walls_of(region, grid, project.slopes)
     with progress.step("weighing the blocks"):
         plan = plan_of(project, frame, grid, walls, source)
     plan.filled = checked.filled
-    plan.notes = notes_of(plan)
+    plan.notes = [*checked.notes, *notes_of(plan)]
     return plan
 
 
 def plan_of(project: Project, frame: pd.DataFrame, grid: Grid, walls: Walls, source: str) -> Plan:
     """A plan of a checked table, without notes. Raises PlanError where its blocks cannot be weighed."""
-    values = money.values_of(frame, grid, project, source)
+    values = money.values_of(frame, grid, project, source, lambda paying: trim.used_blocks(grid, walls, paying))
     fixed = fixing.of_table(frame, grid, project, source)
     used = trim.used_blocks(grid, walls, wanted(values, project, fixed))
-    return Plan(project, frame, grid, values, walls, used, source, fixed=fixed)
+    plan = Plan(project, frame, grid, values, walls, used, source, fixed=fixed)
+    if project.fixed is not None:
+        plan.settled = fixing.settled(fixed, grid, walls)
+        demand_no_clash(plan, plan.settled)
+    return plan
+
+
+def demand_no_clash(plan: Plan, settled: Settled) -> None:
+    """Raises PlanError where a block must be dug that needs one which may not be."""
+    forced, barred = plan.fixed.forced, plan.fixed.barred
+    clash = forced[settled.left[forced]]
+    if len(clash):
+        needs = trim.used_blocks(plan.grid, plan.walls, fixing.marks(plan.grid, clash[:1]))
+        first, second = plan.called(clash[0]), plan.called(barred[needs[barred]][0])
+        more = f", and so it is with {len(clash) - 1:,} blocks more" if len(clash) > 1 else ""
+        raise PlanError(f"{plan.source}: {first} must be dug and needs {second}, which may not be dug{more}")
 
 
 def wanted(values: Values, project: Project, fixed: FixedBlocks) -> np.ndarray:
@@ -187,11 +235,7 @@ def notes_of(plan: Plan) -> list[str]:
     grid, count = plan.grid, len(plan.table)
     levels, rows, columns = grid.shape
     notes = [f"{count:,} blocks lie on a grid of {columns} x {rows} x {levels} = {grid.count:,} cells"]
-    if grid.count > count:
-        notes.append(f"{grid.count - count:,} cells have no row and are taken as air, which costs nothing to dig")
-    below = cells_below_blocks(grid)
-    if below:
-        notes.append(f"WARNING: {below:,} of these cells lie below a block of the table: is rock missing from it?")
+    notes += absent.notes(plan.table, grid, plan.project)
     if plan.values.cutoff == "moving":
         notes.append(f"{len(plan.values.ore):,} blocks have a node for processing: the cut-off moves with the price")
     else:
@@ -200,7 +244,16 @@ def notes_of(plan: Plan) -> list[str]:
         notes.append(f"{plan.filled:,} empty fields were taken as 0")
     notes += [pattern.sentence() for pattern in plan.walls.patterns]
     notes += plan.values.notes
+    if plan.project.money.mining_cost_per_level and plan.project.money.mining_cost_reference is None:
+        notes.append(
+            f"mining costs more for each level below that of {plan.reference - grid.size[2]:.10g} to {plan.reference:.10g} m, the "
+            "highest of which ore needs a block: [money] mining_cost_reference names another elevation"
+        )
     notes += plan.fixed.notes
+    if plan.settled is not None:
+        rock = plan.values.tonnes > 0
+        dug, left = (int(np.count_nonzero(cells & rock)) for cells in (plan.settled.dug, plan.settled.left))
+        notes.append(f"for their sake {dug:,} blocks are dug in every pit and {left:,} in none")
     if plan.project.schedule.reference_added:
         notes.append("factor 1000, the price as given, was added to the factors")
     for name, rounding in plan.values.roundings.items():
@@ -209,15 +262,6 @@ def notes_of(plan: Plan) -> list[str]:
                 f"{name}: {rounding.changed:,} of {rounding.values:,} amounts were rounded, by {rounding.largest:.2g} at most"
             )
     return notes
-
-
-def cells_below_blocks(grid: Grid) -> int:
-    """How many cells without a row lie below one that has a row: holes that are dug for nothing."""
-    filled = np.zeros(grid.count, dtype=bool)
-    filled[grid.rows] = True
-    cube = grid.cube(filled)
-    above = np.maximum.accumulate(cube, axis=0)
-    return int(np.count_nonzero(above & ~cube))
 
 
 def greatest_shift(table: pd.DataFrame, grid: Grid, project: Project) -> float:

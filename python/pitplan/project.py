@@ -2,6 +2,7 @@
 
 from __future__ import annotations
 
+import codecs
 import tomllib
 from dataclasses import dataclass
 from decimal import Decimal
@@ -21,11 +22,22 @@ GRADE_UNITS = {"percent": Decimal("0.01"), "fraction": Decimal(1), "gram_per_ton
 METAL_UNITS = {"percent": "t", "fraction": "t", "gram_per_tonne": "g"}
 GRADE_SIGNS = {"percent": "%", "fraction": "t/t", "gram_per_tonne": "g/t"}
 PATTERNS = ("1:5", "1:9")
+DISCOUNTINGS = ("continuous", "end_of_year", "mid_year")
+MOST_LEVELS = 40
+
+
+@dataclass(frozen=True)
+class AbsentRock:
+    """What lies in cells that the table has no row of: tonnes a cell, and codes of rock and region, "" where none is given."""
+
+    tonnes: float
+    rock: str
+    region: str
 
 
 @dataclass(frozen=True)
 class TableColumns:
-    """Where the table is, and which of its columns say what."""
+    """Where the table is, which of its columns say what, and what lies where it has no row: "refuse", "air" or a rock."""
 
     file: Path
     x: str
@@ -35,8 +47,11 @@ class TableColumns:
     id: Optional[str]
     rock: Optional[str]
     region: Optional[str]
-    separator: str
+    separator: Optional[str]
+    decimal: Optional[str]
+    encoding: str
     empty: str
+    absent: Union[str, AbsentRock]
 
 
 @dataclass(frozen=True)
@@ -71,11 +86,18 @@ class Metal:
 
 @dataclass(frozen=True)
 class Money:
-    """Costs a tonne, how many decimals of the currency are kept, and whether the cut-off moves with the price."""
+    """Costs a tonne, how many decimals of the currency are kept, and whether the cut-off moves with the price.
+
+    mining_cost_per_level     more a tonne for each level below the one that holds the reference
+    mining_cost_reference     an elevation in metres; None: the top of the highest block that any ore needs
+    mining_cost_by_elevation  pairs of an elevation in metres and what mining costs more there, a tonne; rising
+    """
 
     currency: str
     mining_cost: ByRock
     mining_cost_per_level: Decimal
+    mining_cost_reference: Optional[Decimal]
+    mining_cost_by_elevation: tuple[tuple[Decimal, Decimal], ...]
     processing_cost: ByRock
     decimals: int
     cutoff: str
@@ -92,9 +114,12 @@ class Wall:
 
 @dataclass(frozen=True)
 class Slopes:
-    """All walls, over how many levels their needs reach, and whether none may be steeper than asked."""
+    """All walls, over how many levels their needs reach, and whether none may be steeper than asked.
 
-    levels: int
+    levels  None where each wall entry takes as many as its angles need
+    """
+
+    levels: Optional[int]
     never_steeper: bool
     walls: tuple[Wall, ...]
 
@@ -125,13 +150,15 @@ class FixedRules:
 
 @dataclass(frozen=True)
 class Schedule:
-    """Price factors in per mille, and what discounting needs: a yearly rate and yearly capacities in tonnes."""
+    """Price factors in per mille, and what discounting needs: a yearly rate, yearly capacities in tonnes, and the moment that
+    cash is discounted from: that when it flows, or the end or the middle of its year."""
 
     factors: tuple[int, ...]
     chosen: Optional[int]
     rate: float
     ore_per_year: float
     rock_per_year: Optional[float]
+    discounting: str
     reference_added: bool
 
 
@@ -170,10 +197,11 @@ def load(path: Union[str, Path]) -> Project:
     """Reads a project. Raises PlanError, with the file, the section and the key, where something is missing or wrong."""
     path = Path(path)
     try:
-        with open(path, "rb") as file:
-            data = tomllib.load(file, parse_float=Decimal)
+        data = tomllib.loads(path.read_text(encoding="utf-8-sig"), parse_float=Decimal)
     except OSError as error:
         raise PlanError(f"{path}: cannot be read: {error.strerror}") from error
+    except UnicodeDecodeError as error:
+        raise PlanError(f"{path}: is not written in UTF-8: save it so") from error
     except tomllib.TOMLDecodeError as error:
         raise PlanError(f"{path}: {error}") from error
     return of_data(data, path)
@@ -184,7 +212,7 @@ def of_data(data: dict, path: Path) -> Project:
     output = top.section("output", optional=True)
     project = Project(
         path=path,
-        title=top.text("title", path.parent.name or "plan"),
+        title=read_title(top, path.parent.name or "plan"),
         table=read_table(top.section("table"), path.parent),
         grid=read_grid(top.section("grid", optional=True)),
         money=read_money(top.section("money")),
@@ -199,6 +227,14 @@ def of_data(data: dict, path: Path) -> Project:
     top.finish()
     demand_agreement(project)
     return project
+
+
+def read_title(top: Section, default: str) -> str:
+    """A title of one line, since the program's model has it in one."""
+    title = top.text("title", default)
+    if not title.isprintable():
+        raise top.wrong("title", "must be one line of plain text")
+    return title
 
 
 def demand_agreement(project: Project) -> None:
@@ -227,11 +263,37 @@ def read_table(section: Section, folder: Path) -> TableColumns:
         id=section.optional_text("id"),
         rock=section.optional_text("rock"),
         region=section.optional_text("region"),
-        separator=section.text("separator", ","),
+        separator=section.optional_text("separator"),
+        decimal=section.choice("decimal", (".", ","), None) if section.has("decimal") else None,
+        encoding=read_encoding(section),
         empty=section.choice("empty", ("refuse", "zero"), "refuse"),
+        absent=read_absent(section),
     )
     section.finish()
+    for name, code in (("rock", columns.rock), ("region", columns.region)):
+        if isinstance(columns.absent, AbsentRock) and bool(getattr(columns.absent, name)) != bool(code):
+            raise section.wrong("absent", f"needs a {name} where, and only where, a column of the table is its {name}")
     return columns
+
+
+def read_encoding(section: Section) -> str:
+    """A name that Python knows; of UTF-8 a byte-order mark is passed over."""
+    name = section.text("encoding", "utf-8")
+    try:
+        known = codecs.lookup(name).name
+    except LookupError as error:
+        raise section.wrong("encoding", f'"{name}" is no encoding: such are utf-8, cp1252 and utf-16') from error
+    return "utf-8-sig" if known == "utf-8" else known
+
+
+def read_absent(section: Section) -> Union[str, AbsentRock]:
+    if not section.has("absent") or not isinstance(section.data["absent"], dict):
+        return section.choice("absent", ("refuse", "air"), "refuse")
+    rock = section.section("absent")
+    tonnes = float(rock.number("tonnes", least=0))
+    absent = AbsentRock(tonnes, rock.optional_text("rock") or "", rock.optional_text("region") or "")
+    rock.finish()
+    return absent
 
 
 def read_grid(section: Section) -> GridRules:
@@ -251,12 +313,30 @@ def read_money(section: Section) -> Money:
         currency=section.text("currency", "USD"),
         mining_cost=section.by_rock("mining_cost"),
         mining_cost_per_level=section.number("mining_cost_per_level", Decimal(0), least=0),
+        mining_cost_reference=section.number("mining_cost_reference") if section.has("mining_cost_reference") else None,
+        mining_cost_by_elevation=read_by_elevation(section),
         processing_cost=section.by_rock("processing_cost"),
         decimals=section.whole("decimals", 6, 0, 6),
         cutoff=section.choice("cutoff", ("moving", "fixed"), "moving"),
     )
     section.finish()
+    if money.mining_cost_reference is not None and not section.has("mining_cost_per_level"):
+        raise section.wrong("mining_cost_reference", "says from where on mining_cost_per_level is added, which is missing")
+    if money.mining_cost_by_elevation and section.has("mining_cost_per_level"):
+        raise section.wrong("mining_cost_by_elevation", "give it or mining_cost_per_level, not both")
     return money
+
+
+def read_by_elevation(section: Section) -> tuple[tuple[Decimal, Decimal], ...]:
+    """Pairs of elevation and added cost, by rising elevation."""
+    if not section.has("mining_cost_by_elevation"):
+        return ()
+    pairs = sorted(section.pairs("mining_cost_by_elevation", "elevation, cost a tonne"))
+    if any(cost < 0 for _, cost in pairs):
+        raise section.wrong("mining_cost_by_elevation", "a cost may not be negative")
+    if len({elevation for elevation, _ in pairs}) < len(pairs):
+        raise section.wrong("mining_cost_by_elevation", "an elevation is named twice")
+    return tuple(pairs)
 
 
 def read_metal(section: Section) -> Metal:
@@ -274,7 +354,7 @@ def read_metal(section: Section) -> Metal:
 
 def read_slopes(section: Section) -> Slopes:
     slopes = Slopes(
-        levels=section.whole("levels", 8, 1, 40),
+        levels=section.whole("levels", 1, 1, MOST_LEVELS) if section.has("levels") else None,
         never_steeper=section.truth("never_steeper", False),
         walls=tuple(read_wall(wall) for wall in section.sections("walls")),
     )
@@ -295,7 +375,7 @@ def read_wall(section: Section) -> Wall:
     if given == ["angle"]:
         angles = ((0.0, float(section.number("angle"))),)
     if given == ["azimuths"]:
-        angles = section.pairs("azimuths")
+        angles = tuple((float(azimuth), float(angle)) for azimuth, angle in section.pairs("azimuths", "azimuth, angle"))
     if any(not 1 <= angle <= 90 for _, angle in angles):
         raise section.wrong(given[0], "a wall angle is from 1 to 90 degrees")
     if any(not 0 <= azimuth < 360 for azimuth, _ in angles) or len({azimuth for azimuth, _ in angles}) < len(angles):
@@ -317,13 +397,21 @@ def read_schedule(section: Section) -> Schedule:
     schedule = Schedule(
         factors=factors,
         chosen=chosen,
-        rate=float(section.number("rate", least=0)),
+        rate=read_rate(section),
         ore_per_year=float(section.number("ore_per_year", least=1)),
         rock_per_year=float(section.number("rock_per_year", least=1)) if section.has("rock_per_year") else None,
+        discounting=section.choice("discounting", DISCOUNTINGS, DISCOUNTINGS[0]),
         reference_added=REFERENCE_FACTOR not in asked,
     )
     section.finish()
     return schedule
+
+
+def read_rate(section: Section) -> float:
+    rate = section.number("rate", least=0)
+    if rate > 1:
+        raise section.wrong("rate", f"{rate} is above 1: it is a yearly rate, such as 0.08 for 8 % a year")
+    return float(rate)
 
 
 def read_fixed(section: Section, folder: Path) -> FixedRules:

@@ -18,6 +18,11 @@ TEMPLATES = Environment(
     trim_blocks=True,
     lstrip_blocks=True,
 )
+DISCOUNTED = {
+    "continuous": "from the moment when cash flows",
+    "end_of_year": "from the end of each year",
+    "mid_year": "from the middle of each year",
+}
 
 
 def picture(path: Path) -> str:
@@ -67,7 +72,7 @@ def cells_of(table: pd.DataFrame, columns: list[tuple[str, str, float, int]]) ->
 
 
 def write(path: Path, project: Project, table: pd.DataFrame, facts: dict[str, Any]) -> None:
-    """`facts`: chosen factor, pictures by name, notes, files with their hashes, and the program's identity."""
+    """`facts`: chosen factor, pictures by name, notes, what was verified, files with their hashes, and the program's identity."""
     columns = columns_of(table, project)
     rows = [
         {"cells": cells, "chosen": factor == facts["chosen"], "given": factor == 1000}
@@ -82,6 +87,7 @@ def write(path: Path, project: Project, table: pd.DataFrame, facts: dict[str, An
         notes=[note for note in facts["notes"] if note not in warnings],
         pictures={name: picture(place) for name, place in facts["pictures"].items()},
         rate=project.schedule.rate,
-        **{name: facts[name] for name in ("chosen", "files", "program")},
+        discounting=DISCOUNTED[project.schedule.discounting],
+        **{name: facts[name] for name in ("chosen", "verified", "files", "program")},
     )
     path.write_text(page, encoding="utf-8")

@@ -15,8 +15,10 @@ from typing import Optional, Union
 import numpy as np
 import pandas as pd
 
-from . import files
-from .errors import BudgetUsedUp, ProgramError
+from . import absent, files
+from .errors import BudgetUsedUp, PlanError, ProgramError
+from .fixed import Settled
+from .money import Values
 from .plan import Plan
 from .progress import Progress, silent
 
@@ -110,13 +112,48 @@ def read_answer(answer: bytes) -> Solution:
 
 
 def solve(plan: Plan, folder: Optional[Path] = None, progress: Progress = silent) -> Solution:
-    """The shells of a plan at all its factors; its files are those in `folder`, or are written for the time being.
+    """The shells of a plan at all its factors, with its fixed blocks; its files are those in `folder`, or are written for the time
+    being.
 
-    Raises ProgramError where the program is missing or refuses.
+    Raises ProgramError where the program is missing or refuses, and PlanError where a shell reaches ground that is not known.
     """
     if folder is None:
         with tempfile.TemporaryDirectory(prefix="pitplan-") as place:
             plan.write(Path(place))
             return solve(plan, Path(place), progress)
-    with progress.step(f"solving {len(plan.project.schedule.factors)} factors"):
-        return solve_files(folder / files.BLOCKS, folder / files.PREC, plan.project.schedule.factors)
+    factors = plan.project.schedule.factors
+    names = (files.BLOCKS, files.PREC) if plan.settled is None else (files.REST_BLOCKS, files.REST_PREC)
+    with progress.step(f"solving {len(factors)} factors"):
+        rest = solve_files(folder / names[0], folder / names[1], factors)
+    solution = joined(rest, plan.settled, plan.values)
+    absent.demand_known(solution.entry, plan.grid, plan.project, plan.source)
+    return solution
+
+
+def joined(rest: Solution, settled: Optional[Settled], values: Values) -> Solution:
+    """The shells of the rest with what must be dug, which every pit holds from the first factor on."""
+    if settled is None:
+        return rest
+    factors = list(rest.worth.index)
+    count = len(settled.dug)
+    entry = rest.entry.copy()
+    entry[:count][settled.dug] = factors[0]
+    revenue, cost = (int(amounts[:count][settled.dug].sum(dtype=object)) for amounts in values.nodes())
+    worth = [amount + Decimal(factor * revenue - 1000 * cost).scaleb(-9) for factor, amount in rest.worth.items()]
+    return Solution(
+        worth=pd.Series(worth, index=factors, dtype=object),
+        nodes=rest.nodes + int(np.count_nonzero(settled.dug)),
+        entry=entry,
+        answer=rest.answer,
+    )
+
+
+def demand_same(shells: Solution, pit: Solution, factor: int) -> None:
+    """Raises PlanError where the shell of a factor is not the pit that was found for it alone, block by block."""
+    inside = (shells.entry > 0) & (shells.entry <= factor)
+    other = np.flatnonzero(inside != (pit.entry > 0))
+    if len(other) or shells.worth[factor] != pit.worth[factor]:
+        raise PlanError(
+            f"the shell of factor {factor} is not the program's pit with the fixed blocks: {len(other):,} nodes differ, "
+            f"worth {shells.worth[factor]} for {pit.worth[factor]}; please report this"
+        )

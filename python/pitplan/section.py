@@ -101,11 +101,12 @@ class Section:
             raise self.wrong(key, f"must be a list of {count} numbers")
         return [float(self.as_number(key, item)) for item in value]
 
-    def pairs(self, key: str) -> tuple[tuple[float, float], ...]:
+    def pairs(self, key: str, of: str) -> tuple[tuple[Decimal, Decimal], ...]:
+        """A list of pairs of numbers; `of` names the two."""
         value = self.get(key)
         if not isinstance(value, list) or not value or any(not isinstance(p, list) or len(p) != 2 for p in value):
-            raise self.wrong(key, "must be a list of pairs [azimuth, angle]")
-        return tuple((float(self.as_number(key, a)), float(self.as_number(key, b))) for a, b in value)
+            raise self.wrong(key, f"must be a list of pairs [{of}]")
+        return tuple((self.as_number(key, a), self.as_number(key, b)) for a, b in value)
 
     def names(self, key: str) -> Optional[tuple[str, ...]]:
         """Codes as texts: one, or a list of them; None where the key is missing."""
@@ -129,14 +130,29 @@ class Section:
         """A list of factors in per mille, or `{from, to, step}`."""
         value = self.get(key)
         if isinstance(value, dict):
-            span = Section(self.file, self.inner(key), value)
-            first, last = span.whole("from", 0, 0, most), span.whole("to", 0, 0, most)
-            step = span.whole("step", 0, 1, most)
-            span.finish()
-            value = list(range(first, last + 1, step))
+            value = self.span(key, value, most)
         if not isinstance(value, list) or not value:
             raise self.wrong(key, "must be a list of factors, or { from, to, step }")
         for item in value:
             if isinstance(item, bool) or not isinstance(item, int) or not 0 <= item <= most:
-                raise self.wrong(key, f"{item!r} is not a whole number of per mille from 0 to {most:,}")
+                raise self.wrong(key, self.no_factor(item, most))
         return value
+
+    def span(self, key: str, value: dict[str, Any], most: int) -> list[int]:
+        """The factors of `{from, to, step}`."""
+        inner = Section(self.file, self.inner(key), value)
+        inner.get("to")
+        first, last = inner.whole("from", 0, 0, most), inner.whole("to", 0, 0, most)
+        step = inner.whole("step", 0, 1, most)
+        inner.finish()
+        if first > last:
+            raise self.wrong(key, f"from {first} to {last} there is no factor: from may not be above to")
+        return list(range(first, last + 1, step))
+
+    def no_factor(self, item: Any, most: int) -> str:
+        """Why an item is no factor; of a share of the price, such as 0.3, what it is in per mille."""
+        if not isinstance(item, (int, Decimal)) or isinstance(item, bool):
+            return f"{item!r} is not a whole number of per mille from 0 to {most:,}"
+        said = f"{item} is not a whole number of per mille from 0 to {most:,}"
+        is_share = Decimal(item).is_finite() and 0 < item < 100 and 1000 * item % 1 == 0
+        return f"{said}: 1000 is the price as given, and {1000 * item:.0f} is {item} of it" if is_share else said

@@ -6,7 +6,7 @@ A row is counted as a spreadsheet counts it: the header is row 1, the first bloc
 from __future__ import annotations
 
 import warnings
-from dataclasses import dataclass
+from dataclasses import dataclass, replace
 from pathlib import Path
 from typing import Optional
 
@@ -14,7 +14,8 @@ import numpy as np
 import pandas as pd
 
 from .errors import PlanError
-from .project import Project
+from .project import Project, TableColumns
+from .table_format import NAMES, TableFormat, format_of, names_in_header, wrong_encoding
 
 HEADER_ROWS = 2
 
@@ -26,11 +27,13 @@ class Table:
     frame   one row a block, in the file's order: numbers as float64, codes (id, rock, region) as texts
     source  the file, or "table" where it came from pandas
     filled  how many empty fields were taken as 0
+    notes   what was told of the text by looking at it
     """
 
     frame: pd.DataFrame
     source: str
     filled: int
+    notes: tuple[str, ...] = ()
 
 
 def read(project: Project) -> Table:
@@ -40,11 +43,49 @@ def read(project: Project) -> Table:
     """
     columns = project.table
     codes = [name for name in (columns.id, columns.rock, columns.region) if name]
-    frame = read_columns(columns.file, columns.separator, codes, names_of(project))
-    return checked(frame, project, str(columns.file))
+    frame, form = read_as_written(columns.file, columns, codes, names_of(project))
+    table = checked(frame, project, str(columns.file))
+    return replace(table, notes=tuple(notes_of(form, columns)))
 
 
-def read_columns(file: Path, separator: str, codes: list[str], wanted: list[str]) -> pd.DataFrame:
+def read_as_written(
+    file: Path, columns: TableColumns, codes: list[str], wanted: list[str]
+) -> tuple[pd.DataFrame, TableFormat]:
+    """The file as `read_columns` gives it, in the format that the project names, or else that of the text itself."""
+    form = format_of(file, columns)
+    # The reader would give the second of two columns of one name another.
+    demand_each_once([name for name in names_in_header(file, form) if name in wanted], str(file))
+    frame = read_columns(file, form, codes, wanted)
+    # Where fields are parted by commas, one within a number parts thousands.
+    if columns.decimal is None and form.separator != ",":
+        if has_decimal_commas(frame, [name for name in wanted if name not in codes]):
+            form = replace(form, decimal=",")
+            frame = read_columns(file, form, codes, wanted)
+    return frame, form
+
+
+def notes_of(form: TableFormat, columns: TableColumns) -> list[str]:
+    """What was told by looking at the table, where it is not what one expects."""
+    found = []
+    if columns.separator is None and form.separator != ",":
+        found.append(f"the table's fields are parted by {NAMES[form.separator]}: [table] separator names another sign")
+    if columns.decimal is None and form.decimal != ".":
+        found.append('the table\'s decimals are written with a comma: [table] decimal = "." takes them otherwise')
+    return found
+
+
+def has_decimal_commas(frame: pd.DataFrame, names: list[str]) -> bool:
+    """Whether some column is no numbers as it stands, and numbers once its commas are points."""
+    for name in names:
+        if name in frame and frame[name].dtype == object:
+            texts = frame[name].dropna().astype(str).str.strip()
+            texts = texts[texts != ""]
+            if texts.str.contains(",").any() and texts.str.fullmatch(r"[-+]?\d*(,\d+)?([eE][-+]?\d+)?").all():
+                return True
+    return False
+
+
+def read_columns(file: Path, form: TableFormat, codes: list[str], wanted: list[str]) -> pd.DataFrame:
     """The file as it is: numbers where a column has no other field, codes as texts, and an empty number as nan.
 
     Raises PlanError where it cannot be read or is no table; whether the wanted columns are there is not looked at.
@@ -55,31 +96,28 @@ def read_columns(file: Path, separator: str, codes: list[str], wanted: list[str]
             warnings.simplefilter("error", pd.errors.ParserWarning)
             return pd.read_csv(
                 file,
-                sep=separator,
+                sep=form.separator,
+                decimal=form.decimal,
                 index_col=False,
                 dtype=dict.fromkeys(codes, str),
                 keep_default_na=False,
                 na_values={name: [""] for name in wanted if name not in codes},
                 float_precision="round_trip",
-                encoding="utf-8-sig",
+                encoding=form.encoding,
                 low_memory=False,
             )
     except OSError as error:
         raise PlanError(f"{file}: cannot be read: {error.strerror or error}") from error
-    except (
-        pd.errors.ParserError,
-        pd.errors.EmptyDataError,
-        pd.errors.ParserWarning,
-        UnicodeDecodeError,
-        EOFError,
-    ) as error:
+    except UnicodeError as error:
+        raise wrong_encoding(file, form.encoding) from error
+    except (pd.errors.ParserError, pd.errors.EmptyDataError, pd.errors.ParserWarning, EOFError) as error:
         raise PlanError(f"{file}: is no table: {' '.join(str(error).split())}") from error
 
 
-def read_header(file: Path, separator: str) -> list[str]:
+def read_header(file: Path, form: TableFormat) -> list[str]:
     """The names of a table's columns. Raises PlanError where it cannot be read."""
     try:
-        return list(pd.read_csv(file, sep=separator, nrows=0, encoding="utf-8-sig").columns)
+        return list(pd.read_csv(file, sep=form.separator, nrows=0, encoding=form.encoding).columns)
     except (OSError, ValueError) as error:
         raise PlanError(f"{file}: cannot be read: {error}") from error
 
@@ -97,6 +135,13 @@ def demand_columns(frame: pd.DataFrame, wanted: list[str], source: str) -> None:
         if name not in frame.columns:
             there = ", ".join(map(str, frame.columns))
             raise PlanError(f"{source} row 1: there is no column {name}; the columns are {there}")
+    demand_each_once([name for name in frame.columns if name in wanted], source)
+
+
+def demand_each_once(names: list[str], source: str) -> None:
+    for name in names:
+        if names.count(name) > 1:
+            raise PlanError(f"{source} row 1: the column {name} stands there twice")
 
 
 def checked(frame: pd.DataFrame, project: Project, source: str = "table") -> Table:
@@ -119,6 +164,8 @@ def checked(frame: pd.DataFrame, project: Project, source: str = "table") -> Tab
         result[name], empty = filled_numbers(frame[name], source, name, may_fill)
         filled += empty
     demand_not_negative(result, project, source)
+    if not result[columns.tonnes].any():
+        raise PlanError(f"{source} column {columns.tonnes}: all are 0, so there is no rock")
     demand_codes(result, project, source)
     return Table(result, source, filled)
 
@@ -178,6 +225,12 @@ def demand_ids(frame: pd.DataFrame, name: Optional[str], source: str) -> None:
         row = int(twice.argmax())
         first = int((frame[name] == frame[name].iloc[row]).to_numpy().argmax())
         raise at_row(source, row, name, f"{frame[name].iloc[row]} stands in row {first + HEADER_ROWS} too")
+
+
+def called(frame: pd.DataFrame, project: Project, row: int) -> str:
+    """What a planner calls the block of a row, counted from 0: by its id, where there is one, and the file's row."""
+    name, place = project.table.id, row + HEADER_ROWS
+    return f"block {frame[name].iloc[row]} (row {place})" if name else f"the block of row {place}"
 
 
 def at_row(source: str, row: int, column: str, why: str) -> PlanError:

@@ -10,28 +10,44 @@ from __future__ import annotations
 import numpy as np
 
 from .grid import Grid
-from .slopes import Walls
+from .walls import Walls
 
 
 def used_blocks(grid: Grid, walls: Walls, paying: np.ndarray) -> np.ndarray:
     """The paying blocks and all that they need, directly or through others: a truth for each cell."""
     used = grid.cube(paying).copy()
-    code = grid.cube(walls.code)
-    present = [number for number in range(len(walls.patterns)) if (walls.code == number).any()]
+    list_of = grid.cube(walls.list_of)
+    present = np.unique(list_of)
     # Needs lead up alone, so a level is whole once those below it have been passed.
     for level in range(grid.shape[0] - 1, 0, -1):
         for number in present:
-            mine = used[level] & (code[level] == number)
+            mine = used[level] & (list_of[level] == number)
             if not mine.any():
                 continue
-            for east, north, up in walls.patterns[number].offsets:
+            # A step that goes unwritten is a need all the same, which others lead to.
+            for east, north, up in walls.lists[number].steps:
                 if up <= level:
                     mark(used[level - up], mine, east, north)
     return used.ravel()
 
 
+def users_of(grid: Grid, walls: Walls, needed: np.ndarray) -> np.ndarray:
+    """The given blocks and all that need them, directly or through others: a truth for each cell."""
+    found = grid.cube(needed).copy()
+    list_of = grid.cube(walls.list_of)
+    present = np.unique(list_of)
+    for level in range(1, grid.shape[0]):
+        for number in present:
+            users = np.zeros_like(found[level])
+            for east, north, up in walls.lists[number].steps:
+                if up <= level:
+                    mark(users, found[level - up], -east, -north)
+            found[level] |= users & (list_of[level] == number)
+    return found.ravel()
+
+
 def mark(above: np.ndarray, blocks: np.ndarray, east: int, north: int) -> None:
-    """Marks, in a level above, the blocks that lie so many steps east and north of the given ones."""
+    """Marks, in another level, the blocks that lie so many steps east and north of the given ones."""
     rows, columns = blocks.shape
     if abs(north) >= rows or abs(east) >= columns:
         return

@@ -2,8 +2,10 @@
 
 import json
 import os
+import signal
 import subprocess
 import sys
+import time
 import xml.etree.ElementTree as xml
 from decimal import Decimal
 
@@ -32,13 +34,14 @@ def test_shells_write_tables_pictures_and_a_page_that_needs_no_other_file(solved
             "prepare.json",
             "blocks.csv",
             "shells.csv",
+            "years.csv",
             "shells.txt",
             "report.html",
         }
         | pictures
     )
     page = (folder / "report.html").read_text()
-    assert page.count('<img src="data:image/png;base64,') == 3 and "http" not in page.replace("http-equiv", "")
+    assert page.count('<img src="data:image/png;base64,') == 4 and "http" not in page.replace("http-equiv", "")
     for name in pictures:
         assert (folder / name).read_bytes().startswith(b"\x89PNG")
 
@@ -206,6 +209,14 @@ def test_what_is_above_a_limit_is_refused(plan_folder, monkeypatch, solved, modu
         )
 
 
+def test_levels_that_were_chosen_are_named_where_their_needs_are_too_many(plan_folder, monkeypatch):
+    monkeypatch.setattr("pitplan.plan.MOST_PAIRS", 100)
+    path = plan_folder(rows(6, 6, 4, **ORE), PROJECT, ("levels = 3\n", ""), ('pattern = "1:5"', "angle = 30"))
+    words = r"needs, and the program takes at most 100: give \[slopes\] levels, fewer than the 7 that were chosen"
+    with pytest.raises(PlanError, match=words):
+        commands.prepare(load(path), path.parent / "out", silent)
+
+
 def test_nothing_half_written_stays(plan_folder, monkeypatch):
     project = load(plan_folder(rows(4, 4, 3, **ORE)))
     monkeypatch.setattr(files, "write_prec", lambda *_: (_ for _ in ()).throw(OSError(28, "No space left on device")))
@@ -270,6 +281,25 @@ def test_the_command_line_refuses_in_one_sentence(plan_folder, capsys):
     path = plan_folder(rows(3, 3, 3), PROJECT, ("mining_cost = 2", "mining_cost = -2"))
     assert main(["prepare", str(path)]) == 1
     assert capsys.readouterr().err == f"pitplan: {path}: [money] mining_cost: may not be negative\n"
+
+
+@pytest.mark.parametrize(("asked", "status", "said"), [(signal.SIGINT, 130, "pitplan: interrupted"), (signal.SIGTERM, 143, "")])
+def test_a_run_that_is_ended_says_so_in_one_line_and_leaves_nothing(plan_folder, tmp_path, asked, status, said):
+    """While a program runs that never ends."""
+    slow = tmp_path / "slow"
+    slow.write_text(f"#!/bin/sh\n[ $1 = --version ] && exit 0\ntouch {tmp_path}/began\nexec sleep 60\n")
+    slow.chmod(0o755)
+    path = plan_folder(rows(4, 4, 3, **ORE))
+    words = [str(ROOT / "tools" / "pitplan"), "shells", str(path), "--quiet"]
+    ran = subprocess.Popen(words, env={**os.environ, "PITSHELL": str(slow)}, stderr=subprocess.PIPE, text=True)
+    for _ in range(600):
+        if (tmp_path / "began").exists():
+            break
+        time.sleep(0.05)
+    ran.send_signal(asked)
+    _, err = ran.communicate(timeout=30)
+    assert (ran.returncode, err.strip()) == (status, said)
+    assert list((path.parent / "plan").iterdir()) == []
 
 
 def test_the_script_runs_by_itself(plan_folder):

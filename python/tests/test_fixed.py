@@ -1,12 +1,22 @@
 """Fixed blocks from columns, from the surface as mined and from areas on the map; and the pit that keeps to them."""
 
+import os
+import subprocess
+from dataclasses import replace
+from decimal import Decimal
+
 import numpy as np
 import pandas as pd
 import pytest
 from conftest import PROJECT, rows
+from hypothesis import given
+from hypothesis import strategies as st
+from test_shells import BOX, CLOSED, SMALL, best_by_trying, grades, project_of
 
-from pitplan import commands, fixed, load, prepare
+import pitplan
+from pitplan import commands, fixed, load, prepare, run, scenarios
 from pitplan.cli import main
+from pitplan.project import FixedRules
 from pitplan.errors import PlanError
 from pitplan.progress import silent
 
@@ -51,7 +61,16 @@ def test_rock_above_the_surface_must_be_dug(plan_folder, tmp_path):
     (tmp_path / "mined.csv").write_text(points)
     plan = prepare(load(plan_folder(rows(3, 1, 3), with_section('[fixed]\nsurface = "mined.csv"\n'))))
     assert plan.fixed.forced.tolist() == [0, 1, 4]
-    assert any("1 columns of blocks have no point" in note for note in plan.notes)
+    assert any("1 columns of blocks lie beyond all points" in note for note in plan.notes)
+
+
+def test_a_surface_of_few_points_is_laid_between_them(plan_folder, tmp_path):
+    """A plane that falls from 31 m in the west to 1 m in the east, by its corners alone: over the columns at 5, 15 and 25 m it lies
+    at 26, 16 and 6 m."""
+    (tmp_path / "mined.csv").write_text("x,y,z\n0,-50,31\n0,50,31\n30,-50,1\n30,50,1\n")
+    plan = prepare(load(plan_folder(rows(3, 1, 3), with_section('[fixed]\nsurface = "mined.csv"\n'))))
+    assert plan.fixed.forced.tolist() == [1, 2, 5]
+    assert any("over 3 columns of blocks the surface was laid between the points round them" in note for note in plan.notes)
 
 
 def test_areas_on_the_map(plan_folder, tmp_path):
@@ -76,7 +95,7 @@ def test_a_polygon_with_a_bay():
     ("text", "file", "said"),
     [
         ('[fixed]\nforced = "mined"\n', "", "there is no column mined"),
-        ('[fixed]\nforced = "must"\nbarred = "must"\n', "", "row 2: the block must be dug and may not be dug"),
+        ('[fixed]\nforced = "must"\nbarred = "must"\n', "", "block b0-0-0 .row 2. must be dug and may not be dug"),
         ('[fixed]\nsurface = "area.csv"\n', "x,y\n1,2\n", "there is no column z"),
         ('[fixed]\nsurface = "area.csv"\n', "x,y,z\n1,2,\n", "area.csv row 2 column z: is empty"),
         ('[fixed]\nsurface = "none.csv"\n', "", "cannot be read"),
@@ -137,7 +156,104 @@ def test_fixed_blocks_that_clash(plan_folder, capsys):
     text = '[fixed]\nforced = "must"\nbarred = "never"\n'
     table = ore_below_waste().assign(never=[0] * 9 + [1])
     assert main(["pit", str(plan_folder(table, with_section(text))), "--quiet"]) == 1
-    assert "error 21: fixed blocks clash at block 4" in capsys.readouterr().err
+    said = "blocks.csv: block b4-0-0 (row 6) must be dug and needs block b4-0-1 (row 11), which may not be dug\n"
+    assert capsys.readouterr().err.endswith(said)
+
+
+@SMALL
+@given(grades, st.lists(st.sampled_from(["", "", "", "in", "out"]), min_size=9, max_size=9), st.sampled_from(["moving", "fixed"]))
+def test_shells_with_fixed_blocks_are_the_best_of_all_closed_sets_that_keep_to_them(tmp_path, by_id, words, cutoff):
+    """100 t a block: mining 200, processing 1000, and 40,000 for each per cent of copper."""
+    forced, barred = ({block for block in range(9) if words[block] == word} for word in ("in", "out"))
+    allowed = [chosen for chosen in CLOSED if all(chosen[b] for b in forced) and not any(chosen[b] for b in barred)]
+    at = {word: (lambda i, j, k, word=word: int(words[(2 - k) * 3 + i] == word)) for word in ("in", "out")}
+    table = rows(*BOX, cu=lambda i, j, k: by_id[(2 - k) * 3 + i], must=at["in"], never=at["out"])
+    project = replace(project_of(tmp_path, cutoff=cutoff), fixed=FixedRules("must", "never", None, ()))
+    if not allowed:
+        with pytest.raises(PlanError, match="must be dug and needs block .* which may not be dug"):
+            prepare(project, table=table)
+        return
+    solution = pitplan.solve(prepare(project, table=table))
+    for factor in project.schedule.factors:
+        yields = [Decimal(str(grade)) * 4000 for grade in by_id]
+        if cutoff == "moving":
+            values = [max(factor * y / 1000 - 1000, Decimal(0)) - 200 for y in yields]
+        else:
+            values = [factor * y / 1000 - 1200 if y > 1000 else Decimal(-200) for y in yields]
+        worth, pit = best_by_trying(allowed, values)
+        assert solution.worth[factor] == worth
+        assert set(np.flatnonzero((solution.entry[:9] > 0) & (solution.entry[:9] <= factor))) == pit
+
+
+def ores_and_fixed():
+    """Two ores at the floor of seven columns, of which the poorer comes in late; the last column must be dug, the first may not be."""
+    return rows(
+        7,
+        1,
+        2,
+        cu=lambda i, j, k: {(2, 0): 6, (5, 0): 0.5}.get((i, k), 0),
+        must=lambda i, j, k: int(i == 6),
+        never=lambda i, j, k: int(i == 0),
+    )
+
+
+FIXED_SECTION = '[fixed]\nforced = "must"\nbarred = "never"\n'
+
+
+def test_shells_keep_to_fixed_blocks_and_are_compared_with_the_pit_of_the_program(plan_folder, capsys):
+    path = plan_folder(ores_and_fixed(), with_section(FIXED_SECTION))
+    assert main(["shells", str(path), "--quiet"]) == 0
+    blocks = pd.read_csv(path.parent / "plan" / "blocks.csv", dtype={"planner_id": str})
+    assert (blocks.loc[blocks["must"] == 1, "factor"] == 500).all()
+    assert (blocks.loc[blocks["never"] == 1, "factor"] == 0).all()
+    # For their sake: the forced block at the floor needs the one beside its upper neighbour, and the floor's second needs the barred.
+    assert "for their sake 3 blocks are dug in every pit and 3 in none" in capsys.readouterr().err
+
+
+def test_a_shell_that_is_not_the_pit_of_the_program_is_refused(plan_folder, monkeypatch):
+    """What is joined to the rest is lost: the pit with the fixed blocks tells."""
+    path = plan_folder(ores_and_fixed(), with_section(FIXED_SECTION))
+    monkeypatch.setattr(run, "joined", lambda rest, settled, values: rest)
+    with pytest.raises(PlanError, match="is not the program's pit with the fixed blocks: 3 nodes differ"):
+        commands.shells(load(path), path.parent / "plan", silent)
+    assert not (path.parent / "plan" / "report.html").exists()
+
+
+def test_the_best_case_of_a_pit_digs_its_inner_shells_first(plan_folder):
+    project = load(plan_folder(ores_and_fixed(), with_section(FIXED_SECTION)))
+    pits, _ = commands.pit(project, project.folder / "pit", 1500, silent)
+    shells, _ = commands.shells(project, project.folder, silent)
+    kept, last = pits.iloc[0], shells.set_index("factor").loc[1500]
+    assert kept["npv_best"] == last["npv_best"] > kept["npv_worst"] == last["npv_worst"]
+
+
+def test_an_audit_of_a_shell_with_fixed_blocks_is_confirmed_from_any_folder(plan_folder, tmp_path):
+    project = load(plan_folder(ores_and_fixed(), with_section(FIXED_SECTION)))
+    commands.shells(project, project.folder, silent)
+    target = commands.audit(project.folder, 1000, silent)
+    (tmp_path / "bin").mkdir()
+    (tmp_path / "bin" / "program").symlink_to(run.program().resolve())
+    words = ["sh", str(target.relative_to(tmp_path) / "check.sh")]
+    ran = subprocess.run(words, cwd=tmp_path, env={**os.environ, "PITSHELL": "bin/program"}, capture_output=True, text=True)
+    assert (ran.returncode, ran.stdout) == (0, "hashes: yes\npitshell check: yes\ncheck_certificate.py: yes\n"), ran.stderr
+
+
+def test_scenarios_keep_to_fixed_blocks(plan_folder, tmp_path):
+    """Two models: at the floor the ore of the third column, or that of the sixth; each by itself is the plan of its grades."""
+    table = ores_and_fixed().assign(first=lambda it: it["cu"], second=lambda it: it["cu"][::-1].to_numpy())
+    text = with_section(FIXED_SECTION + '[scenarios]\ncolumns = { copper = ["first", "second"] }\n')
+    project = load(plan_folder(table, text))
+    folder = project.folder / "scenarios"
+    scenarios.solve(project, folder, scenarios.Request(workers=1), silent)
+    likely = pd.read_csv(folder / "probability.csv")
+    assert (likely.loc[likely["must"] == 1, "probability_500"] == 1).all()
+    assert (likely.loc[likely["never"] == 1, "probability_1500"] == 0).all()
+    inside = np.zeros(len(likely))
+    for model in ("first", "second"):
+        alone = replace(project, metals=(replace(project.metals[0], column=model),))
+        blocks = pitplan.blocks(plan := prepare(alone, table=table), pitplan.solve(plan))
+        inside += ((blocks["factor"] > 0) & (blocks["factor"] <= 1000)).to_numpy() / 2
+    assert likely["probability_1000"].tolist() == inside.tolist()
 
 
 def test_a_project_without_fixed_blocks_has_no_pit(plan_folder, capsys):

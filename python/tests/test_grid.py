@@ -23,13 +23,13 @@ def test_cells_without_a_row_are_air_of_worth_0(plan_folder):
     plan = pitplan.prepare(plan_folder(table[table["name"] != "b1-1-1"]))
     assert plan.grid.count == 12 and 4 not in set(plan.blocks["id"])
     assert plan.values.mining[4] == 0 and plan.values.revenue[4] == 0 and plan.values.tonnes[4] == 0
-    assert plan.notes[1] == "1 cells have no row and are taken as air, which costs nothing to dig"
+    assert plan.notes[1] == "1 cells lie above the highest row of their column and are air"
 
 
 def test_a_hole_below_a_block_is_warned_of(plan_folder):
     table = rows(3, 2, 3)
     notes = pitplan.prepare(plan_folder(table[~table["name"].isin(["b1-1-1", "b1-1-0", "b0-0-2"])])).notes
-    assert "WARNING: 2 of these cells lie below a block of the table: is rock missing from it?" in notes
+    assert "2 cells below a row, or in columns without rows, are not known: no shell may reach them" in notes
 
 
 def test_centres_may_lie_off_by_the_tolerance(plan_folder):
@@ -40,6 +40,15 @@ def test_centres_may_lie_off_by_the_tolerance(plan_folder):
     table.loc[5, "x"] += 0.3
     with pytest.raises(PlanError, match="row .* column x: .* is off the grid .*reblock sub-blocks first"):
         pitplan.prepare(plan_folder(table))
+
+
+def test_coordinates_of_seven_digits_are_told_in_full(plan_folder):
+    table = rows(4, 3, 2)
+    table["y"] += 6_512_000
+    table.loc[5, "y"] += 0.25
+    with pytest.raises(PlanError) as said:
+        pitplan.prepare(plan_folder(table))
+    assert "row 7 column y: 6512015.25 is off the grid 6512005, 6512015, 6512025, .. by 0.25 m" in str(said.value)
 
 
 def split(table, chosen):

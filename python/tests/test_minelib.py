@@ -72,6 +72,17 @@ def values_of(folder):
     return lines[4:-1]
 
 
+def test_convert_needs_the_standard_library_alone(tmp_path):
+    """By an interpreter that sees no other package."""
+    (tmp_path / "mine.upit").write_text(UPIT)
+    words = [sys.executable, "-I", "-S", str(ROOT / "tools" / "pitplan"), "convert", "minelib", "--out", str(tmp_path / "out")]
+    ran = subprocess.run([*words, str(tmp_path / "mine.upit")], capture_output=True, text=True)
+    assert (ran.returncode, ran.stdout) == (0, f"{tmp_path / 'out'}\n"), ran.stderr
+    assert (tmp_path / "out" / "mine.upit").exists()
+    ran = subprocess.run([*words, "missing.upit"], capture_output=True, text=True)
+    assert ran.returncode == 1 and ran.stderr.startswith("pitplan: missing.upit")
+
+
 def test_a_upit_with_comments_exponents_and_ids_in_any_order_is_solved(tmp_path):
     folder, record = convert(tmp_path, upit=UPIT, prec=PREC)
     assert values_of(folder) == ["0 -1", "1 -0.5", "2 72.5"]

@@ -2,6 +2,7 @@
 
 from decimal import Decimal
 
+import pandas as pd
 import pytest
 from conftest import PROJECT, rows
 
@@ -28,6 +29,48 @@ def test_cost_rises_with_the_level_from_the_top(plan_folder):
         plan_folder(rows(2, 1, 3), PROJECT, ("mining_cost = 2", "mining_cost = 2\nmining_cost_per_level = 0.25"))
     )
     assert (plan.values.mining / MILLION).tolist() == [200, 200, 225, 225, 250, 250]
+
+
+PER_LEVEL = "mining_cost = 2\nmining_cost_per_level = 0.25"
+
+
+@pytest.mark.parametrize(
+    ("reference", "costs"),
+    [
+        (30, [200, 225, 250]),  # the top of the highest level
+        (21, [200, 225, 250]),
+        (20, [200, 200, 225]),  # the top of the second level, which holds it
+        (10.5, [200, 200, 225]),
+        (-50, [200, 200, 200]),
+        (50, [250, 275, 300]),
+    ],
+)
+def test_cost_rises_with_the_level_from_a_reference(plan_folder, reference, costs):
+    """Levels of 10 m between 0 and 30 m."""
+    text = f"{PER_LEVEL}\nmining_cost_reference = {reference}"
+    plan = pitplan.prepare(plan_folder(rows(1, 1, 3), PROJECT, ("mining_cost = 2", text)))
+    assert (plan.values.mining / MILLION).tolist() == costs
+
+
+def test_one_far_block_above_changes_no_cost(plan_folder):
+    """Ore at the floor; a block of a tonne ten levels up, in a column of its own, is not needed."""
+    table = rows(7, 1, 3, cu=lambda i, j, k: 9 if (i, k) == (3, 0) else 0)
+    far = table.iloc[[0]].assign(name="far", x=205.0, z=125.0, tonnes=1)
+    changes = [("mining_cost = 2", PER_LEVEL), ('file = "blocks.csv"', 'file = "blocks.csv"\nabsent = "air"')]
+    near, both = (
+        pitplan.prepare(plan_folder(it, PROJECT, *changes)) for it in (table, pd.concat([table, far], ignore_index=True))
+    )
+    for plan in (near, both):
+        assert (plan.blocks.set_index("name").loc["b3-0-0", "mining_cost"]) == 250
+        assert any("below that of 20 to 30 m, the highest of which ore needs a block" in note for note in plan.notes)
+    assert pitplan.solve(near).worth.tolist() == pitplan.solve(both).worth.tolist()
+
+
+def test_cost_by_elevation(plan_folder):
+    """Levels with centres 5, 15 and 25 m: half way between 0.5 at 10 and 0.1 at 20, and as at the ends beyond them."""
+    text = "mining_cost = 2\nmining_cost_by_elevation = [[20, 0.1], [10, 0.5]]"
+    plan = pitplan.prepare(plan_folder(rows(1, 1, 3), PROJECT, ("mining_cost = 2", text)))
+    assert (plan.values.mining / MILLION).tolist() == [210, 230, 250]
 
 
 def test_two_metals_and_prices_by_rock(plan_folder):
@@ -102,6 +145,24 @@ def test_missing_prices_and_huge_amounts_are_refused(plan_folder, change, words)
     table = rows(2, 1, 2, cu=lambda i, j, k: 0.9 if (i, k) == (1, 0) else 0)
     with pytest.raises(PlanError, match=words):
         pitplan.prepare(plan_folder(table, PROJECT, change))
+
+
+@pytest.mark.parametrize(
+    ("unit", "grade", "said"),
+    [
+        ("percent", 100.5, "WARNING: 2 grades of copper are above 100 %, the first in row 3"),
+        ("percent", 11, 'WARNING: the mean grade of copper, where there is any, is 11 %: is the unit "percent" right?'),
+        ("fraction", 0.336, 'WARNING: the mean grade of copper, where there is any, is 0.336 t/t: is the unit "fraction" right?'),
+        ("gram_per_tonne", 4000, 'is 4000 g/t: is the unit "gram_per_tonne" right?'),
+        ("percent", 9, ""),
+        ("gram_per_tonne", 90, ""),
+    ],
+)
+def test_grades_that_a_unit_hardly_allows_are_warned_of(plan_folder, unit, grade, said):
+    table = rows(2, 1, 2, cu=lambda i, j, k: grade * i)
+    notes = pitplan.prepare(plan_folder(table, PROJECT, ('unit = "percent"', f'unit = "{unit}"'))).notes
+    warned = [note for note in notes if "grade" in note]
+    assert len(warned) == bool(said) and all(note.endswith(said) for note in warned)
 
 
 def test_rocks_without_recovery_are_told(plan_folder):

@@ -33,7 +33,7 @@ def test_the_table_of_cutoffs_is_that_of_the_example():
         assert float(100 * (1 - less / whole)) == pytest.approx(share, abs=0.05)
 
 
-@pytest.mark.parametrize("levels, steeper, needs", [(2, 11.3, 9), (3, 3.4, 21), (8, 1.7, 25), (20, 0.3, 61)])
+@pytest.mark.parametrize("levels, steeper, needs", [(2, 11.3, 9), (3, 3.4, 21), (8, 1.7, 25), (17, 0.5, 37), (20, 0.3, 61)])
 def test_the_angles_of_the_west_walls_are_those_of_the_page(levels, steeper, needs):
     project = pitplan.load(EXAMPLE)
     plan = pitplan.prepare(replace(project, slopes=replace(project.slopes, levels=levels)))
@@ -42,9 +42,29 @@ def test_the_angles_of_the_west_walls_are_those_of_the_page(levels, steeper, nee
     assert re.search(rf"{steeper} (degrees )?with {levels} (levels )?\({needs}", PAGE)
 
 
+def test_the_levels_that_the_page_says_are_chosen():
+    project = pitplan.load(EXAMPLE)
+    plan = pitplan.prepare(replace(project, slopes=replace(project.slopes, levels=None)))
+    chosen = [pattern.levels for pattern in plan.walls.patterns]
+    assert "for the example's walls these are {} and {} levels".format(*chosen) in PAGE
+
+
 def test_the_pairs_of_the_page_are_those_of_the_example(tmp_path):
     plan = pitplan.prepare(EXAMPLE)
     written = plan.write(tmp_path)["needs"]["written"]
     plan.used[:] = True
     whole = plan.write(tmp_path)["needs"]["written"]
     assert f"of the example's {whole:,} pairs {written:,} are written" in PAGE
+
+
+def test_the_net_present_values_of_the_page_are_those_of_the_example():
+    plan = pitplan.prepare(EXAMPLE)
+    table = pitplan.shells(plan, pitplan.solve(plan)).set_index("factor")
+    best, worst = table["npv_best"], table["npv_worst"]
+    mean = (best + worst)[:1000].sort_values()
+    assert f"that of factor {table['worth'].idxmax()} with {table['blocks'][1000]} blocks" in PAGE
+    assert f"the worst case has its best at {worst.idxmax()}," in PAGE
+    assert 1 < 100 * (best.max() / best[800] - 1) and 100 * (best.max() / best[850] - 1) < 1
+    assert f"while the worst case loses {100 * (1 - worst[1000] / worst[850]):.1f} %" in PAGE
+    behind = 100 * (1 - mean.iloc[-2] / mean.iloc[-1])
+    assert f"{mean.index[-1]} ({mean.index[-2]} is behind it by {behind:.2f} %)" in PAGE

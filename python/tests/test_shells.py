@@ -3,6 +3,7 @@
 from dataclasses import replace
 from decimal import Decimal
 from itertools import product
+from math import log
 from pathlib import Path
 
 import numpy as np
@@ -126,8 +127,9 @@ def test_the_table_of_shells_by_hand(tmp_path):
     assert shells["grade_copper"][1000] == pytest.approx(0.95) and shells["metal_copper"][1000] == pytest.approx(0.95)
     assert shells["worth"].tolist() == [0, 5000, 5000]
     assert shells["worth_at_factor"].tolist() == [Decimal(0), Decimal(1400), Decimal(5000)]
-    # 100 t of ore a year at 10 %: -200 at once, 400 after a year, 4800 after two.
-    npv = -200 + 400 / 1.1 + 4800 / 1.1**2
+    # Waste takes no time where rock has no limit, so it costs 200 at once. At 100 t of ore a year 400 come evenly in the
+    # first year and 4800 in the second; the mean of 1.1^-t over a year is the fall of 1.1^-t in it, over ln 1.1.
+    npv = -200 + (400 * (1 - 1 / 1.1) + 4800 * (1 / 1.1 - 1 / 1.1**2)) / log(1.1)
     assert shells["npv_best"][1000] == pytest.approx(npv) and shells["npv_worst"][1000] == pytest.approx(npv)
     assert shells["years"].tolist() == [0, 2, 2]
 
@@ -140,11 +142,13 @@ def test_best_and_worst_case_by_hand(plan_folder):
     plan = pitplan.prepare(plan_folder(table, PROJECT, *changes))
     shells = pitplan.shells(plan, pitplan.solve(plan)).set_index("factor")
     assert shells["blocks"].to_dict() == {500: 2, 1000: 4, 1500: 4}
-    # The rich floor is worth 16000 - 1000 - 200, the poor one 1600 - 1000 - 200; each block takes a year.
+    # The rich floor is worth 16000 - 1000 - 200, the poor one 1600 - 1000 - 200. In the best case each block takes a year;
+    # in the worst case each level takes two.
     rich, poor, top = 14800, 400, -200
-    best = top / 1.1 + rich / 1.1**2 + top / 1.1**3 + poor / 1.1**4
-    worst = top / 1.1 + top / 1.1**2 + rich / 1.1**3 + poor / 1.1**4
-    assert shells["npv_best"][500] == pytest.approx(top / 1.1 + rich / 1.1**2)
+    first, second, third, fourth = ((1.1**-year - 1.1 ** -(year + 1)) / log(1.1) for year in range(4))
+    best = top * first + rich * second + top * third + poor * fourth
+    worst = top * (first + second) + (rich + poor) / 2 * (third + fourth)
+    assert shells["npv_best"][500] == pytest.approx(top * first + rich * second)
     assert shells["npv_best"][1000] == pytest.approx(best) and shells["npv_worst"][1000] == pytest.approx(worst)
     assert shells["years"][1000] == 4
 

@@ -65,9 +65,13 @@ def reached(offsets, levels):
     return found
 
 
+def least_list(angle, size, levels):
+    return slopes.offsets_of(slopes.cone(((0.0, float(angle)),), size, levels))
+
+
 @given(st.integers(20, 80), st.integers(1, 5), st.sampled_from([CUBE, FLAT, (5.0, 10.0, 4.0)]))
 def test_a_cone_reaches_exactly_the_cone(angle, levels, size):
-    offsets = slopes.cone(((0.0, float(angle)),), size, levels)
+    offsets = least_list(angle, size, levels)
     dx, dy, dz = size
     for up, cells in enumerate(reached(offsets, levels)):
         far = up * dz / math.tan(math.radians(angle)) + 1e-6
@@ -78,11 +82,30 @@ def test_a_cone_reaches_exactly_the_cone(angle, levels, size):
 
 @given(st.integers(25, 75), st.integers(2, 5))
 def test_no_step_of_a_cone_can_be_left_out(angle, levels):
-    offsets = slopes.cone(((0.0, float(angle)),), FLAT, levels)
+    offsets = least_list(angle, FLAT, levels)
     whole = reached(offsets, levels)
     for step in offsets:
         less = reached([other for other in offsets if other != step], levels)
         assert less[step[2]] != whole[step[2]]
+
+
+def least_in_the_open(cone):
+    """The least list of steps to all cells of a cone where all blocks have it and the grid has no sides."""
+    south, west = cone.shape[1] // 2, cone.shape[2] // 2
+    found, cells = [], [{(0, 0)}]
+    for up in range(1, len(cone)):
+        wanted = {(int(x) - west, int(y) - south) for y, x in np.argwhere(cone[up])}
+        led = {(x + a, y + b) for a, b, c in found for x, y in cells[up - c]}
+        found += [(x, y, up) for x, y in wanted - led]
+        cells.append(wanted | led)
+    return found
+
+
+@given(st.tuples(*[st.integers(35, 55)] * 4), st.integers(2, 8), st.sampled_from([CUBE, FLAT, (5.0, 10.0, 4.0)]))
+def test_the_list_is_at_most_a_fifth_longer_than_the_least(angles, levels, size):
+    cone = slopes.cone(tuple(zip((0.0, 90.0, 180.0, 270.0), map(float, angles))), size, levels)
+    assert set(least_in_the_open(cone)) <= set(slopes.offsets_of(cone))
+    assert len(slopes.offsets_of(cone)) <= 1.2 * len(least_in_the_open(cone))
 
 
 def test_walls_of_1_to_5_and_1_to_9_by_geometry():
@@ -100,13 +123,13 @@ def test_walls_that_stand_upright_and_lists_without_width():
     assert slopes.wall_angles(((0, 0, 1),), CUBE) == pytest.approx(np.full(360, 90.0))
     line = slopes.wall_angles(((0, 0, 1), (1, 0, 1)), CUBE)
     assert line[90] == pytest.approx(45) and line[270] == pytest.approx(90) and line[0] == pytest.approx(90)
-    assert slopes.cone(((0.0, 90.0),), CUBE, 4) == ((0, 0, 1),)
+    assert least_list(90, CUBE, 4) == ((0, 0, 1),)
 
 
 @given(st.integers(25, 75), st.integers(1, 8))
 def test_errors_are_those_of_a_high_wall(angle, levels):
     """The wall of 60 levels that the list makes, step by step, is less than a list's height of steps off the computed one."""
-    offsets = slopes.cone(((0.0, float(angle)),), CUBE, levels)
+    offsets = least_list(angle, CUBE, levels)
     computed = slopes.wall_angles(offsets, CUBE)
     for azimuth, axis in ((0, 1), (90, 0)):
         steps = [(step[axis], step[2]) for step in offsets if step[1 - axis] == 0]
@@ -135,6 +158,59 @@ def test_never_steeper_than_asked():
     assert bound.errors.max() <= 1e-6 and bound.widened > 1
     inside = reached(free.offsets, 6)
     assert all(cells <= more for cells, more in zip(inside, reached(bound.offsets, 6)))
+
+
+WALL = st.one_of(
+    st.tuples(st.tuples(st.just(0.0), st.integers(25, 75).map(float))),
+    st.tuples(*[st.integers(35, 60).map(float)] * 4).map(lambda angles: tuple(zip((0.0, 90.0, 180.0, 270.0), angles))),
+).map(lambda angles: Wall(None, None, angles))
+
+
+@given(WALL, st.sampled_from([CUBE, FLAT, (5.0, 10.0, 4.0)]))
+def test_levels_left_out_are_the_fewest_that_hold_the_walls_to_half_a_degree(wall, size):
+    chosen = slopes.pattern_of(wall, size, Slopes(None, False, (wall,)))
+    given_ = [slopes.pattern_of(wall, size, Slopes(levels, False, (wall,))) for levels in range(1, chosen.levels + 1)]
+    assert chosen.offsets == given_[-1].offsets
+    assert chosen.errors.max() <= 0.5 or chosen.levels == 40
+    assert all(fewer.errors.max() > 0.5 for fewer in given_[:-1])
+
+
+def test_levels_left_out_by_hand():
+    """Walls that go out one block in ten levels: (1, 0) comes in at level 10, (1, 1) at 15 and (2, 1) at 23.
+
+    Of the corners (1/10, 0) and (1/15, 1/15) the line lies 0.0894 from the block, which is 84.9 degrees and so 0.6 too
+    steep; with (2/23, 1/23) between them the lines lie 0.0958 and 0.0941 from it, 84.5 and 84.6 degrees.
+    """
+    wall = Wall(None, None, ((0.0, math.degrees(math.atan(10))),))
+    pattern = slopes.pattern_of(wall, CUBE, Slopes(None, False, (wall,)))
+    assert pattern.levels == 23 and pattern.errors.max() == pytest.approx(0.34, abs=0.005)
+    few = slopes.pattern_of(wall, CUBE, Slopes(22, False, (wall,)))
+    assert few.errors.max() == pytest.approx(0.60, abs=0.005)
+
+
+def test_forty_levels_are_the_end_and_the_walls_say_what_came_out():
+    """Blocks of 100 x 100 x 1 m: 45 degrees lead out by 0.4 blocks in 40 levels, so nothing but the column is dug."""
+    wall = Wall(None, None, ((0.0, 45.0),))
+    pattern = slopes.pattern_of(wall, (100.0, 100.0, 1.0), Slopes(None, False, (wall,)))
+    assert pattern.levels == 40 and pattern.offsets == ((0, 0, 1),)
+    words = "1 needs a block over 40 levels make walls of 90.0 to 90.0 degrees, +45.0 to +45.0 degrees off the asked"
+    assert words in pattern.sentence()
+
+
+def test_never_steeper_widens_the_cone_of_the_levels_that_are_chosen():
+    wall = Wall(None, None, ((0.0, 45.0),))
+    free, bound = (slopes.pattern_of(wall, FLAT, Slopes(None, never, (wall,))) for never in (False, True))
+    assert bound.levels == free.levels and bound.errors.max() <= 1e-6 < free.errors.max()
+
+
+def test_each_wall_entry_takes_its_own_levels_and_the_record_names_them(plan_folder, tmp_path):
+    table = rows(4, 3, 2, region=lambda i, j, k: "soft" if i < 2 else "hard")
+    steep = f"angle = {math.degrees(math.atan(10)):.9f}"
+    entries = f'region = "hard"\n{steep}\n[[slopes.walls]]\nregion = "soft"\npattern = "1:9"'
+    plan = pitplan.prepare(plan_folder(table, PROJECT, ("levels = 3\n", ""), ('pattern = "1:5"', entries)))
+    assert [walls["levels"] for walls in plan.write(tmp_path)["walls"]] == [23, 1]
+    assert any("needs a block over 23 levels make walls" in note for note in plan.notes)
+    assert any("9 needs a block over 1 level make walls" in note for note in plan.notes)
 
 
 def test_azimuth_90_is_the_east_wall(plan_folder):

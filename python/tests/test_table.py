@@ -42,6 +42,62 @@ def test_a_bad_field_is_named_by_row_and_column(plan_folder, column, value, word
     assert refused(path).startswith(f"{path.parent / 'blocks.csv'} {words}")
 
 
+def test_one_centre_off_the_grid_is_named_by_its_row_with_all_digits(plan_folder):
+    """At coordinates of seven digits, without a size in the project: the others make the grid."""
+    table = rows(8, 8, 3).assign(y=lambda it: it["y"] + 6512000)
+    table.loc[40, "y"] += 0.4
+    path = plan_folder(table, PROJECT, ("[grid]\nsize = [10, 10, 10]\n", ""))
+    centre = table.loc[40, "y"] - 0.4
+    assert f"row 42 column y: {centre + 0.4:.1f} is off the grid 6512005, 6512015, 6512025, .. by 0.4 m" in refused(path)
+
+
+@pytest.mark.parametrize("separator", [";", "\t", "|"])
+def test_separator_and_decimal_commas_are_told_by_the_text(plan_folder, separator):
+    table = rows(3, 2, 2, cu=lambda i, j, k: 0.125 * i, tonnes=lambda i, j, k: 99.5)
+    plain = pitplan.prepare(plan_folder(table))
+    told = pitplan.prepare(plan_folder(table.to_csv(index=False, sep=separator, decimal=",")))
+    pd.testing.assert_frame_equal(told.blocks, plain.blocks)
+    assert [note.split(":")[0] for note in told.notes[:2]] == [
+        f"the table's fields are parted by { {';': 'semicolons', chr(9): 'tabs', '|': 'bars'}[separator] }",
+        "the table's decimals are written with a comma",
+    ]
+
+
+def test_a_comma_within_a_number_parts_thousands_where_commas_part_fields(plan_folder):
+    text = rows(2, 2, 2).to_csv(index=False).replace(",100,", ',"16,562",', 1)
+    assert refused(plan_folder(text)).endswith('row 2 column tonnes: "16,562" is not a number')
+
+
+def test_another_encoding_is_asked_for_and_read(plan_folder):
+    table = rows(2, 2, 2, rock=lambda i, j, k: "S\u00fc")
+    plain = pitplan.prepare(plan_folder(table, PROJECT, ("recovery = 0.5", "recovery = { \u00abS\u00fc\u00bb = 0.5 }".replace("\u00ab", '"').replace("\u00bb", '"'))))
+    path = plan_folder(table)
+    for encoding in ("cp1252", "utf-16"):
+        (path.parent / "blocks.csv").write_bytes(table.to_csv(index=False).encode(encoding))
+        assert 'is not written in UTF-8: name its encoding by [table] encoding, such as "cp1252" or "utf-16"' in refused(path)
+        text = path.read_text().replace('file = "blocks.csv"\n', f'file = "blocks.csv"\nencoding = "{encoding}"\n')
+        (path.parent / "other.toml").write_text(text)
+        assert pitplan.prepare(path.parent / "other.toml").blocks["rock"].tolist() == plain.blocks["rock"].tolist()
+
+
+def test_a_column_that_stands_twice_is_refused(plan_folder):
+    text = rows(2, 2, 2).to_csv(index=False).replace("tonnes,cu,rock", "cu,cu,rock", 1)
+    assert refused(plan_folder(text, PROJECT)).endswith("row 1: the column cu stands there twice")
+    table = rows(2, 2, 2)
+    table.columns = ["name", "x", "y", "z", "tonnes", "cu", "rock", "tonnes"]
+    with pytest.raises(PlanError, match="table row 1: the column tonnes stands there twice"):
+        pitplan.prepare(plan_folder(rows(2, 2, 2)), table=table.assign(region="1"))
+
+
+def test_a_column_of_another_name_with_a_point_is_no_second_one(plan_folder):
+    table = rows(2, 2, 2).assign(**{"cu.1": 7})
+    assert pitplan.prepare(plan_folder(table)).table["cu"].tolist() == [0] * 8
+
+
+def test_a_table_without_rock_is_refused(plan_folder):
+    assert refused(plan_folder(rows(2, 2, 2, tonnes=lambda i, j, k: 0))).endswith("column tonnes: all are 0, so there is no rock")
+
+
 def test_a_missing_column_is_named_with_those_that_are_there(plan_folder):
     path = plan_folder(rows(2, 2, 2).drop(columns="cu"))
     words = "row 1: there is no column cu; the columns are name, x, y, z, tonnes, rock, region"

@@ -11,13 +11,14 @@ from typing import Iterator
 import numpy as np
 import pandas as pd
 
-from .. import grid as grids, slopes, table as tables
+from .. import absent, grid as grids, table as tables, walls as laying
 from ..errors import PlanError
 from ..grid import Grid
 from ..plan import Plan, notes_of, plan_of
 from ..project import Metal, Project, Scenarios
-from ..slopes import Walls
 from ..table import HEADER_ROWS, at_row
+from ..table_format import format_of
+from ..walls import Walls
 
 
 @dataclass(frozen=True)
@@ -36,6 +37,7 @@ class Base:
     lists   for each metal the columns of its models, where they are columns of the table
     source  the table's file
     filled  how many empty fields were taken as 0
+    known   how many of the first rows stand in the table; those behind are of cells without a row
     """
 
     project: Project
@@ -45,6 +47,7 @@ class Base:
     lists: dict[str, list[str]]
     source: str
     filled: int
+    known: int
 
     def with_grades(self, grades: np.ndarray) -> pd.DataFrame:
         """The table's rows with the grades of a model in the columns of the project's metals."""
@@ -67,10 +70,10 @@ def read_base(project: Project) -> Base:
     simulated = [replace(by_name[name], column=column) for name, columns in lists.items() for column in columns]
     in_table = [metal for metal in project.metals if scenarios_of(project).columns and metal.name not in lists]
     checked = tables.read(replace(project, metals=(*simulated, *in_table)))
-    grid = grids.of_table(checked.frame, project, checked.source)
-    region = slopes.regions_of(checked.frame, grid, project.table.region)
-    walls = slopes.walls_of(region, grid, project.slopes)
-    return Base(project, checked.frame, grid, walls, lists, checked.source, checked.filled)
+    frame, grid = absent.with_rows(checked.frame, grids.of_table(checked.frame, project, checked.source), project)
+    region = laying.regions_of(frame, grid, project.table.region)
+    walls = laying.walls_of(region, grid, project.slopes)
+    return Base(project, frame, grid, walls, lists, checked.source, checked.filled, len(checked.frame))
 
 
 def column_lists(project: Project) -> dict[str, list[str]]:
@@ -79,7 +82,7 @@ def column_lists(project: Project) -> dict[str, list[str]]:
     if not asked:
         return {}
     columns = project.table
-    header = list(tables.read_header(columns.file, columns.separator))
+    header = list(tables.read_header(columns.file, format_of(columns.file, columns)))
     lists = {}
     for metal, names in asked.items():
         lists[metal] = [found for name in names for found in (fnmatch.filter(header, name) if "*" in name else [name])]
@@ -121,12 +124,12 @@ def read_model(path: Path, base: Base) -> np.ndarray:
     source, grades = str(path), [metal.column for metal in metals]
     places = [columns.x, columns.y, columns.z]
     codes = [columns.id] if columns.id else []
-    frame = tables.read_columns(path, columns.separator, codes, [*codes, *places, *grades])
+    frame, _ = tables.read_as_written(path, columns, codes, [*codes, *places, *grades])
     by_id = columns.id is not None and columns.id in frame.columns
     tables.demand_columns(frame, [*(codes if by_id else places), *grades], source)
     at = rows_by_id(frame, base, source) if by_id else rows_by_place(frame, base, source)
     demand_every_block(at, base, source)
-    result = np.empty((len(base.frame), len(metals)))
+    result = np.zeros((len(base.frame), len(metals)))
     for number, name in enumerate(grades):
         values, _ = tables.filled_numbers(frame[name], source, name, columns.empty == "zero")
         tables.demand_none_below_0(values, source, name)
@@ -169,7 +172,7 @@ def rows_by_place(frame: pd.DataFrame, base: Base, source: str) -> np.ndarray:
 
 def demand_every_block(at: np.ndarray, base: Base, source: str) -> None:
     """Refuses a model that has a block twice, or lacks one."""
-    times = np.bincount(at, minlength=len(base.frame))
+    times = np.bincount(at, minlength=base.known)[: base.known]
     if times.max(initial=0) > 1:
         row = int(pd.Series(at).duplicated().to_numpy().argmax())
         raise PlanError(f"{source} row {row + HEADER_ROWS}: the block stands in another row too")

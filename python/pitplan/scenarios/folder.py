@@ -2,8 +2,8 @@
 
     scenarios.json      what there is to solve, and what it was made of
     project.toml        the project as it was
-    base.npz            the blocks without grades: cell, tonnes, rock
-    mine.prec           the needs, written once for all scenarios
+    base.npz            the blocks without grades: cell, tonnes, rock; and of all cells what fixed blocks settle
+    mine.prec           the needs, written once for all scenarios; with fixed blocks those of the rest
     models/HASH.npy     the grades of a model, a row a block and a column a metal
     done/KEY.npz        the answer of a scenario; its key names all that the answer depends on
     failed/KEY.json     why a scenario has no answer
@@ -25,6 +25,7 @@ import pandas as pd
 from .. import files
 from ..errors import PlanError
 from ..files import staged_file
+from ..fixed import Settled
 from ..grid import Grid
 from ..project import Project, load
 
@@ -58,6 +59,7 @@ class Shared:
 
     frame   tonnes and rock, a row a block of the table
     ore     the blocks that have a node for processing in the shared needs
+    settled what is dug and what is left for the sake of fixed blocks; None where the project has none
     """
 
     folder: Path
@@ -66,6 +68,7 @@ class Shared:
     grid: Grid
     ore: np.ndarray
     record: dict[str, Any]
+    settled: Optional[Settled] = None
 
     @property
     def scenarios(self) -> list[Scenario]:
@@ -100,8 +103,9 @@ def read_shared(folder: Path) -> Shared:
         raise PlanError(f"{folder / RECORD}: is no record of scenarios: {error}") from error
     grid = files.grid_of(record["grid"], arrays.pop("cells"))
     ore = arrays.pop("ore")
-    project = load(folder / PROJECT)
-    return Shared(folder, project, pd.DataFrame(arrays), grid, ore, record)
+    settled = Settled(arrays.pop("dug"), arrays.pop("left")) if "dug" in arrays else None
+    project = referred(load(folder / PROJECT), record["mining_cost_reference"])
+    return Shared(folder, project, pd.DataFrame(arrays), grid, ore, record, settled)
 
 
 def key_of(parts: dict[str, Any]) -> str:
@@ -109,8 +113,16 @@ def key_of(parts: dict[str, Any]) -> str:
     return hashlib.sha256(json.dumps(parts, sort_keys=True, default=repr).encode()).hexdigest()[:20]
 
 
-def meaning(project: Project) -> dict[str, Any]:
+def referred(project: Project, reference: float) -> Project:
+    """The project with the elevation in metres from which on mining costs more, which is one for all scenarios."""
+    if not project.money.mining_cost_per_level:
+        return project
+    return replace(project, money=replace(project.money, mining_cost_reference=Decimal(repr(reference))))
+
+
+def meaning(project: Project, reference: float) -> dict[str, Any]:
     """What of a project changes a scenario's answer; prices stand beside it, and the table has a hash of its own."""
+    project = referred(project, reference)
     without_prices = [asdict(replace(metal, price=Decimal(0))) for metal in project.metals]
     parts = {"money": asdict(project.money), "metals": without_prices, "slopes": asdict(project.slopes)}
     return {**parts, "factors": list(project.schedule.factors)}

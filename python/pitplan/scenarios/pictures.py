@@ -10,13 +10,13 @@ import numpy as np
 import pandas as pd
 from matplotlib.axes import Axes
 from matplotlib.collections import LineCollection
-from matplotlib.colors import BoundaryNorm, ListedColormap
+from matplotlib.colors import BoundaryNorm, ListedColormap, to_rgba
 from matplotlib.figure import Figure
 from matplotlib.lines import Line2D
 
-from ..grid import Grid
+from ..grid import Grid, metres
 from ..outlines import edges
-from ..pictures import GROUND, MAP, STYLE, busiest, finish, panels, plt, scaled
+from ..pictures import GROUND, MAP, STYLE, busiest, finish, name_axes, panels, plt, scaled
 
 STEPS = np.linspace(0, 1, 11)
 COLOURS = ListedColormap(plt.get_cmap("viridis_r")(np.linspace(0.02, 1, len(STEPS) - 1)))
@@ -25,6 +25,11 @@ LINES: dict[float, dict[str, Any]] = {
     0.5: {"colors": "#c0392b", "linestyles": "solid", "linewidths": 1.6},
     0.9: {"colors": "white", "linestyles": "solid", "linewidths": 1.4},
 }
+
+# So many sets of prices have bands that can be told apart, and so many names a legend that can be read.
+MOST_BANDS, MOST_NAMES = 6, 12
+SET_COLOURS = ("#0072b2", "#d55e00", "#009e73", "#aa4499", "#b58900", "#555555")
+SET_MARKS = ("o", "s", "^", "D", "v", "P")
 
 
 @dataclass(frozen=True)
@@ -53,10 +58,9 @@ def plans(likely: Likely, path: Path) -> None:
         axes[0].set_title("Any level")
         for axis, number in zip(axes[1:], levels_to_show(likely)):
             draw(axis, likely.shown[number], likely.solid[number], extent)
-            axis.set_title(f"Level {top - (number + 1) * height:g} to {top - number * height:g} m")
+            axis.set_title(f"Level {metres(top - (number + 1) * height)} to {metres(top - number * height)} m")
         for axis in axes:
-            axis.set_xlabel("east, m")
-            axis.set_ylabel("north, m")
+            name_axes(axis, "east", "north")
         explain(figure, axes, likely)
         finish(figure, path)
 
@@ -74,14 +78,13 @@ def sections(likely: Likely, path: Path) -> None:
             (slice(None, None, -1), slice(None), column),
         )
         places = (
-            ((west, east, bottom, top), f"West to east at north {float(y):g}", "east, m"),
-            ((south, north, bottom, top), f"South to north at east {float(x):g}", "north, m"),
+            ((west, east, bottom, top), f"West to east at north {metres(y)}", "east"),
+            ((south, north, bottom, top), f"South to north at east {metres(x)}", "north"),
         )
         for axis, cut, (extent, title, label) in zip(axes, cuts, places):
             draw(axis, likely.shown[cut], likely.solid[cut], extent)
             axis.set_title(title)
-            axis.set_xlabel(label)
-            axis.set_ylabel("elevation, m")
+            name_axes(axis, label, "elevation")
         explain(figure, list(axes), likely)
         finish(figure, path)
 
@@ -120,29 +123,75 @@ def levels_to_show(likely: Likely) -> list[int]:
 
 
 def spread(table: pd.DataFrame, currency: str, path: Path) -> None:
-    """Tonnes and worth by factor, at each scenario's own price: the middle, and between which most scenarios lie."""
+    """Tonnes and worth by factor, at each scenario's own prices: for each set of prices the median of its models, and between
+    which most of them lie."""
     with plt.rc_context(STYLE):
-        figure, axes = plt.subplots(1, 2, figsize=(11, 4.2), constrained_layout=True)
-        amounts = table.assign(worth_at_factor=table["worth_at_factor"].astype(float))
-        columns = (
-            ("tonnes", "rock in the pit", "t"),
-            ("worth_at_factor", "worth at the factor's prices", f" {currency}"),
-        )
-        for axis, (column, label, unit) in zip(axes, columns):
-            band(axis, amounts, column)
-            size, sign = scaled(float(amounts[column].abs().max()))
-            axis.yaxis.set_major_formatter(lambda value, _, size=size: f"{value / size:,.4g}")
-            axis.set_xlabel("price factor, per mille of each scenario's price")
-            axis.set_ylabel(f"{label}, {sign}{unit}")
-        axes[0].legend(frameon=False, loc="upper left")
-        figure.suptitle(f"{table['scenario'].nunique():,} scenarios", x=0.01, ha="left")
+        figure, axes = plt.subplots(1, 2, figsize=(11, 4.8))
+        draw_spread(figure, list(axes), table, currency)
         finish(figure, path)
 
 
-def band(axis: Axes, amounts: pd.DataFrame, column: str) -> None:
-    groups = amounts.groupby("factor")[column]
-    factors = list(groups.groups)
-    axis.fill_between(factors, groups.min(), groups.max(), color="#dfe7f1", linewidth=0, label="all")
-    low, high = groups.quantile(0.1), groups.quantile(0.9)
-    axis.fill_between(factors, low, high, color="#9db8d9", linewidth=0, label="eight in ten")
-    axis.plot(factors, groups.median(), "o-", color="#1f3f6e", markersize=3, linewidth=1.4, label="median")
+def draw_spread(figure: Figure, axes: list[Axes], table: pd.DataFrame, currency: str) -> None:
+    """Bands and medians of up to six sets of prices, medians alone of more, and a legend below both panels."""
+    sets = sets_of(table.assign(worth_at_factor=table["worth_at_factor"].astype(float)))
+    columns = (
+        ("tonnes", "rock in the pit", "t"),
+        ("worth_at_factor", "worth at the factor's prices", f" {currency}"),
+    )
+    for axis, (column, title, unit) in zip(axes, columns):
+        for (prices, amounts), (colour, marker) in zip(sets, looks(len(sets))):
+            groups = amounts.groupby("factor")[column]
+            if len(sets) <= MOST_BANDS:
+                band(axis, groups, colour, len(sets))
+            style = {"marker": marker, "markersize": 3.5, "linewidth": 1.5, "color": colour}
+            label = prices if len(sets) > 1 else ", ".join(filter(None, ("median", prices)))
+            axis.plot(list(groups.groups), groups.median(), label=label, **style)
+        size, sign = scaled(float(table[column].astype(float).abs().max()))
+        axis.yaxis.set_major_formatter(lambda value, _, size=size: f"{value / size:,.4g}")
+        axis.set_xlabel("price factor, per mille of each scenario's price")
+        axis.set_ylabel(f"{title}, {sign}{unit}")
+    figure.suptitle(f"{table['scenario'].nunique():,} scenarios", x=0.01, ha="left")
+    explain_sets(figure, axes[0], len(sets))
+
+
+def sets_of(table: pd.DataFrame) -> list[tuple[str, pd.DataFrame]]:
+    """The rows of each set of prices, by rising prices, with these in words; no words where all have the project's prices."""
+    named = [name for name in table.columns if name.startswith("price_")]
+    if not named:
+        return [("", table)]
+    sets = []
+    for prices in table[named].drop_duplicates().sort_values(named).to_numpy():
+        words = [f"{name.removeprefix('price_')} {price:,.12g}" for name, price in zip(named, prices)]
+        sets.append((", ".join(words), table[(table[named] == prices).all(axis=1)]))
+    return sets
+
+
+def looks(count: int) -> list[tuple[Any, str]]:
+    """A colour and a mark for each set: far apart for a few, and a scale from light to dark for many."""
+    if count <= MOST_BANDS:
+        return list(zip(SET_COLOURS, SET_MARKS))[:count]
+    return [(colour, "") for colour in plt.get_cmap("viridis_r")(np.linspace(0.1, 1, count))]
+
+
+def band(axis: Axes, groups: Any, colour: str, count: int) -> None:
+    """Between which eight in ten of a set's models lie, and, where the set is alone, between which all do."""
+    factors, alone = list(groups.groups), count == 1
+    if alone:
+        axis.fill_between(factors, groups.min(), groups.max(), color=colour, alpha=0.15, linewidth=0, label="all")
+    # Bands that lie over one another are the lighter the more there are.
+    colours = {"facecolor": to_rgba(colour, 0.45 / (count + 1)), "edgecolor": to_rgba(colour, 0.6)}
+    label = "eight in ten" if alone else None
+    axis.fill_between(factors, groups.quantile(0.1), groups.quantile(0.9), label=label, **colours)
+
+
+def explain_sets(figure: Figure, axis: Axes, count: int) -> None:
+    """The legend: every set's prices, or so many of them that it can be read."""
+    handles, names = axis.get_legend_handles_labels()
+    step = -(-len(names) // MOST_NAMES)
+    handles, names = handles[::step], names[::step]
+    what = "medians of the models" if count > MOST_BANDS else "medians and eight in ten of the models"
+    title = None if count == 1 else f"{what}, by prices"
+    wide = min(4, len(names))
+    figure.legend(handles, names, ncol=wide, loc="lower center", frameon=False, title=title)
+    lines = -(-len(names) // wide) + (title is not None)
+    figure.tight_layout(rect=(0, 0.055 * lines, 1, 1))

@@ -10,8 +10,7 @@ from typing import Any
 import numpy as np
 
 from .. import files, run
-from ..errors import PlanError
-from ..plan import MOST_PAIRS, Plan
+from ..plan import Plan
 from ..progress import Progress
 from ..project import Project
 from . import folder as folders
@@ -40,7 +39,7 @@ def prepare(project: Project, folder: Path, progress: Progress) -> folders.Share
         plan = envelope(base, read.greatest)
         with files.staged(folder, folders.RECORD) as stage:
             write_shared(base, plan, stage)
-            scenarios = list_of(base, read, program)
+            scenarios = list_of(base, plan, read, program)
             write_record(plan, scenarios, program, stage)
     return folders.read_shared(folder)
 
@@ -63,15 +62,15 @@ def arrays_of(base: Base) -> dict[str, np.ndarray]:
     return arrays
 
 
+def arrays_of_settled(plan: Plan) -> dict[str, np.ndarray]:
+    """What is dug and what is left for the sake of the fixed blocks, by cell; nothing where the project has none."""
+    return {} if plan.settled is None else {"dug": plan.settled.dug, "left": plan.settled.left}
+
+
 def write_shared(base: Base, plan: Plan, stage: Path) -> None:
     """Base, needs, the project, and the planner's rows, for which probabilities are told."""
-    np.savez_compressed(stage / folders.BASE, ore=plan.values.processed, **arrays_of(base))
-    pairs = files.write_prec(stage / files.PREC, plan.grid, plan.walls, plan.used, plan.values.processed)
-    if pairs.written + pairs.processing > MOST_PAIRS:
-        raise PlanError(
-            f"{pairs.written + pairs.processing:,} needs, and the program takes at most {MOST_PAIRS:,}: "
-            "give fewer [slopes] levels, or a smaller model"
-        )
+    np.savez_compressed(stage / folders.BASE, ore=plan.values.processed, **arrays_of(base), **arrays_of_settled(plan))
+    plan.write_needs(stage / files.PREC, plan.needs_of_rest)
     shutil.copyfile(base.project.path, stage / folders.PROJECT)
     frame = plan.blocks
     grades = [metal.column for metal in base.project.metals]
@@ -79,13 +78,13 @@ def write_shared(base: Base, plan: Plan, stage: Path) -> None:
     frame.drop(columns=[*grades, *costs]).to_csv(stage / BLOCKS, index=False)
 
 
-def list_of(base: Base, read: Models, program: dict[str, str]) -> list[Scenario]:
+def list_of(base: Base, plan: Plan, read: Models, program: dict[str, str]) -> list[Scenario]:
     """Every model at every set of prices, in this order, with the keys of their answers."""
-    project = base.project
-    walls = {"code": base.walls.code, **{str(k): np.array(p.offsets) for k, p in enumerate(base.walls.patterns)}}
+    project, settled = base.project, arrays_of_settled(plan)
+    walls = {"code": base.walls.code, **{str(k): p.cone for k, p in enumerate(base.walls.patterns)}}
     common = {
-        "project": folders.meaning(project),
-        "blocks": folders.hash_of_arrays({**arrays_of(base), **walls}),
+        "project": folders.meaning(project, plan.reference),
+        "blocks": folders.hash_of_arrays({**arrays_of(base), **walls, **settled}),
         "program": program["sha256"],
     }
     sets = scenarios_of(project).prices
@@ -107,6 +106,7 @@ def write_record(plan: Plan, scenarios: list[Scenario], program: dict[str, str],
         "factors": list(plan.project.schedule.factors),
         "program": program,
         "grid": {"shape": plan.grid.shape, "origin": plan.grid.origin, "size": plan.grid.size},
+        "mining_cost_reference": plan.reference,
         "notes": [note for note in plan.notes if "amounts were rounded" not in note],
         "files": files.hashes(stage, written),
         "scenarios": [vars(scenario) for scenario in scenarios],

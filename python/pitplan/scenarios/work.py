@@ -9,13 +9,12 @@ from functools import lru_cache
 from pathlib import Path
 
 import numpy as np
-import pandas as pd
 
-from .. import analyse, files, money, run
+from .. import absent, analyse, files, money, run
 from ..errors import PlanError, ProgramError
 from ..files import staged_file
 from ..plan import Plan
-from ..slopes import Walls
+from ..walls import Walls
 from . import folder as folders
 from .ensemble import priced
 from .folder import Scenario, Shared
@@ -91,7 +90,8 @@ def plan_of(shared: Shared, scenario: Scenario) -> Plan:
     values = money.values_of(frame, shared.grid, project, scenario.label)
     # The same nodes in every scenario, so that one file of needs serves: those without metal here are worth nothing.
     values = replace(values, ore=shared.ore) if values.cutoff == "moving" else values
-    return Plan(project, frame, shared.grid, values, Walls((), np.zeros(0)), np.zeros(0, bool), scenario.label)
+    walls, used = Walls((), np.zeros(0), (), np.zeros(0)), np.zeros(0, bool)
+    return Plan(project, frame, shared.grid, values, walls, used, scenario.label, settled=shared.settled)
 
 
 def write_answer(shared: Shared, scenario: Scenario) -> None:
@@ -99,10 +99,13 @@ def write_answer(shared: Shared, scenario: Scenario) -> None:
     plan = plan_of(shared, scenario)
     with tempfile.TemporaryDirectory(prefix="pitplan-") as place:
         blocks = Path(place) / files.BLOCKS
-        files.write_blocks(blocks, plan.grid, plan.values.processed, plan.values.nodes())
+        nodes = plan.values.nodes() if plan.settled is None else plan.values.nodes_of_rest(plan.settled)
+        files.write_blocks(blocks, plan.grid, plan.values.processed, nodes)
         solution = run.solve_files(blocks, shared.folder / files.PREC, plan.project.schedule.factors)
+        solution = run.joined(solution, plan.settled, plan.values)
+        absent.demand_known(solution.entry, plan.grid, plan.project, plan.source)
     cells = analyse.cells_of(plan, solution)
-    table = table_of(plan, cells, solution)
+    table = analyse.amounts(plan, cells).astype(np.float64)
     factors = np.array(plan.project.schedule.factors)
     entry = cells.factor[plan.grid.rows]
     texts = {"worth_at_factor": np.array([f"{worth:f}" for worth in solution.worth], dtype=str)}
@@ -110,12 +113,3 @@ def write_answer(shared: Shared, scenario: Scenario) -> None:
         # The place of a block's least factor in the list, from 1; 0: in no pit.
         places = np.where(entry > 0, np.searchsorted(factors, entry) + 1, 0).astype(np.uint16)
         np.savez_compressed(file, places=places, columns=table.columns.to_numpy().astype(str), table=table, **texts)
-
-
-def table_of(plan: Plan, cells: analyse.Cells, solution: run.Solution) -> pd.DataFrame:
-    """One row a factor: what the pit holds and is worth at the scenario's prices."""
-    rows = []
-    for factor in plan.project.schedule.factors:
-        inside = (cells.factor > 0) & (cells.factor <= factor)
-        rows.append(analyse.amounts(plan, cells, inside, factor))
-    return pd.DataFrame(rows, dtype=np.float64)

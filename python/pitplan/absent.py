@@ -1,0 +1,80 @@
+"""Cells of the grid that have no row in the planner's table: air above the ground, and ground of which nothing is known.
+
+A cell above the highest row of its column is air. One below or between rows, or in a column without any, may be rock that was
+left out of the table, and what it costs to dig is not known. Where the planner gives it tonnes it becomes a block like others;
+where not, a pit that reaches it is refused, unless it is said to be air.
+"""
+
+from __future__ import annotations
+
+from dataclasses import replace
+
+import numpy as np
+import pandas as pd
+
+from .errors import PlanError
+from .grid import Grid
+from .project import AbsentRock, Project
+
+
+def unknown_cells(grid: Grid) -> np.ndarray:
+    """The cells without a row that are not air, rising."""
+    filled = np.zeros(grid.count, dtype=bool)
+    filled[grid.rows] = True
+    cube = grid.cube(filled)
+    is_ground = np.maximum.accumulate(cube, axis=0) | ~cube.any(axis=0)
+    return np.flatnonzero(is_ground.ravel() & ~filled)
+
+
+def with_rows(frame: pd.DataFrame, grid: Grid, project: Project) -> tuple[pd.DataFrame, Grid]:
+    """The table and its grid with a row for each cell that is not known, where the project says what rock it is."""
+    rock, cells = project.table.absent, unknown_cells(grid)
+    if not isinstance(rock, AbsentRock) or not len(cells):
+        return frame, grid
+    columns = project.table
+    added = pd.DataFrame({name: np.zeros(len(cells)) for name in frame.columns}, index=range(len(cells)))
+    for name, centres in zip((columns.x, columns.y, columns.z), grid.centres(cells)):
+        added[name] = centres
+    added[columns.tonnes] = rock.tonnes
+    codes = {columns.id: [f"absent-{cell}" for cell in cells], columns.rock: rock.rock, columns.region: rock.region}
+    for name, code in codes.items():
+        if name is not None:
+            added[name] = code
+    table = pd.concat([frame, added], ignore_index=True)
+    return table, replace(grid, rows=np.concatenate([grid.rows, cells]))
+
+
+def notes(frame: pd.DataFrame, grid: Grid, project: Project) -> list[str]:
+    """What a planner should know of the cells that had no row, of a table as `with_rows` gives it."""
+    absent, left = project.table.absent, unknown_cells(grid)
+    air = grid.count - len(frame) - len(left)
+    found = [f"{air:,} cells lie above the highest row of their column and are air"] if air else []
+    if isinstance(absent, AbsentRock):
+        found.append(f"cells below a row, or in columns without rows, were taken as {absent.tonnes:g} t of rock each")
+    elif len(left) and absent == "air":
+        found.append(f"WARNING: {len(left):,} cells below a row, or in columns without rows, are taken as air")
+    elif len(left):
+        found.append(f"{len(left):,} cells below a row, or in columns without rows, are not known: no shell may reach them")
+    return found
+
+
+def demand_known(entry: np.ndarray, grid: Grid, project: Project, source: str) -> None:
+    """Raises PlanError where a shell reaches a cell that is not known, naming how many and the first.
+
+    `entry` has for each cell the least factor whose pit holds it, 0 where none does. Cells that are not known cost nothing while
+    the shells are found; so where none is reached, none would be, whatever it cost.
+    """
+    if project.table.absent == "air":
+        return
+    cells = unknown_cells(grid)
+    reached = cells[entry[cells] > 0]
+    if not len(reached):
+        return
+    factors = entry[reached]
+    first = reached[factors.argmin()]
+    x, y, z = (f"{float(axis):.10g}" for axis in grid.centres(first))
+    raise PlanError(
+        f"{source}: the shells reach {len(reached):,} cells that have no row and are not above the highest of their column, the first "
+        f"at {x}, {y}, {z} from factor {factors.min()} on: give their rows, or say what they are by [table] absent = \"air\" or "
+        "absent = { tonnes = .., region = .. }"
+    )

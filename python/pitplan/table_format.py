@@ -1,0 +1,61 @@
+"""How a table's text is written: what parts its fields, how its decimals are written, and in what encoding."""
+
+from __future__ import annotations
+
+import csv
+import gzip
+import re
+from dataclasses import dataclass
+from pathlib import Path
+
+from .errors import PlanError
+from .project import TableColumns
+
+SEPARATORS = (",", ";", "\t", "|")
+NAMES = {",": "commas", ";": "semicolons", "\t": "tabs", "|": "bars"}
+QUOTED = re.compile(r'"[^"]*"')
+
+
+@dataclass(frozen=True)
+class TableFormat:
+    """What parts the fields, the decimal sign, and the text's encoding."""
+
+    separator: str
+    decimal: str
+    encoding: str
+
+
+def format_of(file: Path, columns: TableColumns) -> TableFormat:
+    """The format that the project names; what it does not name is told by the header. Raises PlanError where the file cannot be
+    read."""
+    separator = columns.separator or guessed_separator(file, columns.encoding)
+    return TableFormat(separator, columns.decimal or ".", columns.encoding)
+
+
+def guessed_separator(file: Path, encoding: str) -> str:
+    """The sign of which the header has most, outside of quotes; a comma where it has none."""
+    header = QUOTED.sub("", first_line(file, encoding))
+    return max(SEPARATORS, key=header.count)
+
+
+def names_in_header(file: Path, form: TableFormat) -> list[str]:
+    """The names of the columns, as they stand there."""
+    return next(csv.reader([first_line(file, form.encoding)], delimiter=form.separator), [])
+
+
+def first_line(file: Path, encoding: str) -> str:
+    try:
+        if file.suffix == ".gz":
+            with gzip.open(file, "rt", encoding=encoding) as text:
+                return text.readline()
+        with open(file, encoding=encoding) as text:
+            return text.readline()
+    except UnicodeError as error:
+        raise wrong_encoding(file, encoding) from error
+    except (OSError, EOFError) as error:
+        raise PlanError(f"{file}: cannot be read: {getattr(error, 'strerror', None) or error}") from error
+
+
+def wrong_encoding(file: Path, encoding: str) -> PlanError:
+    named = "UTF-8" if encoding == "utf-8-sig" else encoding
+    return PlanError(f'{file}: is not written in {named}: name its encoding by [table] encoding, such as "cp1252" or "utf-16"')

@@ -1,0 +1,188 @@
+"""What a plan's folder answers, laid beside the project and its table as they are now."""
+
+from __future__ import annotations
+
+import json
+from dataclasses import dataclass, field
+from functools import cached_property
+from pathlib import Path
+from typing import Any, Optional
+
+import numpy as np
+import pandas as pd
+
+from .. import table as tables
+from ..errors import PlanError
+from ..project import AbsentRock, Project, Wall, load
+
+# In place of a factor: a cell that is not dug at any, and one where there is nothing to dig.
+UNDUG, NOTHING = 2**30, 0
+# The columns of blocks.csv that are the answer's.
+SAID = ("id", "mining_cost", "revenue", "processing_cost", "factor", "process_factor")
+
+
+@dataclass(frozen=True)
+class Rule:
+    """One thing that was verified: its name, in words what holds, and what differs, of which the first ten are told."""
+
+    name: str
+    holds: str
+    differences: tuple[str, ...] = ()
+    count: int = 0
+
+
+def rule(name: str, holds: str, differences: list[str], count: int | None = None) -> Rule:
+    return Rule(name, holds, tuple(differences[:10]), len(differences) if count is None else count)
+
+
+@dataclass(frozen=True)
+class Answer:
+    """A folder as it is read.
+
+    rows    one row a block: the planner's columns of the table as it is now, and behind them those of cells that it has no row of
+    said    the same rows of blocks.csv: id, mining_cost, revenue, processing_cost, factor, process_factor
+    shells  shells.csv (of `pitplan pit`: the one row that keeps to the fixed blocks), by factor
+    years   years.csv; None where the folder has none
+    record  prepare.json
+    factors the factors of which the folder has shells
+    found   what was told of it before, by name
+    """
+
+    folder: Path
+    project: Project
+    rows: pd.DataFrame
+    said: pd.DataFrame
+    shells: pd.DataFrame
+    years: pd.DataFrame | None
+    record: dict[str, Any]
+    factors: tuple[int, ...]
+    found: dict[str, float] = field(default_factory=dict)
+
+    @property
+    def shape(self) -> tuple[int, int, int]:
+        levels, rows, columns = self.record["grid"]["shape"]
+        return levels, rows, columns
+
+    @property
+    def size(self) -> tuple[float, float, float]:
+        """Metres of a block east, north and up."""
+        east, north, up = self.record["grid"]["size"]
+        return east, north, up
+
+    @cached_property
+    def tonnes(self) -> np.ndarray:
+        return self.rows[self.project.table.tonnes].to_numpy()
+
+    @cached_property
+    def cells(self) -> tuple[np.ndarray, np.ndarray, np.ndarray]:
+        """Level from the top, row from the south and column from the west of each block, told by its centre."""
+        steps = self.steps
+        return tuple(np.rint(axis).astype(np.int64) for axis in steps[::-1])
+
+    @property
+    def steps(self) -> tuple[np.ndarray, np.ndarray, np.ndarray]:
+        """Blocks east, north and down from the first block, which are whole but for the tolerance."""
+        columns, origin = self.project.table, self.record["grid"]["origin"]
+        east, north, up = (
+            (self.rows[name].to_numpy() - first) / size
+            for name, first, size in zip((columns.x, columns.y, columns.z), origin, self.size)
+        )
+        return east, north, -up
+
+    @cached_property
+    def dug(self) -> np.ndarray:
+        """For each cell the least factor at which it is dug: UNDUG where none is, and where nothing is known of the ground; NOTHING where
+        there is nothing to dig."""
+        cube = np.full(self.shape, UNDUG, dtype=np.int32)
+        factor = self.said["factor"].to_numpy()
+        known = np.zeros(self.shape, dtype=bool)
+        known[self.cells] = True
+        cube[self.cells] = np.where(self.tonnes > 0, np.where(factor > 0, factor, UNDUG), NOTHING)
+        highest = np.where(known.any(axis=0), known.argmax(axis=0), 0)
+        air = np.arange(self.shape[0])[:, None, None] < highest
+        if self.project.table.absent == "air":
+            air = ~known
+        cube[air] = NOTHING
+        return cube
+
+    @cached_property
+    def entries(self) -> np.ndarray:
+        """For each cell the number of the wall entry that its region has. A cell without a row is of the region of the next block below
+        it in its column, else of the next above."""
+        column, walls = self.project.table.region, self.project.slopes.walls
+        others = next((k for k, wall in enumerate(walls) if wall.regions is None), 0)
+        by_region = {name: k for k, wall in enumerate(walls) for name in wall.regions or ()}
+        regions = self.rows[column].astype(str) if column else pd.Series("", index=self.rows.index)
+        cube = np.full(self.shape, np.nan)
+        cube[self.cells] = regions.map(lambda name: by_region.get(name, others))
+        columns = pd.DataFrame(cube.reshape(self.shape[0], -1))
+        return columns.bfill().ffill().fillna(others).to_numpy(dtype=np.int16).reshape(self.shape)
+
+    def levels(self, wall: Wall) -> int:
+        """Over how many levels the needs of a wall entry reach."""
+        if wall.pattern:
+            return 1
+        number = self.project.slopes.walls.index(wall)
+        return int(self.record["walls"][number].get("levels", self.project.slopes.levels))
+
+    def called(self, row: int) -> str:
+        """A block by the planner's id, or by its centre."""
+        name = self.project.table.id
+        if name:
+            return f"block {self.rows[name].iloc[row]}"
+        columns = self.project.table
+        return "the block at " + ", ".join(f"{self.rows[axis].iloc[row]:.10g}" for axis in (columns.x, columns.y, columns.z))
+
+
+def read(folder: Path, project: Optional[Project] = None) -> Answer:
+    """The answer in a folder, to the project that it names unless another is given. Raises PlanError where the folder has no answer of `pitplan shells` or `pit`, or the project is not where it was."""
+    try:
+        record = json.loads((folder / "prepare.json").read_text(encoding="utf-8"))
+        project = project or load(folder / record["project"])
+        written = read_blocks(folder / "blocks.csv", project)
+        shells, factors = read_shells(folder, record)
+        years = pd.read_csv(folder / "years.csv") if (folder / "years.csv").exists() else None
+    except OSError as error:
+        raise PlanError(f"{error.filename}: cannot be read: run pitplan shells first") from error
+    except (ValueError, KeyError) as error:
+        raise PlanError(f"{folder}: is no folder that pitplan shells or pit has written: {error}") from error
+    rows, said = beside(tables.read(project).frame, written, project)
+    return Answer(folder, project, rows, said, shells, years, record, factors)
+
+
+def read_blocks(path: Path, project: Project) -> pd.DataFrame:
+    codes = {own_name(name): str for name in (project.table.id, project.table.rock, project.table.region) if name}
+    return pd.read_csv(path, dtype=codes, keep_default_na=False, na_values={}, float_precision="round_trip")
+
+
+def own_name(column: str) -> str:
+    """A column of the planner's, as blocks.csv names it."""
+    return f"planner_{column}" if column in SAID else column
+
+
+def read_shells(folder: Path, record: dict[str, Any]) -> tuple[pd.DataFrame, tuple[int, ...]]:
+    if "shells" in record:
+        table = pd.read_csv(folder / "shells.csv", dtype={"worth_at_factor": str}).set_index("factor")
+        return table, tuple(record["shells"]["factors"])
+    table = pd.read_csv(folder / "pits.csv", dtype={"worth_at_factor": str})
+    return table[table["fixed_blocks"] == "kept"].set_index("factor"), tuple(record["factors"])
+
+
+def beside(table: pd.DataFrame, written: pd.DataFrame, project: Project) -> tuple[pd.DataFrame, pd.DataFrame]:
+    """The table's rows, with the answer's own behind them, which are of cells without a row; and what the answer says of each.
+
+    Raises PlanError where a block of either is not in the other.
+    """
+    columns = project.table
+    names = [own_name(name) for name in (columns.x, columns.y, columns.z)]
+    place = pd.MultiIndex.from_frame(written[names])
+    at = place.get_indexer(pd.MultiIndex.from_frame(table[[columns.x, columns.y, columns.z]]))
+    if (at < 0).any() or not place.is_unique:
+        raise PlanError(f"blocks.csv: {np.count_nonzero(at < 0):,} blocks of the table are not in it: has the table changed since?")
+    more = np.setdiff1d(np.arange(len(written)), at)
+    if len(more) and not isinstance(columns.absent, AbsentRock):
+        raise PlanError(f"blocks.csv: {len(more):,} of its blocks are not in the table: has the table changed since?")
+    own = written.rename(columns={own_name(name): name for name in table.columns})
+    own = own.loc[:, ~own.columns.duplicated(keep="last")]
+    rows = pd.concat([table, own.iloc[more][list(table.columns)]], ignore_index=True) if len(more) else table
+    return rows, written[list(SAID)].iloc[np.concatenate([at, more])].reset_index(drop=True)

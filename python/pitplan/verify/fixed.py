@@ -1,0 +1,70 @@
+"""Fixed blocks, air and unknown ground, and the nesting of what is written."""
+
+from __future__ import annotations
+
+import numpy as np
+import pandas as pd
+from matplotlib.path import Path as Outline
+
+from .answer import Answer, Rule, rule
+
+
+def verify(answer: Answer) -> Rule:
+    """Every block that must be dug is in every shell, none that may not be is in any."""
+    rules, first = answer.project.fixed, answer.said["factor"].to_numpy()
+    if rules is None:
+        return rule("fixed", "nothing is fixed", [])
+    rock = answer.tonnes > 0
+    must = marked(answer, rules.forced) | (above_points(answer) if rules.surface is not None else False)
+    never = marked(answer, rules.barred)
+    for area in rules.areas:
+        never = never | within(answer, table(area.polygon)[["x", "y"]].to_numpy(), area.barred == "inside")
+    left = np.flatnonzero(must & rock & (first != min(answer.factors)))
+    dug = np.flatnonzero(never & rock & (first > 0))
+    differences = [f"{answer.called(row)} must be dug, and is so from factor {first[row]} on" for row in left[:10]]
+    differences += [f"{answer.called(row)} may not be dug, and is so from factor {first[row]} on" for row in dug[:10]]
+    return rule("fixed", "what must be dug is in every shell, and what may not be is in none", differences, len(left) + len(dug))
+
+
+def marked(answer: Answer, column: str | None) -> np.ndarray:
+    return np.zeros(len(answer.rows), dtype=bool) if column is None else answer.rows[column].to_numpy() > 0
+
+
+def table(path: object) -> pd.DataFrame:
+    return pd.read_csv(path, sep=None, engine="python", encoding="utf-8-sig")
+
+
+def within(answer: Answer, corners: np.ndarray, inside: bool) -> np.ndarray:
+    """Blocks with their centre in a polygon, or out of it; of those at its very edge none."""
+    columns = answer.project.table
+    middle = corners.mean(axis=0)
+    outline = Outline(corners - middle)
+    centres = answer.rows[[columns.x, columns.y]].to_numpy() - middle
+    narrow, wide = (outline.contains_points(centres, radius=radius) for radius in (-1e-6, 1e-6))
+    return narrow & wide if inside else ~narrow & ~wide
+
+
+def above_points(answer: Answer) -> np.ndarray:
+    """Blocks whose centre is above the mean of the points over their column; where there is none, nothing is said of it here."""
+    assert answer.project.fixed is not None and answer.project.fixed.surface is not None
+    points = table(answer.project.fixed.surface)
+    origin, size = answer.record["grid"]["origin"], answer.size
+    over = [np.floor((points[name] - first) / step + 0.5).astype(int) for name, first, step in zip("xy", origin, size)]
+    height = points["z"].groupby([over[1], over[0]]).mean()
+    _, row, column = answer.cells
+    ground = height.reindex(pd.MultiIndex.from_arrays([row, column])).to_numpy()
+    return answer.rows[answer.project.table.z].to_numpy() > np.where(np.isnan(ground), np.inf, ground)
+
+
+def verify_places(answer: Answer) -> Rule:
+    """Each block lies in a cell of its own, at its centre, and bears its number; a shell's factor is one of the list."""
+    tolerance, differences = answer.project.grid.tolerance, []
+    for steps, cell, size in zip(answer.steps, answer.cells[::-1], answer.size):
+        off = np.abs(steps - cell) * size
+        differences += [f"{answer.called(row)} lies {off[row]:.4g} m off its cell" for row in np.flatnonzero(off > tolerance + 1e-6)[:10]]
+    number = np.ravel_multi_index(answer.cells, answer.shape, mode="clip")
+    wrong = np.flatnonzero(number != answer.said["id"].to_numpy())
+    differences += [f"{answer.called(row)} has the id {answer.said['id'].iloc[row]} for {number[row]}" for row in wrong[:10]]
+    strange = ~answer.said["factor"].isin([0, *answer.factors]).to_numpy()
+    differences += [f"{answer.called(row)} comes in at {answer.said['factor'].iloc[row]}" for row in np.flatnonzero(strange)[:10]]
+    return rule("blocks", "every block of the table stands in the answer, in its own cell", differences)

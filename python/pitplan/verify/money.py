@@ -1,0 +1,138 @@
+"""Costs and revenue of blocks anew: all by floats, and exactly, by decimals, those at the edges of shells and a sample of the others."""
+
+from __future__ import annotations
+
+import math
+from decimal import ROUND_HALF_EVEN, Decimal
+from typing import Union
+
+import numpy as np
+
+from ..project import GRADE_UNITS
+from .answer import UNDUG, Answer, Rule, rule
+from .walls import needed_by
+
+SAMPLE = 10_000
+NAMES = ("mining_cost", "revenue", "processing_cost")
+Price = Union[Decimal, dict[str, Decimal]]
+
+
+def verify(answer: Answer) -> Rule:
+    """Each amount of blocks.csv is the product of the table's and the project's numbers, rounded once."""
+    chosen = sample(answer)
+    differences = near(answer)
+    for row in chosen:
+        amounts = exact(answer, int(row))
+        for name, amount in zip(NAMES, amounts):
+            said = answer.said[name].iloc[row]
+            if not math.isclose(float(amount), said, rel_tol=1e-15) and len(differences) < 10:
+                differences.append(f"{answer.called(row)}: {name} {said:.10g} for {amount}")
+    return rule("money", f"costs and revenue of all blocks are right, and exactly so for {len(chosen):,}", differences)
+
+
+def sample(answer: Answer) -> np.ndarray:
+    """Rows of blocks at the edge of a shell, and of some others, the same each time."""
+    dug = answer.dug
+    edge = np.zeros(answer.shape, dtype=bool)
+    for axis in range(3):
+        ahead = tuple(slice(1, None) if other == axis else slice(None) for other in range(3))
+        behind = tuple(slice(None, -1) if other == axis else slice(None) for other in range(3))
+        differs = dug[ahead] != dug[behind]
+        edge[ahead] |= differs
+        edge[behind] |= differs
+    at_edge = np.flatnonzero(edge[answer.cells] & (dug[answer.cells] != UNDUG))
+    others = np.random.default_rng(0).permutation(len(answer.rows))[:SAMPLE]
+    return np.union1d(at_edge, others)
+
+
+def highest_needed(answer: Answer) -> float:
+    """Metres of the top of the highest block with a row that ore needs; without ore, of the highest there is."""
+    if "highest" not in answer.found:
+        ore = np.zeros(answer.shape, dtype=bool)
+        ore[answer.cells] = answer.said["revenue"].to_numpy() > answer.said["processing_cost"].to_numpy()
+        known = np.zeros(answer.shape, dtype=bool)
+        known[answer.cells] = True
+        levels = np.flatnonzero((needed_by(answer, ore) & known).any(axis=(1, 2)))
+        first = levels[0] if len(levels) else 0
+        answer.found["highest"] = answer.record["grid"]["origin"][2] + (0.5 - first) * answer.size[2]
+    return answer.found["highest"]
+
+
+def of_rock(price: Price, rock: str) -> Decimal:
+    return price.get(rock, Decimal(0)) if isinstance(price, dict) else price
+
+
+def more_for_depth(answer: Answer, elevation: float) -> Decimal:
+    """What mining a tonne costs more for the depth of a block's centre, in metres of elevation."""
+    money = answer.project.money
+    if money.mining_cost_by_elevation:
+        pairs = money.mining_cost_by_elevation
+        heights, costs = ([float(pair[k]) for pair in pairs] for k in (0, 1))
+        return Decimal(repr(round(float(np.interp(elevation, heights, costs)), 6)))
+    if not money.mining_cost_per_level:
+        return Decimal(0)
+    reference = money.mining_cost_reference
+    height = answer.size[2]
+    at = float(highest_needed(answer) if reference is None else reference)
+    top = elevation + height / 2
+    return money.mining_cost_per_level * max(0, math.ceil((at - top) / height - 1e-9))
+
+
+def exact(answer: Answer, row: int) -> tuple[Decimal, Decimal, Decimal]:
+    """Mining cost, revenue and processing cost of a block."""
+    project, columns = answer.project, answer.project.table
+    at = answer.rows.iloc[row]
+    rock = str(at[columns.rock]) if columns.rock else ""
+    tonnes = Decimal(repr(float(at[columns.tonnes])))
+    elevation = answer.record["grid"]["origin"][2] - int(answer.cells[0][row]) * answer.size[2]
+    mining = tonnes * (of_rock(project.money.mining_cost, rock) + more_for_depth(answer, elevation))
+    revenue = selling = Decimal(0)
+    for metal in project.metals:
+        quantity = tonnes * Decimal(repr(float(at[metal.column]))) * GRADE_UNITS[metal.unit] * of_rock(metal.recovery, rock)
+        revenue += quantity * metal.price
+        selling += quantity * metal.selling_cost
+    unit = Decimal(1).scaleb(-project.money.decimals)
+    processing = tonnes * of_rock(project.money.processing_cost, rock) + selling
+    mining, revenue, processing = (amount.quantize(unit, ROUND_HALF_EVEN) for amount in (mining, revenue, processing))
+    return mining, revenue, processing if revenue else Decimal(0)
+
+
+def near(answer: Answer) -> list[str]:
+    """What differs by more than a rounding, of all blocks, by floats."""
+    project, columns = answer.project, answer.project.table
+    rock = answer.rows[columns.rock].astype(str) if columns.rock else None
+
+    def by_rock(price: Price) -> np.ndarray:
+        if not isinstance(price, dict):
+            return np.full(len(answer.rows), float(price))
+        assert rock is not None
+        return rock.map({name: float(value) for name, value in price.items()}).fillna(0.0).to_numpy()
+
+    heights = [float(more_for_depth(answer, z)) for z in answer.record["grid"]["origin"][2] - np.arange(answer.shape[0]) * answer.size[2]]
+    mining = answer.tonnes * (by_rock(project.money.mining_cost) + np.array(heights)[answer.cells[0]])
+    revenue, selling = np.zeros(len(answer.rows)), np.zeros(len(answer.rows))
+    for metal in project.metals:
+        quantity = quantity_of(answer, metal.name)
+        revenue += quantity * float(metal.price)
+        selling += quantity * float(metal.selling_cost)
+    processing = answer.tonnes * by_rock(project.money.processing_cost) + selling
+    unit = 10.0**-project.money.decimals
+    processing = np.where(answer.said["revenue"] > 0, processing, 0.0)
+    differences = []
+    for name, amounts in zip(NAMES, (mining, revenue, processing)):
+        said = answer.said[name].to_numpy()
+        off = np.flatnonzero(np.abs(said - amounts) > 0.51 * unit + 1e-12 * np.abs(amounts))
+        differences += [f"{answer.called(row)}: {name} {said[row]:.10g} for {amounts[row]:.10g}" for row in off[:10]]
+    return differences
+
+
+def quantity_of(answer: Answer, name: str) -> np.ndarray:
+    """What is recovered of a metal from each block, if it is processed: tonnes, or grams."""
+    metal = next(it for it in answer.project.metals if it.name == name)
+    columns = answer.project.table
+    share = metal.recovery
+    if isinstance(share, dict):
+        recovery = answer.rows[columns.rock].astype(str).map({rock: float(it) for rock, it in share.items()}).fillna(0.0).to_numpy()
+    else:
+        recovery = np.full(len(answer.rows), float(share))
+    return answer.tonnes * answer.rows[metal.column].to_numpy() * float(GRADE_UNITS[metal.unit]) * recovery

@@ -1,0 +1,101 @@
+"""The table of shells added up anew from the blocks, and the worth that the program tells, exactly."""
+
+from __future__ import annotations
+
+from decimal import Decimal
+
+import numpy as np
+
+from .answer import Answer, Rule, rule
+from .money import quantity_of
+
+MILLION = 10**6
+
+
+def verify(answer: Answer) -> Rule:
+    """Tonnes, grades, ratios, metal and worth of each shell."""
+    differences: list[str] = []
+    for factor in answer.shells.index:
+        for name, amount in sums(answer, int(factor)).items():
+            said = float(answer.shells[name][factor])
+            if not np.isclose(said, amount, rtol=1e-9, atol=0.6 * smallest(name), equal_nan=True):
+                differences.append(f"factor {factor}: {name} {said:.10g} for {amount:.10g}")
+    return rule("shells", "blocks, tonnes, grades, ratios, metal and worth of each shell are the sums of its blocks", differences)
+
+
+def smallest(name: str) -> float:
+    """The last place that shells.csv keeps."""
+    return 1e-6 if name.startswith("grade_") or name in ("strip_ratio", "years") else 1e-3
+
+
+def is_ore(answer: Answer) -> np.ndarray:
+    """Whether processing a block pays at the price as given, once it is dug."""
+    return (answer.said["revenue"] > answer.said["processing_cost"]).to_numpy()
+
+
+def worths(answer: Answer) -> np.ndarray:
+    """What each block is worth at the price as given, once it is dug, in money."""
+    said = answer.said
+    return np.where(is_ore(answer), said["revenue"] - said["processing_cost"], 0.0) - said["mining_cost"].to_numpy()
+
+
+def within(answer: Answer, factor: int) -> np.ndarray:
+    """Whether a factor's pit holds each block."""
+    first = answer.said["factor"].to_numpy()
+    return (first > 0) & (first <= factor)
+
+
+def sums(answer: Answer, factor: int) -> dict[str, float]:
+    inside = within(answer, factor)
+    ore, tonnes = inside & is_ore(answer), answer.tonnes
+    processed = answer.said["process_factor"].to_numpy()
+    of_ore, of_all = tonnes[ore].sum(), tonnes[inside].sum()
+    found = {
+        "blocks": np.count_nonzero(inside & (tonnes > 0)),
+        "tonnes": of_all,
+        "ore_tonnes": of_ore,
+        "waste_tonnes": tonnes[inside & ~is_ore(answer)].sum(),
+        "strip_ratio": (of_all - of_ore) / of_ore if of_ore else np.nan,
+        "processed_tonnes": tonnes[(processed > 0) & (processed <= factor)].sum(),
+        "worth": worths(answer)[inside].sum(),
+    }
+    for metal in answer.project.metals:
+        grades = answer.rows[metal.column].to_numpy()
+        found[f"grade_{metal.name}"] = np.average(grades[ore], weights=tonnes[ore]) if of_ore else np.nan
+        found[f"metal_{metal.name}"] = quantity_of(answer, metal.name)[ore].sum()
+    return {name: float(amount) for name, amount in found.items()}
+
+
+def verify_worth(answer: Answer) -> Rule:
+    """The program's own worth of each shell is that of its blocks in the factor's own values, exactly; and a dug block is processed from
+    the first factor on at which that pays."""
+    revenue, processing, mining = (millionths(answer, name) for name in ("revenue", "processing_cost", "mining_cost"))
+    differences = late(answer, revenue, processing)
+    for factor in answer.shells.index:
+        inside = within(answer, int(factor))
+        pays = factor * revenue > 1000 * processing if answer.project.money.cutoff == "moving" else revenue > processing
+        some = inside & np.asarray(pays, dtype=bool)
+        worth = factor * int(revenue[some].sum()) - 1000 * int(processing[some].sum()) - 1000 * int(mining[inside].sum())
+        said = Decimal(answer.shells["worth_at_factor"][factor])
+        if said != Decimal(worth).scaleb(-9):
+            differences.append(f"factor {factor}: worth_at_factor {said} for {Decimal(worth).scaleb(-9)}")
+    return rule("worth", "the program's worth of each shell is that of its blocks, to the last digit", differences)
+
+
+def millionths(answer: Answer, name: str) -> np.ndarray:
+    """Amounts as Python's whole numbers, which have no limit of size."""
+    return np.rint(answer.said[name].to_numpy() * MILLION).astype(np.int64).astype(object)
+
+
+def late(answer: Answer, revenue: np.ndarray, processing: np.ndarray) -> list[str]:
+    """Blocks whose process_factor is not the first of the folder's factors from theirs on at which processing pays."""
+    first, said = (answer.said[name].to_numpy() for name in ("factor", "process_factor"))
+    expected = np.zeros(len(first), dtype=np.int64)
+    if answer.project.money.cutoff == "moving":
+        for factor in sorted(answer.factors, reverse=True):
+            pays = np.asarray(factor * revenue > 1000 * processing, dtype=bool)
+            expected[pays & (first > 0) & (first <= factor)] = factor
+    else:
+        expected = np.where(np.asarray(revenue > processing, dtype=bool), first, 0)
+    off = np.flatnonzero(expected != said)
+    return [f"{answer.called(row)}: process_factor {said[row]} for {expected[row]}" for row in off[:10]]

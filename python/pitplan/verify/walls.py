@@ -1,0 +1,163 @@
+"""The walls by their definition: a block that is dug leaves no block standing in the whole cone above it."""
+
+from __future__ import annotations
+
+import math
+from dataclasses import dataclass
+
+import numpy as np
+from scipy.ndimage import maximum_filter1d
+from scipy.spatial import ConvexHull, QhullError
+
+from ..project import Wall
+from .answer import NOTHING, UNDUG, Answer, Rule, rule
+
+NEIGHBOURS = {"1:5": 1, "1:9": 2}
+HAIR = 1e-9
+STEEPER = 0.5
+MOST_LEVELS = 40
+
+
+@dataclass(frozen=True)
+class Run:
+    """Cells side by side in a level above: so many blocks north, and from `west` to `east` blocks east, both with it."""
+
+    north: int
+    west: int
+    east: int
+
+
+def flatness(wall: Wall, azimuth: np.ndarray) -> np.ndarray:
+    """Metres that the wall steps back for each metre up, by azimuth in degrees: between two that are named linear, round the circle."""
+    given = [azimuth for azimuth, _ in wall.angles]
+    back = [math.cos(math.radians(angle)) / math.sin(math.radians(angle)) for _, angle in wall.angles]
+    return np.interp(azimuth, [given[-1] - 360, *given, given[0] + 360], [back[-1], *back, back[0]])
+
+
+def cone(wall: Wall, size: tuple[float, float, float], up: int) -> np.ndarray:
+    """Which cells lie in the cone so many levels up: a square of truths, rows from the south, round the cell straight above."""
+    if wall.pattern:
+        corner = NEIGHBOURS[wall.pattern]
+        return np.array([[abs(north) + abs(east) <= corner for east in (-1, 0, 1)] for north in (-1, 0, 1)])
+    back = up * size[2] * max(flatness(wall, np.arange(0.0, 360.0, 0.25)))
+    far = int(back / min(size[0], size[1])) + 1
+    north, east = np.mgrid[-far : far + 1, -far : far + 1] * np.array([size[1], size[0]])[:, None, None]
+    allowed = up * size[2] * flatness(wall, np.degrees(np.arctan2(east, north)) % 360)
+    return np.hypot(north, east) <= allowed * (1 + HAIR) + HAIR
+
+
+def runs(inside: np.ndarray) -> list[Run]:
+    """The cells of a square of truths as runs from west to east."""
+    far, found = len(inside) // 2, []
+    for north, row in enumerate(inside):
+        edges = np.flatnonzero(np.diff(np.concatenate([[0], row.astype(np.int8), [0]])))
+        found += [Run(north - far, west - far, east - 1 - far) for west, east in zip(edges[::2], edges[1::2])]
+    return found
+
+
+def latest(above: np.ndarray, run: Run) -> np.ndarray:
+    """For each cell the greatest number of the run of cells above it; 0 for those that lie beside the model."""
+    levels, rows, columns = above.shape
+    found = np.zeros(above.shape, dtype=above.dtype)
+    to = slice(max(0, -run.north), rows + min(0, -run.north))
+    of = slice(max(0, run.north), rows + min(0, run.north))
+    if to.start >= to.stop:
+        return found
+    wide, margin = run.east - run.west + 1, max(abs(run.west), abs(run.east)) + 1
+    padded = np.pad(above[:, of], ((0, 0), (0, 0), (margin, margin)))
+    first = margin + run.west + wide // 2
+    found[:, to] = maximum_filter1d(padded, wide, axis=2, mode="constant", cval=0)[:, :, first : first + columns]
+    return found
+
+
+def verify(answer: Answer) -> Rule:
+    """No shell leaves a block of rock, or ground that is not known, in the unreduced cone of a block that it digs."""
+    dug, entry = answer.dug, answer.entries
+    wrong = np.zeros(answer.shape, dtype=bool)
+    for number, wall in enumerate(answer.project.slopes.walls):
+        mine = (entry == number) & (dug != UNDUG) & (dug != NOTHING)
+        if not mine.any():
+            continue
+        for up in range(1, min(answer.levels(wall), answer.shape[0] - 1) + 1):
+            below = box(mine[up:])
+            if below is None:
+                continue
+            inside = runs(cone(wall, answer.size, up))
+            reach = max(max(abs(run.north), abs(run.west), abs(run.east)) for run in inside)
+            wide = tuple(slice(max(0, it.start - reach * (axis > 0)), it.stop + reach * (axis > 0)) for axis, it in enumerate(below))
+            part = dug[:-up][wide]
+            standing = np.maximum.reduce([latest(part, run) for run in inside]) > dug[up:][wide]
+            wrong[up:][wide] |= standing & mine[up:][wide]
+    return rule("walls", holds(answer), *told(answer, wrong))
+
+
+def verify_steepness(answer: Answer) -> Rule:
+    """Where the project leaves the levels open, no high wall comes out too much steeper than asked, or there are the most levels."""
+    slopes, differences = answer.project.slopes, []
+    if slopes.levels is not None:
+        return rule("levels", f"the needs reach over {slopes.levels} levels, as the project says", [])
+    for number, wall in enumerate(slopes.walls):
+        levels = answer.levels(wall)
+        steeper = 0.0 if wall.pattern else float((high_walls(wall, answer.size, levels) - asked(wall)).max())
+        if steeper > STEEPER + 1e-6 and levels < MOST_LEVELS:
+            differences.append(f"wall entry {number + 1}: over {levels} levels it comes out {steeper:.2f} degrees steeper than asked")
+    return rule("levels", f"no wall comes out more than {STEEPER} degrees steeper than asked, or needs reach over {MOST_LEVELS} levels", differences)
+
+
+def asked(wall: Wall) -> np.ndarray:
+    """Degrees, by whole azimuth."""
+    return np.degrees(np.arctan2(1.0, flatness(wall, np.arange(360.0))))
+
+
+def high_walls(wall: Wall, size: tuple[float, float, float], levels: int) -> np.ndarray:
+    """Degrees, by whole azimuth, of the high walls that cones upon cones make: their sides are those of the cone's convex hull."""
+    points = []
+    for up in range(1, levels + 1):
+        inside = cone(wall, size, up)
+        north, east = (np.argwhere(inside) - len(inside) // 2).T
+        points.append(np.stack([east * size[0], north * size[1]], axis=1) / (up * size[2]))
+    try:
+        sides = ConvexHull(np.concatenate(points)).equations
+    except QhullError:
+        return np.full(360, 90.0)
+    azimuth = np.radians(np.arange(360.0))
+    along = sides[:, :2] @ np.stack([np.sin(azimuth), np.cos(azimuth)])
+    reach = np.where(along > 1e-12, -sides[:, 2:] / np.where(along > 1e-12, along, 1.0), np.inf).min(axis=0)
+    return np.degrees(np.arctan2(1.0, np.maximum(reach, 0.0)))
+
+
+def needed_by(answer: Answer, blocks: np.ndarray) -> np.ndarray:
+    """The given blocks and all that they need, directly or through others: a truth for each cell."""
+    found = blocks.copy()
+    entries = answer.entries
+    cones = [[runs(cone(wall, answer.size, up)) for up in range(1, answer.levels(wall) + 1)] for wall in answer.project.slopes.walls]
+    for level in range(answer.shape[0] - 1, 0, -1):
+        for number, of_wall in enumerate(cones):
+            mine = found[level] & (entries[level] == number)
+            for up, inside in enumerate(of_wall[:level] if mine.any() else [], 1):
+                for run in inside:
+                    back = Run(-run.north, -run.east, -run.west)
+                    found[level - up] |= latest(mine[None].astype(np.int8), back)[0] > 0
+    return found
+
+
+def box(mask: np.ndarray) -> tuple[slice, slice, slice] | None:
+    """The least box that holds all that is true; None where nothing is."""
+    if not mask.any():
+        return None
+    found = []
+    for axis in range(3):
+        some = np.flatnonzero(mask.any(axis=tuple(other for other in range(3) if other != axis)))
+        found.append(slice(int(some[0]), int(some[-1]) + 1))
+    return found[0], found[1], found[2]
+
+
+def told(answer: Answer, wrong: np.ndarray) -> tuple[list[str], int]:
+    rows = np.flatnonzero(wrong[answer.cells])
+    said = [f"{answer.called(row)}, dug at {answer.said['factor'].iloc[row]}, needs a block that is not" for row in rows[:10]]
+    return said, len(rows)
+
+
+def holds(answer: Answer) -> str:
+    most = max(answer.levels(wall) for wall in answer.project.slopes.walls)
+    return f"no block of any shell leaves one standing in its own region's whole cone, up to {most} levels above it"

@@ -1,0 +1,112 @@
+"""The picture of the chosen pit's years: rock and ore beside the yearly capacities, and cash, best case and worst case."""
+
+from __future__ import annotations
+
+from dataclasses import dataclass
+from pathlib import Path
+
+import pandas as pd
+from matplotlib.axes import Axes
+from matplotlib.figure import Figure
+from matplotlib.ticker import MaxNLocator
+
+from .pictures import ORE, PLAIN, STYLE, WASTE, finish, plt, scaled
+from .project import Project, Schedule
+
+CASES = {"best": "Best case", "worst": "Worst case"}
+MILL, SHOVELS = "#1f3f6e", "#8a7f6a"
+# A capacity that is further above all bars than this would make them small, and is told in words alone.
+FAR_ABOVE = 2.0
+MARGIN = 1.12
+# The share of the height that may lie below nothing, where cash is spent and hardly any comes in.
+MOST_BELOW = 0.8
+
+
+@dataclass(frozen=True)
+class Scale:
+    """One scale for both cases: units of tonnes and of money with their signs, and the limits of the axes in these."""
+
+    tonnes: tuple[float, str]
+    money: tuple[float, str]
+    rock: tuple[float, float]
+    cash: tuple[float, float]
+
+
+def capacities_of(settings: Schedule) -> list[tuple[str, float, str]]:
+    """Name, tonnes a year and colour of each capacity."""
+    found = [("mill", settings.ore_per_year, MILL)]
+    return found if settings.rock_per_year is None else [*found, ("shovels", settings.rock_per_year, SHOVELS)]
+
+
+def scale_of(years: pd.DataFrame, settings: Schedule) -> Scale:
+    """Limits that hold all years, with nothing at the same height on both axes."""
+    most = max(float(years["rock_tonnes"].max()), 1.0)
+    near = [capacity for _, capacity, _ in capacities_of(settings) if capacity <= FAR_ABOVE * most]
+    tonnes = scaled(max(most, *near, 0.0))
+    top = MARGIN * max(most, *near, 0.0) / tonnes[0]
+    earned, spent = max(float(years["cash"].max()), 0.0), max(-float(years["cash"].min()), 0.0)
+    money = scaled(max(earned, spent))
+    whole = MARGIN * max(earned + spent, 1.0) / money[0]
+    below = min((spent / money[0] + 0.03 * whole) / whole, MOST_BELOW) if spent else 0.0
+    whole = max(whole, 1.03 * spent / money[0] / MOST_BELOW)
+    return Scale(tonnes, money, (-top * below / (1 - below), top), (-whole * below, whole * (1 - below)))
+
+
+def picture(table: pd.DataFrame, project: Project, chosen: int, path: Path) -> None:
+    """Writes years.png from `years.csv`'s table; a pit without rock has an empty picture that says so."""
+    years = table[table["factor"] == chosen]
+    with plt.rc_context(STYLE):
+        figure, axes = plt.subplots(1, 2, figsize=(12, 4.6), sharex=True)
+        if years.empty:
+            for axis in axes:
+                axis.set_axis_off()
+            figure.suptitle(f"The pit of factor {chosen} is empty")
+        else:
+            draw(figure, list(axes), years, project)
+            figure.tight_layout(rect=(0, 0, 1, 0.92))
+        finish(figure, path)
+
+
+def draw(figure: Figure, axes: list[Axes], years: pd.DataFrame, project: Project) -> None:
+    """A panel a case, and one legend for both."""
+    scale = scale_of(years, project.schedule)
+    currency = project.money.currency
+    rights = [axis.twinx() for axis in axes]
+    for left, right, (case, title) in zip(axes, rights, CASES.items()):
+        shown = years[years["case"] == case]
+        draw_tonnes(left, shown, scale, project.schedule)
+        draw_cash(right, shown, scale)
+        size, sign = scale.money
+        npv = f"{shown['discounted'].sum() / size:,.1f} {sign} {currency}".replace("  ", " ")
+        left.set_title(f"{title}: NPV {npv}")
+    axes[0].set_ylabel(f"rock in the year, {scale.tonnes[1]}t")
+    rights[1].set_ylabel(f"cash of the year, {scale.money[1]} {currency}".replace(",  ", ", "))
+    # Bars first: matplotlib has lines before them.
+    drawn = [axes[0].containers, axes[0].lines, rights[0].lines[:1]]
+    handles = [handle for handles in drawn for handle in handles]
+    names = [str(handle.get_label()) for handle in handles]
+    figure.legend(handles, names, ncol=len(names), loc="upper center", frameon=False)
+
+
+def draw_tonnes(axis: Axes, years: pd.DataFrame, scale: Scale, settings: Schedule) -> None:
+    """A bar a year of ore with waste on it, and a line across for each capacity."""
+    size, sign = scale.tonnes
+    ore, waste = years["ore_tonnes"] / size, (years["rock_tonnes"] - years["ore_tonnes"]) / size
+    axis.bar(years["year"], ore, 0.8, color=ORE, label="ore", linewidth=0)
+    axis.bar(years["year"], waste, 0.8, bottom=ore, color=WASTE, label="waste", linewidth=0)
+    for name, capacity, colour in capacities_of(settings):
+        label = f"{name}: {round(capacity / size, 3):,.12g} {sign}t a year"
+        axis.axhline(capacity / size, color=colour, linestyle="--", linewidth=1.3, label=label)
+    axis.set_ylim(*scale.rock)
+    axis.set_yticks([tick for tick in axis.get_yticks() if 0 <= tick <= scale.rock[1]])
+    axis.xaxis.set_major_locator(MaxNLocator(integer=True))
+    axis.set_xlim(0.4, max(float(years["year"].max()) + 0.6, axis.get_xlim()[1]))
+    axis.set_xlabel("year")
+
+
+def draw_cash(axis: Axes, years: pd.DataFrame, scale: Scale) -> None:
+    """A line of each year's cash, and one at nothing."""
+    marks = {"marker": "o", "markersize": 3.5, "linewidth": 1.5}
+    axis.plot(years["year"], years["cash"] / scale.money[0], color=PLAIN, label="cash, not discounted", **marks)
+    axis.axhline(0, color="black", linewidth=0.8)
+    axis.set_ylim(*scale.cash)

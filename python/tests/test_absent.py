@@ -1,0 +1,111 @@
+"""Cells without a row: which are air, which are not known, and what a plan does about them."""
+
+import numpy as np
+import pandas as pd
+import pytest
+from conftest import PROJECT, rows
+from hypothesis import given
+from hypothesis import strategies as st
+
+import pitplan
+from pitplan import PlanError, absent
+from pitplan.cli import main
+from pitplan.grid import Grid
+
+SHAPE = (4, 2, 3)
+AIR = ('file = "blocks.csv"', 'file = "blocks.csv"\nabsent = "air"')
+ROCK = ('file = "blocks.csv"', 'file = "blocks.csv"\nabsent = { tonnes = 100, rock = "R", region = "1" }')
+
+
+@given(st.lists(st.booleans(), min_size=24, max_size=24))
+def test_what_is_not_known_by_definition(filled):
+    """A cell without a row is air exactly where its column has rows and all of them are lower."""
+    grid = Grid(SHAPE, (0.0, 0.0, 0.0), (1.0, 1.0, 1.0), np.flatnonzero(filled))
+    cube = np.array(filled).reshape(SHAPE)
+    expected = []
+    for cell, (level, row, column) in enumerate(np.ndindex(SHAPE)):
+        rows_of_column = np.flatnonzero(cube[:, row, column])
+        is_air = len(rows_of_column) > 0 and level < rows_of_column.min()
+        if not filled[cell] and not is_air:
+            expected.append(cell)
+    assert absent.unknown_cells(grid).tolist() == expected
+
+
+def deposit():
+    """Ore at the floor in the middle of seven columns; its pit reaches two columns to either side at the surface."""
+    return rows(7, 1, 3, cu=lambda i, j, k: 9 if (i, k) == (3, 0) else 0)
+
+
+def shells_of(path):
+    plan = pitplan.prepare(path)
+    return pitplan.shells(plan, pitplan.solve(plan))
+
+
+def test_shells_that_reach_a_hole_are_refused(plan_folder, capsys):
+    table = deposit()
+    path = plan_folder(table[~((table["x"] == 25) & (table["z"] == 15))])
+    assert main(["shells", str(path), "--quiet"]) == 1
+    said = capsys.readouterr().err
+    assert "blocks.csv: the shells reach 1 cells that have no row and are not above the highest of their column, the first at 25, 5, 15 from factor 500 on" in said
+    assert 'absent = "air"' in said
+    assert not (path.parent / "plan" / "shells.csv").exists()
+
+
+def test_shells_that_reach_a_column_without_rows_are_refused(plan_folder):
+    table = deposit()
+    path = plan_folder(table[table["x"] != 15])
+    with pytest.raises(PlanError, match="the shells reach 1 cells .* the first at 15, 5, 25 from factor 500 on"):
+        shells_of(path)
+
+
+def test_what_is_not_known_and_not_reached_changes_nothing(plan_folder):
+    whole = shells_of(plan_folder(deposit()))
+    table = deposit()
+    pd.testing.assert_frame_equal(shells_of(plan_folder(table[~((table["x"] == 65) & (table["z"] < 20))])), whole)
+
+
+def test_air_on_request_costs_nothing(plan_folder):
+    table = deposit()
+    whole = shells_of(plan_folder(table)).set_index("factor")
+    holed = shells_of(plan_folder(table[~((table["x"] == 25) & (table["z"] == 15))], PROJECT, AIR)).set_index("factor")
+    # A block of 100 t at 2 a tonne less is dug.
+    assert (holed["worth"] - whole["worth"]).tolist() == [200] * 3
+    assert (whole["tonnes"] - holed["tonnes"]).tolist() == [100] * 3
+
+
+def test_rock_on_request_is_dug_as_if_it_stood_in_the_table(plan_folder):
+    table = deposit()
+    whole = shells_of(plan_folder(table))
+    for holes in ((table["x"] == 25) & (table["z"] == 15), table["x"] == 15):
+        path = plan_folder(table[~holes], PROJECT, ROCK)
+        pd.testing.assert_frame_equal(shells_of(path), whole)
+        blocks = pitplan.prepare(path).blocks
+        assert blocks["name"].str.startswith("absent-").sum() == holes.sum()
+
+
+def test_rock_on_request_in_scenarios(plan_folder):
+    table = deposit().assign(sim_1=lambda it: it["cu"], sim_2=lambda it: it["cu"] / 2)
+    text = PROJECT + '\n[scenarios]\ncolumns = { copper = "sim_*" }\n'
+    told = []
+    for kept, change in ((table, []), (table[table["x"] != 15], [ROCK])):
+        path = plan_folder(kept, text, *change)
+        assert main(["scenarios", str(path), "--workers", "1", "--quiet"]) == 0
+        told.append(pd.read_csv(path.parent / "plan" / "scenarios" / "scenarios.csv"))
+    pd.testing.assert_frame_equal(*told)
+    assert (told[0]["blocks"] > 0).any()
+
+
+@pytest.mark.parametrize(
+    ("text", "said"),
+    [
+        ('absent = "rock"', '[table] absent: "rock" is none of refuse, air'),
+        ("absent = { tonnes = -1 }", "[table.absent] tonnes: -1 is below 0"),
+        ("absent = { tonnes = 1 }", "[table] absent: needs a rock where, and only where, a column of the table is its rock"),
+        ('absent = { tonnes = 1, rock = "R" }', "[table] absent: needs a region where"),
+        ('absent = { tonnes = 1, rocks = "R" }', "[table.absent] rocks: is no key here; rock is"),
+    ],
+)
+def test_absent_is_refused_in_words(plan_folder, text, said):
+    with pytest.raises(PlanError) as refused:
+        pitplan.load(plan_folder(deposit(), PROJECT, ('file = "blocks.csv"', f'file = "blocks.csv"\n{text}')))
+    assert said in str(refused.value)

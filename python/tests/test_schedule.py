@@ -1,0 +1,295 @@
+"""When pits are dug and what they are worth discounted: by hand, and by walking through the pieces with fractions."""
+
+from collections import defaultdict
+from dataclasses import replace
+from decimal import Decimal
+from fractions import Fraction
+from math import ceil, floor, log
+from pathlib import Path
+
+import numpy as np
+import pandas as pd
+import pytest
+from conftest import PROJECT, rows
+from hypothesis import given
+from hypothesis import strategies as st
+
+import pitplan
+from pitplan import PlanError, analyse, commands
+from pitplan.project import of_data
+from pitplan.run import Solution
+
+FACTORS = (400, 700, 1000)
+BOX = (3, 2, 4)
+CELLS = BOX[0] * BOX[1] * BOX[2]
+AMOUNTS = ["rock_tonnes", "ore_tonnes", "metal_copper", "cash", "discounted"]
+
+
+def project_of(rate="0.1", ore=100, rock=None, discounting=None):
+    """Mining costs 2 a tonne, processing 10, and each per cent of copper yields 40."""
+    metal = {"name": "copper", "column": "cu", "unit": "percent", "price": 8000, "recovery": Decimal("0.5")}
+    shells = {"factors": list(FACTORS), "rate": Decimal(rate), "ore_per_year": ore}
+    shells |= {} if rock is None else {"rock_per_year": rock}
+    shells |= {} if discounting is None else {"discounting": discounting}
+    data = {
+        "table": {"file": "blocks.csv"},
+        "grid": {"size": [10, 10, 10]},
+        "money": {"mining_cost": 2, "processing_cost": 10, "cutoff": "fixed"},
+        "metals": [metal],
+        "slopes": {"walls": [{"angle": 90}]},
+        "shells": shells,
+    }
+    return of_data(data, Path("project.toml"))
+
+
+def solution_of(entry):
+    """A made-up answer of the program: the factor at which each block comes in. What it says of worth is not asked for."""
+    nothing = pd.Series([Decimal(0)] * len(FACTORS), index=FACTORS, dtype=object)
+    return Solution(nothing, nothing, np.array(entry, dtype=np.int32), b"")
+
+
+def dug(project, tonnes, grades, entry, box=BOX):
+    """The plan of a box and a made-up answer; all lists by id, from the top level down, row by row from the south-west."""
+    columns, north, levels = box
+
+    def of(values):
+        return lambda i, j, k: values[((levels - 1 - k) * north + j) * columns + i]
+
+    return pitplan.prepare(project, table=rows(*box, tonnes=of(tonnes), cu=of(grades))), solution_of(entry)
+
+
+def amounts_of(tonnes, grade):
+    """Rock, ore, copper and cash of a block, exactly."""
+    rock, copper = Fraction(tonnes), Fraction(tonnes) * Fraction(grade) / 200
+    gain = 8000 * copper - 10 * rock
+    return (rock, rock, copper, gain - 2 * rock) if gain > 0 else (rock, Fraction(0), Fraction(0), -2 * rock)
+
+
+def pieces_of(mine, factor, case):
+    """The amounts of each piece of a pit in the order of digging, from the blocks one by one."""
+    sums = defaultdict(lambda: (Fraction(0),) * 4)
+    for number, (tonnes, grade, first) in enumerate(zip(*mine)):
+        if 0 < first <= factor:
+            bench = number // (BOX[0] * BOX[1])
+            piece = (first, bench) if case == "best" else (bench,)
+            sums[piece] = tuple(a + b for a, b in zip(sums[piece], amounts_of(tonnes, grade)))
+    return [sums[piece] for piece in sorted(sums)]
+
+
+def as_decimal(fraction):
+    return Decimal(fraction.numerator) / Decimal(fraction.denominator)
+
+
+def present(cash, start, end, rate):
+    """What cash is worth at the start of all that flows evenly from start to end."""
+    force = (1 + Decimal(rate)).ln()
+    at = [(-force * as_decimal(moment)).exp() for moment in (start, end)]
+    if start == end or force == 0:
+        return as_decimal(cash) * at[0]
+    return as_decimal(cash) * (at[0] - at[1]) / (force * as_decimal(end - start))
+
+
+def walked(pieces, project):
+    """The end, and by year the amounts and the present worth: each piece is followed from year to year."""
+    settings = project.schedule
+    clock, years = Fraction(0), defaultdict(lambda: [Fraction(0)] * 4 + [Decimal(0)])
+
+    def flow(year, share, amounts, until):
+        years[year][:4] = [a + share * b for a, b in zip(years[year], amounts)]
+        years[year][4] += present(share * amounts[3], clock, until, str(settings.rate))
+
+    for amounts in pieces:
+        rock, ore, _, _ = amounts
+        lasts = ore / Fraction(settings.ore_per_year)
+        if settings.rock_per_year is not None:
+            lasts = max(lasts, rock / Fraction(settings.rock_per_year))
+        end = clock + lasts
+        if lasts == 0:
+            flow(max(ceil(clock), 1), Fraction(1), amounts, clock)
+        while clock < end:
+            until = min(end, Fraction(floor(clock) + 1))
+            flow(floor(clock) + 1, (until - clock) / lasts, amounts, until)
+            clock = until
+    return clock, years
+
+
+blocks = st.lists(
+    st.tuples(
+        st.sampled_from([0, 10, 70, 100, 100, 250]),
+        st.sampled_from(["0", "0", "0.25", "0.5", "1.25", "4"]),
+        st.sampled_from([0, *FACTORS]),
+    ),
+    min_size=CELLS,
+    max_size=CELLS,
+).filter(lambda cells: any(tonnes for tonnes, _, _ in cells)).map(lambda cells: tuple(zip(*cells)))
+capacities = st.tuples(
+    st.sampled_from(["0", "0.08", "0.1", "1"]), st.sampled_from([30, 70, 100, 5000]), st.sampled_from([None, 90, 100, 700])
+)
+
+
+def plan_of(mine, project):
+    tonnes, grades, entry = mine
+    return dug(project, tonnes, [Decimal(grade) for grade in grades], entry)
+
+
+@given(blocks, capacities)
+def test_years_are_those_of_a_walk_through_the_pieces(mine, capacity):
+    project = project_of(*capacity)
+    table = pitplan.years(*plan_of(mine, project)).set_index(["case", "factor"])
+    shells = pitplan.shells(*plan_of(mine, project)).set_index("factor")
+    for factor in FACTORS:
+        for case in ("best", "worst"):
+            end, years = walked(pieces_of(mine, factor, case), project)
+            if not sum(year[0] for year in years.values()):
+                assert (case, factor) not in table.index and shells[f"npv_{case}"][factor] == 0
+                continue
+            found = table.loc[[(case, factor)]]
+            assert found["year"].tolist() == list(range(1, max(ceil(end), 1) + 1))
+            expected = [[float(amount) for amount in years[year]] for year in found["year"]]
+            np.testing.assert_allclose(found[AMOUNTS], expected, rtol=1e-9, atol=1e-6)
+            npv = float(sum(year[4] for year in years.values()))
+            assert shells[f"npv_{case}"][factor] == pytest.approx(npv, abs=0.01)
+            if case == "best":
+                assert shells["years"][factor] == pytest.approx(float(end), abs=1e-8)
+
+
+@given(blocks, capacities, st.sampled_from(["continuous", "end_of_year", "mid_year"]))
+def test_years_keep_the_capacities_and_add_up_to_the_shell(mine, capacity, discounting):
+    project = project_of(*capacity, discounting)
+    solved = plan_of(mine, project)
+    table, shells = pitplan.years(*solved), pitplan.shells(*solved).set_index("factor")
+    assert (table["ore_tonnes"] <= capacity[1] * (1 + 1e-6)).all()
+    if capacity[2] is not None:
+        assert (table["rock_tonnes"] <= capacity[2] * (1 + 1e-6)).all()
+    named = {"rock_tonnes": "tonnes", "ore_tonnes": "ore_tonnes", "metal_copper": "metal_copper", "cash": "worth"}
+    for (case, factor), years in table.groupby(["case", "factor"]):
+        for column, name in named.items():
+            assert years[column].sum() == pytest.approx(shells[name][factor], abs=1e-6)
+        assert years["discounted"].sum() == pytest.approx(shells[f"npv_{case}"][factor], abs=0.01)
+    last = table.groupby(["factor", "case"])["year"].max().unstack()
+    # What the worst case digs of a bench at once, the best case digs by parts, each with its own waiting.
+    assert last.empty or (last["worst"] <= last["best"]).all()
+
+
+def pillar(project, *shells):
+    """Blocks of 100 t, one above the other: by level from the top, lists of the grade and the factor of each block."""
+    wide = max(map(len, shells))
+    cells = [cell for level in shells for cell in (*level, *[(0, 0)] * (wide - len(level)))]
+    grades, entry = zip(*cells)
+    return dug(project, [100] * len(cells), grades, entry, (wide, 1, len(shells)))
+
+
+def test_capacity_lost_while_stripping_is_not_caught_up():
+    """Nine levels of waste at ten levels a year of the mill's ten years: nothing is milled for the first nine years."""
+    columns = 9
+    waste, ore = [(0, 1000)] * columns, [(5, 1000)] * columns
+    # 8,100 t of waste at 900 a year, and 900 t of ore at 90 a year.
+    plan, solution = pillar(project_of(ore=90, rock=900), *[waste] * 9, ore)
+    shell = pitplan.shells(plan, solution).set_index("factor").loc[1000]
+    assert shell["years"] == pytest.approx(19)
+    # A tonne of ore is worth 5 x 40 - 10 - 2 = 188; the mean of 1.1^-t over a year is (1.1^-s - 1.1^-e) / ln 1.1.
+    npv = (-1800 * (1 - 1.1**-9) + 90 * 188 * (1.1**-9 - 1.1**-19)) / log(1.1)
+    assert shell["npv_best"] == pytest.approx(npv) and shell["npv_worst"] == pytest.approx(npv)
+    years = pitplan.years(plan, solution)
+    assert years["ore_tonnes"].round(6).tolist() == ([0] * 9 + [90] * 10) * 2
+    assert years["rock_tonnes"].round(6).tolist() == ([900] * 9 + [90] * 10) * 2
+
+
+def test_a_year_of_several_pieces_by_hand():
+    """Rock at 200 t a year and ore at 100: a bench of waste takes half a year, and one of ore a whole."""
+    plan, solution = pillar(project_of(rock=200), [(0, 1000)], [(1, 1000)])
+    table = pitplan.years(plan, solution)
+    best = table[table["case"] == "best"]
+    # The waste costs 200; the ore yields 4000 - 1000 - 200 from the middle of the first year to that of the second.
+    assert best["rock_tonnes"].tolist() == [150, 50] and best["ore_tonnes"].tolist() == [50, 50]
+    assert best["metal_copper"].tolist() == [0.25, 0.25] and best["cash"].tolist() == [1200, 1400]
+    first = (-400 * (1 - 1.1**-0.5) + 2800 * (1.1**-0.5 - 1.1**-1)) / log(1.1)
+    second = 2800 * (1.1**-1 - 1.1**-1.5) / log(1.1)
+    assert best["discounted"].tolist() == pytest.approx([first, second])
+
+
+@pytest.mark.parametrize("discounting, before", [("end_of_year", 0.0), ("mid_year", 0.5)])
+def test_years_discounted_as_spreadsheets_do(discounting, before):
+    plan, solution = pillar(project_of(rock=200, discounting=discounting), [(0, 1000)], [(1, 1000)])
+    expected = [1200 / 1.1 ** (1 - before), 1400 / 1.1 ** (2 - before)]
+    table, shells = pitplan.years(plan, solution), pitplan.shells(plan, solution).set_index("factor")
+    for case in ("best", "worst"):
+        assert table["discounted"][table["case"] == case].tolist() == pytest.approx(expected)
+        assert shells[f"npv_{case}"][1000] == pytest.approx(sum(expected))
+
+
+def test_the_worst_case_can_be_worth_more_than_the_best():
+    """Ore of the first shell beside waste of the second: dug at once, the waste need not be waited for."""
+    plan, solution = pillar(project_of(rock=100, ore=50), [(1, 700), (0, 1000)], [(0, 1000), (4, 1000)])
+    shells = pitplan.shells(plan, solution).set_index("factor")
+    # Best: 2 years of ore, a year of waste, and 2 years with ore. Worst: each bench 200 t with 100 t of ore, 2 years.
+    assert shells["years"][1000] == pytest.approx(5)
+    years = pitplan.years(plan, solution).groupby(["case", "factor"])["year"].max()
+    assert years["best", 1000] == 5 and years["worst", 1000] == 4
+    poor, waste, rich = 2800, -200, 14800
+    best = poor / 2 * (1 - 1.1**-2) + waste * (1.1**-2 - 1.1**-3) + (rich + waste) / 2 * (1.1**-3 - 1.1**-5)
+    worst = (poor + waste) / 2 * (1 - 1.1**-2) + (rich + waste) / 2 * (1.1**-2 - 1.1**-4)
+    assert shells["npv_best"][1000] == pytest.approx(best / log(1.1))
+    assert shells["npv_worst"][1000] == pytest.approx(worst / log(1.1))
+    assert worst > best
+
+
+def test_waste_takes_no_time_where_rock_has_no_limit():
+    """Its cost counts at its moment, and in the year that ends then; at the very start in the first year."""
+    plan, solution = pillar(project_of(), [(0, 1000)], [(1, 1000)], [(0, 1000)], [(1, 1000)])
+    years = pitplan.years(plan, solution)
+    best = years[years["case"] == "best"]
+    assert best["rock_tonnes"].tolist() == [300, 100] and best["cash"].tolist() == [2400, 2800]
+    npv = -200 - 200 / 1.1 + 2800 * (1 - 1.1**-2) / log(1.1)
+    assert best["discounted"].sum() == pytest.approx(npv)
+    # A pit of waste alone is dug in no time.
+    plan, solution = pillar(project_of(), [(0, 1000)])
+    years, shells = pitplan.years(plan, solution), pitplan.shells(plan, solution)
+    assert years[["year", "cash", "discounted"]].to_numpy().tolist() == [[1, -200, -200]] * 2
+    assert shells["years"].tolist() == [0, 0, 0]
+
+
+def test_nine_ninths_of_a_year_are_a_year():
+    """Binary fractions add up to a hair more, which is no second year."""
+    plan, solution = pillar(project_of(ore=900), *[[(1, 1000)]] * 9)
+    years = pitplan.years(plan, solution)
+    assert years["year"].tolist() == [1, 1] and years["rock_tonnes"].tolist() == pytest.approx([900, 900])
+    assert pitplan.shells(plan, solution)["years"].tolist() == [0, 0, 1]
+
+
+def test_years_that_could_not_be_counted_are_refused():
+    plan, solution = pillar(project_of(ore=1), *[[(1, 700)]] * 11)
+    with pytest.raises(PlanError) as said:
+        pitplan.shells(plan, solution)
+    assert str(said.value) == (
+        "project.toml: [shells] ore_per_year, rock_per_year: the greatest pit would take 1,100 years, and at most 1,000 "
+        "are counted: are the capacities in tonnes a year?"
+    )
+    plan.project = replace(plan.project, schedule=replace(plan.project.schedule, ore_per_year=1.1))
+    assert len(pitplan.years(plan, solution)) == 2 * 2 * 1000
+
+
+def test_an_empty_pit_has_no_years():
+    plan, solution = pillar(project_of(), [(1, 0)])
+    table = pitplan.years(plan, solution)
+    assert list(table.columns) == ["case", "factor", "year", *AMOUNTS] and table.empty
+    assert pitplan.shells(plan, solution)[["npv_best", "npv_worst", "years"]].to_numpy().tolist() == [[0, 0, 0]] * 3
+
+
+def test_the_file_of_years_stands_beside_the_shells(solved):
+    project, folder = solved
+    table = pd.read_csv(folder / "years.csv")
+    assert "years.csv" in commands.files.read_folder(folder).record["files"]
+    plan = pitplan.prepare(project)
+    expected = commands.shown(analyse.years(plan, pitplan.solve(plan)))
+    pd.testing.assert_frame_equal(table, expected, check_dtype=False)
+    shells = pd.read_csv(folder / "shells.csv").set_index("factor")
+    sums = table.groupby(["case", "factor"])["discounted"].sum()
+    for case in ("best", "worst"):
+        assert sums[case].tolist() == pytest.approx(shells[f"npv_{case}"].tolist(), abs=0.01)
+
+
+def test_discounting_is_one_of_three(plan_folder):
+    path = plan_folder(rows(2, 2, 2), PROJECT, ("rate = 0.1", 'rate = 0.1\ndiscounting = "yearly"'))
+    with pytest.raises(PlanError, match="discounting: \"yearly\" is none of continuous, end_of_year, mid_year"):
+        pitplan.load(path)

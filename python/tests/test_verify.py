@@ -1,0 +1,239 @@
+"""The second look at every number: what is right passes, and every number that is bent, and every mistake in the code, is found."""
+
+import json
+import shutil
+
+import numpy as np
+import pandas as pd
+import pytest
+from conftest import PROJECT, rows
+from hypothesis import HealthCheck, given, settings
+from hypothesis import strategies as st
+
+from pitplan import PlanError, absent, commands, fixed, load, money, prepare, schedule, solve
+from pitplan.cli import main
+from pitplan.progress import silent
+from pitplan.verify import verify
+
+TEXT = PROJECT.replace("mining_cost = 2\n", "mining_cost = { R = 2, S = 2.5 }\nmining_cost_per_level = 0.25\ndecimals = 2\n").replace(
+    "[slopes]\n",
+    '[[metals]]\nname = "gold"\ncolumn = "au"\nunit = "gram_per_tonne"\nprice = 60\nselling_cost = 1.5\nrecovery = { R = 0.9, S = 0.4 }\n[slopes]\n',
+).replace("ore_per_year = 100", "ore_per_year = 150\nrock_per_year = 1000") + '\n[fixed]\nforced = "must"\nbarred = "never"\n'
+
+
+def deposit():
+    """Ore below a hill, with blocks that must be dug and blocks that may not be."""
+    table = rows(
+        11,
+        9,
+        5,
+        tonnes=lambda i, j, k: 99.7 + 0.01 * i,
+        cu=lambda i, j, k: {(5, 4, 1): 6, (6, 4, 1): 0.9, (4, 6, 2): 0.41, (5, 4, 2): 0.2}.get((i, j, k), 0),
+        au=lambda i, j, k: 0.7 if (j, k) == (4, 1) else 0,
+        rock=lambda i, j, k: "RS"[(i + j) % 2],
+        must=lambda i, j, k: int((i, j, k) == (2, 1, 4)),
+        never=lambda i, j, k: int(i == 10),
+    )
+    return table[(table["z"] < 40) | (table["x"] < 70)]
+
+
+@pytest.fixture(scope="module")
+def answered(tmp_path_factory):
+    place = tmp_path_factory.mktemp("verified")
+    deposit().to_csv(place / "blocks.csv", index=False)
+    (place / "project.toml").write_text(TEXT)
+    project = load(place / "project.toml")
+    _, record = commands.shells(project, project.folder, silent)
+    return place, record
+
+
+@pytest.fixture
+def copied(answered, tmp_path):
+    """The folder of the answer in a place of the test's own."""
+    return shutil.copytree(answered[0], tmp_path / "mine") / "plan"
+
+
+def wrong(folder):
+    return {rule.name for rule in verify(folder) if rule.differences}
+
+
+def test_what_is_right_is_told_rule_by_rule(answered, copied, capsys):
+    assert wrong(copied) == set()
+    assert main(["verify", str(copied)]) == 0
+    assert [line.split(":")[0] for line in capsys.readouterr().out.splitlines()] == [
+        "blocks",
+        "walls",
+        "levels",
+        "fixed",
+        "money",
+        "shells",
+        "worth",
+        "years",
+    ]
+    assert len(answered[1]["verified"]) == 8
+    assert "no block of any shell leaves one standing" in (copied / "report.html").read_text()
+
+
+def test_a_run_may_leave_it_out_and_says_so(plan_folder):
+    path = plan_folder(deposit(), TEXT)
+    assert main(["shells", str(path), "--quiet", "--no-verify"]) == 0
+    assert json.loads((path.parent / "plan" / "prepare.json").read_text())["verified"] == []
+    assert "this run left it out" in (path.parent / "plan" / "report.html").read_text()
+    assert main(["verify", str(path.parent / "plan")]) == 0
+
+
+SHELLS = "blocks tonnes ore_tonnes waste_tonnes strip_ratio processed_tonnes grade_copper metal_copper grade_gold metal_gold worth"
+
+
+@pytest.mark.parametrize(
+    ("file", "column", "rule"),
+    [
+        *(("shells.csv", name, "shells") for name in SHELLS.split()),
+        *(("shells.csv", name, "years") for name in ("npv_best", "npv_worst", "years")),
+        ("shells.csv", "worth_at_factor", "worth"),
+        *(("years.csv", name, "years") for name in ("rock_tonnes", "ore_tonnes", "metal_copper", "metal_gold", "cash", "discounted")),
+        *(("blocks.csv", name, "money") for name in ("mining_cost", "revenue", "processing_cost")),
+        ("blocks.csv", "id", "blocks"),
+    ],
+)
+def test_each_number_that_is_bent_is_found(copied, file, column, rule):
+    """A hundredth more in the last row that has the number."""
+    table = pd.read_csv(copied / file, dtype={"worth_at_factor": str})
+    at = table.index[pd.to_numeric(table[column]) > 0][-1]
+    bent = float(table.loc[at, column]) + (1 if column in ("blocks", "id") else 0.02)
+    table.loc[at, column] = f"{bent:.6f}" if column == "worth_at_factor" else bent
+    table.to_csv(copied / file, index=False)
+    assert rule in wrong(copied)
+
+
+@pytest.mark.parametrize(("column", "rule"), [("factor", "shells"), ("process_factor", "worth"), ("factor", "worth"), ("factor", "years")])
+def test_a_block_at_another_factor_is_found(copied, column, rule):
+    table = pd.read_csv(copied / "blocks.csv")
+    at = table.index[table[column] == 500][0]
+    table.loc[at, column] = 1000
+    table.to_csv(copied / "blocks.csv", index=False)
+    assert rule in wrong(copied)
+
+
+def test_a_block_that_is_left_standing_is_found(copied):
+    """A block of the highest level under which others are dug."""
+    table = pd.read_csv(copied / "blocks.csv")
+    dug = table[(table["factor"] > 0) & (table["must"] == 0)]
+    table.loc[dug.index[0], ["factor", "process_factor"]] = 0
+    table.to_csv(copied / "blocks.csv", index=False)
+    assert {"walls", "shells"} <= wrong(copied)
+
+
+def test_a_barred_block_that_is_dug_is_found(copied):
+    table = pd.read_csv(copied / "blocks.csv")
+    table.loc[table.index[table["never"] == 1][0], "factor"] = 500
+    table.to_csv(copied / "blocks.csv", index=False)
+    assert "fixed" in wrong(copied)
+
+
+def test_a_table_that_has_changed_is_found(copied):
+    path = copied.parent / "blocks.csv"
+    table = pd.read_csv(path)
+    at = table.index[table["cu"] > 0][0]
+    table.assign(cu=table["cu"].where(table.index != at, 1.0)).to_csv(path, index=False)
+    assert "money" in wrong(copied)
+    table[table.index != at].to_csv(path, index=False)
+    with pytest.raises(PlanError, match="1 of its blocks are not in the table: has the table changed since?"):
+        verify(copied)
+
+
+def refused(plan_folder, table=None, text=TEXT, *changes):
+    """What a run says that is refused by its second look; nothing of it stays."""
+    path = plan_folder(deposit() if table is None else table, text, *changes)
+    with pytest.raises(PlanError, match="what was written is not right") as said:
+        commands.shells(load(path), path.parent / "plan", silent)
+    assert list((path.parent / "plan").iterdir()) == []
+    return str(said.value)
+
+
+def two_regions():
+    """Ore at the floor, in rock that stands at 35 degrees, under rock that stands at 65."""
+    return rows(15, 15, 6, cu=lambda i, j, k: 30 if (i, j, k) == (7, 7, 0) else 0, region=lambda i, j, k: "12"[int(k > 0)])
+
+
+LEVELS = ("levels = 3", "levels = 5")
+STEEP_ABOVE = '[[slopes.walls]]\nregion = "1"\nangle = 35\n[[slopes.walls]]\nregion = "2"\nangle = 65'
+MIXED = [("[[slopes.walls]]\npattern = \"1:5\"", STEEP_ABOVE)]
+
+
+def test_needs_that_steeper_walls_on_the_way_do_not_lead_to_are_found(plan_folder, monkeypatch):
+    monkeypatch.setattr("pitplan.walls.not_led", lambda steps, code, grid: np.zeros(len(code), dtype=bool))
+    assert "walls: block b7-7-0, dug at 500, needs a block that is not" in refused(plan_folder, two_regions(), PROJECT, LEVELS, *MIXED)
+
+
+def test_too_few_levels_are_found(plan_folder, monkeypatch):
+    monkeypatch.setattr("pitplan.slopes.levels_of", lambda *_: 3)
+    said = refused(plan_folder, two_regions(), PROJECT, ("levels = 3\n", ""), *MIXED)
+    assert "levels: wall entry 1: over 3 levels it comes out" in said and "degrees steeper than asked" in said
+
+
+def test_capacity_that_is_caught_up_is_found(plan_folder, monkeypatch):
+    """Years as the greater of two cumulative sums: mill time that is lost while stripping comes back."""
+
+    def cumulative(amounts, settings_):
+        ore, rock = np.cumsum(amounts[:, schedule.ORE]), np.cumsum(amounts[:, schedule.ROCK])
+        ends = np.maximum(ore / settings_.ore_per_year, rock / settings_.rock_per_year)
+        return schedule.Course(amounts, ends, settings_.rate)
+
+    monkeypatch.setattr(schedule, "course_of", cumulative)
+    assert "years: " in refused(plan_folder)
+
+
+def test_fixed_blocks_that_are_passed_over_are_found(plan_folder, monkeypatch):
+    nothing = np.zeros(0, dtype=np.int64)
+    monkeypatch.setattr(fixed, "of_table", lambda *_: fixed.FixedBlocks(nothing, nothing))
+    assert "fixed: block b2-1-4 must be dug" in refused(plan_folder)
+
+
+def test_ground_that_is_taken_as_air_is_found(plan_folder, monkeypatch):
+    monkeypatch.setattr(absent, "demand_known", lambda *_: None)
+    table = deposit()
+    assert "walls: " in refused(plan_folder, table[table["name"] != "b5-4-3"])
+
+
+def test_a_cost_that_is_counted_from_the_tables_highest_block_is_found(plan_folder, monkeypatch):
+    monkeypatch.setattr(money, "first_level", lambda *_: 0)
+    far = deposit().iloc[[0]].assign(name="far", x=205.0, z=125.0, tonnes=1, must=0, never=0)
+    table = pd.concat([deposit(), far], ignore_index=True)
+    said = refused(plan_folder, table, TEXT, ('file = "blocks.csv"', 'file = "blocks.csv"\nabsent = "air"'))
+    assert "money: " in said and "mining_cost" in said
+
+
+def test_a_shell_of_other_blocks_is_found(plan_folder, monkeypatch):
+    """The needs are left out of the files for the program; what it answers is right for them and wrong for the mine."""
+    monkeypatch.setattr("pitplan.files.slices", lambda *_: iter(()))
+    assert "walls: " in refused(plan_folder, None, TEXT, ('[fixed]\nforced = "must"\nbarred = "never"\n', ""))
+
+
+@settings(max_examples=12, suppress_health_check=[HealthCheck.function_scoped_fixture])
+@given(st.integers(0, 10**6), st.sampled_from(["moving", "fixed"]), st.sampled_from(["continuous", "mid_year", "end_of_year"]))
+def test_random_plans_are_right(plan_folder, seed, cutoff, discounting):
+    """Uneven ground, two regions of other walls, rocks, fixed blocks."""
+    rng = np.random.default_rng(seed)
+    ground = rng.integers(3, 6, (9, 8))
+    table = rows(9, 8, 5, region=lambda i, j, k: "12"[int(i > 4)], rock=lambda i, j, k: "RS"[int(k > 2)])
+    height = ground[(table["x"] // 10).astype(int), (table["y"] // 10).astype(int)]
+    table = table.assign(
+        cu=np.where(rng.random(len(table)) < 0.06, rng.random(len(table)).round(3) * 8, 0.0),
+        au=np.where(rng.random(len(table)) < 0.03, rng.random(len(table)).round(2) * 5, 0.0),
+        must=(rng.random(len(table)) < 0.01).astype(int),
+        never=0,
+    )[table["z"] < 10 * height]
+    walls = '[[slopes.walls]]\nregion = "1"\nangle = 42\n[[slopes.walls]]\nregion = "2"\nazimuths = [[0, 60], [180, 35]]'
+    changes = [
+        ('[[slopes.walls]]\npattern = "1:5"', walls),
+        ("decimals = 2", f'decimals = 2\ncutoff = "{cutoff}"'),
+        ("rate = 0.1", f'rate = 0.1\ndiscounting = "{discounting}"'),
+    ]
+    plan = prepare(plan_folder(table, TEXT, *changes))
+    folder = plan.project.path.parent
+    record = plan.write(folder)
+    commands.write_tables(plan, solve(plan), folder)
+    record["shells"] = {"factors": list(plan.project.schedule.factors)}
+    (folder / "prepare.json").write_text(json.dumps(record))
+    assert [rule.differences for rule in verify(folder, plan.project)] == [()] * 8
