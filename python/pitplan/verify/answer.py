@@ -13,7 +13,7 @@ import pandas as pd
 
 from .. import table as tables
 from ..errors import PlanError
-from ..project import AbsentRock, Project, Wall, load
+from ..project import GRADE_UNITS, AbsentRock, Project, Wall, load
 
 # In place of a factor: a cell that is not dug at any, and one where there is nothing to dig.
 UNDUG, NOTHING = 2**30, 0
@@ -72,6 +72,37 @@ class Answer:
     @cached_property
     def tonnes(self) -> np.ndarray:
         return self.rows[self.project.table.tonnes].to_numpy()
+
+    @cached_property
+    def elevations(self) -> np.ndarray:
+        """Metres of the centres of each level, from the top."""
+        return self.record["grid"]["origin"][2] - np.arange(self.shape[0]) * self.size[2]
+
+    @cached_property
+    def quantities(self) -> dict[str, np.ndarray]:
+        """By metal, what is recovered of each block, if it is processed: tonnes, or grams."""
+        columns, found = self.project.table, {}
+        for metal in self.project.metals:
+            share = metal.recovery
+            if isinstance(share, dict):
+                rock = self.rows[columns.rock].astype(str)
+                recovery = rock.map({code: float(it) for code, it in share.items()}).fillna(0.0).to_numpy()
+            else:
+                recovery = np.full(len(self.rows), float(share))
+            grades = self.rows[metal.column].to_numpy()
+            found[metal.name] = self.tonnes * grades * float(GRADE_UNITS[metal.unit]) * recovery
+        return found
+
+    @cached_property
+    def ore(self) -> np.ndarray:
+        """Whether processing a block pays at the price as given, once it is dug."""
+        return (self.said["revenue"] > self.said["processing_cost"]).to_numpy()
+
+    @cached_property
+    def worths(self) -> np.ndarray:
+        """What each block is worth at the price as given, once it is dug, in money."""
+        gain = (self.said["revenue"] - self.said["processing_cost"]).to_numpy()
+        return np.where(self.ore, gain, 0.0) - self.said["mining_cost"].to_numpy()
 
     @cached_property
     def cells(self) -> tuple[np.ndarray, np.ndarray, np.ndarray]:
@@ -146,7 +177,7 @@ def read(folder: Path, project: Optional[Project] = None) -> Answer:
         raise PlanError(f"{error.filename}: cannot be read: run pitplan shells first") from error
     except (ValueError, KeyError) as error:
         raise PlanError(f"{folder}: is no folder that pitplan shells or pit has written: {error}") from error
-    rows, said = beside(tables.read(project).frame, written, project)
+    rows, said = beside(tables.read(project).frame, written, project, record["grid"])
     return Answer(folder, project, rows, said, shells, years, record, factors)
 
 
@@ -168,17 +199,20 @@ def read_shells(folder: Path, record: dict[str, Any]) -> tuple[pd.DataFrame, tup
     return table[table["fixed_blocks"] == "kept"].set_index("factor"), tuple(record["factors"])
 
 
-def beside(table: pd.DataFrame, written: pd.DataFrame, project: Project) -> tuple[pd.DataFrame, pd.DataFrame]:
+def beside(table: pd.DataFrame, written: pd.DataFrame, project: Project, grid: dict[str, Any]) -> tuple[pd.DataFrame, pd.DataFrame]:
     """The table's rows, with the answer's own behind them, which are of cells without a row; and what the answer says of each.
 
     Raises PlanError where a block of either is not in the other.
     """
     columns = project.table
-    names = [own_name(name) for name in (columns.x, columns.y, columns.z)]
-    place = pd.MultiIndex.from_frame(written[names])
-    at = place.get_indexer(pd.MultiIndex.from_frame(table[[columns.x, columns.y, columns.z]]))
-    if (at < 0).any() or not place.is_unique:
-        raise PlanError(f"blocks.csv: {np.count_nonzero(at < 0):,} blocks of the table are not in it: has the table changed since?")
+    axes = (columns.x, columns.y, columns.z)
+    centres, answered = table[list(axes)].to_numpy(), written[[own_name(name) for name in axes]].to_numpy()
+    row_of = np.full(int(np.prod(grid["shape"])), -1, dtype=np.int64)
+    row_of[nearest_cells(answered, grid)] = np.arange(len(written))
+    at = row_of[nearest_cells(centres, grid)]
+    lost = np.count_nonzero((at < 0) | (answered[at] != centres).any(axis=1))
+    if lost or len(np.unique(at)) < len(at):
+        raise PlanError(f"blocks.csv: {lost:,} blocks of the table are not in it: has the table changed since?")
     more = np.setdiff1d(np.arange(len(written)), at)
     if len(more) and not isinstance(columns.absent, AbsentRock):
         raise PlanError(f"blocks.csv: {len(more):,} of its blocks are not in the table: has the table changed since?")
@@ -186,3 +220,9 @@ def beside(table: pd.DataFrame, written: pd.DataFrame, project: Project) -> tupl
     own = own.loc[:, ~own.columns.duplicated(keep="last")]
     rows = pd.concat([table, own.iloc[more][list(table.columns)]], ignore_index=True) if len(more) else table
     return rows, written[list(SAID)].iloc[np.concatenate([at, more])].reset_index(drop=True)
+
+
+def nearest_cells(centres: np.ndarray, grid: dict[str, Any]) -> np.ndarray:
+    """The numbers of the cells to whose centres rows x, y, z in metres are nearest, from the top down and there from the south-west."""
+    east, north, up = np.rint((centres - grid["origin"]) / grid["size"]).astype(np.int64).T
+    return np.ravel_multi_index((-up, north, east), grid["shape"], mode="clip")

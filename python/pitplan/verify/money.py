@@ -3,6 +3,7 @@
 from __future__ import annotations
 
 import math
+from dataclasses import dataclass
 from decimal import ROUND_HALF_EVEN, Decimal
 from typing import Union
 
@@ -20,11 +21,11 @@ Price = Union[Decimal, dict[str, Decimal]]
 def verify(answer: Answer) -> Rule:
     """Each amount of blocks.csv is the product of the table's and the project's numbers, rounded once."""
     chosen = sample(answer)
-    differences = near(answer)
-    for row in chosen:
-        amounts = exact(answer, int(row))
-        for name, amount in zip(NAMES, amounts):
-            said = answer.said[name].iloc[row]
+    differences, read = near(answer), Exactly.of(answer)
+    told = [answer.said[name].to_numpy() for name in NAMES]
+    for row in chosen.tolist():
+        for name, column, amount in zip(NAMES, told, read.amounts(row)):
+            said = column[row]
             if not math.isclose(float(amount), said, rel_tol=1e-15) and len(differences) < 10:
                 differences.append(f"{answer.called(row)}: {name} {said:.10g} for {amount}")
     return rule("money", f"costs and revenue of all blocks are right, and exactly so for {len(chosen):,}", differences)
@@ -48,13 +49,10 @@ def sample(answer: Answer) -> np.ndarray:
 def highest_needed(answer: Answer) -> float:
     """Metres of the top of the highest block with a row that ore needs; without ore, of the highest there is."""
     if "highest" not in answer.found:
-        ore = np.zeros(answer.shape, dtype=bool)
-        ore[answer.cells] = answer.said["revenue"].to_numpy() > answer.said["processing_cost"].to_numpy()
-        known = np.zeros(answer.shape, dtype=bool)
-        known[answer.cells] = True
+        ore, known = np.zeros(answer.shape, dtype=bool), np.zeros(answer.shape, dtype=bool)
+        ore[answer.cells], known[answer.cells] = answer.ore, True
         levels = np.flatnonzero((needed_by(answer, ore) & known).any(axis=(1, 2)))
-        first = levels[0] if len(levels) else 0
-        answer.found["highest"] = answer.record["grid"]["origin"][2] + (0.5 - first) * answer.size[2]
+        answer.found["highest"] = answer.elevations[levels[0] if len(levels) else 0] + answer.size[2] / 2
     return answer.found["highest"]
 
 
@@ -78,23 +76,52 @@ def more_for_depth(answer: Answer, elevation: float) -> Decimal:
     return money.mining_cost_per_level * max(0, math.ceil((at - top) / height - 1e-9))
 
 
-def exact(answer: Answer, row: int) -> tuple[Decimal, Decimal, Decimal]:
-    """Mining cost, revenue and processing cost of a block."""
-    project, columns = answer.project, answer.project.table
-    at = answer.rows.iloc[row]
-    rock = str(at[columns.rock]) if columns.rock else ""
-    tonnes = Decimal(repr(float(at[columns.tonnes])))
-    elevation = answer.record["grid"]["origin"][2] - int(answer.cells[0][row]) * answer.size[2]
-    mining = tonnes * (of_rock(project.money.mining_cost, rock) + more_for_depth(answer, elevation))
-    revenue = selling = Decimal(0)
-    for metal in project.metals:
-        quantity = tonnes * Decimal(repr(float(at[metal.column]))) * GRADE_UNITS[metal.unit] * of_rock(metal.recovery, rock)
-        revenue += quantity * metal.price
-        selling += quantity * metal.selling_cost
-    unit = Decimal(1).scaleb(-project.money.decimals)
-    processing = tonnes * of_rock(project.money.processing_cost, rock) + selling
-    mining, revenue, processing = (amount.quantize(unit, ROUND_HALF_EVEN) for amount in (mining, revenue, processing))
-    return mining, revenue, processing if revenue else Decimal(0)
+@dataclass(frozen=True)
+class Exactly:
+    """The table's numbers as they are needed to weigh a block by decimals.
+
+    rocks   by code: mining cost of a tonne without what depth adds, processing cost of a tonne, and recovery of each metal
+    depths  what mining a tonne costs more, by level from the top
+    """
+
+    answer: Answer
+    tonnes: list[float]
+    grades: list[list[float]]
+    rock: list[str]
+    rocks: dict[str, tuple[Decimal, Decimal, list[Decimal]]]
+    level: list[int]
+    depths: list[Decimal]
+
+    @staticmethod
+    def of(answer: Answer) -> "Exactly":
+        project, columns = answer.project, answer.project.table
+        rock = answer.rows[columns.rock].astype(str).tolist() if columns.rock else [""] * len(answer.rows)
+        prices = {
+            code: (
+                of_rock(project.money.mining_cost, code),
+                of_rock(project.money.processing_cost, code),
+                [of_rock(metal.recovery, code) for metal in project.metals],
+            )
+            for code in set(rock)
+        }
+        grades = [answer.rows[metal.column].tolist() for metal in project.metals]
+        depths = [more_for_depth(answer, z) for z in answer.elevations]
+        return Exactly(answer, answer.tonnes.tolist(), grades, rock, prices, answer.cells[0].tolist(), depths)
+
+    def amounts(self, row: int) -> tuple[Decimal, Decimal, Decimal]:
+        """Mining cost, revenue and processing cost of a block."""
+        project, tonnes = self.answer.project, Decimal(repr(self.tonnes[row]))
+        mining_cost, processing_cost, recoveries = self.rocks[self.rock[row]]
+        mining = tonnes * (mining_cost + self.depths[self.level[row]])
+        revenue = selling = Decimal(0)
+        for metal, grades, recovery in zip(project.metals, self.grades, recoveries):
+            quantity = tonnes * Decimal(repr(grades[row])) * GRADE_UNITS[metal.unit] * recovery
+            revenue += quantity * metal.price
+            selling += quantity * metal.selling_cost
+        unit = Decimal(1).scaleb(-project.money.decimals)
+        amounts = (mining, revenue, tonnes * processing_cost + selling)
+        mining, revenue, processing = (amount.quantize(unit, ROUND_HALF_EVEN) for amount in amounts)
+        return mining, revenue, processing if revenue else Decimal(0)
 
 
 def near(answer: Answer) -> list[str]:
@@ -108,11 +135,11 @@ def near(answer: Answer) -> list[str]:
         assert rock is not None
         return rock.map({name: float(value) for name, value in price.items()}).fillna(0.0).to_numpy()
 
-    heights = [float(more_for_depth(answer, z)) for z in answer.record["grid"]["origin"][2] - np.arange(answer.shape[0]) * answer.size[2]]
-    mining = answer.tonnes * (by_rock(project.money.mining_cost) + np.array(heights)[answer.cells[0]])
+    deeper = np.array([float(more_for_depth(answer, z)) for z in answer.elevations])
+    mining = answer.tonnes * (by_rock(project.money.mining_cost) + deeper[answer.cells[0]])
     revenue, selling = np.zeros(len(answer.rows)), np.zeros(len(answer.rows))
     for metal in project.metals:
-        quantity = quantity_of(answer, metal.name)
+        quantity = answer.quantities[metal.name]
         revenue += quantity * float(metal.price)
         selling += quantity * float(metal.selling_cost)
     processing = answer.tonnes * by_rock(project.money.processing_cost) + selling
@@ -124,15 +151,3 @@ def near(answer: Answer) -> list[str]:
         off = np.flatnonzero(np.abs(said - amounts) > 0.51 * unit + 1e-12 * np.abs(amounts))
         differences += [f"{answer.called(row)}: {name} {said[row]:.10g} for {amounts[row]:.10g}" for row in off[:10]]
     return differences
-
-
-def quantity_of(answer: Answer, name: str) -> np.ndarray:
-    """What is recovered of a metal from each block, if it is processed: tonnes, or grams."""
-    metal = next(it for it in answer.project.metals if it.name == name)
-    columns = answer.project.table
-    share = metal.recovery
-    if isinstance(share, dict):
-        recovery = answer.rows[columns.rock].astype(str).map({rock: float(it) for rock, it in share.items()}).fillna(0.0).to_numpy()
-    else:
-        recovery = np.full(len(answer.rows), float(share))
-    return answer.tonnes * answer.rows[metal.column].to_numpy() * float(GRADE_UNITS[metal.unit]) * recovery

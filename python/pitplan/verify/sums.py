@@ -7,7 +7,6 @@ from decimal import Decimal
 import numpy as np
 
 from .answer import Answer, Rule, rule
-from .money import quantity_of
 
 MILLION = 10**6
 
@@ -28,17 +27,6 @@ def smallest(name: str) -> float:
     return 1e-6 if name.startswith("grade_") or name in ("strip_ratio", "years") else 1e-3
 
 
-def is_ore(answer: Answer) -> np.ndarray:
-    """Whether processing a block pays at the price as given, once it is dug."""
-    return (answer.said["revenue"] > answer.said["processing_cost"]).to_numpy()
-
-
-def worths(answer: Answer) -> np.ndarray:
-    """What each block is worth at the price as given, once it is dug, in money."""
-    said = answer.said
-    return np.where(is_ore(answer), said["revenue"] - said["processing_cost"], 0.0) - said["mining_cost"].to_numpy()
-
-
 def within(answer: Answer, factor: int) -> np.ndarray:
     """Whether a factor's pit holds each block."""
     first = answer.said["factor"].to_numpy()
@@ -47,22 +35,22 @@ def within(answer: Answer, factor: int) -> np.ndarray:
 
 def sums(answer: Answer, factor: int) -> dict[str, float]:
     inside = within(answer, factor)
-    ore, tonnes = inside & is_ore(answer), answer.tonnes
+    ore, tonnes = inside & answer.ore, answer.tonnes
     processed = answer.said["process_factor"].to_numpy()
     of_ore, of_all = tonnes[ore].sum(), tonnes[inside].sum()
     found = {
         "blocks": np.count_nonzero(inside & (tonnes > 0)),
         "tonnes": of_all,
         "ore_tonnes": of_ore,
-        "waste_tonnes": tonnes[inside & ~is_ore(answer)].sum(),
+        "waste_tonnes": tonnes[inside & ~answer.ore].sum(),
         "strip_ratio": (of_all - of_ore) / of_ore if of_ore else np.nan,
         "processed_tonnes": tonnes[(processed > 0) & (processed <= factor)].sum(),
-        "worth": worths(answer)[inside].sum(),
+        "worth": answer.worths[inside].sum(),
     }
     for metal in answer.project.metals:
         grades = answer.rows[metal.column].to_numpy()
         found[f"grade_{metal.name}"] = np.average(grades[ore], weights=tonnes[ore]) if of_ore else np.nan
-        found[f"metal_{metal.name}"] = quantity_of(answer, metal.name)[ore].sum()
+        found[f"metal_{metal.name}"] = answer.quantities[metal.name][ore].sum()
     return {name: float(amount) for name, amount in found.items()}
 
 

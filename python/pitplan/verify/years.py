@@ -8,8 +8,7 @@ import numpy as np
 import pandas as pd
 
 from .answer import Answer, Rule, rule
-from .money import quantity_of
-from .sums import is_ore, within, worths
+from .sums import within
 
 CENT = 0.01
 
@@ -63,9 +62,8 @@ def verify_npv(answer: Answer) -> Rule:
 
 
 def flows_of(answer: Answer) -> pd.DataFrame:
-    ore = is_ore(answer)
     rock = answer.tonnes
-    frame = pd.DataFrame({"rock": rock, "ore": np.where(ore, rock, 0.0), "cash": worths(answer)})
+    frame = pd.DataFrame({"rock": rock, "ore": np.where(answer.ore, rock, 0.0), "cash": answer.worths})
     return frame.assign(factor=answer.said["factor"].to_numpy(), level=answer.cells[0])
 
 
