@@ -1,4 +1,6 @@
-"""The pictures of a plan, by matplotlib: the pit-by-pit plot, plans of levels, and sections."""
+"""The pictures of a plan, by matplotlib: the pit-by-pit plot, plans of levels, and sections.
+
+Figures are made without pyplot, so that a notebook keeps its backend and shows none that it did not ask for."""
 
 from __future__ import annotations
 
@@ -7,22 +9,18 @@ from pathlib import Path
 from typing import Any
 
 import matplotlib
+import numpy as np
+import pandas as pd
+from matplotlib.axes import Axes
+from matplotlib.collections import LineCollection
+from matplotlib.colors import BoundaryNorm, ListedColormap
+from matplotlib.figure import Figure
+from matplotlib.image import AxesImage
+from matplotlib.ticker import MaxNLocator
 
-matplotlib.use("Agg")
-
-import matplotlib.pyplot as plt  # noqa: E402  (the backend is set first, since there may be no display)
-import numpy as np  # noqa: E402
-import pandas as pd  # noqa: E402
-from matplotlib.axes import Axes  # noqa: E402
-from matplotlib.collections import LineCollection  # noqa: E402
-from matplotlib.colors import BoundaryNorm, ListedColormap  # noqa: E402
-from matplotlib.figure import Figure  # noqa: E402
-from matplotlib.image import AxesImage  # noqa: E402
-from matplotlib.ticker import MaxNLocator  # noqa: E402
-
-from .grid import Grid, metres  # noqa: E402
-from .outlines import edges  # noqa: E402
-from .project import Metal  # noqa: E402
+from .grid import Grid, metres
+from .outlines import edges
+from .project import Metal
 
 ORE, WASTE, GROUND = "#3b6ea5", "#cfc9bd", "#ece8df"
 BEST, WORST, PLAIN, CHOSEN = "#1b7f4b", "#c0392b", "#444444", "#ffe9a6"
@@ -93,7 +91,7 @@ class Scene:
     def shades(self) -> tuple[ListedColormap, BoundaryNorm, list[int]]:
         """A colour for each factor at which cells come in, from the first shells to the last."""
         used = [int(factor) for factor in np.unique(self.factor[self.solid]) if factor > 0] or [self.chosen]
-        colours = ListedColormap(plt.get_cmap("viridis_r")(np.linspace(0.02, 1, len(used))))
+        colours = ListedColormap(matplotlib.colormaps["viridis_r"](np.linspace(0.02, 1, len(used))))
         middles = [(a + b) / 2 for a, b in zip(used, used[1:])]
         return colours, BoundaryNorm([used[0] - 1, *middles, used[-1] + 1], len(used)), used
 
@@ -108,8 +106,9 @@ def scaled(most: float) -> tuple[float, str]:
 
 def pit_by_pit(table: pd.DataFrame, currency: str, chosen: int, path: Path) -> None:
     """Tonnes of ore and waste, and worth and NPV at the price as given, of each shell."""
-    with plt.rc_context(STYLE):
-        figure, left = plt.subplots(figsize=(9.5, 4.8))
+    with matplotlib.rc_context(STYLE):
+        figure = Figure(figsize=(9.5, 4.8))
+        left = figure.subplots()
         right = left.twinx()
         draw_tonnes(left, table, chosen)
         draw_worth(right, table, currency)
@@ -155,7 +154,7 @@ def draw_worth(axis: Axes, table: pd.DataFrame, currency: str) -> None:
 
 def plans(scene: Scene, path: Path) -> None:
     """The depth of the chosen pit, and the shells on three of its levels."""
-    with plt.rc_context(STYLE):
+    with matplotlib.rc_context(STYLE):
         west, east, south, north, _, top = scene.grid.extent()
         figure, axes = panels(east - west, north - south)
         draw_floor(figure, axes[0], scene)
@@ -170,7 +169,7 @@ def plans(scene: Scene, path: Path) -> None:
 
 def sections(scene: Scene, path: Path) -> None:
     """A section from west to east and one from south to north through the chosen pit: shells, and grades."""
-    with plt.rc_context(STYLE):
+    with matplotlib.rc_context(STYLE):
         west, east, _, _, bottom, top = scene.grid.extent()
         row, column = busiest(scene.dug, 1), busiest(scene.dug, 2)
         x, y, _ = scene.grid.centres(np.array(row * scene.grid.shape[2] + column))
@@ -198,8 +197,8 @@ def name_axes(axis: Axes, across: str, up: str) -> None:
 def panels(wide: float, high: float) -> tuple[Figure, list[Axes]]:
     """A figure of two by two maps in the ground's proportions, and its axes."""
     share = min(max(high / wide, 0.3), 1.3)
-    figure, axes = plt.subplots(2, 2, figsize=(12, 9.4 * share + 1.5), constrained_layout=True)
-    return figure, list(axes.flat)
+    figure = Figure(figsize=(12, 9.4 * share + 1.5), constrained_layout=True)
+    return figure, list(figure.subplots(2, 2).flat)
 
 
 def draw_floor(figure: Figure, axis: Axes, scene: Scene) -> None:
@@ -273,4 +272,3 @@ def busiest(dug: np.ndarray, axis: int) -> int:
 def finish(figure: Figure, path: Path) -> None:
     # Without the library's version in it, the same plan gives the same bytes.
     figure.savefig(path, metadata={"Software": None})
-    plt.close(figure)

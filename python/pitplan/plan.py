@@ -26,7 +26,7 @@ MILLION = 1_000_000
 OWN_COLUMNS = ("id", "mining_cost", "revenue", "processing_cost", "factor", "process_factor")
 
 
-@dataclass
+@dataclass(repr=False)
 class Plan:
     """What is prepared of a project.
 
@@ -53,6 +53,18 @@ class Plan:
     notes: list[str] = field(default_factory=list)
     fixed: FixedBlocks = NOTHING
     settled: Optional[Settled] = None
+
+    def __repr__(self) -> str:
+        """A few lines, since the blocks themselves are thousands."""
+        levels, rows, columns = self.grid.shape
+        x, y, z = (f"{side:.10g}" for side in self.grid.size)
+        metals = ", ".join(metal.name for metal in self.project.metals)
+        return (
+            f"Plan of {self.project.title}\n"
+            f"  {len(self.table):,} blocks of {x} x {y} x {z} m on a grid of {columns} x {rows} x {levels}, from {self.source}\n"
+            f"  {len(self.values.ore):,} with {metals}, {len(self.project.schedule.factors)} factors, "
+            f"{len(self.notes)} notes (plan.notes)"
+        )
 
     def called(self, cell: int) -> str:
         """What the planner calls the block of a cell."""

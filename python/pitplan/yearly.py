@@ -5,12 +5,13 @@ from __future__ import annotations
 from dataclasses import dataclass
 from pathlib import Path
 
+import matplotlib
 import pandas as pd
 from matplotlib.axes import Axes
 from matplotlib.figure import Figure
 from matplotlib.ticker import MaxNLocator
 
-from .pictures import ORE, PLAIN, STYLE, WASTE, finish, plt, scaled
+from .pictures import ORE, PLAIN, STYLE, WASTE, finish, scaled
 from .project import Project, Schedule
 
 CASES = {"best": "Best case", "worst": "Worst case"}
@@ -55,8 +56,9 @@ def scale_of(years: pd.DataFrame, settings: Schedule) -> Scale:
 def picture(table: pd.DataFrame, project: Project, chosen: int, path: Path) -> None:
     """Writes years.png from `years.csv`'s table; a pit without rock has an empty picture that says so."""
     years = table[table["factor"] == chosen]
-    with plt.rc_context(STYLE):
-        figure, axes = plt.subplots(1, 2, figsize=(12, 4.6), sharex=True)
+    with matplotlib.rc_context(STYLE):
+        figure = Figure(figsize=(12, 4.6))
+        axes = figure.subplots(1, 2, sharex=True)
         if years.empty:
             for axis in axes:
                 axis.set_axis_off()

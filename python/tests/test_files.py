@@ -310,6 +310,28 @@ def test_the_script_runs_by_itself(plan_folder):
     assert ran.stdout.strip() == str(path.parent / "plan") and "reading" in ran.stderr
 
 
+def test_a_notebook_keeps_its_backend_and_sees_no_figure(solved):
+    """By an interpreter of its own, in which pyplot is set up first."""
+    text = f"""
+import matplotlib; matplotlib.use("svg")
+import matplotlib.pyplot as plt
+from pitplan import commands, load
+from pitplan.progress import silent
+project = load({str(solved[0].path)!r})
+commands.shells(project, project.folder, silent, verifies=False)
+assert matplotlib.get_backend() == "svg" and plt.get_fignums() == [], (matplotlib.get_backend(), plt.get_fignums())
+"""
+    subprocess.run([sys.executable, "-c", text], check=True, env={**os.environ, "PYTHONPATH": str(ROOT / "python")})
+
+
+def test_a_plan_is_shown_in_a_few_lines(plan_folder):
+    import pitplan
+
+    shown = repr(pitplan.prepare(plan_folder(rows(4, 4, 3, **ORE))))
+    assert len(shown.splitlines()) <= 10 and max(map(len, shown.splitlines())) < 160
+    assert "48 blocks of 10 x 10 x 10 m on a grid of 4 x 4 x 3" in shown
+
+
 def test_image_data_is_xml_with_raw_arrays(solved):
     pytest.importorskip("vtk")
     _, folder = solved

@@ -5,6 +5,7 @@ import pandas as pd
 import pytest
 from conftest import PROJECT, rows
 from matplotlib import pyplot as plt
+from matplotlib.backends.backend_agg import FigureCanvasAgg
 
 import pitplan
 from pitplan import pictures, yearly
@@ -164,9 +165,8 @@ def at_a_zone(origin=(430010.0, 6512012.5, 806.25)):
 def drawn_of(monkeypatch, module, draw):
     """The figure that a picture would write, drawn."""
     figures = []
-    monkeypatch.setattr(module, "finish", lambda figure, path: (figure.canvas.draw(), figures.append(figure)))
+    monkeypatch.setattr(module, "finish", lambda figure, path: (FigureCanvasAgg(figure).draw(), figures.append(figure)))
     draw()
-    plt.close("all")
     return figures[0]
 
 

@@ -6,6 +6,7 @@ from dataclasses import dataclass
 from pathlib import Path
 from typing import Any
 
+import matplotlib
 import numpy as np
 import pandas as pd
 from matplotlib.axes import Axes
@@ -16,10 +17,10 @@ from matplotlib.lines import Line2D
 
 from ..grid import Grid, metres
 from ..outlines import edges
-from ..pictures import GROUND, MAP, STYLE, busiest, finish, name_axes, panels, plt, scaled
+from ..pictures import GROUND, MAP, STYLE, busiest, finish, name_axes, panels, scaled
 
 STEPS = np.linspace(0, 1, 11)
-COLOURS = ListedColormap(plt.get_cmap("viridis_r")(np.linspace(0.02, 1, len(STEPS) - 1)))
+COLOURS = ListedColormap(matplotlib.colormaps["viridis_r"](np.linspace(0.02, 1, len(STEPS) - 1)))
 LINES: dict[float, dict[str, Any]] = {
     0.1: {"colors": "#c0392b", "linestyles": "dotted", "linewidths": 1.6},
     0.5: {"colors": "#c0392b", "linestyles": "solid", "linewidths": 1.6},
@@ -50,7 +51,7 @@ class Likely:
 
 def plans(likely: Likely, path: Path) -> None:
     """Where anything is dug, and three levels."""
-    with plt.rc_context(STYLE):
+    with matplotlib.rc_context(STYLE):
         west, east, south, north, _, top = likely.grid.extent()
         extent, height = (west, east, south, north), likely.grid.size[2]
         figure, axes = panels(east - west, north - south)
@@ -67,12 +68,13 @@ def plans(likely: Likely, path: Path) -> None:
 
 def sections(likely: Likely, path: Path) -> None:
     """A section from west to east and one from south to north through the pit that half of the scenarios hold."""
-    with plt.rc_context(STYLE):
+    with matplotlib.rc_context(STYLE):
         west, east, south, north, bottom, top = likely.grid.extent()
         row, column = busiest(likely.shown >= 0.5, 1), busiest(likely.shown >= 0.5, 2)
         x, y, _ = likely.grid.centres(np.array(row * likely.grid.shape[2] + column))
         share = min(max((top - bottom) / max(east - west, north - south), 0.2), 1.0)
-        figure, axes = plt.subplots(2, 1, figsize=(10, 15 * share + 2), constrained_layout=True)
+        figure = Figure(figsize=(10, 15 * share + 2), constrained_layout=True)
+        axes = figure.subplots(2, 1)
         cuts: tuple[Any, ...] = (
             (slice(None, None, -1), row, slice(None)),
             (slice(None, None, -1), slice(None), column),
@@ -125,8 +127,9 @@ def levels_to_show(likely: Likely) -> list[int]:
 def spread(table: pd.DataFrame, currency: str, path: Path) -> None:
     """Tonnes and worth by factor, at each scenario's own prices: for each set of prices the median of its models, and between
     which most of them lie."""
-    with plt.rc_context(STYLE):
-        figure, axes = plt.subplots(1, 2, figsize=(11, 4.8))
+    with matplotlib.rc_context(STYLE):
+        figure = Figure(figsize=(11, 4.8))
+        axes = figure.subplots(1, 2)
         draw_spread(figure, list(axes), table, currency)
         finish(figure, path)
 
@@ -170,7 +173,7 @@ def looks(count: int) -> list[tuple[Any, str]]:
     """A colour and a mark for each set: far apart for a few, and a scale from light to dark for many."""
     if count <= MOST_BANDS:
         return list(zip(SET_COLOURS, SET_MARKS))[:count]
-    return [(colour, "") for colour in plt.get_cmap("viridis_r")(np.linspace(0.1, 1, count))]
+    return [(colour, "") for colour in matplotlib.colormaps["viridis_r"](np.linspace(0.1, 1, count))]
 
 
 def band(axis: Axes, groups: Any, colour: str, count: int) -> None:
