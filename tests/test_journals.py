@@ -235,3 +235,18 @@ def test_a_small_storm(tmp_path: pathlib.Path) -> None:
         storm.try_run(run)
     assert storm.wrong == []
     assert storm.entries > 0
+
+
+@pytest.mark.parametrize("slopes", ["1:9", "cone"])
+def test_no_ask_of_a_storm_is_stale(tmp_path: pathlib.Path, slopes: str) -> None:
+    """Eight workers and a plan of some ten thousand mergers: each asks for what no other makes stale, whatever the schedule."""
+    made = [sys.executable, TOP / "tools" / "make_mine.py", "--blocks", "40000", "--slopes", slopes, "--seed", "3", "--out", tmp_path / "mine"]
+    subprocess.run(made, check=True)
+    busy = []
+    for _run in range(3):
+        subprocess.run([PROGRAM, *SHARED, "8", "--journal", "some.journal"], cwd=tmp_path, check=True, capture_output=True, timeout=60)
+        entries = [line.split() for line in (tmp_path / "some.journal").read_text().splitlines()[5:]]
+        assert len(entries) > 10_000
+        assert {verdict for _seat, _arc, verdict in entries} == {"1"}
+        busy.append(len({seat for seat, _arc, _verdict in entries}))
+    assert max(busy) > 1

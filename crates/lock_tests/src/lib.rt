@@ -25,4 +25,6 @@ mod outcomes;
 #[cfg(test)]
 mod serve_tests;
 #[cfg(test)]
+mod stale_tests;
+#[cfg(test)]
 mod trial;

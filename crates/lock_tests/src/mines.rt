@@ -28,6 +28,16 @@ pub fn dug_whole(alloc: Global) -> Result<Instance, Fault> {
     spelled(alloc, FOUR_BLOCKS_THAT_PAY.model, FOUR_BLOCKS_THAT_PAY.prec)
 }
 
+/// A block of waste, which costs 1, and eight of ore that need it, each worth 5: each arc is a merger arc until one was merged
+/// over, and none is afterwards.
+pub fn eight_over_one(alloc: Global) -> Result<Instance, Fault> {
+    spelled(
+        alloc,
+        "NAME: t\nTYPE: UPIT\nNBLOCKS: 9\nOBJECTIVE_FUNCTION:\n0 -1\n1 5\n2 5\n3 5\n4 5\n5 5\n6 5\n7 5\n8 5\n",
+        "1 1 0\n2 1 0\n3 1 0\n4 1 0\n5 1 0\n6 1 0\n7 1 0\n8 1 0\n",
+    )
+}
+
 /// So many copies of a mine of two blocks, at most 1,000, numbered two at a time: the second block needs the first, and pays
 /// for it. Each copy is one merger.
 pub fn pairs_of_blocks(alloc: Global, copies: u32) -> Result<Instance, Fail> {

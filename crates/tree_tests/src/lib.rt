@@ -12,3 +12,5 @@ mod mines;
 mod norm_tree_tests;
 #[cfg(test)]
 mod parts_tests;
+#[cfg(test)]
+mod table_tests;
