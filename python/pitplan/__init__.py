@@ -18,6 +18,8 @@ from .plan import Plan, prepare
 from .project import Project, load
 from .run import Solution, solve
 
+__version__ = "0.1.0"
+
 __all__ = [
     "BudgetUsedUp",
     "MissingPackage",

@@ -12,7 +12,7 @@ from typing import Any, Optional, Sequence
 import minelib
 from minelib.__main__ import add_arguments as add_minelib
 
-from . import commands, report, scenarios
+from . import __version__, commands, report, scenarios
 from .errors import PlanError
 from .progress import Progress, on_standard_error, silent
 from .project import REFERENCE_FACTOR, Project, load
@@ -24,6 +24,7 @@ INTERRUPTED = 130
 
 def parser() -> argparse.ArgumentParser:
     top = argparse.ArgumentParser(prog="pitplan", description="From a table of blocks and wall angles to nested pits.")
+    top.add_argument("--version", action="version", version=f"pitplan {__version__}")
     subs = top.add_subparsers(dest="command", required=True)
     words = {
         "prepare": "write the program's files and prepare.json, which says what was rounded, dropped and clipped",

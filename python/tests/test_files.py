@@ -324,6 +324,13 @@ assert matplotlib.get_backend() == "svg" and plt.get_fignums() == [], (matplotli
     subprocess.run([sys.executable, "-c", text], check=True, env={**os.environ, "PYTHONPATH": str(ROOT / "python")})
 
 
+def test_the_version_is_the_release(capsys):
+    with pytest.raises(SystemExit) as ended:
+        main(["--version"])
+    (version,) = capsys.readouterr().out.split()[1:]
+    assert ended.value.code == 0 and f"\n## {version}" in (ROOT / "CHANGELOG.md").read_text()
+
+
 def test_a_plan_is_shown_in_a_few_lines(plan_folder):
     import pitplan
 
