@@ -7,8 +7,8 @@
 # tests need; all adds Chromium, in which the page is opened by the tests where it is there. bench is the other people's
 # maximum flows beside which the program is timed.
 set -eu
-core="python3-numpy python3-pandas python3-matplotlib python3-jinja2"
-more="python3-vtk9 python3-ezdxf libjs-three python3-dask python3-distributed python3-pytest python3-hypothesis python3-scipy python3-setuptools python3-wheel"
+core="python3-numpy python3-pandas python3-matplotlib python3-scipy python3-jinja2"
+more="python3-vtk9 python3-ezdxf libjs-three python3-dask python3-distributed python3-pytest python3-hypothesis python3-setuptools python3-wheel"
 case "${1:-tests}" in
 core) wanted=$core ;;
 tests) wanted="$core $more" ;;
