@@ -16,7 +16,7 @@ try:
 	@head -n 8 build/unproved.txt
 	@cmp build/unproved.txt $(SMALL_MINE)/pit.txt && echo "the same as $(SMALL_MINE)/pit.txt, unproved; make proves and builds"
 
-# Proves the program and all below it, with a line for each crate, and links it; where nothing changed since, it takes a minute.
+# Proves the program and all below it, side by side, with a line for each crate, and links it; where nothing changed since, that is all.
 build:
 	tools/build.py
 
@@ -45,13 +45,12 @@ install:
 	install -D -m 644 completions/_pitshell $(DESTDIR)$(PREFIX)/share/zsh/site-functions/_pitshell
 	install -D -m 644 completions/pitshell.fish $(DESTDIR)$(PREFIX)/share/fish/vendor_completions.d/pitshell.fish
 
-# The gate, and then the tests over the program that the gate has just proved and built: the program's own, and the planner's layer.
+# The gate: every proof, with the mutants that are due planted, and then the tests over the program that was just proved and built: the
+# program's own, and the planner's layer.
 test: setup
 	tools/uncited.py
 	tools/named.py
-	tools/mutants.py --read
-	rt ci
-	tools/build.py --copy || $(MAKE) build
+	tools/mutants.py --changed
 	$(MAKE) test-program test-plan
 
 # The tests of the built program and of the tools beside it alone.
@@ -64,11 +63,11 @@ test-plan: setup
 	test -x build/pitshell || $(MAKE) build
 	/usr/bin/python3 -m pytest python/tests -q -p no:cacheprovider
 
-# Tries all mutants, also those that the gate leaves, for an hour or two. tools/mutants.py CRATE tries those of a crate.
+# Tries all mutants, for an hour or two, and renews their table. tools/mutants.py CRATE tries those of a crate.
 mutants:
 	tools/mutants.py
 
-# The library through its Python package and its header. `rt ci` proves it and leaves no archive of it, so where none was built before
+# The library through its Python package and its header. The gate proves it and leaves no archive of it, so where none was built before
 # all below it is proved once more, for half an hour or more: that is why the gate does without.
 test-library: setup
 	test -x build/libpitshell.so || $(MAKE) library

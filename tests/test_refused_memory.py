@@ -2,7 +2,7 @@
 of chunks with every request refused once they are prepared.
 
 What was refused to `apply` or `serve` left all as it was, and a second call goes on. In a solve the worker's ask is taken back, and
-the driver goes on. The program is `crates/refused_memory`, which says what it saw; the gate builds it, and where it is older than the
+the driver goes on. The program is `crates/refused_memory`, which says what it saw; the gate builds it, and where it is not that of the
 sources, it is proved and built.
 """
 
@@ -12,21 +12,22 @@ import os
 import pathlib
 import re
 import subprocess
+import sys
 
 import pytest
 
-CRATES = pathlib.Path(__file__).resolve().parent.parent / "crates"
-PROGRAM = CRATES / "refused_memory" / "out" / "refused_memory"
+from conftest import TOP
+
+sys.path.insert(0, str(TOP / "tools"))
+
+import build  # noqa: E402
+
+PROGRAM = TOP / "build" / "refused_memory"
 PREPARED = "prepared: all held\n"
 HELD = re.compile(PREPARED + r"apply: (\d) refused, all held\nserve: (\d) refused, all held\n")
 BY_THE_WORKER = "solve: 1 0 Applied\nsolve: 1 1 Applied\n"
 # The worker's first ask was refused memory and taken back, and the driver decided its own first arc, which is the same.
 FIRST_BY_THE_DRIVER = "solve: 0 0 Applied\nsolve: 1 1 Applied\n"
-
-
-def is_built() -> bool:
-    newest = max(file.stat().st_mtime for file in CRATES.glob("*/src/*.rt"))
-    return PROGRAM.exists() and PROGRAM.stat().st_mtime > newest
 
 
 def run(shim: pathlib.Path, folder: pathlib.Path, number: int, refused: str = "FAIL_ALLOC") -> tuple[int, str, int]:
@@ -39,8 +40,8 @@ def run(shim: pathlib.Path, folder: pathlib.Path, number: int, refused: str = "F
 
 @pytest.fixture(scope="module", autouse=True)
 def program() -> None:
-    if not is_built():
-        subprocess.run(["rt", "run"], cwd=CRATES / "refused_memory", check=True, capture_output=True)
+    if not build.is_built("refused_memory"):
+        subprocess.run([TOP / "tools" / "build.py", "refused_memory"], check=True)
 
 
 @pytest.fixture(scope="module")

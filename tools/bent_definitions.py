@@ -7,7 +7,7 @@ A definition that could be changed in one quantifier, sign or number while all s
 reader's eye. tools/bent_definitions.txt has a change of each; it is made in a copy of crates/pit_model, which is proved there
 alone, so that what refuses it is a law or an example beside the definitions; some few are refused by the first crate above that
 cites them, which then is proved too. What stays proved is named, and the status is 1. The gate tries a few more of the kind
-(crates/pit_model/must-fail).
+(crates/pit_model/mutants).
 """
 
 import argparse

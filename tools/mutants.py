@@ -1,42 +1,60 @@
 #!/usr/bin/env python3
-"""Tries all mutants: wrong bodies and definitions that the prover must refuse.
+"""Plants mutants, wrong bodies and definitions, in a copy of the repository, where the gate's proofs must refuse each of them.
 
-    tools/mutants.py [CRATE..]    of these crates, or of all: for a release, and for whoever touches a crate; some half a minute each
-    tools/mutants.py --read       tries none, and looks whether each can be planted: for the gate
+    tools/mutants.py --changed     for the gate: those of each crate that is not as it was when the table was written, and those of one
+                                   crate more, another each day; the programs that the proofs leave are copied to build/
+    tools/mutants.py [CRATE..]     those of these crates, or all, for an hour or two; the table is renewed
+    tools/mutants.py --read        none: looks whether each can be planted and stands in the table
 
-The gate tries those in crates/*/must-fail/, a few for each promise; here those in crates/*/mutants/ are tried beside them, in a copy
-of the repository. The status is 1 where one is not refused, or can't be planted.
+bench/results/mutants.md says of each mutant by what it was refused, and of each crate in which state: the SHA-256 over its sources,
+definitions, proofs and mutants, and over the definitions of the crates below it. The status is 1 where a mutant can't be planted, has
+no row or is not refused, and that of the proofs where these fail.
 """
-
 import argparse
+import datetime
+import hashlib
 import pathlib
 import re
-import shutil
-import subprocess
 import sys
-import tempfile
+from typing import NamedTuple
 
-from crates import TOP, crates
+import build
+import clone
+from crates import TOP, crates, in_order
 
-TOLD = re.compile(r"^rt: must-fail (\w+)/([\w.-]+)\.edit: (.*)$", re.MULTILINE)
+TABLE = TOP / "bench" / "results" / "mutants.md"
+TOLD = re.compile(r"^rt: must-fail (\w+)/([\w.-]+)\.edit: (.*)$")
+REFUSED = "refused, as it must be"
+HEAD = """# Mutants
+
+What the prover said of each wrong body or definition in `crates/*/mutants/`, and the state of each crate in which it said so: the
+SHA-256 over the crate's sources, definitions, proofs and mutants, and over the definitions of the crates below it. `tools/mutants.py`
+writes this; the gate tries the mutants of each crate that is in another state, and of one crate more, another each day.
+"""
 
 
-def edits(crate: str) -> list[pathlib.Path]:
-    folder = TOP / "crates" / crate
-    return [edit for part in ("must-fail", "mutants") for edit in sorted((folder / part).glob("*.edit"))]
+class Table(NamedTuple):
+    """What stands in the table: each crate's state, and what was told of each mutant by crate and name."""
+
+    states: dict[str, str]
+    told: dict[tuple[str, str], str]
 
 
-def misplanted(edit: pathlib.Path) -> str:
+def mutants_of(crate: str) -> list[pathlib.Path]:
+    return sorted((TOP / "crates" / crate / "mutants").glob("*.edit"))
+
+
+def misplanted(mutant: pathlib.Path) -> str:
     """Why the mutant can't be planted: a line that it takes the place of does not stand once in its file. Empty where all do."""
     texts: dict[pathlib.Path, str] = {}
-    file, old = edit, ""
-    for line in edit.read_text().splitlines():
+    file, old = mutant, ""
+    for line in mutant.read_text().splitlines():
         if line.startswith("file: "):
-            file = edit.parent.parent / line.removeprefix("file: ").strip()
+            file = mutant.parent.parent / line.removeprefix("file: ").strip()
         elif line.startswith("old: "):
             old = line.removeprefix("old: ")
         elif line.startswith("new:"):
-            if not file.is_file() or file == edit:
+            if not file.is_file() or file == mutant:
                 return "it names no file of its crate"
             text = texts.setdefault(file, file.read_text())
             if text.count(old) != 1:
@@ -45,46 +63,100 @@ def misplanted(edit: pathlib.Path) -> str:
     return "" if texts else "it changes nothing"
 
 
-def scratch(folder: pathlib.Path) -> None:
-    """A copy of the repository without what proofs left, all mutants in must-fail/."""
-    shutil.copytree(TOP / "crates", folder / "crates", ignore=shutil.ignore_patterns("out"))
-    for name in ("crates.txt", "HANDLES"):
-        shutil.copy(TOP / name, folder)
-    for mutants in (folder / "crates").glob("*/mutants"):
-        (mutants.parent / "must-fail").mkdir(exist_ok=True)
-        for edit in mutants.glob("*.edit"):
-            edit.rename(mutants.parent / "must-fail" / edit.name)
+def state_of(crate: str) -> str:
+    """The SHA-256 over all that decides what becomes of a crate's mutants."""
+    parts = [(crate, part) for part in ("src", "specs", "proofs", "mutants")]
+    parts += [(below, "specs") for below in sorted(in_order(crate)) if below != crate]
+    digest = hashlib.sha256()
+    for name, part in parts:
+        folder = TOP / "crates" / name / part
+        for file in sorted(it for it in folder.rglob("*") if it.is_file()):
+            digest.update(f"{file.relative_to(TOP)} {hashlib.sha256(file.read_bytes()).hexdigest()}\n".encode())
+    return digest.hexdigest()
 
 
-def tried(crate: str, folder: pathlib.Path) -> dict[str, str]:
-    """What was told of each mutant of a crate. The crate is checked first, over what earlier checks on this machine kept."""
-    for words in (["rt", "check"], ["rt", "must-fail"]):
-        ran = subprocess.run(words, cwd=folder / "crates" / crate, capture_output=True, text=True, errors="replace")
-        if words[1] == "check" and ran.returncode:
-            return {edit.stem: "the crate is not proved" for edit in edits(crate)}
-    told = {name: words for _, name, words in TOLD.findall(ran.stdout)}
-    return {edit.stem: told.get(edit.stem, "nothing was told") for edit in edits(crate)}
+def read_table() -> Table:
+    rows = re.findall(r"^\| (.*) \|$", TABLE.read_text(), re.MULTILINE) if TABLE.is_file() else []
+    fields = [row.split(" | ", 2) for row in rows]
+    states = {it[0]: it[1] for it in fields if len(it) == 2 and re.fullmatch(r"[0-9a-f]{64}", it[1])}
+    return Table(states, {(it[0], it[1]): it[2] for it in fields if len(it) == 3 and it[0] in states})
+
+
+def write_table(table: Table) -> None:
+    """The table of the crates and mutants that there are."""
+    names = [crate for crate in sorted(crates()) if mutants_of(crate)]
+    lines = [HEAD, "| crate | state |", "|---|---|"]
+    lines += [f"| {crate} | {table.states[crate]} |" for crate in names if crate in table.states]
+    lines += ["", "| crate | mutant | refused by |", "|---|---|---|"]
+    of_all = [(crate, mutant.stem) for crate in names for mutant in mutants_of(crate)]
+    lines += [f"| {crate} | {mutant} | {table.told[crate, mutant]} |" for crate, mutant in of_all if (crate, mutant) in table.told]
+    TABLE.write_text("\n".join(lines) + "\n")
+
+
+def mistakes(named: list[str], table: Table, needs_row: bool) -> list[str]:
+    """Mutants that can't be planted, and, where it is asked for, those that have no row."""
+    found = []
+    for crate in named:
+        for mutant in mutants_of(crate):
+            if why := misplanted(mutant):
+                found.append(f"{mutant.relative_to(TOP)}: {why}")
+            elif needs_row and (crate, mutant.stem) not in table.told:
+                found.append(f"{mutant.relative_to(TOP)}: has no row in {TABLE.relative_to(TOP)}: run tools/mutants.py {crate}")
+    return found
+
+
+def due(table: Table) -> list[str]:
+    """The crates whose state is another than the table's, and one of the others, by the day."""
+    having = [crate for crate in sorted(crates()) if mutants_of(crate)]
+    changed = [crate for crate in having if table.states.get(crate) != state_of(crate)]
+    others = [crate for crate in having if crate not in changed]
+    turn = datetime.date.today().toordinal() % len(others) if others else 0
+    return changed + others[turn : turn + 1]
+
+
+def tried(chosen: list[str], table: Table) -> tuple[int, list[str]]:
+    """Plants the mutants of these crates and proves; notes in the table what was told of each. The status, and those not refused."""
+    mutants = [(crate, mutant) for crate in chosen for mutant in mutants_of(crate)]
+    print(f"{len(mutants)} mutants are planted, of {', '.join(chosen)}", flush=True)
+    told: dict[tuple[str, str], str] = {}
+
+    def tell(line: str) -> None:
+        print(line, end="", flush=True)
+        if found := TOLD.match(line):
+            told[found[1], found[2]] = found[3].strip()
+
+    with clone.clone(mutant for _, mutant in mutants) as copy:
+        status = clone.prove(copy, tell)
+        if status == 0:
+            for program in build.PROGRAMS:
+                build.copy_program(copy, program)
+    wrong = []
+    for crate, mutant in mutants:
+        said = told.get((crate, mutant.stem), "nothing was told")
+        if said.startswith(REFUSED):
+            table.told[crate, mutant.stem] = said.removeprefix(REFUSED).removeprefix(": ").replace("|", "\\|")
+        else:
+            wrong.append(f"{crate}/{mutant.stem}: {said}")
+    table.states.update({crate: state_of(crate) for crate in chosen if status == 0 and not wrong})
+    return status, wrong
 
 
 def main() -> int:
     parser = argparse.ArgumentParser(description=__doc__, formatter_class=argparse.RawDescriptionHelpFormatter)
     parser.add_argument("crates", nargs="*", metavar="CRATE")
-    parser.add_argument("--read", action="store_true", help="look whether each can be planted, and try none")
+    parser.add_argument("--changed", action="store_true", help="those that are due, and the program")
+    parser.add_argument("--read", action="store_true", help="plant none")
     given = parser.parse_args()
-    named = given.crates or list(crates())
-    wrong = [f"{edit.relative_to(TOP)}: {why}" for crate in named for edit in edits(crate) if (why := misplanted(edit))]
-    if given.read or wrong:
-        print("".join(f"{line}\n" for line in wrong), end="")
-        return 1 if wrong else 0
-    print("| crate | mutant | told |\n|---|---|---|")
-    with tempfile.TemporaryDirectory() as name:
-        scratch(pathlib.Path(name))
-        for crate in (it for it in named if edits(it)):
-            for mutant, told in tried(crate, pathlib.Path(name)).items():
-                print(f"| {crate} | {mutant} | {told} |", flush=True)
-                wrong += [f"{crate}/{mutant}"] if not told.startswith("refused") else []
+    named, table = given.crates or list(crates()), read_table()
+    if wrong := mistakes(named, table, given.changed or given.read):
+        print("\n".join(wrong))
+        return 1
+    if given.read:
+        return 0
+    status, wrong = tried(due(table) if given.changed else [it for it in named if mutants_of(it)], table)
+    write_table(table)
     print("".join(f"not refused: {mutant}\n" for mutant in wrong), end="")
-    return 1 if wrong else 0
+    return status or bool(wrong)
 
 
 if __name__ == "__main__":

@@ -17,7 +17,7 @@ from crates import TOP
 
 DOCUMENTS = ("README.md", "docs/*.md", "crates/*/README.md")
 SOURCES = {".rt", ".antt", ".py", ".c", ".cpp", ".sh", ".toml", ".txt", ".fish", ".bash", ".html", ".1", ".edit", ".js", ""}
-FOLDERS = ("bench", "completions", "crates", "docs", "examples", "man", "proofs", "python", "specs", "src", "tests", "tools", "must-fail", "mutants")
+FOLDERS = ("bench", "completions", "crates", "docs", "examples", "man", "proofs", "python", "specs", "src", "tests", "tools", "mutants")
 # words of the system, the toolchain and the field, which the sources need not hold
 OTHERS = set("rt apt-get ulimit git pip".split())
 
