@@ -5,7 +5,7 @@
 
 A change is a comparison turned or its edge moved, a sign, a whole number, `and` for `or`, or an `if` that is never taken, at a place
 that the seed draws among all of python/pitplan. The tests are those of python/tests but for the library's, and stop at the first that
-fails. The status is 1 where fewer than 95 of 100 are seen.
+fails. The status is 1 where fewer than 95 of 100 are seen, and 2 where a test fails without a change.
 """
 import argparse
 import ast
@@ -14,12 +14,11 @@ import os
 import pathlib
 import random
 import re
-import shutil
 import subprocess
 import sys
-import tempfile
 from typing import Iterator, NamedTuple
 
+import clone
 from crates import TOP
 
 LAYER = pathlib.Path("python") / "pitplan"
@@ -92,20 +91,17 @@ def changes() -> list[Change]:
     return found
 
 
-def is_seen(change: Change) -> bool:
-    """Whether a test fails on the change. The copy has all that the layer's tests read."""
-    with tempfile.TemporaryDirectory(prefix="planted-") as name:
-        copy = pathlib.Path(name)
-        for part in ("python", "tools", "examples", "docs"):
-            shutil.copytree(TOP / part, copy / part, ignore=shutil.ignore_patterns("__pycache__"))
-        (copy / change.file).write_text(change.of((TOP / change.file).read_text()))
+def is_seen(change: Change | None) -> bool:
+    """Whether a test fails on the change, in a copy of the repository; without a change, whether one fails anyway."""
+    with clone.clone() as copy:
+        if change:
+            (copy / change.file).write_text(change.of((TOP / change.file).read_text()))
         words = ["-m", "pytest", "python/tests", "-q", "-x", "-p", "no:cacheprovider", "--ignore", "python/tests/test_library.py"]
         env = {**os.environ, "PITSHELL": os.environ.get("PITSHELL", str(TOP / "build" / "pitshell"))}
         try:
-            ran = subprocess.run(["/usr/bin/python3", *words], cwd=copy, env=env, capture_output=True, timeout=1800)
+            return subprocess.run(["/usr/bin/python3", *words], cwd=copy, env=env, capture_output=True, timeout=1800).returncode != 0
         except subprocess.TimeoutExpired:
             return True
-        return ran.returncode != 0
 
 
 def main() -> int:
@@ -116,6 +112,9 @@ def main() -> int:
     parser.add_argument("--results", type=pathlib.Path)
     given = parser.parse_args()
     drawn = random.Random(given.seed).sample(changes(), given.count)
+    if is_seen(None):
+        print("a test fails without a change")
+        return 2
     with concurrent.futures.ThreadPoolExecutor(given.jobs) as pool:
         seen = []
         for change, saw in zip(drawn, pool.map(is_seen, drawn)):
