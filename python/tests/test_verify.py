@@ -172,6 +172,24 @@ def test_too_few_levels_are_found(plan_folder, monkeypatch):
     assert "levels: wall entry 1: over 3 levels it comes out" in said and "degrees steeper than asked" in said
 
 
+@pytest.mark.parametrize("decimals", [2, 6])
+def test_amounts_with_more_digits_than_floats_have_are_no_difference(plan_folder, decimals):
+    """Money of which a tonne of copper costs billions: a block is worth up to 3 * 10^10, with so many decimals."""
+    changes = [
+        ("price = 8000", "price = 8_123_456_789.123"),
+        ("{ R = 2, S = 2.5 }", "{ R = 2_000_000.001, S = 2_500_000.3 }"),
+        ("processing_cost = 10", "processing_cost = 9_999_999.777"),
+        ("decimals = 2", f"decimals = {decimals}"),
+    ]
+    plan = prepare(plan_folder(deposit(), TEXT, *changes))
+    folder = plan.project.path.parent
+    record = plan.write(folder)
+    commands.write_tables(plan, solve(plan), folder)
+    record["shells"] = {"factors": list(plan.project.schedule.factors)}
+    (folder / "prepare.json").write_text(json.dumps(record))
+    assert [rule.differences for rule in verify(folder, plan.project)] == [()] * 8
+
+
 def test_capacity_that_is_caught_up_is_found(plan_folder, monkeypatch):
     """Years as the greater of two cumulative sums: mill time that is lost while stripping comes back."""
 

@@ -9,6 +9,10 @@ from matplotlib.path import Path as Outline
 from .answer import Answer, Rule, rule
 
 
+# Metres: of a centre that lies at the surface or the edge of an area to within so much nothing is demanded.
+HAIR = 1e-6
+
+
 def verify(answer: Answer) -> Rule:
     """Every block that must be dug is in every shell, none that may not be is in any."""
     rules, first = answer.project.fixed, answer.said["factor"].to_numpy()
@@ -40,7 +44,7 @@ def within(answer: Answer, corners: np.ndarray, inside: bool) -> np.ndarray:
     middle = corners.mean(axis=0)
     outline = Outline(corners - middle)
     centres = answer.rows[[columns.x, columns.y]].to_numpy() - middle
-    narrow, wide = (outline.contains_points(centres, radius=radius) for radius in (-1e-6, 1e-6))
+    narrow, wide = (outline.contains_points(centres, radius=radius) for radius in (-HAIR, HAIR))
     return narrow & wide if inside else ~narrow & ~wide
 
 
@@ -53,7 +57,7 @@ def above_points(answer: Answer) -> np.ndarray:
     height = points["z"].groupby([over[1], over[0]]).mean()
     _, row, column = answer.cells
     ground = height.reindex(pd.MultiIndex.from_arrays([row, column])).to_numpy()
-    return answer.rows[answer.project.table.z].to_numpy() > np.where(np.isnan(ground), np.inf, ground)
+    return answer.rows[answer.project.table.z].to_numpy() > np.where(np.isnan(ground), np.inf, ground + HAIR)
 
 
 def verify_places(answer: Answer) -> Rule:

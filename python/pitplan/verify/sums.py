@@ -8,16 +8,20 @@ import numpy as np
 
 from .answer import Answer, Rule, rule
 
-MILLION = 10**6
+# Up to here a float holds every whole number.
+EXACT_WHOLE = 2**53
 
 
 def verify(answer: Answer) -> Rule:
     """Tonnes, grades, ratios, metal and worth of each shell."""
     differences: list[str] = []
     for factor in answer.shells.index:
+        # What is left of great gains and great costs is as uncertain as these.
+        gross = float(np.abs(answer.worths[within(answer, int(factor))]).sum())
         for name, amount in sums(answer, int(factor)).items():
             said = float(answer.shells[name][factor])
-            if not np.isclose(said, amount, rtol=1e-9, atol=0.6 * smallest(name), equal_nan=True):
+            slack = 0.6 * smallest(name) + (1e-12 * gross if name == "worth" else 0.0)
+            if not np.isclose(said, amount, rtol=1e-9, atol=slack, equal_nan=True):
                 differences.append(f"factor {factor}: {name} {said:.10g} for {amount:.10g}")
     return rule("shells", "blocks, tonnes, grades, ratios, metal and worth of each shell are the sums of its blocks", differences)
 
@@ -63,16 +67,23 @@ def verify_worth(answer: Answer) -> Rule:
         inside = within(answer, int(factor))
         pays = factor * revenue > 1000 * processing if answer.project.money.cutoff == "moving" else revenue > processing
         some = inside & np.asarray(pays, dtype=bool)
-        worth = factor * int(revenue[some].sum()) - 1000 * int(processing[some].sum()) - 1000 * int(mining[inside].sum())
-        said = Decimal(answer.shells["worth_at_factor"][factor])
-        if said != Decimal(worth).scaleb(-9):
-            differences.append(f"factor {factor}: worth_at_factor {said} for {Decimal(worth).scaleb(-9)}")
-    return rule("worth", "the program's worth of each shell is that of its blocks, to the last digit", differences)
+        gain, cost = factor * int(revenue[some].sum()), 1000 * int(processing[some].sum()) + 1000 * int(mining[inside].sum())
+        said = Decimal(answer.shells["worth_at_factor"][factor]).scaleb(9)
+        if abs(said - (gain - cost)) > lost_digits(answer) * (gain + cost):
+            differences.append(f"factor {factor}: worth_at_factor {said.scaleb(-9)} for {Decimal(gain - cost).scaleb(-9)}")
+    return rule("worth", "the program's worth of each shell is that of its blocks, to the last digit that blocks.csv holds", differences)
+
+
+def lost_digits(answer: Answer) -> Decimal:
+    """How far a sum of amounts may be off by its size: not at all, unless some have more digits than a float of blocks.csv holds."""
+    greatest = max(float(answer.said[name].max()) for name in ("revenue", "processing_cost", "mining_cost"))
+    return Decimal(0) if greatest * 10**answer.project.money.decimals < EXACT_WHOLE else Decimal("1e-15")
 
 
 def millionths(answer: Answer, name: str) -> np.ndarray:
-    """Amounts as Python's whole numbers, which have no limit of size."""
-    return np.rint(answer.said[name].to_numpy() * MILLION).astype(np.int64).astype(object)
+    """Amounts as Python's whole numbers, which have no limit of size. They have no more decimals than the project keeps."""
+    decimals = answer.project.money.decimals
+    return np.rint(answer.said[name].to_numpy() * 10**decimals).astype(np.int64).astype(object) * 10 ** (6 - decimals)
 
 
 def late(answer: Answer, revenue: np.ndarray, processing: np.ndarray) -> list[str]:

@@ -51,12 +51,13 @@ def verify_npv(answer: Answer) -> Rule:
     flows = flows_of(answer)
     for factor in answer.shells.index:
         inside = within(answer, int(factor))
+        slack = CENT + 1e-12 * float(flows["cash"][inside].abs().sum())
         best = flows[inside].groupby(["factor", "level"]).sum()
         worst = flows[inside].groupby("level").sum()[["rock", "ore", "cash"]]
         expected = {"npv_best": npv(best, answer), "npv_worst": npv(worst, answer), "years": lasting(best, answer).sum()}
         for name, amount in expected.items():
             said = float(answer.shells[name][factor])
-            if abs(said - amount) > (1e-5 if name == "years" else CENT) + 1e-9 * abs(amount):
+            if abs(said - amount) > (1e-5 if name == "years" else slack) + 1e-9 * abs(amount):
                 differences.append(f"factor {factor}: {name} {said:.12g} for {amount:.12g}")
     return rule("years", "both net present values follow from them", differences)
 
