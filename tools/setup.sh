@@ -1,11 +1,11 @@
 #!/bin/sh
 # Installs from Debian, by name, what of the planner's layer and its tests is missing. Where all is there it takes no time.
 #
-#     tools/setup.sh [core|tests|all|bench]
+#     tools/setup.sh [core|tests|all|changes|bench]
 #
 # core is what tools/pitplan needs; tests, the default, adds what its exports, its 3D page, its scenarios over Dask and its
-# tests need; all adds Chromium, in which the page is opened by the tests where it is there. bench is the other people's
-# maximum flows beside which the program is timed.
+# tests need; all adds Chromium, in which the page is opened by the tests where it is there. changes is what
+# tools/planted_changes.py needs beside all. bench is the other people's maximum flows beside which the program is timed.
 set -eu
 core="python3-numpy python3-pandas python3-matplotlib python3-scipy python3-jinja2"
 more="python3-vtk9 python3-ezdxf libjs-three python3-dask python3-distributed python3-pytest python3-hypothesis python3-setuptools python3-wheel"
@@ -13,8 +13,9 @@ case "${1:-tests}" in
 core) wanted=$core ;;
 tests) wanted="$core $more" ;;
 all) wanted="$core $more chromium" ;;
+changes) wanted="$core $more chromium python3-coverage" ;;
 bench) wanted="g++ libboost-graph-dev liblemon-dev libmaxflow-dev libigraph-dev" ;;
-*) echo "usage: tools/setup.sh [core|tests|all|bench]" >&2; exit 2 ;;
+*) echo "usage: tools/setup.sh [core|tests|all|changes|bench]" >&2; exit 2 ;;
 esac
 
 missing=""
