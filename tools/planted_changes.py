@@ -4,23 +4,26 @@
     tools/planted_changes.py [--seeds 1,2,3] [--count 100] [--jobs 2] [--pictures] [--results FILE]      some 20 minutes a seed
 
 A change is a comparison turned or its edge moved, a sign, a whole number, `and` for `or`, or an `if` that is never taken, at a place
-that the seed draws among all of python/pitplan. What stands on other lines does not alter whether a change is drawn. The two modules
-that draw pictures (PICTURES) are left out, since most of their numbers are looks: widths, sizes of type, colours. --pictures draws
+that the seed draws among all of python/pitplan. What stands on other lines does not alter whether a change is drawn. The modules that
+draw pictures (PICTURES) are left out, since most of their numbers are looks: widths, sizes of type, colours. --pictures draws
 among these alone, and asks for no share. The tests are those of python/tests but for the library's. They run once without a change,
-by which is known what tests run each line; on a change these run, the quickest first, until one fails. A line that no test runs is
+by which is known what tests run each line; on a change these run, the quick ones first, until one fails. A line that no test runs is
 not seen. The status is 1 where fewer than 95 of 100 are seen, and 2 where a test fails without a change.
 
 --results writes what is not seen. What the file says of a change already, behind the dash, is kept.
 """
 import argparse
 import concurrent.futures
+import contextlib
 import os
 import pathlib
+import queue
 import re
 import signal
 import subprocess
 import sys
 import tempfile
+from collections.abc import Iterator
 from typing import NamedTuple
 
 import clone
@@ -30,40 +33,75 @@ from crates import TOP
 from line_coverage import Lines
 
 LAYER = pathlib.Path("python") / "pitplan"
-PICTURES = {LAYER / "pictures.py", LAYER / "scenarios" / "pictures.py"}
+PICTURES = {LAYER / "pictures.py", LAYER / "yearly.py", LAYER / "scenarios" / "pictures.py"}
 WANTED = 0.95
 # A change may make a program take all the memory or all the time that it is given.
 MOST_BYTES = 4 << 30
 MOST_SECONDS = 900
+QUICK = 0.5
 HEAD = "# Planted changes that no test sees\n\nWritten by `tools/planted_changes.py`; why each is harmless is written by hand.\n"
 
 
 class Trial(NamedTuple):
-    """What every change is tried with: which tests run what, and the environment of the tests."""
+    """What changes are tried with: which tests run what, the environment of the tests, and copies that nobody uses at the moment."""
 
     lines: Lines
     environment: dict[str, str]
+    copies: queue.SimpleQueue
 
     def tests_of(self, change: Change) -> list[str]:
-        """The tests that run a change, the quickest first; all where it runs as its module is read."""
+        """The tests that run a change, in order; all where it runs as its module is read.
+
+        Quick ones come first, file by file, since what the tests of a file share is made anew whenever another file's come between.
+        """
         tests = self.lines.of(change.file, change.lines) if change.in_function else self.lines.seconds.keys()
-        return sorted(tests, key=lambda test: (self.lines.seconds[test], test))
+        seconds = self.lines.seconds
+        return sorted(tests, key=lambda test: (seconds[test] > QUICK and seconds[test], test.partition("::")[0], seconds[test]))
 
     def is_seen(self, change: Change) -> bool:
-        """Whether a test fails on the change, in a copy of the repository, or does not end."""
+        """Whether a test fails on the change, or does not end."""
         tests = self.tests_of(change)
         if not tests:
             return False
-        with clone.clone() as copy:
-            (copy / change.file).write_text(change.changed)
-            words = ["prlimit", f"--data={MOST_BYTES}", "/usr/bin/python3", "-m", "pytest", "-q", "-x", "-p", "no:cacheprovider", *tests]
-            ran = subprocess.Popen(words, cwd=copy, env=self.environment, stdout=subprocess.DEVNULL, stderr=subprocess.DEVNULL, start_new_session=True)
-            try:
-                return ran.wait(MOST_SECONDS) != 0
-            except subprocess.TimeoutExpired:
-                return True
-            finally:
-                stop(ran)
+        copy = self.copies.get()
+        try:
+            with planted(copy, change):
+                return fails(tests, copy, self.environment)
+        finally:
+            self.copies.put(copy)
+
+
+@contextlib.contextmanager
+def planted(copy: pathlib.Path, change: Change) -> Iterator[None]:
+    """The copy has the change meanwhile."""
+    path = copy / change.file
+    before = path.read_text()
+    write(path, change.changed)
+    try:
+        yield
+    finally:
+        write(path, before)
+
+
+def write(path: pathlib.Path, text: str) -> None:
+    """Gives a module another text; one of the same length in the same second would pass for the one that was compiled."""
+    path.write_text(text)
+    for compiled in (path.parent / "__pycache__").glob(f"{path.stem}.*"):
+        compiled.unlink()
+
+
+def fails(tests: list[str], copy: pathlib.Path, environment: dict[str, str]) -> bool:
+    """Whether one of the tests fails in a copy, or they do not end."""
+    words = ["prlimit", f"--data={MOST_BYTES}", "/usr/bin/python3", "-m", "pytest", "-q", "-x", "-p", "no:cacheprovider", "-p", "first_failure"]
+    words += [f"--basetemp={copy.parent / 'tests'}", *tests]
+    there = {**environment, "PYTHONPATH": str(copy / "tools")}
+    ran = subprocess.Popen(words, cwd=copy, env=there, stdout=subprocess.DEVNULL, stderr=subprocess.DEVNULL, start_new_session=True)
+    try:
+        return ran.wait(MOST_SECONDS) != 0
+    except subprocess.TimeoutExpired:
+        return True
+    finally:
+        stop(ran)
 
 
 def stop(ran: subprocess.Popen) -> None:
@@ -75,12 +113,20 @@ def stop(ran: subprocess.Popen) -> None:
     ran.wait()
 
 
-def trial() -> Trial | None:
-    """Runs the tests once without a change; None where one fails."""
+@contextlib.contextmanager
+def trial(jobs: int) -> Iterator[Trial | None]:
+    """Runs the tests once without a change; None where one fails. Then as many changes can be tried at once as there are jobs."""
     environment = {**os.environ, "PITSHELL": os.environ.get("PITSHELL", str(TOP / "build" / "pitshell"))}
     with clone.clone() as copy, tempfile.TemporaryDirectory(prefix="pitshell-") as notes:
         lines = line_coverage.run(copy, pathlib.Path(notes), environment)
-    return None if lines is None else Trial(lines, environment)
+    if lines is None:
+        yield None
+        return
+    with contextlib.ExitStack() as stack:
+        copies: queue.SimpleQueue = queue.SimpleQueue()
+        for _ in range(jobs):
+            copies.put(stack.enter_context(clone.clone()))
+        yield Trial(lines, environment, copies)
 
 
 def survivors(seed: int, sample: list[Change], tried: Trial, jobs: int) -> list[Change]:
@@ -113,14 +159,14 @@ def main() -> int:
     parser.add_argument("--results", type=pathlib.Path)
     given = parser.parse_args()
     all_changes = [change for change in changes(LAYER) if (change.file in PICTURES) == given.pictures]
-    tried = trial()
-    if tried is None:
-        print("a test fails without a change")
-        return 2
     found = {}
-    for seed in given.seeds:
-        found[seed] = survivors(seed, drawn(all_changes, seed, given.count), tried, given.jobs)
-        print(f"Seed {seed}: {given.count - len(found[seed])} of {given.count} changes are seen.", flush=True)
+    with trial(given.jobs) as tried:
+        if tried is None:
+            print("a test fails without a change")
+            return 2
+        for seed in given.seeds:
+            found[seed] = survivors(seed, drawn(all_changes, seed, given.count), tried, given.jobs)
+            print(f"Seed {seed}: {given.count - len(found[seed])} of {given.count} changes are seen.", flush=True)
     if given.results:
         write_results(given.results, found, given.count)
     fewest = min(given.count - len(left) for left in found.values())
