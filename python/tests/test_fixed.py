@@ -64,6 +64,51 @@ def test_rock_above_the_surface_must_be_dug(plan_folder, tmp_path):
     assert any("1 columns of blocks lie beyond all points" in note for note in plan.notes)
 
 
+def test_each_column_has_the_surface_of_its_own_points(plan_folder, tmp_path):
+    """Twelve columns of four blocks, each with two points whose mean is told by east and north; points off the model say nothing."""
+    heights = {(i, j): 3 + 4.5 * i + 7 * j for i in range(4) for j in range(3)}
+    points = [(10 * i + 5 + a, 10 * j + 5 - a, height + a) for (i, j), height in heights.items() for a in (-4, 4)]
+    points += [(-1, 5, -900), (41, 15, -900), (15, -1, -900), (25, 31, -900)]
+    pd.DataFrame(points, columns=["x", "y", "z"]).to_csv(tmp_path / "mined.csv", index=False)
+    plan = prepare(load(plan_folder(rows(4, 3, 4), with_section('[fixed]\nsurface = "mined.csv"\n'))))
+    blocks = plan.blocks
+    ground = [heights[int(x // 10), int(y // 10)] for x, y in zip(blocks["x"], blocks["y"])]
+    assert plan.fixed.forced.tolist() == blocks.loc[blocks["z"] > ground, "id"].tolist()
+    assert not any("surface was laid" in note or "beyond all points" in note for note in plan.notes)
+
+
+def test_a_surface_between_points_is_their_plane(plan_folder, tmp_path):
+    """A plane that falls to the east and rises to the north, at coordinates of seven digits, by four far corners that lie round no
+    column's middle; no point of the 24 columns has one of its own."""
+    east, north = 600_000, 6_512_000
+
+    def plane(x, y):
+        return 21 - 0.4 * (x - east) + 0.3 * (y - north)
+
+    corners = [(east + x, north + y) for x in (-17, 91) for y in (-23, 64)]
+    pd.DataFrame([(x, y, plane(x, y)) for x, y in corners], columns=["x", "y", "z"]).to_csv(tmp_path / "mined.csv", index=False)
+    table = rows(6, 4, 3).assign(x=lambda it: it["x"] + east, y=lambda it: it["y"] + north)
+    plan = prepare(load(plan_folder(table, with_section('[fixed]\nsurface = "mined.csv"\n'))))
+    blocks = plan.blocks
+    assert plan.fixed.forced.tolist() == blocks.loc[blocks["z"] > plane(blocks["x"], blocks["y"]), "id"].tolist()
+    assert 0 < len(plan.fixed.forced) < 72
+
+
+def test_a_triangle_bars_what_lies_in_it(plan_folder, tmp_path):
+    """Below the line from 40 m in the north to 60 m in the east."""
+    (tmp_path / "corner.csv").write_text("x,y\n0,0\n60,0\n0,40\n")
+    plan = prepare(load(plan_folder(rows(7, 5, 1), with_section('[[fixed.areas]]\npolygon = "corner.csv"\nbarred = "inside"\n'))))
+    blocks = plan.blocks
+    assert plan.fixed.barred.tolist() == blocks.loc[blocks["x"] / 60 + blocks["y"] / 40 < 1, "id"].tolist()
+
+
+def test_blocks_of_less_than_a_tonne_are_rock(plan_folder, tmp_path):
+    table = rows(3, 1, 1, must=lambda i, j, k: 1, tonnes=lambda i, j, k: [0.5, 0, 1][i])
+    assert lines_of(plan_folder, table, '[fixed]\nforced = "must"\n', tmp_path) == ["in 0", "in 2"]
+    plan = prepare(load(plan_folder(table)))
+    assert plan.values.mining.tolist() == [1_000_000, 0, 2_000_000]
+
+
 def test_a_surface_of_few_points_is_laid_between_them(plan_folder, tmp_path):
     """A plane that falls from 31 m in the west to 1 m in the east, by its corners alone: over the columns at 5, 15 and 25 m it lies
     at 26, 16 and 6 m."""

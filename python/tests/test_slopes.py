@@ -12,7 +12,7 @@ from hypothesis import given
 from hypothesis import strategies as st
 
 import pitplan
-from pitplan import PlanError, files, slopes
+from pitplan import PlanError, cones, files, slopes
 from pitplan.project import Slopes, Wall
 
 CUBE, FLAT = (10.0, 10.0, 10.0), (20.0, 20.0, 15.0)
@@ -281,3 +281,17 @@ def test_needs_that_leave_the_grid_at_its_sides_are_counted(plan_folder, tmp_pat
     record = plan.write(tmp_path)
     assert record["needs"]["clipped_at_the_sides"] == 4 * 2 + 4 * 1
     assert "12 needs lead off the model's sides and were clipped: that ground is not known" in record["notes"]
+
+
+def test_steps_to_a_cell_of_a_cone_and_beside_it():
+    """The block above and those beside it: at the cone's very sides, over them, above the highest level, and the block itself."""
+    cone = cones.of_steps(slopes.FIVE)
+    inside = [(0, 0, 1), (-1, 0, 1), (1, 0, 1), (0, -1, 1), (0, 1, 1)]
+    outside = [(1, 1, 1), (-2, 0, 1), (2, 0, 1), (0, -2, 1), (0, 2, 1), (0, 0, 2), (1, 0, 2), (0, 0, 0), (0, 0, -1)]
+    assert cones.holds(cone, np.array(inside + outside)).tolist() == [True] * len(inside) + [False] * len(outside)
+
+
+@pytest.mark.parametrize(("levels", "said"), [(1, "over 1 level make"), (2, "over 2 levels make"), (3, "over 3 levels make")])
+def test_walls_are_told_with_their_levels(plan_folder, levels, said):
+    plan = pitplan.prepare(plan_folder(rows(3, 3, 4), PROJECT, ("levels = 3", f"levels = {levels}"), ('pattern = "1:5"', "angle = 45")))
+    assert any(said in note for note in plan.notes)

@@ -151,6 +151,17 @@ def refused(plan_folder, table=None, text=TEXT, *changes):
     return str(said.value)
 
 
+def looked_at(plan):
+    """What is said of the plan's numbers, without pictures and report."""
+    folder = plan.project.folder
+    folder.mkdir(exist_ok=True)
+    record = plan.write(folder)
+    commands.write_tables(plan, solve(plan), folder)
+    record["shells"] = {"factors": list(plan.project.schedule.factors)}
+    (folder / "prepare.json").write_text(json.dumps(record))
+    return verify(folder, plan.project)
+
+
 def two_regions():
     """Ore at the floor, in rock that stands at 35 degrees, under rock that stands at 65."""
     return rows(15, 15, 6, cu=lambda i, j, k: 30 if (i, j, k) == (7, 7, 0) else 0, region=lambda i, j, k: "12"[int(k > 0)])
@@ -182,12 +193,7 @@ def test_amounts_with_more_digits_than_floats_have_are_no_difference(plan_folder
         ("decimals = 2", f"decimals = {decimals}"),
     ]
     plan = prepare(plan_folder(deposit(), TEXT, *changes))
-    folder = plan.project.path.parent
-    record = plan.write(folder)
-    commands.write_tables(plan, solve(plan), folder)
-    record["shells"] = {"factors": list(plan.project.schedule.factors)}
-    (folder / "prepare.json").write_text(json.dumps(record))
-    assert [rule.differences for rule in verify(folder, plan.project)] == [()] * 8
+    assert [rule.differences for rule in looked_at(plan)] == [()] * 8
 
 
 def test_capacity_that_is_caught_up_is_found(plan_folder, monkeypatch):
@@ -206,6 +212,48 @@ def test_fixed_blocks_that_are_passed_over_are_found(plan_folder, monkeypatch):
     nothing = np.zeros(0, dtype=np.int64)
     monkeypatch.setattr(fixed, "of_table", lambda *_: fixed.FixedBlocks(nothing, nothing))
     assert "fixed: block b2-1-4 must be dug" in refused(plan_folder)
+
+
+def ore_everywhere():
+    """Forty-two blocks on two levels, all of which pay, at coordinates of seven digits."""
+    table = rows(7, 3, 2, cu=lambda i, j, k: 6)
+    return table.assign(x=table["x"] + 600_000, y=table["y"] + 6_512_000)
+
+
+AREA = '[[fixed.areas]]\npolygon = "map.csv"\nbarred = '
+
+
+@pytest.mark.parametrize(
+    ("section", "corners", "first", "count"),
+    [
+        # West of the line from 40 m in the south to 10 m in the north are, by rows, the first 4, 3 and 2 columns.
+        (AREA + '"inside"\n', [(0, 0), (41, 0), (11, 30), (0, 30)], "b0-0-0", 2 * (4 + 3 + 2)),
+        (AREA + '"outside"\n', [(0, 0), (41, 0), (11, 30), (0, 30)], "b4-0-0", 2 * (3 + 4 + 5)),
+        (AREA + '"inside"\n', [(30, 10), (70, 10), (70, 20), (30, 20)], "b3-1-0", 2 * 4),
+    ],
+)
+def test_areas_that_are_passed_over_are_found(plan_folder, tmp_path, monkeypatch, section, corners, first, count):
+    pd.DataFrame(np.array(corners) + [600_000, 6_512_000], columns=["x", "y"]).to_csv(tmp_path / "map.csv", index=False)
+    path = plan_folder(ore_everywhere(), PROJECT + "\n" + section)
+    assert [rule.differences for rule in looked_at(prepare(path))] == [()] * 8
+    monkeypatch.setattr(fixed, "of_table", lambda *_: fixed.NOTHING)
+    (rule,) = [rule for rule in looked_at(prepare(path)) if rule.differences]
+    assert (rule.name, rule.count, len(rule.differences)) == ("fixed", count, min(count, 10))
+    assert rule.differences[0] == f"block {first} may not be dug, and is so from factor 500 on"
+
+
+def test_a_surface_that_is_passed_over_is_found(plan_folder, tmp_path, monkeypatch):
+    """Over the second row of columns the points lie at 14 m on the mean, over the third at 3, and over the first there are none."""
+    points = [(600_000 + 10 * i + a, 6_512_000 + y + a, z + a / 2) for i in range(7) for y, z in ((12, 14), (22, 3)) for a in (1, 5)]
+    pd.DataFrame(points, columns=["x", "y", "z"]).assign(z=lambda it: it["z"] - 1.5).to_csv(tmp_path / "mined.csv", index=False)
+    path = plan_folder(ore_everywhere().assign(cu=0), PROJECT + '\n[fixed]\nsurface = "mined.csv"\n')
+    plan = prepare(path)
+    assert len(plan.fixed.forced) == 7 + 2 * 7
+    assert [rule.differences for rule in looked_at(plan)] == [()] * 8
+    monkeypatch.setattr(fixed, "of_table", lambda *_: fixed.NOTHING)
+    (rule,) = [rule for rule in looked_at(prepare(path)) if rule.differences]
+    assert (rule.name, rule.count, len(rule.differences)) == ("fixed", 7 + 2 * 7, 10)
+    assert rule.differences[0] == "block b0-2-0 must be dug, and is so from factor 0 on"
 
 
 def test_ground_that_is_taken_as_air_is_found(plan_folder, monkeypatch):
@@ -249,9 +297,4 @@ def test_random_plans_are_right(plan_folder, seed, cutoff, discounting):
         ("rate = 0.1", f'rate = 0.1\ndiscounting = "{discounting}"'),
     ]
     plan = prepare(plan_folder(table, TEXT, *changes))
-    folder = plan.project.path.parent
-    record = plan.write(folder)
-    commands.write_tables(plan, solve(plan), folder)
-    record["shells"] = {"factors": list(plan.project.schedule.factors)}
-    (folder / "prepare.json").write_text(json.dumps(record))
-    assert [rule.differences for rule in verify(folder, plan.project)] == [()] * 8
+    assert [rule.differences for rule in looked_at(plan)] == [()] * 8
