@@ -131,3 +131,86 @@ def test_regions_are_codes_and_named_once(plan_folder):
     two = 'region = 1\npattern = "1:5"\n[[slopes.walls]]\nregion = ["1"]\nangle = 40'
     with pytest.raises(PlanError, match=r"\[slopes\] walls: a region is named twice"):
         pitplan.load(plan_folder(rows(2, 2, 2), PROJECT, ('pattern = "1:5"', two)))
+
+
+LEVEL = "mining_cost_per_level = 0.5\n"
+
+
+@pytest.mark.parametrize(
+    ("old", "new", "allowed", "refused"),
+    [
+        ("mining_cost = 2\n", "mining_cost = {}\n", ("0", "0.5"), ("-0.5",)),
+        ("mining_cost = 2\n", "mining_cost = 2\ndecimals = {}\n", ("0", "6"), ("-1", "7", "true")),
+        ("mining_cost = 2\n", "mining_cost = 2\nmining_cost_per_level = {}\n", ("0", "0.5"), ("-0.5",)),
+        ("mining_cost = 2\n", f"mining_cost = 2\n{LEVEL}mining_cost_reference = {{}}\n", ("-0.5", "0"), ("true",)),
+        ("mining_cost = 2\n", "mining_cost = 2\nmining_cost_by_elevation = [[-3, 0.5], [10, {}]]\n", ("0", "0.5"), ("-0.5",)),
+        ("processing_cost = 10", "processing_cost = {}", ("0", "0.5"), ("-0.5",)),
+        ("price = 8000", "price = {}", ("0", "0.5"), ("-0.5",)),
+        ("price = 8000", "price = 8000\nselling_cost = {}", ("0", "0.5"), ("-0.5",)),
+        ("recovery = 0.5", "recovery = {}", ("0", "1"), ("-0.5", "1.5")),
+        ("size = [10, 10, 10]", "size = [10, {}, 10]", ("0.5",), ("0", "-0.5")),
+        ("size = [10, 10, 10]", "size = [{}]", ("10, 10, 10",), ("10, 10", "10, 10, 10, 10")),
+        ("size = [10, 10, 10]", "size = [10, 10, 10]\ntolerance = {}", ("0", "0.5"), ("-0.5",)),
+        ('id = "name"', 'id = "name"\nabsent = {{ tonnes = {}, rock = "R", region = "1" }}', ("0", "0.5"), ("-0.5",)),
+        ("levels = 3", "levels = {}", ("1", "40"), ("0", "41")),
+        ('pattern = "1:5"', "angle = {}", ("1", "90"), ("0.5", "90.5")),
+        ('pattern = "1:5"', "azimuths = [[0, 40], [{}, 50]]", ("1", "359.5"), ("-1", "0", "360")),
+        ("rate = 0.1", "rate = {}", ("0", "1"), ("-0.1", "1.5")),
+        ("ore_per_year = 100", "ore_per_year = {}", ("1", "1.5"), ("0", "0.5")),
+        ("ore_per_year = 100", "ore_per_year = 100\nrock_per_year = {}", ("1", "1.5"), ("0", "0.5")),
+        ("[500, 1000, 1500]", "[{}, 1000]", ("0", "1", "100_000"), ("-1", "100_001")),
+        ("[500, 1000, 1500]", "{{ from = 500, to = 1500, step = {} }}", ("2", "1000"), ("0", "-1", "0.5")),
+        ("[500, 1000, 1500]", "{{ from = {}, to = 1500, step = 500 }}", ("0", "1500"), ("1501", "-1")),
+        ("[500, 1000, 1500]", "{{ from = 1, to = {}, step = 1 }}", ("999", "1000"), ("1001",)),
+        ("rate = 0.1", "rate = 0.1\nchosen = {}", ("500", "1500"), ("501", "-1")),
+        ("[shells]", "[scenarios]\nmodels = 'm'\n[[scenarios.prices]]\ncopper = {}\n[shells]", ("0", "0.5"), ("-0.5",)),
+    ],
+)
+def test_numbers_have_their_limits(plan_folder, old, new, allowed, refused):
+    for number in allowed:
+        pitplan.load(plan_folder(rows(2, 2, 2), PROJECT, (old, new.format(number))))
+    for number in refused:
+        with pytest.raises(PlanError):
+            pitplan.load(plan_folder(rows(2, 2, 2), PROJECT, (old, new.format(number))))
+
+
+def test_what_is_left_out(tmp_path):
+    """The least that a project says."""
+    folder = tmp_path / "hill"
+    folder.mkdir()
+    path = folder / "project.toml"
+    path.write_text(
+        '[table]\nfile = "blocks.csv"\n[money]\nmining_cost = 2\nprocessing_cost = 10\n[[metals]]\nname = "copper"\ncolumn = "cu"\n'
+        'unit = "percent"\nprice = 8000\nrecovery = 1\n[slopes]\n[[slopes.walls]]\nangle = 45\n[shells]\nfactors = [1000]\nrate = 0\n'
+        "ore_per_year = 100\n"
+    )
+    project = pitplan.load(path)
+    assert (project.title, project.folder, project.scenarios, project.fixed) == ("hill", folder / "plan", None, None)
+    table, money, slopes, schedule = project.table, project.money, project.slopes, project.schedule
+    assert (table.x, table.y, table.z, table.tonnes, table.id, table.rock, table.region) == ("x", "y", "z", "tonnes", None, None, None)
+    assert (table.separator, table.decimal, table.encoding, table.empty, table.absent) == (None, None, "utf-8-sig", "refuse", "refuse")
+    assert (project.grid.size, project.grid.tolerance) == (None, 0.01)
+    assert (money.currency, money.decimals, money.cutoff) == ("USD", 6, "moving")
+    assert (money.mining_cost_per_level, money.mining_cost_reference, money.mining_cost_by_elevation) == (0, None, ())
+    assert project.metals[0].selling_cost == 0
+    assert (slopes.levels, slopes.never_steeper, slopes.walls[0].regions, slopes.walls[0].angles) == (None, False, None, ((0, 45),))
+    assert (schedule.chosen, schedule.rock_per_year, schedule.discounting) == (None, None, "continuous")
+    assert (schedule.factors, schedule.reference_added) == ((1000,), False)
+
+
+def test_two_entries_for_all_other_regions_are_refused(plan_folder):
+    two = 'pattern = "1:5"\n[[slopes.walls]]\nangle = 40'
+    with pytest.raises(PlanError, match=r"\[slopes\] walls: more than one entry names no region"):
+        pitplan.load(plan_folder(rows(2, 2, 2), PROJECT, ('pattern = "1:5"', two)))
+
+
+def test_two_metals_of_one_name_are_refused(plan_folder):
+    second = '[[metals]]\nname = "copper"\ncolumn = "au"\nunit = "percent"\nprice = 1\nrecovery = 1\n[slopes]'
+    with pytest.raises(PlanError, match=r"two \[\[metals\]\] have one name"):
+        pitplan.load(plan_folder(rows(2, 2, 2), PROJECT, ("[slopes]", second)))
+
+
+@pytest.mark.parametrize(("item", "share"), [("0.001", "1"), ("0.3", "300"), ("99.999", "99999")])
+def test_a_share_of_the_price_is_told_in_per_mille(plan_folder, item, share):
+    with pytest.raises(PlanError, match=f"1000 is the price as given, and {share} is {item} of it"):
+        pitplan.load(plan_folder(rows(2, 2, 2), PROJECT, ("[500, 1000, 1500]", f"[{item}]")))
