@@ -13,7 +13,9 @@ from hypothesis import strategies as st
 from pitplan import PlanError, absent, commands, fixed, load, money, prepare, schedule, solve
 from pitplan.cli import main
 from pitplan.progress import silent
-from pitplan.verify import verify
+from pitplan.verify import demand, verify
+from pitplan.verify.answer import read
+from pitplan.verify.money import sample
 
 TEXT = PROJECT.replace("mining_cost = 2\n", "mining_cost = { R = 2, S = 2.5 }\nmining_cost_per_level = 0.25\ndecimals = 2\n").replace(
     "[slopes]\n",
@@ -129,6 +131,61 @@ def test_a_barred_block_that_is_dug_is_found(copied):
     table.loc[table.index[table["never"] == 1][0], "factor"] = 500
     table.to_csv(copied / "blocks.csv", index=False)
     assert "fixed" in wrong(copied)
+
+
+def test_a_year_above_its_capacity_is_found(copied):
+    """Half a tonne is dug a year earlier, so that all sums stay."""
+    years = pd.read_csv(copied / "years.csv")
+    full = years.index[(years["rock_tonnes"] > 999.99) & years.duplicated(["case", "factor"], keep="last")][0]
+    years.loc[full, "rock_tonnes"] += 0.5
+    years.loc[full + 1, "rock_tonnes"] -= 0.5
+    years.to_csv(copied / "years.csv", index=False)
+    (rule,) = [rule for rule in verify(copied) if rule.differences]
+    case, factor, year = years.loc[full, ["case", "factor", "year"]]
+    assert rule.differences == (f"{case} case of factor {factor}, year {year}: rock_tonnes 1000.5 above 1000",)
+
+
+def plus_one(table, column):
+    return table.assign(**{column: table[column] + 1})
+
+
+@pytest.mark.parametrize(
+    ("name", "bend", "count", "told"),
+    [
+        ("money", lambda it: plus_one(it, "mining_cost"), 459, "block b0-0-0: mining_cost 300.1 for 299.1"),
+        ("money", lambda it: it.assign(mining_cost=it["mining_cost"] + 1e-6), 459, "block b0-0-0: mining_cost 299.100001 for 299.1"),
+        ("blocks", lambda it: plus_one(it, "id"), 459, "block b0-0-0 has the id 397 for 396"),
+        ("blocks", lambda it: it.assign(factor=it["factor"] + (it["factor"] == 500)), None, "comes in at 501"),
+        ("worth", lambda it: plus_one(it, "process_factor"), 459, "block b0-0-0: process_factor 1 for 0"),
+    ],
+)
+def test_all_that_is_bent_is_counted_and_ten_told(copied, name, bend, count, told):
+    """Of 459 blocks: by much, by less than a rounding, and by the factor 500 alone."""
+    table = pd.read_csv(copied / "blocks.csv")
+    bend(table).to_csv(copied / "blocks.csv", index=False)
+    (rule,) = [rule for rule in verify(copied) if rule.name == name]
+    assert rule.count == (count or (table["factor"] == 500).sum()) and len(rule.differences) == 10
+    assert told in rule.differences[0]
+    with pytest.raises(PlanError) as said:
+        demand([rule])
+    assert str(said.value).startswith(f"what was written is not right in {rule.count:,} places:\n  {name}: ")
+    assert len(str(said.value).splitlines()) == 11
+
+
+def test_amounts_are_looked_at_exactly_at_the_edges_of_shells(copied, monkeypatch):
+    """A block that is dug and has one beside, above or below it that is dug at another factor or not at all, or none."""
+    monkeypatch.setattr("pitplan.verify.money.SAMPLE", 0)
+    answer = read(copied)
+    first = dict(zip(zip(*(axis.tolist() for axis in answer.cells)), answer.said["factor"]))
+    inside = [axis.max() for axis in answer.cells]
+    edge = []
+    for row, cell in enumerate(zip(*answer.cells)):
+        beside = [tuple(np.add(cell, step)) for step in np.vstack([np.eye(3, dtype=int), -np.eye(3, dtype=int)])]
+        there = [other for other in beside if all(0 <= place <= most for place, most in zip(other, inside))]
+        if first[cell] > 0 and any(first.get(other) != first[cell] for other in there):
+            edge.append(row)
+    assert sample(answer).tolist() == edge
+    assert 0 < len(edge) < (answer.said["factor"] > 0).sum()
 
 
 def test_a_table_that_has_changed_is_found(copied):

@@ -62,13 +62,16 @@ def above_points(answer: Answer) -> np.ndarray:
 
 def verify_places(answer: Answer) -> Rule:
     """Each block lies in a cell of its own, at its centre, and bears its number; a shell's factor is one of the list."""
-    tolerance, differences = answer.project.grid.tolerance, []
+    tolerance, differences, count = answer.project.grid.tolerance, [], 0
     for steps, cell, size in zip(answer.steps, answer.cells[::-1], answer.size):
         off = np.abs(steps - cell) * size
-        differences += [f"{answer.called(row)} lies {off[row]:.4g} m off its cell" for row in np.flatnonzero(off > tolerance + 1e-6)[:10]]
+        far = np.flatnonzero(off > tolerance + 1e-6)
+        differences += [f"{answer.called(row)} lies {off[row]:.4g} m off its cell" for row in far[:10]]
+        count += len(far)
     number = np.ravel_multi_index(answer.cells, answer.shape, mode="clip")
     wrong = np.flatnonzero(number != answer.said["id"].to_numpy())
     differences += [f"{answer.called(row)} has the id {answer.said['id'].iloc[row]} for {number[row]}" for row in wrong[:10]]
-    strange = ~answer.said["factor"].isin([0, *answer.factors]).to_numpy()
-    differences += [f"{answer.called(row)} comes in at {answer.said['factor'].iloc[row]}" for row in np.flatnonzero(strange)[:10]]
-    return rule("blocks", "every block of the table stands in the answer, in its own cell", differences)
+    strange = np.flatnonzero(~answer.said["factor"].isin([0, *answer.factors]))
+    differences += [f"{answer.called(row)} comes in at {answer.said['factor'].iloc[row]}" for row in strange[:10]]
+    count += len(wrong) + len(strange)
+    return rule("blocks", "every block of the table stands in the answer, in its own cell", differences, count)

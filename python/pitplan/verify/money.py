@@ -21,14 +21,23 @@ Price = Union[Decimal, dict[str, Decimal]]
 def verify(answer: Answer) -> Rule:
     """Each amount of blocks.csv is the product of the table's and the project's numbers, rounded once."""
     chosen = sample(answer)
-    differences, read = near(answer), Exactly.of(answer)
+    differences, count = near(answer)
+    if not count:
+        differences = not_exact(answer, chosen)
+        count = len(differences)
+    return rule("money", f"costs and revenue of all blocks are right, and exactly so for {len(chosen):,}", differences, count)
+
+
+def not_exact(answer: Answer, chosen: np.ndarray) -> list[str]:
+    """What differs by anything at all, of these rows, by decimals."""
+    read, differences = Exactly.of(answer), []
     told = [answer.said[name].to_numpy() for name in NAMES]
     for row in chosen.tolist():
         for name, column, amount in zip(NAMES, told, read.amounts(row)):
             said = column[row]
-            if not math.isclose(float(amount), said, rel_tol=1e-15) and len(differences) < 10:
+            if not math.isclose(float(amount), said, rel_tol=1e-15):
                 differences.append(f"{answer.called(row)}: {name} {said:.10g} for {amount}")
-    return rule("money", f"costs and revenue of all blocks are right, and exactly so for {len(chosen):,}", differences)
+    return differences
 
 
 def sample(answer: Answer) -> np.ndarray:
@@ -124,8 +133,8 @@ class Exactly:
         return mining, revenue, processing if revenue else Decimal(0)
 
 
-def near(answer: Answer) -> list[str]:
-    """What differs by more than a rounding, of all blocks, by floats."""
+def near(answer: Answer) -> tuple[list[str], int]:
+    """What differs by more than a rounding, of all blocks, by floats: the first ten of each name, and how many there are."""
     project, columns = answer.project, answer.project.table
     rock = answer.rows[columns.rock].astype(str) if columns.rock else None
 
@@ -145,9 +154,10 @@ def near(answer: Answer) -> list[str]:
     processing = answer.tonnes * by_rock(project.money.processing_cost) + selling
     unit = 10.0**-project.money.decimals
     processing = np.where(answer.said["revenue"] > 0, processing, 0.0)
-    differences = []
+    differences, count = [], 0
     for name, amounts in zip(NAMES, (mining, revenue, processing)):
         said = answer.said[name].to_numpy()
         off = np.flatnonzero(np.abs(said - amounts) > 0.51 * unit + 1e-12 * np.abs(amounts))
         differences += [f"{answer.called(row)}: {name} {said[row]:.10g} for {amounts[row]:.10g}" for row in off[:10]]
-    return differences
+        count += len(off)
+    return differences, count

@@ -62,7 +62,7 @@ def verify_worth(answer: Answer) -> Rule:
     """The program's own worth of each shell is that of its blocks in the factor's own values, exactly; and a dug block is processed from
     the first factor on at which that pays."""
     revenue, processing, mining = (millionths(answer, name) for name in ("revenue", "processing_cost", "mining_cost"))
-    differences = late(answer, revenue, processing)
+    differences, count = late(answer, revenue, processing)
     for factor in answer.shells.index:
         inside = within(answer, int(factor))
         pays = factor * revenue > 1000 * processing if answer.project.money.cutoff == "moving" else revenue > processing
@@ -71,7 +71,8 @@ def verify_worth(answer: Answer) -> Rule:
         said = Decimal(answer.shells["worth_at_factor"][factor]).scaleb(9)
         if abs(said - (gain - cost)) > lost_digits(answer) * (gain + cost):
             differences.append(f"factor {factor}: worth_at_factor {said.scaleb(-9)} for {Decimal(gain - cost).scaleb(-9)}")
-    return rule("worth", "the program's worth of each shell is that of its blocks, to the last digit that blocks.csv holds", differences)
+            count += 1
+    return rule("worth", "the program's worth of each shell is that of its blocks, to the last digit that blocks.csv holds", differences, count)
 
 
 def lost_digits(answer: Answer) -> Decimal:
@@ -86,8 +87,9 @@ def millionths(answer: Answer, name: str) -> np.ndarray:
     return np.rint(answer.said[name].to_numpy() * 10**decimals).astype(np.int64).astype(object) * 10 ** (6 - decimals)
 
 
-def late(answer: Answer, revenue: np.ndarray, processing: np.ndarray) -> list[str]:
-    """Blocks whose process_factor is not the first of the folder's factors from theirs on at which processing pays."""
+def late(answer: Answer, revenue: np.ndarray, processing: np.ndarray) -> tuple[list[str], int]:
+    """Blocks whose process_factor is not the first of the folder's factors from theirs on at which processing pays: the first ten, and
+    how many there are."""
     first, said = (answer.said[name].to_numpy() for name in ("factor", "process_factor"))
     expected = np.zeros(len(first), dtype=np.int64)
     if answer.project.money.cutoff == "moving":
@@ -97,4 +99,4 @@ def late(answer: Answer, revenue: np.ndarray, processing: np.ndarray) -> list[st
     else:
         expected = np.where(np.asarray(revenue > processing, dtype=bool), first, 0)
     off = np.flatnonzero(expected != said)
-    return [f"{answer.called(row)}: process_factor {said[row]} for {expected[row]}" for row in off[:10]]
+    return [f"{answer.called(row)}: process_factor {said[row]} for {expected[row]}" for row in off[:10]], len(off)
