@@ -44,13 +44,6 @@ def decimals(millionths: np.ndarray) -> np.ndarray:
     return np.hstack([sign, whole(size // 10**PLACES), dot, after])
 
 
-def signed(values: np.ndarray) -> np.ndarray:
-    """Whole numbers, with a minus where they are negative."""
-    values = np.asarray(values, dtype=np.int64)
-    sign = np.where(values < 0, MINUS, 0).astype(np.uint8)[:, None]
-    return np.hstack([sign, whole(np.abs(values))])
-
-
 def lines(fields: list[np.ndarray]) -> bytes:
     """One line a row, its fields joined by spaces; a field of zero bytes alone is left out with its space."""
     rows = len(fields[0])
