@@ -129,8 +129,8 @@ def axis_of(frame: pd.DataFrame, name: str, k: int, rules: GridRules, source: st
         steps = ", ".join(metres(first + number * size) for number in range(3))
         why = f"{metres(values[row])} is off the grid {steps}, .. by {off[row]:g} m"
         raise at_row(source, row, name, f"{why}: reblock sub-blocks first, and turn a rotated model to its own axes")
-    least = place.min()
-    return Axis(float(first + least * size), size, int(place.max() - least) + 1, (place - least).astype(np.int64))
+    # The least centre lies less than half a block off the lattice's first, so no place is below 0.
+    return Axis(float(first), size, int(place.max()) + 1, place.astype(np.int64))
 
 
 def step_of(values: np.ndarray, gaps: np.ndarray, tolerance: float) -> float:
