@@ -43,6 +43,20 @@ def test_rounding_goes_to_the_even_and_is_counted(numbers, places):
     assert said.largest == max(abs(a - b) for a, b in zip(numbers, expected))
 
 
+def test_whole_numbers_of_any_size_are_told_in_smaller_places_exactly():
+    """Ninety bits are more than a float holds."""
+    rounded, said = Exact.of_decimals([Decimal(2**90 + 1), Decimal(-3)]).rounded(6)
+    assert list(rounded) == [(2**90 + 1) * 10**6, -3 * 10**6] and all(type(number) is int for number in rounded)
+    assert (said.values, said.changed, said.largest) == (2, 0, 0)
+
+
+def test_halves_go_to_the_even_one():
+    halves = [Decimal(text) for text in ("0.5", "1.5", "2.5", "-0.5", "-1.5", "-2.5")]
+    rounded, said = Exact.of_decimals(halves).rounded(0)
+    assert list(rounded) == [0, 2, 2, 0, -2, -2]
+    assert (said.values, said.changed, said.largest) == (6, 6, Decimal("0.5"))
+
+
 def test_noise_of_floats_is_no_rounding():
     tonnes, price = Exact.of_floats(np.array([0.1, 0.7, 1.1])), Exact.of(Decimal("0.1"), 3)
     assert 0.7 * 0.1 != 0.07 and 1.1 * 0.1 != 0.11
@@ -54,6 +68,7 @@ def test_noise_of_floats_is_no_rounding():
 def test_decimals_are_written_exactly(millionths):
     written = text.lines([text.decimals(np.array(millionths))]).decode().split("\n")[:-1]
     assert [Decimal(field) for field in written] == [Decimal(number).scaleb(-6) for number in millionths]
+    assert not any(field.startswith("-0") and not field.strip("-0.") for field in written)
     for field in written:
         whole, _, fraction = field.lstrip("-").partition(".")
         assert 1 <= len(whole) <= 12 and len(fraction) <= 6 and (fraction or "." not in field)

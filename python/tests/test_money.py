@@ -24,6 +24,16 @@ def test_values_of_a_block_by_hand(plan_folder):
     assert values.metal["copper"][5] == pytest.approx(0.4)
 
 
+@pytest.mark.parametrize(("cutoff", "second"), [("moving", [-200, -200, 0, 400]), ("fixed", [-200, -200, -200, -200])])
+def test_the_most_that_a_block_can_be_worth_by_hand(plan_folder, cutoff, second):
+    """100 t: mining 200, processing 1000; the metal of 0.8 % sells for 3200 at the price as given, that of 0.2 % for 800."""
+    table = rows(3, 1, 1, cu=lambda i, j, k: [0.8, 0.2, 0][i])
+    values = pitplan.prepare(plan_folder(table, PROJECT, ("mining_cost = 2", f'mining_cost = 2\ncutoff = "{cutoff}"'))).values
+    by_factor = zip((375, 1250, 1500, 2000), (0, 2800, 3600, 5200), second)
+    for factor, first, then in by_factor:
+        assert [int(it) for it in values.greatest_value(factor)] == [worth * 10**9 for worth in (first, then, -200)]
+
+
 def test_cost_rises_with_the_level_from_the_top(plan_folder):
     plan = pitplan.prepare(
         plan_folder(rows(2, 1, 3), PROJECT, ("mining_cost = 2", "mining_cost = 2\nmining_cost_per_level = 0.25"))

@@ -1,5 +1,6 @@
 """The 3D page in a real headless Chromium: what it draws, counted and looked at."""
 
+import base64
 import re
 import shutil
 import subprocess
@@ -8,7 +9,7 @@ import numpy as np
 import pandas as pd
 import pytest
 
-from pitplan import commands
+from pitplan import PlanError, commands, files, view as views
 from pitplan.progress import silent
 
 CHROMIUM = shutil.which("chromium")
@@ -76,6 +77,31 @@ def test_the_page_draws_the_ground_with_a_pit(page, tmp_path):
     ground = ((red >= green) & (green > blue) & (red - blue < 60) & (red < 240)).mean()
     shells = (pixels.max(axis=2) - pixels.min(axis=2) > 70).mean()
     assert 0.1 < background < 0.9 and ground > 0.1 and shells > 0.005
+
+
+def test_the_model_of_the_page_by_hand(solved):
+    """Grades of 6, 0.9 and 0.8 per cent: a hundredth of these lie above 5.898, and 0.8 is 34.6 of 255 parts of it."""
+    model = views.model_of(files.read_folder(solved[1]))
+    blocks = pd.read_csv(solved[1] / "blocks.csv")
+    shell, tint = (np.frombuffer(base64.b64decode(model[name]), dtype=np.uint8) for name in ("shell", "grade"))
+    assert (model["shape"], model["size"], model["corner"], model["top"]) == ([5, 9, 10], [10, 10, 10], [0, 0, 0], 50)
+    assert (model["factors"], model["grade_name"], model["grade_most"]) == ([500, 1000, 1500], "copper, %", pytest.approx(5.898))
+    assert shell[blocks["id"]].tolist() == blocks["factor"].map({0: 0, 500: 1, 1000: 2, 1500: 3}).tolist()
+    assert tint[blocks["id"]].tolist() == blocks["cu"].map({0: 0, 0.8: 35, 0.9: 39, 6: 255}).tolist()
+    air = np.setdiff1d(np.arange(450), blocks["id"])
+    assert len(air) == 45 and set(shell[air]) == {255} and set(tint[air]) == {0}
+    assert len(model["shell_colours"]) == 3 and len(model["grade_colours"]) == 256
+    # The first and the last of matplotlib's YlOrRd.
+    assert (model["grade_colours"][0], model["grade_colours"][-1]) == ([255, 255, 204], [128, 0, 38])
+
+
+def test_as_many_factors_as_a_byte_tells_apart_are_shown(solved, monkeypatch):
+    folder = files.read_folder(solved[1])
+    monkeypatch.setattr(views, "MOST_FACTORS", 3)
+    views.model_of(folder)
+    monkeypatch.setattr(views, "MOST_FACTORS", 2)
+    with pytest.raises(PlanError, match="the 3D page can show 2 shells, and there are 3"):
+        views.model_of(folder)
 
 
 def test_the_page_needs_no_other_file(page):
