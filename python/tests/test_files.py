@@ -7,6 +7,7 @@ import subprocess
 import sys
 import time
 import xml.etree.ElementTree as xml
+from dataclasses import replace
 from decimal import Decimal
 
 import numpy as np
@@ -14,7 +15,7 @@ import pandas as pd
 import pytest
 from conftest import PROJECT, ROOT, rows
 
-from pitplan import PlanError, commands, files, load, outlines, packages, run
+from pitplan import PlanError, audit as audits, commands, files, load, outlines, packages, run
 from pitplan.cli import main
 from pitplan.progress import silent
 
@@ -113,6 +114,21 @@ def test_a_bent_audit_is_not_confirmed(solved):
     assert subprocess.run(["sh", str(target / "check.sh")], capture_output=True, env=environment).returncode != 0
 
 
+def test_an_audit_of_other_blocks_or_of_another_worth_is_refused(solved):
+    folder = files.read_folder(solved[1])
+    stage = commands.audit(solved[1], 1000, silent)
+    worth = audits.demand_same(stage, folder, 1000)
+    shells = pd.read_csv(solved[1] / "shells.csv", dtype={"worth_at_factor": str})
+    assert [worth] == shells.loc[shells["factor"] == 1000, "worth_at_factor"].map(Decimal).tolist()
+    dug = folder.blocks["factor"] == 500
+    other = replace(folder, blocks=folder.blocks.assign(factor=folder.blocks["factor"].where(~dug | (dug.cumsum() > 1), 0)))
+    with pytest.raises(PlanError, match="the audited pit is not the shell of factor 1000"):
+        audits.demand_same(stage, other, 1000)
+    shells.assign(worth_at_factor=shells["worth_at_factor"] + "1").to_csv(solved[1] / "shells.csv", index=False)
+    with pytest.raises(PlanError, match="the audited pit is not the shell of factor 1000"):
+        audits.demand_same(stage, folder, 1000)
+
+
 def test_values_of_an_audit_are_exact(tmp_path):
     from pitplan.audit import values_at
 
@@ -179,6 +195,18 @@ def test_rings_go_round_exactly_the_cells(seed):
         steps = np.abs(np.diff(np.array([*ring, ring[0]]), axis=0))
         assert ((steps == 0).sum(axis=1) == 1).all()
     assert area == mask.sum()
+
+
+@pytest.mark.parametrize("seed", range(5))
+def test_rings_have_a_point_at_each_corner_and_at_no_other(seed):
+    """A corner is where one or three of the four cells round a point are there, and two where two cells touch at it alone."""
+    mask = np.random.default_rng(seed).random((7, 9)) < 0.5
+    padded = np.pad(mask, 1).astype(int)
+    round_it = [padded[i : i + 8, j : j + 10] for i in (0, 1) for j in (0, 1)]
+    count = sum(round_it)
+    touching = (count == 2) & (round_it[0] == round_it[3])
+    corners = [(x, y) for y, x in np.argwhere(count % 2 == 1)] + 2 * [(x, y) for y, x in np.argwhere(touching)]
+    assert sorted(tuple(map(int, point)) for ring in outlines.rings(mask) for point in ring) == sorted(corners)
 
 
 def test_the_planners_own_table_is_never_written_over(plan_folder):

@@ -255,6 +255,15 @@ def test_shells_keep_to_fixed_blocks_and_are_compared_with_the_pit_of_the_progra
     assert "for their sake 3 blocks are dug in every pit and 3 in none" in capsys.readouterr().err
 
 
+def test_a_pit_of_the_least_factor_of_all_is_compared_too(plan_folder):
+    """At a thousandth of eight millions the ore of 6 % yields 24,000, and that of 0.5 % 2000: both pay for processing and four blocks."""
+    text = with_section(FIXED_SECTION).replace("price = 8000", "price = 8_000_000")
+    project = load(plan_folder(ores_and_fixed(), text))
+    table, _ = commands.pit(project, project.folder / "pit", 1, silent)
+    # Four blocks each; and the one block more that must be dug, at the floor of the last column.
+    assert table["blocks"].tolist() == [9, 8]
+
+
 def test_a_shell_that_is_not_the_pit_of_the_program_is_refused(plan_folder, monkeypatch):
     """What is joined to the rest is lost: the pit with the fixed blocks tells."""
     path = plan_folder(ores_and_fixed(), with_section(FIXED_SECTION))

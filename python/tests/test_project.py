@@ -90,6 +90,8 @@ def test_a_byte_order_mark_is_passed_over_and_another_encoding_is_refused(plan_f
         ("rate = 0.1", "rate = 0.1\nchosen = 900", "[shells] chosen: 900 is not among the factors"),
         ("ore_per_year = 100", "", "[shells] ore_per_year: is missing"),
         ("[money]", "[[money]]", "[money] must be a section of its own"),
+        ("[[metals]]", "[metals]", "metals: write at least one [[metals]]"),
+        ("[[slopes.walls]]", "[slopes.walls]", "[slopes] walls: write at least one [[slopes.walls]]"),
         ('rock = "rock"\n', "", "[table] rock: is missing, and prices or recoveries are given by rock"),
         ("[slopes]\n", "", "[metals 1] levels: is no key here"),
         ("[shells]\n", "[shell]\n", "shells: is missing"),
@@ -104,7 +106,7 @@ def test_a_mistake_is_named_by_section_and_key(plan_folder, old, new, words):
     assert str(said.value).startswith(f"{path}: {words}")
 
 
-@pytest.mark.parametrize("item", ["500.5", "1e9", "inf", "nan", "200_000"])
+@pytest.mark.parametrize("item", ["500.5", "1e9", "inf", "nan", "200_000", "true", "'high'", "[]"])
 def test_a_number_that_is_no_share_of_the_price_is_not_turned_into_one(plan_folder, item):
     with pytest.raises(PlanError, match="is not a whole number of per mille from 0 to 100,000$"):
         pitplan.load(plan_folder(rows(2, 2, 2), PROJECT, ("[500, 1000, 1500]", f"[{item}]")))

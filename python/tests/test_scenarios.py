@@ -53,6 +53,14 @@ def test_probabilities_by_hand(plan_folder):
     assert table["tonnes"]["sim_2"].tolist() == [0, 0, 300] and table["blocks"]["sim_3"].tolist() == [0, 0, 0]
 
 
+def test_the_least_factor_of_all_is_a_factor(plan_folder):
+    """At a thousandth of eight millions the metal of the first model yields 6000, and that of the second 1600, which is what its pit costs."""
+    changes = [UPRIGHT, ("price = 8000", "price = 8_000_000"), ("[500, 1000, 1500]", "[1, 2, 1000]")]
+    gathered = solved_in_turn(prepared(plan_folder(pillar(), COLUMNS, *changes)))
+    assert gathered.share.tolist() == [[1 / 3, 2 / 3, 2 / 3]] * 3
+    assert gathered.table.set_index(["model", "factor"])["blocks"]["sim_1"].tolist() == [3, 3, 3]
+
+
 def test_prices_make_scenarios_and_quantiles_by_hand(plan_folder):
     gathered = solved_in_turn(prepared(plan_folder(pillar(), PRICES, UPRIGHT)))
     # At 12,000 a tonne the second model's metal yields 2400 at factor 1000.
@@ -135,6 +143,18 @@ def test_models_of_a_folder_may_have_their_rows_in_any_order(plan_folder):
     assert [scenario.model for scenario in shared.scenarios] == ["by_id", "by_place"]
     for scenario in shared.scenarios:
         assert shared.grades(scenario)[:, 0].tolist() == (np.arange(12) / 10).tolist()
+
+
+def test_centres_of_a_model_may_lie_off_by_the_tolerance_and_no_more(plan_folder):
+    table, model = hill()
+    by_place = model[["x", "y", "z", "cu"]]
+    for tolerance, fits, off in (("0", 0.0, 0.25), ("0.25", 0.25, 0.5)):
+        path = plan_folder(table, MODELS, ("size = [10, 10, 10]", f"size = [10, 10, 10]\ntolerance = {tolerance}"))
+        write_models(path, only=by_place.assign(y=by_place["y"] + fits))
+        assert prepared(path).scenarios[0].model == "only"
+        write_models(path, only=by_place.assign(y=by_place["y"] - off))
+        with pytest.raises(PlanError, match="row 2 column x, y, z: no block of "):
+            prepared(path)
 
 
 @pytest.mark.parametrize(
@@ -295,8 +315,9 @@ def test_the_image_has_the_probabilities_of_all_cells(plan_folder):
 def test_lists_of_jobs_are_shell_and_name_what_is_missing(plan_folder, kind):
     path = plan_folder(pillar(), COLUMNS, UPRIGHT)
     assert work.solve(str(prepared(path).folder), 1).status == 0
-    *_, start = scenarios.solve(load(path), load(path).folder, Request(where=kind), silent)
+    *notes, start = scenarios.solve(load(path), load(path).folder, Request(where=kind), silent)
     folder = load(path).folder
+    assert notes[-1] == "1 of 3 scenarios have their answer already"
     assert start == str(folder / "start.sh") and (folder / "jobs.txt").read_text() == "2\n3\n"
     names = ["start.sh", "scenario.sh"] + (["array.sbatch", "gather.sbatch"] if kind == "slurm" else [])
     for name in names:

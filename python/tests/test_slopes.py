@@ -295,3 +295,15 @@ def test_steps_to_a_cell_of_a_cone_and_beside_it():
 def test_walls_are_told_with_their_levels(plan_folder, levels, said):
     plan = pitplan.prepare(plan_folder(rows(3, 3, 4), PROJECT, ("levels = 3", f"levels = {levels}"), ('pattern = "1:5"', "angle = 45")))
     assert any(said in note for note in plan.notes)
+
+
+def test_no_more_than_forty_levels_are_chosen(plan_folder):
+    """Walls of 88.6 degrees step back by a block within 41 levels, and not within 40."""
+    plan = pitplan.prepare(plan_folder(rows(2, 2, 2), PROJECT, ("levels = 3\n", ""), ('pattern = "1:5"', "angle = 88.6")))
+    assert plan.walls.patterns[0].levels == 40
+
+
+def test_the_rim_of_a_level_is_the_first_and_the_last_cell_of_each_row():
+    """Two levels of 5 m up, blocks of 10 m by 20 m: a block east is a metre for each metre up, a block north two."""
+    cells = np.array([[0, 0, 1, 0, 0], [0, 1, 1, 1, 1], [0, 0, 0, 0, 0]], dtype=bool)
+    assert slopes.rim_of(cells, 2, (10.0, 20.0, 5.0)) == {(0, -2), (-1, 0), (2, 0)}

@@ -13,9 +13,11 @@ from hypothesis import strategies as st
 from pitplan import PlanError, absent, commands, fixed, load, money, prepare, schedule, solve
 from pitplan.cli import main
 from pitplan.progress import silent
+from pitplan.project import Wall
 from pitplan.verify import demand, verify
 from pitplan.verify.answer import read
 from pitplan.verify.money import sample
+from pitplan.verify.walls import high_walls
 
 TEXT = PROJECT.replace("mining_cost = 2\n", "mining_cost = { R = 2, S = 2.5 }\nmining_cost_per_level = 0.25\ndecimals = 2\n").replace(
     "[slopes]\n",
@@ -227,6 +229,25 @@ def two_regions():
 LEVELS = ("levels = 3", "levels = 5")
 STEEP_ABOVE = '[[slopes.walls]]\nregion = "1"\nangle = 35\n[[slopes.walls]]\nregion = "2"\nangle = 65'
 MIXED = [("[[slopes.walls]]\npattern = \"1:5\"", STEEP_ABOVE)]
+
+
+def test_rows_without_rock_are_no_blocks_that_are_left_standing(plan_folder):
+    """Ore below rock, and over it two levels of rows that hold nothing."""
+    table = rows(9, 9, 5, tonnes=lambda i, j, k: 100 * (k < 3), cu=lambda i, j, k: 9 * ((i, j, k) == (4, 4, 0)))
+    plan = prepare(plan_folder(table, PROJECT))
+    assert [rule.differences for rule in looked_at(plan)] == [()] * 8
+    blocks = pd.read_csv(plan.project.folder / "blocks.csv")
+    assert (blocks.loc[blocks["tonnes"] == 0, "factor"] == 0).any() and (blocks["factor"] == 500).sum() > 13
+
+
+def test_high_walls_by_geometry():
+    """Over one level walls of 45 degrees are the block above and the four beside it, so that they are steeper at the diagonals."""
+    wall = Wall(None, None, ((0.0, 45.0),))
+    diagonal = np.degrees(np.arctan(np.sqrt(2)))
+    assert high_walls(wall, (10.0, 10.0, 10.0), 1)[[0, 45, 90, 225]] == pytest.approx([45, diagonal, 45, diagonal])
+    assert high_walls(wall, (20.0, 10.0, 20.0), 1)[[0, 90, 180]] == pytest.approx([45, 45, 45])
+    # Steeper than a block is wide: no cell beside the block is within.
+    assert set(high_walls(Wall(None, None, ((0.0, 80.0),)), (10.0, 10.0, 10.0), 1)) == {90.0}
 
 
 def test_needs_that_steeper_walls_on_the_way_do_not_lead_to_are_found(plan_folder, monkeypatch):
