@@ -15,7 +15,7 @@ import pandas as pd
 import pytest
 from conftest import PROJECT, ROOT, rows
 
-from pitplan import PlanError, audit as audits, commands, files, load, outlines, packages, run
+from pitplan import BudgetUsedUp, PlanError, ProgramError, audit as audits, commands, files, load, outlines, packages, run
 from pitplan.cli import main
 from pitplan.progress import silent
 
@@ -282,6 +282,43 @@ def test_a_refusal_of_the_program_is_passed_on(tmp_path):
     (tmp_path / "mine.prec").write_text("")
     with pytest.raises(PlanError, match="pitshell shells ended with status 1: error 6: not a decimal in blocks line 1"):
         run.solve_files(tmp_path / "mine.blocks", tmp_path / "mine.prec", (1000,))
+
+
+def ending_program(tmp_path, monkeypatch, how):
+    """A program that says a word on either output and ends as it is told."""
+    script = tmp_path / "ending"
+    script.write_text(f"#!/bin/sh\necho an answer\necho some words >&2\n{how}\n")
+    script.chmod(0o755)
+    monkeypatch.setenv("PITSHELL", str(script))
+
+
+@pytest.mark.parametrize(
+    ("how", "kind", "status", "said"),
+    [
+        ("exit 1", ProgramError, 1, "pitshell solve ended with status 1: some words"),
+        ("exit 3", BudgetUsedUp, 3, "pitshell solve: some words"),
+        ("exit 4", ProgramError, 4, "pitshell solve ended with status 4: some words"),
+        ("kill -9 $$", ProgramError, -9, "pitshell solve was ended by signal 9: some words"),
+        ("kill -1 $$", ProgramError, -1, "pitshell solve was ended by signal 1: some words"),
+    ],
+)
+def test_how_the_program_ended_is_told(tmp_path, monkeypatch, how, kind, status, said):
+    ending_program(tmp_path, monkeypatch, how)
+    with pytest.raises(ProgramError) as ended:
+        run.call("solve", "--model", tmp_path)
+    assert (type(ended.value), ended.value.status, str(ended.value)) == (kind, status, said)
+
+
+def test_a_status_that_is_fine_gives_the_answer(tmp_path, monkeypatch):
+    for status in (0, 4):
+        ending_program(tmp_path, monkeypatch, f"exit {status}")
+        assert run.call("check", fine=(0, 4)) == b"an answer\n"
+
+
+def test_amounts_are_written_to_a_thousandth_and_nothing_has_no_minus():
+    table = pd.DataFrame({"cash": [-0.0004, -0.0006, 1234.5678], "grade_copper": [0.1234567, 1e-7, -1e-9], "year": [1, 2, 3]})
+    written = commands.shown(table.assign(worth_at_factor=[Decimal("1E+3"), Decimal("-0.5"), Decimal(7)])).to_csv(index=False)
+    assert written.splitlines()[1:] == ["0.0,0.123457,1,1000", "-0.001,0.0,2,-0.5", "1234.568,0.0,3,7"]
 
 
 def test_the_command_line_tells_table_steps_and_warnings(solved_once):

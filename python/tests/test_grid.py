@@ -7,6 +7,7 @@ from conftest import PROJECT, rows
 
 import pitplan
 from pitplan import PlanError
+from pitplan.grid import metres
 
 NO_SIZE = ("[grid]\nsize = [10, 10, 10]\n", "")
 
@@ -96,3 +97,10 @@ def test_too_many_cells_are_refused(plan_folder):
     )
     with pytest.raises(PlanError, match="cells, and the program takes at most 4,194,304 blocks"):
         pitplan.prepare(plan_folder(table))
+
+
+@pytest.mark.parametrize(
+    ("value", "said"), [(6512640.0, "6512640"), (6512640.12346, "6512640.1235"), (0.00004, "0"), (0.00006, "0.0001"), (-2.5, "-2.5")]
+)
+def test_a_coordinate_is_told_to_a_tenth_of_a_millimetre(value, said):
+    assert metres(value) == said

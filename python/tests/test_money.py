@@ -157,6 +157,22 @@ def test_missing_prices_and_huge_amounts_are_refused(plan_folder, change, words)
         pitplan.prepare(plan_folder(table, PROJECT, change))
 
 
+def test_a_single_tonne_of_a_rock_without_a_cost_is_refused(plan_folder):
+    table = rows(2, 1, 1, tonnes=lambda i, j, k: i, rock=lambda i, j, k: "RS"[i])
+    with pytest.raises(PlanError, match=r'row 3 column rock: \[money\] mining_cost names no rock "S"'):
+        pitplan.prepare(plan_folder(table, PROJECT, ("mining_cost = 2", "mining_cost = { T = 2 }")))
+
+
+def test_a_block_that_yields_a_millionth_is_weighed(plan_folder):
+    """Half a tonne of copper at two millionths a tonne; a rock without a recovery yields nothing, whatever its grade."""
+    table = rows(3, 1, 1, cu=lambda i, j, k: [1, 0.9, 1][i], rock=lambda i, j, k: "RRS"[i])
+    changes = [("price = 8000", "price = 0.000002"), ("recovery = 0.5", "recovery = { R = 0.5 }")]
+    values = pitplan.prepare(plan_folder(table, PROJECT, *changes)).values
+    assert values.ore.tolist() == [0, 1] and values.revenue.tolist() == [1, 1, 0]
+    assert values.processing.tolist() == [1000 * MILLION, 1000 * MILLION, 0]
+    assert values.metal["copper"].tolist() == [0.5, 0.45, 0]
+
+
 @pytest.mark.parametrize(
     ("unit", "grade", "said"),
     [

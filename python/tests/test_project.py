@@ -85,6 +85,7 @@ def test_a_byte_order_mark_is_passed_over_and_another_encoding_is_refused(plan_f
             "[shells] factors: from 1300 to 300 there is no factor: from may not be above to",
         ),
         ("[500, 1000, 1500]", "{ from = 300, step = 50 }", "[shells.factors] to: is missing"),
+        ("[500, 1000, 1500]", "{ from = 300, to = 500 }", "[shells.factors] step: must be a whole number from 1 to 100,000"),
         ("rate = 0.1", "rate = 8", "[shells] rate: 8 is above 1: it is a yearly rate, such as 0.08 for 8 % a year"),
         ("[500, 1000, 1500]", "[]", "[shells] factors: must be a list of factors, or { from, to, step }"),
         ("rate = 0.1", "rate = 0.1\nchosen = 900", "[shells] chosen: 900 is not among the factors"),

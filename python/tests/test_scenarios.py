@@ -160,9 +160,9 @@ def test_centres_of_a_model_may_lie_off_by_the_tolerance_and_no_more(plan_folder
 @pytest.mark.parametrize(
     "bend, words",
     [
-        (lambda m: m.assign(name=["nobody", *m["name"][1:]]), "row 2 column name: nobody is no block of "),
+        (lambda m: m.assign(name=["nobody", *m["name"][1:]]), "row 2 column name: nobody is no block of {table}"),
         (lambda m: m.drop(columns="name").assign(x=m["x"] + 1), "row 2 column x, y, z: no block of "),
-        (lambda m: m[m["name"] != "b1-0-0"], "1 blocks are missing, first that of "),
+        (lambda m: m[~m["name"].isin(["b1-0-0", "b2-1-1"])], "2 blocks are missing, first that of {table} row 3"),
         (lambda m: pd.concat([m, m[:1]]), "row 14: the block stands in another row too"),
         (lambda m: m.assign(cu=[-0.5, *m["cu"][1:]]), "row 2 column cu: -0.5 is negative"),
         (lambda m: m.assign(cu=["", *m["cu"][1:]]), "row 2 column cu: is empty"),
@@ -175,7 +175,7 @@ def test_a_model_that_does_not_fit_is_named_by_file_and_row(plan_folder, bend, w
     write_models(path, bent=bend(model))
     with pytest.raises(PlanError) as said:
         prepared(path)
-    assert str(said.value).startswith(f"{path.parent}/models/bent.csv") and words in str(said.value)
+    assert str(said.value).startswith(f"{path.parent}/models/bent.csv") and words.format(table=path.parent / "blocks.csv") in str(said.value)
     assert not (path.parent / "plan" / "scenarios.json").exists()
 
 

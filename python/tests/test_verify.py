@@ -274,6 +274,21 @@ def test_amounts_with_more_digits_than_floats_have_are_no_difference(plan_folder
     assert [rule.differences for rule in looked_at(plan)] == [()] * 8
 
 
+@pytest.mark.parametrize(("more", "differs"), [("0.01", False), ("0.05", True)])
+def test_what_is_left_of_great_amounts_is_as_uncertain_as_they_are(plan_folder, more, differs):
+    """Both blocks must be dug: one earns 9,999,998,800, the other costs a dollar less; a millionth of a millionth of both is 0.02."""
+    table = rows(2, 1, 1, cu=lambda i, j, k: 1 - i, rock=lambda i, j, k: "RS"[i], must=lambda i, j, k: 1)
+    changes = [("price = 8000", "price = 20_000_000_000"), ("mining_cost = 2", "mining_cost = { R = 2, S = 99_999_987.99 }")]
+    plan = prepare(plan_folder(table, PROJECT + '\n[fixed]\nforced = "must"\n', *changes))
+    assert {rule.name for rule in looked_at(plan) if rule.differences} == set()
+    path = plan.project.folder / "shells.csv"
+    shells = pd.read_csv(path, dtype={"worth_at_factor": str})
+    assert shells["worth"].tolist() == [1.0] * 3
+    shells.assign(worth=shells["worth"] + float(more)).to_csv(path, index=False)
+    (rule,) = [rule for rule in verify(plan.project.folder, plan.project) if rule.name == "shells"]
+    assert bool(rule.differences) == differs
+
+
 def test_capacity_that_is_caught_up_is_found(plan_folder, monkeypatch):
     """Years as the greater of two cumulative sums: mill time that is lost while stripping comes back."""
 
