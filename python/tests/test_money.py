@@ -62,6 +62,15 @@ def test_cost_rises_with_the_level_from_a_reference(plan_folder, reference, cost
     assert (plan.values.mining / MILLION).tolist() == costs
 
 
+@pytest.mark.parametrize(
+    ("text", "is_told"),
+    [("", False), ("mining_cost_per_level = 0.25\nmining_cost_reference = 30\n", False), ("mining_cost_per_level = 0.25\n", True)],
+)
+def test_the_level_from_which_mining_costs_more_is_told_where_it_was_chosen(plan_folder, text, is_told):
+    notes = pitplan.prepare(plan_folder(rows(1, 1, 3), PROJECT, ("mining_cost = 2\n", f"mining_cost = 2\n{text}"))).notes
+    assert any("mining costs more for each level below" in note for note in notes) == is_told
+
+
 def test_one_far_block_above_changes_no_cost(plan_folder):
     """Ore at the floor; a block of a tonne ten levels up, in a column of its own, is not needed."""
     table = rows(7, 1, 3, cu=lambda i, j, k: 9 if (i, k) == (3, 0) else 0)

@@ -70,6 +70,9 @@ def test_a_byte_order_mark_is_passed_over_and_another_encoding_is_refused(plan_f
             "azimuths = [0, 40]",
             "[slopes.walls 1] azimuths: must be a list of pairs [azimuth, angle]",
         ),
+        ('pattern = "1:5"', "azimuths = []", "[slopes.walls 1] azimuths: must be a list of pairs [azimuth, angle]"),
+        ('pattern = "1:5"', "azimuths = 40", "[slopes.walls 1] azimuths: must be a list of pairs [azimuth, angle]"),
+        ('pattern = "1:5"', "azimuths = [[0, 40, 1]]", "[slopes.walls 1] azimuths: must be a list of pairs [azimuth, angle]"),
         ("[500, 1000, 1500]", "[500.5]", "[shells] factors: 500.5 is not a whole number of per mille from 0 to 100,000"),
         (
             "[500, 1000, 1500]",

@@ -322,6 +322,8 @@ def test_lists_of_jobs_are_shell_and_name_what_is_missing(plan_folder, kind):
     names = ["start.sh", "scenario.sh"] + (["array.sbatch", "gather.sbatch"] if kind == "slurm" else [])
     for name in names:
         subprocess.run(["sh", "-n", str(folder / name)], check=True)
+        assert (folder / name).stat().st_mode & 0o777 == 0o755
+    assert (folder / "jobs.txt").stat().st_mode & 0o777 == 0o644
 
 
 def test_a_task_of_slurm_solves_its_lines(plan_folder, monkeypatch):
