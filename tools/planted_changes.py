@@ -23,7 +23,7 @@ import signal
 import subprocess
 import sys
 import tempfile
-from collections.abc import Iterator
+from collections.abc import Iterable, Iterator
 from typing import NamedTuple
 
 import clone
@@ -49,24 +49,28 @@ class Trial(NamedTuple):
     environment: dict[str, str]
     copies: queue.SimpleQueue
 
-    def tests_of(self, change: Change) -> list[str]:
-        """The tests that run a change, in order; all where it runs as its module is read.
-
-        Quick ones come first, file by file, since what the tests of a file share is made anew whenever another file's come between.
-        """
-        tests = self.lines.of(change.file, change.lines) if change.in_function else self.lines.seconds.keys()
+    def in_order(self, tests: Iterable[str]) -> list[str]:
+        """Quick ones first, file by file, since what the tests of a file share is made anew whenever another file's come between."""
         seconds = self.lines.seconds
         return sorted(tests, key=lambda test: (seconds[test] > QUICK and seconds[test], test.partition("::")[0], seconds[test]))
 
     def is_seen(self, change: Change) -> bool:
-        """Whether a test fails on the change, or does not end."""
-        tests = self.tests_of(change)
+        """Whether a test that runs the change fails on it, or does not end; all are asked where it runs as its module is read."""
+        tests = self.lines.of(change.file, change.lines) if change.in_function else self.lines.seconds.keys()
         if not tests:
             return False
         copy = self.copies.get()
         try:
             with planted(copy, change):
-                return fails(tests, copy, self.environment)
+                return fails(self.in_order(tests), copy, self.environment)
+        finally:
+            self.copies.put(copy)
+
+    def fails_unchanged(self) -> bool:
+        """Whether a test fails without a change, in the order and within the limits in which changes are tried."""
+        copy = self.copies.get()
+        try:
+            return fails(self.in_order(self.lines.seconds), copy, self.environment)
         finally:
             self.copies.put(copy)
 
@@ -161,7 +165,7 @@ def main() -> int:
     all_changes = [change for change in changes(LAYER) if (change.file in PICTURES) == given.pictures]
     found = {}
     with trial(given.jobs) as tried:
-        if tried is None:
+        if tried is None or tried.fails_unchanged():
             print("a test fails without a change")
             return 2
         for seed in given.seeds:

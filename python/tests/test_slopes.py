@@ -307,3 +307,14 @@ def test_the_rim_of_a_level_is_the_first_and_the_last_cell_of_each_row():
     """Two levels of 5 m up, blocks of 10 m by 20 m: a block east is a metre for each metre up, a block north two."""
     cells = np.array([[0, 0, 1, 0, 0], [0, 1, 1, 1, 1], [0, 0, 0, 0, 0]], dtype=bool)
     assert slopes.rim_of(cells, 2, (10.0, 20.0, 5.0)) == {(0, -2), (-1, 0), (2, 0)}
+
+
+def test_what_all_cones_have_are_the_steps_that_each_has():
+    """Of other widths, breadths and numbers of levels."""
+    lists = [
+        slopes.NINE,
+        ((0, 0, 1), (1, 0, 1), (1, 1, 1), (3, 0, 2), (0, -1, 1)),
+        ((0, 0, 1), (1, 1, 1), (0, -1, 1), (0, 4, 1), (0, 1, 3), (-2, 0, 1)),
+    ]
+    met = cones.meet([cones.of_steps(steps) for steps in lists])
+    assert {tuple(step) for step in cones.steps_of(met).tolist()} == {(0, 0, 1), (1, 1, 1), (0, -1, 1)}
