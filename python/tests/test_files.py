@@ -1,5 +1,6 @@
 """What the subcommands write: whole or not at all; audits, exports and pages of a small mine."""
 
+import functools
 import json
 import os
 import signal
@@ -299,7 +300,7 @@ def ending_program(tmp_path, monkeypatch, how):
         ("exit 3", BudgetUsedUp, 3, "pitshell solve: some words"),
         ("exit 4", ProgramError, 4, "pitshell solve ended with status 4: some words"),
         ("kill -9 $$", ProgramError, -9, "pitshell solve was ended by signal 9: some words"),
-        ("kill -1 $$", ProgramError, -1, "pitshell solve was ended by signal 1: some words"),
+        ("kill -15 $$", ProgramError, -15, "pitshell solve was ended by signal 15: some words"),
     ],
 )
 def test_how_the_program_ended_is_told(tmp_path, monkeypatch, how, kind, status, said):
@@ -356,7 +357,10 @@ def test_a_run_that_is_ended_says_so_in_one_line_and_leaves_nothing(plan_folder,
     slow.chmod(0o755)
     path = plan_folder(rows(4, 4, 3, **ORE))
     words = [str(ROOT / "tools" / "pitplan"), "shells", str(path), "--quiet"]
-    ran = subprocess.Popen(words, env={**os.environ, "PITSHELL": str(slow)}, stderr=subprocess.PIPE, text=True)
+    # Whoever runs the tests in the background has it that they do not hear of Ctrl-C.
+    hears = functools.partial(signal.signal, signal.SIGINT, signal.SIG_DFL)
+    there = {**os.environ, "PITSHELL": str(slow)}
+    ran = subprocess.Popen(words, env=there, stderr=subprocess.PIPE, text=True, preexec_fn=hears)
     for _ in range(600):
         if (tmp_path / "began").exists():
             break
