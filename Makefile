@@ -1,5 +1,5 @@
 # `make try` runs the program at once, unproved; `make` proves it, builds it and solves the small mine; `make test` runs the gate.
-.PHONY: all try build library wheel demo install test test-program test-plan test-library mutants sweep storm bench setup
+.PHONY: all try build library dist demo install test test-program test-plan test-library mutants sweep storm bench setup
 
 SMALL_MINE = examples/small_mine
 PROGRAM = build/pitshell
@@ -20,33 +20,40 @@ try:
 build:
 	tools/build.py
 
-# Proves what C and Python call, and links build/libpitshell.so and build/libpitshell.a for include/pitshell.h.
+# Proves what C and Python call, side by side, and links build/libpitshell.so and build/libpitshell.a for include/pitshell.h.
 library:
 	tools/build.py --library
 
-# The Python package with that library in it, for this machine's processor and its C library or a later one, in build/.
-wheel:
-	test -x build/libpitshell.so || $(MAKE) library
-	tools/wheel.sh
+# What others install, in build/dist: a Debian package, an archive, and wheels of the library and of the planner's layer.
+dist: build library
+	tools/dist.py
 
 demo:
 	build/pitshell solve --model $(SMALL_MINE)/mine.upit --prec $(SMALL_MINE)/mine.prec > build/pit.txt
 	head -n 8 build/pit.txt
 	cmp build/pit.txt $(SMALL_MINE)/pit.txt
 
-# The program, its manual page, the completions and what was built, below PREFIX. DESTDIR stands before it, for whoever makes a
-# package.
+# Program, library, planner's layer, manual pages, completions and what was built, below PREFIX; where the library was not built, all
+# but that. DESTDIR stands before it, for whoever makes a package.
+LAYER = $(DESTDIR)$(PREFIX)/lib/pitshell/python
+DOC = $(DESTDIR)$(PREFIX)/share/doc/pitshell
 install:
 	test -x $(PROGRAM) || $(MAKE) build
 	install -D -m 755 $(PROGRAM) $(DESTDIR)$(PREFIX)/bin/pitshell
-	test ! -e $(PROGRAM).version || install -D -m 644 $(PROGRAM).version $(DESTDIR)$(PREFIX)/share/doc/pitshell/version
+	install -D -m 755 tools/pitplan $(DESTDIR)$(PREFIX)/bin/pitplan
+	install -D -m 644 LICENSE $(DOC)/LICENSE
+	test ! -e $(PROGRAM).version || install -D -m 644 $(PROGRAM).version $(DOC)/version
 	install -D -m 644 man/pitshell.1 $(DESTDIR)$(PREFIX)/share/man/man1/pitshell.1
 	install -D -m 644 completions/pitshell.bash $(DESTDIR)$(PREFIX)/share/bash-completion/completions/pitshell
 	install -D -m 644 completions/_pitshell $(DESTDIR)$(PREFIX)/share/zsh/site-functions/_pitshell
 	install -D -m 644 completions/pitshell.fish $(DESTDIR)$(PREFIX)/share/fish/vendor_completions.d/pitshell.fish
+	cd python && find pitplan minelib pitshell -type f ! -name "*.pyc" -exec install -D -m 644 {} $(LAYER)/{} ";"
+	install -D -m 755 -t $(LAYER)/pitplan/checkers tools/check_certificate.py tools/replay_journal.py
+	test ! -e build/libpitshell.so || install -D -m 644 -t $(DESTDIR)$(PREFIX)/lib build/libpitshell.so build/libpitshell.a
+	test ! -e build/libpitshell.so || install -D -m 644 include/pitshell.h $(DESTDIR)$(PREFIX)/include/pitshell.h
 
-# The gate: every proof, with the mutants that are due planted, and then the tests over the program that was just proved and built: the
-# program's own, and the planner's layer.
+# The gate: every proof, with the mutants that are due planted, and then the tests over the program and the library that were just
+# proved and built: the program's own, and those of the planner's layer and of the library.
 test: setup
 	tools/uncited.py
 	tools/named.py
@@ -67,8 +74,7 @@ test-plan: setup
 mutants:
 	tools/mutants.py
 
-# The library through its Python package and its header. The gate proves it and leaves no archive of it, so where none was built before
-# all below it is proved once more, for half an hour or more: that is why the gate does without.
+# The library through its Python package and its header alone.
 test-library: setup
 	test -x build/libpitshell.so || $(MAKE) library
 	PYTHONPATH=python /usr/bin/python3 -m pytest python/tests/test_library.py -q -p no:cacheprovider

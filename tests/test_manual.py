@@ -101,6 +101,8 @@ def test_install_puts_all_in_place(tmp_path: pathlib.Path) -> None:
     below = tmp_path / "usr"
     places = {
         "bin/pitshell": PROGRAM,
+        "bin/pitplan": TOP / "tools" / "pitplan",
+        "share/doc/pitshell/LICENSE": TOP / "LICENSE",
         "share/man/man1/pitshell.1": MANUAL,
         "share/bash-completion/completions/pitshell": COMPLETIONS / "pitshell.bash",
         "share/zsh/site-functions/_pitshell": COMPLETIONS / "_pitshell",
@@ -108,6 +110,14 @@ def test_install_puts_all_in_place(tmp_path: pathlib.Path) -> None:
     }
     told = PROGRAM.with_suffix(".version")
     places |= {"share/doc/pitshell/version": told} if told.exists() else {}
+    if (TOP / "build" / "libpitshell.so").exists():
+        places |= {f"lib/{name}": TOP / "build" / name for name in ("libpitshell.so", "libpitshell.a")}
+        places |= {"include/pitshell.h": TOP / "include" / "pitshell.h"}
+    layer = "lib/pitshell/python"
+    packages = [TOP / "python" / name for name in ("pitplan", "minelib", "pitshell")]
+    sources = [file for package in packages for file in package.rglob("*") if file.is_file() and file.suffix != ".pyc"]
+    places |= {f"{layer}/{file.relative_to(TOP / 'python')}": file for file in sources}
+    places |= {f"{layer}/pitplan/checkers/{name}": TOP / "tools" / name for name in ("check_certificate.py", "replay_journal.py")}
     assert {str(file.relative_to(below)) for file in below.rglob("*") if file.is_file()} == set(places)
     assert all(filecmp.cmp(below / place, file, shallow=False) for place, file in places.items())
-    assert (below / "bin" / "pitshell").stat().st_mode & 0o111 == 0o111
+    assert all((below / "bin" / name).stat().st_mode & 0o111 == 0o111 for name in ("pitshell", "pitplan"))

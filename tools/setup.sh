@@ -1,23 +1,55 @@
 #!/bin/sh
-# Installs from Debian, by name, what of the planner's layer and its tests is missing. Where all is there it takes no time.
+# Installs from Debian, by name, what is missing of a group of packages. Where all is there it takes no time.
 #
 #     tools/setup.sh [core|tests|all|changes|bench]
+#     tools/setup.sh names GROUP                       names them and installs nothing
 #
-# core is what tools/pitplan needs; tests, the default, adds what its exports, its 3D page, its scenarios over Dask and its
-# tests need; all adds Chromium, in which the page is opened by the tests where it is there. changes is what
-# tools/planted_changes.py needs beside all. bench is the other people's maximum flows beside which the program is timed.
+# core is what tools/pitplan needs. tests, the default, has core and what exports, pages, scenarios and packages need and the tests
+# try; all has tests and a browser; changes has all and what tools/planted_changes.py needs; bench stands alone.
 set -eu
-core="python3-numpy python3-pandas python3-matplotlib python3-scipy python3-jinja2"
-more="python3-vtk9 python3-ezdxf libjs-three python3-dask python3-distributed python3-pytest python3-hypothesis python3-setuptools python3-wheel"
-case "${1:-tests}" in
-core) wanted=$core ;;
-tests) wanted="$core $more" ;;
-all) wanted="$core $more chromium" ;;
-changes) wanted="$core $more chromium python3-coverage" ;;
-bench) wanted="g++ libboost-graph-dev liblemon-dev libmaxflow-dev libigraph-dev" ;;
-*) echo "usage: tools/setup.sh [core|tests|all|changes|bench]" >&2; exit 2 ;;
-esac
+packages="
+python3-numpy         core     arrays, everywhere
+python3-pandas        core     tables, everywhere
+python3-scipy         core     surfaces between points, the second look at a plan
+python3-matplotlib    core     pictures
+python3-jinja2        core     the report's page and the 3D page
+python3-vtk9          tests    pitplan export --to vti, and probability.vti of scenarios
+python3-ezdxf         tests    pitplan export --to dxf
+libjs-three           tests    pitplan view
+python3-dask          tests    pitplan scenarios --on local, or on a cluster
+python3-distributed   tests    the same
+python3-pytest        tests    make test
+python3-hypothesis    tests    the same: properties
+python3-setuptools    tests    make dist: wheels
+python3-wheel         tests    the same
+python3-venv          tests    the test that installs these wheels
+dpkg-dev              tests    make dist: the Debian package
+chromium              all      the test that opens the 3D page
+python3-coverage      changes  tools/planted_changes.py
+g++                   bench    other people's maximum flows, beside which the program is timed
+libboost-graph-dev    bench    the same
+liblemon-dev          bench    the same
+libmaxflow-dev        bench    the same
+libigraph-dev         bench    the same
+"
 
+names() {
+    case "$1" in
+    core) groups="core" ;;
+    tests) groups="core tests" ;;
+    all) groups="core tests all" ;;
+    changes) groups="core tests all changes" ;;
+    bench) groups="bench" ;;
+    *) echo "usage: tools/setup.sh [names] [core|tests|all|changes|bench]" >&2; exit 2 ;;
+    esac
+    echo "$packages" | awk -v groups=" $groups " 'index(groups, " " $2 " ") { print $1 }'
+}
+
+if [ "${1:-}" = names ]; then
+    names "${2:-tests}"
+    exit 0
+fi
+wanted=$(names "${1:-tests}")
 missing=""
 for package in $wanted; do
     dpkg-query -W -f '${db:Status-Status}' "$package" 2>/dev/null | grep -qx installed || missing="$missing $package"

@@ -13,12 +13,11 @@ from pathlib import Path
 import numpy as np
 import pandas as pd
 
-from . import files, run
+from . import files, installation, run
 from .errors import PlanError
 from .files import Folder
 
-REPOSITORY = Path(__file__).resolve().parents[2]
-CHECKER = REPOSITORY / "tools" / "check_certificate.py"
+CHECKER = installation.checker()
 MODEL, PREC, FIXED, CERTIFICATE = "shell.upit", "shell.prec", "shell.fixed", "shell.cert"
 PIT, RECORD, SCRIPT = "pit.txt", "audit.json", "check.sh"
 GREATEST = 10**18

@@ -3,8 +3,6 @@
 from __future__ import annotations
 
 import io
-import os
-import shutil
 import subprocess
 import tempfile
 from dataclasses import dataclass
@@ -18,11 +16,10 @@ import pandas as pd
 from . import absent, files
 from .errors import BudgetUsedUp, PlanError, ProgramError
 from .fixed import Settled
+from .installation import program
 from .money import Values
 from .plan import Plan
 from .progress import Progress, silent
-
-BUILT = Path(__file__).resolve().parents[2] / "build" / "pitshell"
 
 
 @dataclass(frozen=True)
@@ -39,18 +36,6 @@ class Solution:
     nodes: pd.Series
     entry: np.ndarray
     answer: bytes
-
-
-def program() -> Path:
-    """The program: that of the variable PITSHELL, else build/pitshell of this repository, else the one on the path.
-
-    Raises ProgramError where there is none.
-    """
-    named = os.environ.get("PITSHELL")
-    found = named or (str(BUILT) if BUILT.is_file() else shutil.which("pitshell"))
-    if not found or not os.access(found, os.X_OK):
-        raise ProgramError(f"{named or BUILT}: there is no program to run: make build makes it, or name it by PITSHELL")
-    return Path(found)
 
 
 def call(*arguments: Union[str, Path], fine: tuple[int, ...] = (0,)) -> bytes:

@@ -19,10 +19,12 @@ class Found(ctypes.Structure):
 
 
 def _find() -> Path:
-    """Beside this package, as a wheel has it; else what `make library` built; PITSHELL_LIBRARY names another."""
+    """Beside this package, as a wheel has it; else what `make library` built; else where `make install` puts it. PITSHELL_LIBRARY
+    names another."""
     named = os.environ.get("PITSHELL_LIBRARY")
     here = Path(__file__).resolve().parent
-    places = [Path(named)] if named else [here / "libpitshell.so", here.parents[1] / "build" / "libpitshell.so"]
+    folders = [here, here.parents[1] / "build", here.parents[2]]
+    places = [Path(named)] if named else [folder / "libpitshell.so" for folder in folders]
     for place in places:
         if place.exists():
             return place

@@ -274,7 +274,7 @@ def test_missing_libraries_are_named_with_their_packages(monkeypatch, tmp_path):
 
 def test_a_missing_program_is_named(monkeypatch):
     monkeypatch.setenv("PITSHELL", "/nowhere/pitshell")
-    with pytest.raises(PlanError, match="/nowhere/pitshell: there is no program to run: make build makes it"):
+    with pytest.raises(PlanError, match="/nowhere/pitshell: is no program that may be run: name another by PITSHELL"):
         run.program()
 
 

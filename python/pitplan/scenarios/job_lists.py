@@ -12,10 +12,9 @@ from pathlib import Path
 
 from ..errors import PlanError
 from ..files import staged_file
-from ..run import program
+from ..installation import PACKAGES, program
 from .folder import Scenario
 
-REPOSITORY = Path(__file__).resolve().parents[3]
 SCRIPT, ARRAY, GATHER, START, JOBS, LOG = (
     "scenario.sh",
     "array.sbatch",
@@ -31,7 +30,7 @@ MOST_TASKS = 1000
 ONE = """#!/bin/sh
 # Solves one scenario of this folder, by its number.
 # 0: its answer stands. 1 to 4: the program's own status. 5: pitplan refused. Others: killed, to be tried again.
-PITSHELL={program} exec {python} {pitplan} scenario {folder} "$1"
+PITSHELL={program} PYTHONPATH={packages} exec {python} -m pitplan scenario {folder} "$1"
 """
 
 SLURM = """#!/bin/sh
@@ -63,7 +62,7 @@ SLURM_GATHER = """#!/bin/sh
 #SBATCH --job-name=pitplan-gather
 #SBATCH --ntasks=1
 #SBATCH --output={folder_plain}/gather.log
-exec {python} {pitplan} gather {folder}
+PYTHONPATH={packages} exec {python} -m pitplan gather {folder}
 """
 
 SLURM_START = """#!/bin/sh
@@ -85,7 +84,7 @@ for round in $(seq {tries}); do
     # Columns 7 and 8 are the exit status and the signal. Statuses 1 to 5 would come again.
     awk 'NR > 1 {{ ends[$1] = $7 > 5 || $8 > 0 }} END {{ for (job in ends) killed += ends[job]; exit killed > 0 }}' {log} && break
 done
-exec {python} {pitplan} gather {folder}
+PYTHONPATH={packages} exec {python} -m pitplan gather {folder}
 """
 
 
@@ -116,7 +115,7 @@ def words_of(folder: Path, count: int) -> dict[str, object]:
     """What the scripts are filled with: paths, quoted for the shell."""
     paths = {
         "python": Path(sys.executable),
-        "pitplan": REPOSITORY / "tools" / "pitplan",
+        "packages": PACKAGES,
         "program": program().resolve(),
         "folder": folder,
         "jobs": folder / JOBS,

@@ -1,0 +1,36 @@
+"""Where the package finds what is not Python's: the program, the short checker, and itself for a process of its own."""
+
+from __future__ import annotations
+
+import os
+import shutil
+from pathlib import Path
+
+from .errors import ProgramError
+
+PACKAGE = Path(__file__).resolve().parent
+PACKAGES = PACKAGE.parent
+
+
+def program() -> Path:
+    """The program: that of the variable PITSHELL; else the one beside the package, which is that of the wheel `pitshell`, of this
+    repository's build/, or of the folder bin in which both were installed; else the one on the path.
+
+    Raises ProgramError where there is none, or where it may not be run.
+    """
+    named = os.environ.get("PITSHELL")
+    beside = [PACKAGES / "pitshell" / "pitshell", PACKAGES.parent / "build" / "pitshell", PACKAGES.parents[2] / "bin" / "pitshell"]
+    found = named or next((str(place) for place in beside if place.is_file()), None) or shutil.which("pitshell")
+    if not found:
+        raise ProgramError(
+            "there is no program pitshell: install the package or the wheel that has it, build it by make, or name it by PITSHELL"
+        )
+    if not os.access(found, os.X_OK):
+        raise ProgramError(f"{found}: is no program that may be run: name another by PITSHELL")
+    return Path(found)
+
+
+def checker() -> Path:
+    """The short checker of certificates, which shares nothing with the program."""
+    installed = PACKAGE / "checkers" / "check_certificate.py"
+    return installed if installed.is_file() else PACKAGES.parent / "tools" / "check_certificate.py"

@@ -1,0 +1,69 @@
+"""What others install: from a folder outside of the repository each package plans the example, and its audit is checked."""
+
+import shutil
+import subprocess
+from pathlib import Path
+
+import pandas as pd
+import pytest
+from conftest import ROOT
+
+import pitplan
+
+BUILD, EXAMPLE = ROOT / "build", ROOT / "examples" / "plan"
+VERSION = pitplan.__version__
+SOLVE = "import pitshell; print(pitshell.solve([-3.0, 5.0], [[1, 0]]).worth)"
+
+
+@pytest.fixture(scope="module")
+def dist() -> Path:
+    if not (BUILD / "pitshell").is_file() or not (BUILD / "libpitshell.so").is_file():
+        pytest.skip("make and make library build what is packed")
+    subprocess.run([ROOT / "tools" / "dist.py"], check=True, capture_output=True)
+    return BUILD / "dist"
+
+
+def run(*words: object, commands: Path) -> str:
+    """Standard output of a command that sees these commands and Debian's, and nothing of the repository."""
+    there = {"PATH": f"{commands}:/usr/bin:/bin", "HOME": str(commands)}
+    said = subprocess.run([str(word) for word in words], env=there, cwd="/", check=True, capture_output=True, text=True)
+    return said.stdout
+
+
+def plan_and_check(folder: Path, commands: Path) -> None:
+    project = folder / "plan" / "project.toml"
+    shutil.copytree(EXAMPLE, project.parent)
+    run(commands / "pitplan", "shells", project, "--out", folder / "out", commands=commands)
+    shells = pd.read_csv(folder / "out" / "shells.csv", index_col="factor")
+    # As documents have them, from a run of another day.
+    assert shells["blocks"][[400, 700, 1000, 1200]].tolist() == [274, 623, 828, 901]
+    run(commands / "pitplan", "audit", project, "--out", folder / "out", "--factor", "800", commands=commands)
+    said = run("sh", folder / "out" / "audit-800" / "check.sh", commands=commands)
+    assert said == "hashes: yes\npitshell check: yes\ncheck_certificate.py: yes\n"
+
+
+def test_wheels_serve_in_an_environment_of_their_own(dist, tmp_path):
+    subprocess.run(["/usr/bin/python3", "-m", "venv", "--system-site-packages", tmp_path / "venv"], check=True)
+    commands = tmp_path / "venv" / "bin"
+    run(commands / "pip", "install", "--quiet", "--no-index", "--no-deps", *dist.glob("*.whl"), commands=commands)
+    assert run(commands / "python", "-c", SOLVE, commands=commands) == "2000000\n"
+    assert run("pitshell", "--version", commands=commands) == f"pitshell {VERSION}\n"
+    plan_and_check(tmp_path, commands)
+
+
+def test_the_debian_package_serves_where_it_is_unpacked(dist, tmp_path):
+    package = next(dist.glob("*.deb"))
+    subprocess.run(["dpkg", "-x", package, tmp_path / "root"], check=True)
+    plan_and_check(tmp_path, tmp_path / "root" / "usr" / "bin")
+    said = run("dpkg", "--field", package, "Version", "Recommends", commands=tmp_path)
+    assert f"Version: {VERSION}\n" in said and "python3-pandas" in said
+    held = {line.split()[-1] for line in run("dpkg", "--contents", package, commands=tmp_path).splitlines()}
+    wanted = {"bin/pitshell", "bin/pitplan", "lib/libpitshell.so", "include/pitshell.h", "share/man/man1/pitshell.1.gz"}
+    wanted |= {"share/doc/pitshell/copyright", "share/doc/pitshell/version", "share/bash-completion/completions/pitshell"}
+    assert {f"./usr/{name}" for name in wanted} <= held
+
+
+def test_the_archive_serves_where_it_is_unpacked(dist, tmp_path):
+    archive = next(dist.glob("*.tar.gz"))
+    subprocess.run(["tar", "xf", archive, "-C", tmp_path], check=True)
+    plan_and_check(tmp_path, tmp_path / archive.name.removesuffix(".tar.gz") / "bin")

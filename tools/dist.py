@@ -1,0 +1,143 @@
+#!/usr/bin/python3
+"""Makes what others install, in build/dist, of what was proved and built in build/.
+
+    tools/dist.py
+
+    pitshell_VERSION_ARCHITECTURE.deb       program, library, header, manual pages, completions, licence, what was built, and the
+                                            planner's layer
+    pitshell-VERSION-linux-MACHINE.tar.gz   the same, to unpack anywhere
+    pitshell-VERSION-py3-none-*.whl         the solver on numpy arrays, with the program
+    pitplan-VERSION-py3-none-any.whl        the planner's layer, on that
+
+It needs dpkg-dev, python3-setuptools and python3-wheel of Debian.
+"""
+import pathlib
+import platform
+import re
+import shutil
+import subprocess
+import sys
+import tarfile
+
+from crates import TOP
+
+BUILD = TOP / "build"
+DIST = BUILD / "dist"
+MADE = ("pitshell", "pitshell.version", "libpitshell.so", "libpitshell.a")
+LEAST_C_LIBRARY = 17
+CONTROL = """Package: pitshell
+Version: {version}
+Architecture: {architecture}
+Maintainer: pitshell maintainers
+Section: science
+Priority: optional
+Installed-Size: {kilobytes}
+Depends: libc6 (>= {c_library})
+Recommends: {layer}
+Suggests: python3-vtk9, python3-ezdxf, libjs-three, python3-dask, python3-distributed
+Description: ultimate pits of open mines, by a solver with a machine-checked proof
+ The program pitshell finds the smallest closed set of blocks of greatest
+ worth, and a machine-checked proof shows that what it writes is right. The
+ command pitplan goes from a table of blocks, prices, costs and wall angles
+ to shells, tables and pictures; it needs the recommended packages.
+"""
+
+
+def version() -> str:
+    return re.search(r'^__version__ = "(.+)"$', (TOP / "python" / "pitplan" / "__init__.py").read_text(), re.MULTILINE)[1]
+
+
+def run(*words: object, folder: pathlib.Path = TOP) -> str:
+    """Standard output of a command; what it says beside that is told where it fails."""
+    ran = subprocess.run([str(word) for word in words], cwd=folder, capture_output=True, text=True)
+    if ran.returncode:
+        sys.exit(f"{' '.join(map(str, words))}: status {ran.returncode}\n{ran.stdout}{ran.stderr}")
+    return ran.stdout
+
+
+def c_library() -> str:
+    """The least version of the C library that has all that program and library ask of it, from 2.17 on."""
+    said = "".join(run("objdump", "-T", BUILD / name) for name in ("pitshell", "libpitshell.so"))
+    needed = [int(minor) for minor in re.findall(r"GLIBC_2[.](\d+)", said)]
+    return f"2.{max([LEAST_C_LIBRARY, *needed])}"
+
+
+def installed(prefix: str) -> pathlib.Path:
+    """A folder in which all that `make install` installs stands below the prefix."""
+    root = BUILD / "stage"
+    shutil.rmtree(root, ignore_errors=True)
+    run("make", "-s", "install", f"DESTDIR={root}", f"PREFIX={prefix}")
+    return root
+
+
+def debian_package() -> pathlib.Path:
+    root = installed("/usr")
+    for page in (root / "usr/share/man/man1").glob("*.1"):
+        run("gzip", "-9n", page)
+    paths = root / "usr/lib/python3/dist-packages"
+    paths.mkdir(parents=True)
+    (paths / "pitshell.pth").write_text("/usr/lib/pitshell/python\n")
+    (root / "usr/share/doc/pitshell/LICENSE").rename(root / "usr/share/doc/pitshell/copyright")
+    words = {"version": version(), "architecture": run("dpkg", "--print-architecture").strip(), "c_library": c_library()}
+    words["kilobytes"] = run("du", "-sk", root).split()[0]
+    words["layer"] = ", ".join(run("tools/setup.sh", "names", "core").split())
+    (root / "DEBIAN").mkdir()
+    (root / "DEBIAN" / "control").write_text(CONTROL.format(**words))
+    made = DIST / f"pitshell_{words['version']}_{words['architecture']}.deb"
+    run("dpkg-deb", "--root-owner-group", "--build", root, made)
+    return made
+
+
+def archive() -> pathlib.Path:
+    name = f"pitshell-{version()}-linux-{platform.machine()}"
+    root = installed("")
+    made = DIST / f"{name}.tar.gz"
+    with tarfile.open(made, "w:gz") as packed:
+        packed.add(root, arcname=name, filter=owned_by_root)
+    return made
+
+
+def owned_by_root(entry: tarfile.TarInfo) -> tarfile.TarInfo:
+    entry.uid = entry.gid = 0
+    entry.uname = entry.gname = "root"
+    return entry
+
+
+def wheel(name: str, files: dict[str, pathlib.Path], tag: str) -> pathlib.Path:
+    """The wheel of python/packages/NAME.toml, with these files more in its packages, under a tag of Python, interface and platform."""
+    stage = BUILD / "stage"
+    shutil.rmtree(stage, ignore_errors=True)
+    stage.mkdir(parents=True)
+    for package in ("pitshell", "pitplan", "minelib"):
+        shutil.copytree(TOP / "python" / package, stage / package, ignore=shutil.ignore_patterns("__pycache__"))
+    for place, file in files.items():
+        (stage / place).parent.mkdir(exist_ok=True)
+        shutil.copy(file, stage / place)
+    shutil.copy(TOP / "python" / "packages" / f"{name}.toml", stage / "pyproject.toml")
+    shutil.copy(TOP / "LICENSE", stage)
+    (stage / "setup.py").write_text("from setuptools import setup\n\nsetup()\n")
+    python, interface, machine = tag.split("-")
+    words = ["--python-tag", python, "--dist-dir", DIST, *([] if machine == "any" else ["--plat-name", machine])]
+    run("/usr/bin/python3", "setup.py", "-q", "bdist_wheel", *words, folder=stage)
+    return next(DIST.glob(f"{name}-*.whl"))
+
+
+def main() -> int:
+    missing = [name for name in MADE if not (BUILD / name).is_file()]
+    if missing:
+        print(f"build/ has no {' and no '.join(missing)}: make, and make library, prove and build them")
+        return 1
+    shutil.rmtree(DIST, ignore_errors=True)
+    DIST.mkdir(parents=True)
+    machine = f"manylinux_{c_library().replace('.', '_')}_{platform.machine()}"
+    program = {"pitshell/libpitshell.so": BUILD / "libpitshell.so", "pitshell/pitshell": BUILD / "pitshell"}
+    checkers = {f"pitplan/checkers/{name}": TOP / "tools" / name for name in ("check_certificate.py", "replay_journal.py")}
+    made = [debian_package(), archive(), wheel("pitshell", program, f"py3-none-{machine}"), wheel("pitplan", checkers, "py3-none-any")]
+    for file in made:
+        print(f"{file.relative_to(TOP)} {file.stat().st_size:,} bytes")
+    shutil.rmtree(BUILD / "stage")
+    return 0
+
+
+if __name__ == "__main__":
+    sys.exit(main())
