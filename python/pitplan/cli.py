@@ -1,4 +1,4 @@
-"""The command line: `pitplan prepare | shells | pit | verify | view | export | audit | scenarios | convert`, and what these need."""
+"""The command line: `pitplan init | prepare | shells | pit | verify | view | export | audit | scenarios | convert`, and what these need."""
 
 from __future__ import annotations
 
@@ -12,7 +12,7 @@ from typing import Any, Optional, Sequence
 import minelib
 from minelib.__main__ import add_arguments as add_minelib
 
-from . import __version__, commands, report, scenarios
+from . import __version__, commands, init, report, scenarios
 from .errors import PlanError
 from .progress import Progress, on_standard_error, silent
 from .project import REFERENCE_FACTOR, Project, load
@@ -26,6 +26,7 @@ def parser() -> argparse.ArgumentParser:
     top = argparse.ArgumentParser(prog="pitplan", description="From a table of blocks and wall angles to nested pits.")
     top.add_argument("--version", action="version", version=f"pitplan {__version__}")
     subs = top.add_subparsers(dest="command", required=True)
+    add_init(subs)
     words = {
         "prepare": "write the program's files and prepare.json, which says what was rounded, dropped and clipped",
         "shells": "prepare, run the program, and write tables, pictures and the report",
@@ -55,6 +56,13 @@ def parser() -> argparse.ArgumentParser:
     text = "MineLib's .upit, .cpit, .pcpsp, .prec and .blocks files, as published"
     add_minelib(kinds.add_parser("minelib", help=text, description=text))
     return top
+
+
+def add_init(subs: Any) -> None:
+    text = "write a project for a table, with each guess marked, that runs as it stands"
+    sub = subs.add_parser("init", help=text, description=text)
+    sub.add_argument("table", type=Path, help="a table of blocks (.csv, .csv.gz)")
+    sub.add_argument("--out", type=Path, help="the project (default: project.toml beside the table)")
 
 
 def add_scenarios(subs: Any) -> None:
@@ -112,6 +120,10 @@ def main(arguments: Optional[Sequence[str]] = None) -> int:
             run_scenarios(options, progress)
         elif options.command == "verify":
             tell_verified(options.folder)
+        elif options.command == "init":
+            project_file = options.out or options.table.parent / "project.toml"
+            tell_notes(init.write(options.table, project_file))
+            print(project_file)
         elif options.command == "convert":
             tell_notes(minelib.convert(options.files, options.out)["notes"])
             print(options.out)

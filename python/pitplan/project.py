@@ -37,13 +37,20 @@ class AbsentRock:
 
 @dataclass(frozen=True)
 class TableColumns:
-    """Where the table is, which of its columns say what, and what lies where it has no row: "refuse", "air" or a rock."""
+    """Where the table is, which of its columns say what, and what lies where it has no row: "refuse", "air" or a rock.
+
+    tonnes   the column of tonnes, or what the product of density and volume is called
+    density  a column of tonnes a cubic metre, where the table has no tonnes
+    volume   a column of cubic metres; without it a block has the grid's size
+    """
 
     file: Path
     x: str
     y: str
     z: str
     tonnes: str
+    density: Optional[str]
+    volume: Optional[str]
     id: Optional[str]
     rock: Optional[str]
     region: Optional[str]
@@ -243,6 +250,8 @@ def demand_agreement(project: Project) -> None:
     priced = [project.money.mining_cost, project.money.processing_cost, *(metal.recovery for metal in project.metals)]
     if project.table.rock is None and any(isinstance(price, dict) for price in priced):
         raise PlanError(f"{path}: [table] rock: is missing, and prices or recoveries are given by rock")
+    if project.table.density and not project.table.volume and project.grid.size is None:
+        raise PlanError(f"{path}: [grid] size: is missing, by which a density gives tonnes, unless [table] names a volume")
     names = [metal.name for metal in project.metals]
     if len(set(names)) < len(names):
         raise PlanError(f"{path}: two [[metals]] have one name")
@@ -260,6 +269,8 @@ def read_table(section: Section, folder: Path) -> TableColumns:
         y=section.text("y", "y"),
         z=section.text("z", "z"),
         tonnes=section.text("tonnes", "tonnes"),
+        density=section.optional_text("density"),
+        volume=section.optional_text("volume"),
         id=section.optional_text("id"),
         rock=section.optional_text("rock"),
         region=section.optional_text("region"),
@@ -270,6 +281,10 @@ def read_table(section: Section, folder: Path) -> TableColumns:
         absent=read_absent(section),
     )
     section.finish()
+    if columns.density and section.has("tonnes"):
+        raise section.wrong("density", "give it or tonnes, not both")
+    if columns.volume and not columns.density:
+        raise section.wrong("volume", "is multiplied by a density, which is missing")
     for name, code in (("rock", columns.rock), ("region", columns.region)):
         if isinstance(columns.absent, AbsentRock) and bool(getattr(columns.absent, name)) != bool(code):
             raise section.wrong("absent", f"needs a {name} where, and only where, a column of the table is its {name}")

@@ -126,7 +126,8 @@ def names_of(project: Project) -> list[str]:
     """The columns that the project names, each once."""
     t = project.table
     fixed = [project.fixed.forced, project.fixed.barred] if project.fixed else []
-    named = [t.id, t.x, t.y, t.z, t.tonnes, t.rock, t.region, *(metal.column for metal in project.metals), *fixed]
+    rock = [t.density, t.volume] if t.density else [t.tonnes]
+    named = [t.id, t.x, t.y, t.z, *rock, t.rock, t.region, *(metal.column for metal in project.metals), *fixed]
     return list(dict.fromkeys(name for name in named if name))
 
 
@@ -164,6 +165,8 @@ def checked(frame: pd.DataFrame, project: Project, source: str = "table") -> Tab
         result[name], empty = filled_numbers(frame[name], source, name, may_fill)
         filled += empty
     demand_not_negative(result, project, source)
+    if columns.density:
+        result[columns.tonnes] = tonnes_by_density(result, project)
     if not result[columns.tonnes].any():
         raise PlanError(f"{source} column {columns.tonnes}: all are 0, so there is no rock")
     demand_codes(result, project, source)
@@ -205,8 +208,16 @@ def numbers_of(column: pd.Series, source: str, name: str) -> np.ndarray:
     return numbers
 
 
+def tonnes_by_density(frame: pd.DataFrame, project: Project) -> np.ndarray:
+    """The density of each block times its volume, or that of the grid's blocks."""
+    volume = frame[project.table.volume].to_numpy() if project.table.volume else np.prod(project.grid.size or ())
+    return frame[project.table.density].to_numpy() * volume
+
+
 def demand_not_negative(frame: pd.DataFrame, project: Project, source: str) -> None:
-    for name in [project.table.tonnes, *(metal.column for metal in project.metals)]:
+    columns = project.table
+    rock = [name for name in (columns.density, columns.volume) if name] or [columns.tonnes]
+    for name in [*rock, *(metal.column for metal in project.metals)]:
         demand_none_below_0(frame[name].to_numpy(), source, name)
 
 

@@ -1,0 +1,143 @@
+"""What the columns of a table seem to say, by the names that mine planning programs give them, and by their values."""
+
+from __future__ import annotations
+
+import re
+from dataclasses import dataclass
+from typing import Optional
+
+import numpy as np
+import pandas as pd
+
+# Names without case and punctuation, the surest first; those of exports of Datamine, Surpac, Vulcan and Deswik among them.
+CENTRES = {
+    "x": "x xc xcentre xcenter xcentroid centroidx centrex centerx xcoord xcoordinate xmid midx xworld xm xpt east easting e",
+    "y": "y yc ycentre ycenter ycentroid centroidy centrey centery ycoord ycoordinate ymid midy yworld ym ypt north northing n",
+    "z": "z zc zcentre zcenter zcentroid centroidz centrez centerz zcoord zcoordinate zmid midz zworld zm zpt rl elev elevation level",
+}
+SIZES = {
+    "x": "xinc dx dimx xdim xlength xlen lengthx lenx xsize sizex xblock",
+    "y": "yinc dy dimy ydim ylength ylen lengthy leny ysize sizey yblock",
+    "z": "zinc dz dimz zdim zlength zlen lengthz lenz zsize sizez zblock height",
+}
+OTHERS = {
+    "tonnes": "tonnes tonnage tons ton tns tonne mass blocktonnes rocktonnes",
+    "density": "density dens sg den bulkdensity specificgravity rho",
+    "volume": "volume vol blockvolume cellvolume",
+    "id": "id blockid ijk blockno blocknumber bid cellid name",
+    "rock": "rock rocktype lith lithology litho lithcode material mat oretype geology geol oxidation oxide weathering geomet domain zone",
+    "region": "region sloperegion slope slopesector geotech geotechdomain geotechnicaldomain wallregion pitsector sector",
+}
+METALS = {
+    "au": "gold", "ag": "silver", "pt": "platinum", "pd": "palladium", "cu": "copper", "mo": "molybdenum", "ni": "nickel",
+    "zn": "zinc", "pb": "lead", "co": "cobalt", "fe": "iron", "sn": "tin", "w": "tungsten", "li": "lithium", "u": "uranium",
+}  # fmt: skip
+PRECIOUS = ("gold", "silver", "platinum", "palladium")
+UNITS = {
+    "percent": "percent", "pct": "percent", "perc": "percent", "pc": "percent",
+    "ppm": "gram_per_tonne", "gpt": "gram_per_tonne", "gt": "gram_per_tonne", "g": "gram_per_tonne",
+    "fraction": "fraction", "frac": "fraction",
+}  # fmt: skip
+# A mean of more per cent of a metal but iron is rather grams a tonne.
+RICH = {"iron": 75.0}
+RICHEST = 40.0
+
+
+@dataclass(frozen=True)
+class Guess:
+    """A column and why it is taken."""
+
+    column: str
+    why: str
+
+
+@dataclass(frozen=True)
+class MetalGuess:
+    """A metal, its grade column, the unit that the grades seem to have, and why."""
+
+    metal: str
+    column: str
+    unit: str
+    why: str
+
+
+@dataclass(frozen=True)
+class Columns:
+    """What the columns of a table seem to say. sizes holds x, y and z, or nothing; named has ids, tonnes, codes by their keys."""
+
+    centres: dict[str, Guess]
+    sizes: dict[str, Guess]
+    named: dict[str, Guess]
+    metals: tuple[MetalGuess, ...]
+
+
+def columns_of(frame: pd.DataFrame) -> Columns:
+    """The columns of a table as it was read: numbers as numbers, all else as texts."""
+    plain = {plain_of(name): name for name in reversed(list(map(str, frame.columns)))}
+    centres = {axis: found for axis, names in CENTRES.items() if (found := by_name(plain, names))}
+    if len(centres) < 3:
+        centres = {**by_values(frame, centres), **centres}
+    sizes = {axis: found for axis, names in SIZES.items() if (found := by_name(plain, names))}
+    named = {key: found for key, names in OTHERS.items() if (found := by_name(plain, names))}
+    named = {key: found for key, found in named.items() if key in ("id", "rock", "region") or is_number(frame, found.column)}
+    taken = {guess.column for group in (centres, sizes, named) for guess in group.values()}
+    metals = [found for name in map(str, frame.columns) if name not in taken and (found := metal_of(frame, name))]
+    return Columns(centres, sizes if len(sizes) == 3 else {}, named, first_of_each(metals))
+
+
+def plain_of(name: str) -> str:
+    return re.sub(r"[^a-z0-9]", "", name.lower())
+
+
+def is_number(frame: pd.DataFrame, name: str) -> bool:
+    return bool(pd.api.types.is_numeric_dtype(frame[name]))
+
+
+def by_name(plain: dict[str, str], names: str) -> Optional[Guess]:
+    return next((Guess(plain[name], "by its name") for name in names.split() if name in plain), None)
+
+
+def by_values(frame: pd.DataFrame, known: dict[str, Guess]) -> dict[str, Guess]:
+    """For the centres that no name tells, the first columns of numbers, in order, that lie at equal steps."""
+    taken = {guess.column for guess in known.values()}
+    lattices = [name for name in map(str, frame.columns) if name not in taken and is_lattice(frame, name)]
+    missing = [axis for axis in CENTRES if axis not in known]
+    return {axis: Guess(name, "by its values, which lie at equal steps") for axis, name in zip(missing, lattices)}
+
+
+def is_lattice(frame: pd.DataFrame, name: str) -> bool:
+    """Whether a column has few numbers, each many times, with gaps that are multiples of the least."""
+    if not is_number(frame, name) or frame[name].isna().any():
+        return False
+    values = np.unique(frame[name].to_numpy(dtype=np.float64))
+    if not 2 <= len(values) <= max(2, len(frame) // 2):
+        return False
+    gaps = np.diff(values)
+    steps = gaps / gaps.min()
+    return bool(gaps.min() > 0.5 and np.abs(steps - np.rint(steps)).max() < 0.01)
+
+
+def metal_of(frame: pd.DataFrame, name: str) -> Optional[MetalGuess]:
+    """The metal of a column of grades: its sign stands first in the name, perhaps with a unit behind it."""
+    words = re.findall(r"[a-z]+|%", name.lower())
+    if not words or not is_number(frame, name):
+        return None
+    sign, rest = words[0], words[1:]
+    if sign not in METALS:
+        found = re.fullmatch(r"(" + "|".join(METALS) + r")(percent|pct|perc|ppm|gpt)", sign)
+        if not found:
+            return None
+        sign, rest = found[1], [found[2], *rest]
+    metal, joined = METALS[sign], "".join(rest)
+    unit = "percent" if "%" in rest else next((UNITS[word] for word in (*rest, joined) if word in UNITS), None)
+    if unit:
+        return MetalGuess(metal, name, unit, "unit by the column's name")
+    mean = float(frame.loc[frame[name] > 0, name].mean())
+    if metal in PRECIOUS or mean > RICH.get(metal, RICHEST):
+        return MetalGuess(metal, name, "gram_per_tonne", "unit as is usual for this metal" if metal in PRECIOUS else "unit by its values")
+    return MetalGuess(metal, name, "percent", "unit as is usual for this metal")
+
+
+def first_of_each(found: list[MetalGuess]) -> tuple[MetalGuess, ...]:
+    """One column for each metal, the first."""
+    return tuple({guess.metal: guess for guess in reversed(found)}.values())[::-1]

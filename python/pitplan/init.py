@@ -1,0 +1,244 @@
+"""A project.toml for a table of which nothing was said: what its text and its columns tell is guessed, and marked as a guess."""
+
+from __future__ import annotations
+
+import codecs
+import gzip
+import json
+import os
+from dataclasses import dataclass
+from pathlib import Path
+from typing import Optional
+
+import numpy as np
+import pandas as pd
+
+from .errors import PlanError
+from .guesses import PRECIOUS, Columns, MetalGuess, columns_of
+from .table import has_decimal_commas, read_columns
+from .table_format import NAMES, TableFormat, guessed_separator
+
+TEMPLATES = Path(__file__).resolve().parent / "templates"
+SEEN = 1 << 20
+MARKS = {codecs.BOM_UTF8: "utf-8-sig", codecs.BOM_UTF16_LE: "utf-16", codecs.BOM_UTF16_BE: "utf-16"}
+# Rounded prices of 2024 in US dollars, for a gram of precious metals and a tonne of others.
+PRICES = {
+    "gold": 75, "silver": 0.9, "platinum": 30, "palladium": 31, "copper": 9000, "molybdenum": 45000, "nickel": 17000, "zinc": 2700,
+    "lead": 2100, "cobalt": 26000, "iron": 130, "tin": 30000, "tungsten": 40000, "lithium": 60000, "uranium": 170000,
+}  # fmt: skip
+SHARES = {"percent": 0.01, "fraction": 1.0, "gram_per_tonne": 1.0}
+RECOVERY, PROCESSING = 0.85, 12.0
+MOST_REGIONS = 12
+
+
+@dataclass(frozen=True)
+class Model:
+    """A table as it was read, and what was told of its text and its columns."""
+
+    file: Path
+    form: TableFormat
+    frame: pd.DataFrame
+    columns: Columns
+
+    def numbers(self, key: str) -> np.ndarray:
+        return self.frame[self.columns.named[key].column].to_numpy(dtype=np.float64)
+
+
+def write(file: Path, out: Path) -> list[str]:
+    """Writes a project for a table, and gives what a planner should look at first, in whole sentences.
+
+    Raises PlanError where the table cannot be read, where no columns of centres, tonnes or grades are found, and where `out` exists.
+    """
+    if out.exists():
+        raise PlanError(f"{out}: exists already: name another file by --out")
+    model = read(file)
+    demand_enough(model)
+    out.write_text(text_of(model, out), encoding="utf-8")
+    return [*summary(model), f"{out} was written: look at each line of it that has a #, above all at prices, costs and walls"]
+
+
+def read(file: Path) -> Model:
+    """The table in the encoding, with the separator and the decimal sign that it seems to have."""
+    encoding = encoding_of(file)
+    form = TableFormat(guessed_separator(file, encoding), ".", encoding)
+    frame = read_columns(file, form, [], [])
+    if form.separator != "," and has_decimal_commas(frame, list(frame.columns)):
+        form = TableFormat(form.separator, ",", encoding)
+        frame = read_columns(file, form, [], [])
+    return Model(file, form, numbers_where_all_are(frame), columns_of(numbers_where_all_are(frame)))
+
+
+def numbers_where_all_are(frame: pd.DataFrame) -> pd.DataFrame:
+    """The same with columns of numbers and empty fields as numbers."""
+    result = frame.copy()
+    for name in frame.columns[frame.dtypes == object]:
+        numbers = pd.to_numeric(frame[name], errors="coerce")
+        if (numbers.notna() | (frame[name].astype(str).str.strip() == "")).all():
+            result[name] = numbers
+    return result
+
+
+def encoding_of(file: Path) -> str:
+    """What the text's mark says; else UTF-8 where it is that, and else the one of Western Windows."""
+    try:
+        with gzip.open(file) if file.suffix == ".gz" else open(file, "rb") as text:
+            seen = text.read(SEEN)
+    except (OSError, EOFError) as error:
+        raise PlanError(f"{file}: cannot be read: {getattr(error, 'strerror', None) or error}") from error
+    for mark, name in MARKS.items():
+        if seen.startswith(mark):
+            return name
+    try:
+        codecs.getincrementaldecoder("utf-8")().decode(seen)
+    except UnicodeDecodeError:
+        return "cp1252"
+    return "utf-8-sig"
+
+
+def demand_enough(model: Model) -> None:
+    columns, there = model.columns, ", ".join(map(str, model.frame.columns))
+    missing = [axis for axis in "xyz" if axis not in columns.centres]
+    if missing:
+        raise PlanError(f"{model.file} row 1: no column seems to hold {' and '.join(missing)} of the centres; the columns are {there}")
+    if "tonnes" not in columns.named and "density" not in columns.named:
+        raise PlanError(f"{model.file} row 1: no column seems to hold tonnes or a density; the columns are {there}")
+    if not columns.metals:
+        raise PlanError(f"{model.file} row 1: no column seems to hold grades, such as cu_pct or AU; the columns are {there}")
+
+
+def text_of(model: Model, out: Path) -> str:
+    from jinja2 import Environment, FileSystemLoader
+
+    environment = Environment(loader=FileSystemLoader(TEMPLATES), keep_trailing_newline=True)
+    size, size_why = size_of(model)
+    ore = ore_per_year(model)
+    words = {
+        "file": os.path.relpath(model.file, out.parent),
+        "title": model.file.name.split(".")[0],
+        "blocks": f"{len(model.frame):,}",
+        "table": [(key, json.dumps(value, ensure_ascii=False), why) for key, value, why in table_lines(model)],
+        "size": size and json.dumps(size),
+        "size_why": size_why,
+        "metals": [priced(metal) for metal in model.columns.metals],
+        "regions": regions_of(model),
+        "ore_per_year": f"{ore:_}",
+        "ore_why": "by Taylor's rule for the blocks that pay at these prices; put your own",
+    }
+    return environment.get_template("project.toml").render(words)
+
+
+def table_lines(model: Model) -> list[tuple[str, str, str]]:
+    """The keys of [table], their values, and why."""
+    columns, lines = model.columns, []
+    lines += [(axis, guess.column, guess.why) for axis, guess in sorted(columns.centres.items())]
+    keys = ["tonnes"] if "tonnes" in columns.named else ["density", "volume"]
+    units = {"density": ", in tonnes a cubic metre", "volume": ", in cubic metres"}
+    lines += [(key, columns.named[key].column, columns.named[key].why + units.get(key, "")) for key in keys if key in columns.named]
+    if "id" in columns.named and not model.frame[columns.named["id"].column].duplicated().any():
+        lines.append(("id", columns.named["id"].column, columns.named["id"].why))
+    lines += [(key, columns.named[key].column, columns.named[key].why) for key in ("rock", "region") if key in columns.named]
+    if model.form.encoding != "utf-8-sig":
+        lines.append(("encoding", model.form.encoding, "by its bytes"))
+    if empty_fields(model):
+        lines.append(("empty", "zero", f"{empty_fields(model):,} tonnes or grades are empty: taken as 0; left out, they are refused"))
+    return lines
+
+
+def measured(model: Model) -> list[str]:
+    """The columns of tonnes, or what makes them, and of grades."""
+    keys = ["tonnes"] if "tonnes" in model.columns.named else ["density", "volume"]
+    named = [model.columns.named[key].column for key in keys if key in model.columns.named]
+    return [*named, *(metal.column for metal in model.columns.metals)]
+
+
+def empty_fields(model: Model) -> int:
+    return int(model.frame[measured(model)].isna().sum().sum())
+
+
+def size_of(model: Model) -> tuple[Optional[list[float]], str]:
+    """The blocks' size where the table says it, or where tonnes need it, and how it is known; None where the centres alone tell it."""
+    columns = model.columns
+    if columns.sizes and not has_several_sizes(model):
+        names = [columns.sizes[axis].column for axis in "xyz"]
+        return [float(model.frame[name].iloc[0]) for name in names], f"by {', '.join(names)}"
+    if "tonnes" in columns.named or "volume" in columns.named:
+        return None, ""
+    return [least_gap(model, axis) for axis in "xyz"], "the least steps between centres, which make volumes for the density"
+
+
+def has_several_sizes(model: Model) -> bool:
+    return any(model.frame[guess.column].nunique() > 1 for guess in model.columns.sizes.values())
+
+
+def least_gap(model: Model, axis: str) -> float:
+    values = np.unique(model.frame[model.columns.centres[axis].column].to_numpy(dtype=np.float64))
+    return float(np.diff(values).min()) if len(values) > 1 else 1.0
+
+
+def tonnes_of(model: Model) -> np.ndarray:
+    if "tonnes" in model.columns.named:
+        return np.nan_to_num(model.numbers("tonnes"))
+    size, _ = size_of(model)
+    volume = model.numbers("volume") if "volume" in model.columns.named else np.prod(size)
+    return np.nan_to_num(model.numbers("density") * volume)
+
+
+def price_of(metal: MetalGuess) -> float:
+    """For a gram where the grade is in grams a tonne, else for a tonne."""
+    for_a_gram = PRICES[metal.metal] * (1 if metal.metal in PRECIOUS else 1e-6)
+    return for_a_gram if metal.unit == "gram_per_tonne" else for_a_gram * 1e6
+
+
+def priced(metal: MetalGuess) -> dict[str, str]:
+    return {"metal": metal.metal, "column": metal.column, "unit": metal.unit, "why": metal.why, "price": f"{price_of(metal):.10g}"}
+
+
+def regions_of(model: Model) -> list[Optional[str]]:
+    """The regions of the table; one entry without a name where it has none, or more than anybody would give walls of their own."""
+    if "region" not in model.columns.named:
+        return [None]
+    found = sorted(set(model.frame[model.columns.named["region"].column].dropna().astype(str).str.strip()) - {""})
+    return list(found) if 0 < len(found) <= MOST_REGIONS else [None]
+
+
+def ore_per_year(model: Model) -> int:
+    """What a mill takes, to two digits: the ore by the life that Taylor found, 0.2 times its fourth root in years (1977)."""
+    revenue = np.zeros(len(model.frame))
+    for metal in model.columns.metals:
+        grade = np.nan_to_num(model.frame[metal.column].to_numpy(dtype=np.float64))
+        revenue += grade * SHARES[metal.unit] * price_of(metal) * RECOVERY
+    ore = float(tonnes_of(model)[revenue > PROCESSING].sum())
+    yearly = max(ore / max(0.2 * ore**0.25, 1.0), 1.0)
+    digits = max(int(np.floor(np.log10(yearly))) - 1, 0)
+    return int(round(yearly, -digits))
+
+
+def summary(model: Model) -> list[str]:
+    """What a planner should see first: extents, tonnes, grades, and what looks doubtful."""
+    columns, tonnes = model.columns, tonnes_of(model)
+    said = [f"{model.file}: {len(model.frame):,} blocks, {tonnes.sum():,.0f} tonnes"]
+    for axis, guess in sorted(columns.centres.items()):
+        values = model.frame[guess.column]
+        said.append(f"{axis}: {guess.column} from {values.min():,.10g} to {values.max():,.10g} m, {guess.why}")
+    for metal in columns.metals:
+        grade = np.nan_to_num(model.frame[metal.column].to_numpy(dtype=np.float64))
+        mean = float((grade * tonnes).sum() / max(tonnes.sum(), 1e-300))
+        said.append(f"{metal.metal}: {metal.column}, mean {mean:.4g} and at most {grade.max():.4g} {metal.unit}, {metal.why}")
+    return [*said, *doubts(model)]
+
+
+def doubts(model: Model) -> list[str]:
+    """What may not be as it seems."""
+    columns, said = model.columns, []
+    if model.form.separator != ",":
+        said.append(f"the fields are parted by {NAMES[model.form.separator]}")
+    if model.form.decimal == ",":
+        said.append("decimals are written with a comma")
+    if has_several_sizes(model):
+        said.append("WARNING: blocks are of several sizes, and sub-blocks are refused: reblock first")
+    if empty_fields(model):
+        said.append(f"WARNING: {empty_fields(model):,} tonnes or grades are empty, and taken as 0")
+    used = {guess.column for group in (columns.centres, columns.sizes, columns.named) for guess in group.values()}
+    used |= {metal.column for metal in columns.metals}
+    over = [str(name) for name in model.frame.columns if str(name) not in used]
+    return [*said, f"passed over: {', '.join(over)}"] if over else said

@@ -1,0 +1,159 @@
+"""A project for a table of which nothing was said: what is guessed of it, and that the project runs as it stands."""
+
+from decimal import Decimal
+
+import pandas as pd
+import pytest
+from conftest import PROJECT, rows
+
+from pitplan import PlanError, guesses, init, load, prepare
+from pitplan.cli import main
+
+ORE = {"cu": lambda i, j, k: 2.0 if k == 1 and i == 4 else 0.0}
+
+
+def exported(path, headings, separator=",", decimal=".", encoding="utf-8", **more):
+    """A small mine as a program writes it: the columns of `rows` under other names, or none of them where the name is None."""
+    table = rows(8, 8, 4, **{**ORE, **more})
+    kept = {name: heading for name, heading in headings.items() if heading}
+    table[list(kept)].rename(columns=kept).to_csv(path, index=False, sep=separator, decimal=decimal, encoding=encoding)
+    return path
+
+
+PLACES = {"x": "XC", "y": "YC", "z": "ZC"}
+INCREMENTS = {name: lambda i, j, k: 10.0 for name in ("dx", "dy", "dz")}
+DATAMINE = {**PLACES, "dx": "XINC", "dy": "YINC", "dz": "ZINC", "density": "DENSITY", "cu": "CU", "rock": "ROCK"}
+SURPAC = {"y": "YCENTRE", "x": "XCENTRE", "z": "ZCENTRE", "tonnes": "tonnage", "cu": "cu_ppm", "rock": "rock_type", "region": "slope_region"}
+VULCAN = {"x": "centroid_x", "y": "centroid_y", "z": "centroid_z", "volume": "volume", "density": "sg", "cu": "cu (%)", "rock": "lith"}
+DESWIK = {"name": "Block ID", "x": "Easting", "y": "Northing", "z": "RL", "tonnes": "Tonnes", "cu": "Cu pct", "rock": "Roche é"}
+
+
+def said(path):
+    """What is written behind a #, and the project."""
+    lines = path.read_text().splitlines()
+    return [line.split("#", 1)[1].strip() for line in lines if "#" in line], load(path)
+
+
+def test_increments_a_density_and_decimal_commas(tmp_path):
+    more = {**INCREMENTS, "density": lambda i, j, k: 2.5}
+    exported(tmp_path / "m.csv", DATAMINE, ";", ",", **more)
+    assert main(["init", str(tmp_path / "m.csv")]) == 0
+    _, project = said(tmp_path / "project.toml")
+    assert (project.table.x, project.table.density, project.table.volume, project.table.rock) == ("XC", "DENSITY", None, "ROCK")
+    assert project.grid.size == (10.0, 10.0, 10.0) and project.metals[0].unit == "percent"
+    plan = prepare(tmp_path / "project.toml")
+    # A block of 10 m, of 2.5 tonnes a cubic metre.
+    assert plan.values.tonnes.tolist() == [2500.0] * 256
+
+
+def test_grams_a_tonne_and_regions(tmp_path):
+    more = {"region": lambda i, j, k: "NE" if i < 4 else "SW", "cu": lambda i, j, k: 12000.0 if k == 1 else 30.0}
+    exported(tmp_path / "m.csv", SURPAC, "\t", **more)
+    init.write(tmp_path / "m.csv", tmp_path / "project.toml")
+    _, project = said(tmp_path / "project.toml")
+    assert (project.metals[0].name, project.metals[0].unit, project.metals[0].price) == ("copper", "gram_per_tonne", Decimal("0.009"))
+    assert [wall.regions for wall in project.slopes.walls] == [("NE",), ("SW",)]
+    assert project.table.region == "slope_region" and project.table.tonnes == "tonnage"
+
+
+def test_a_volume_and_a_density(tmp_path):
+    more = {"volume": lambda i, j, k: 1000.0 - k, "density": lambda i, j, k: 2.5 + i}
+    exported(tmp_path / "m.csv", VULCAN, **more)
+    init.write(tmp_path / "m.csv", tmp_path / "project.toml")
+    table, plan = rows(8, 8, 4, **more), prepare(tmp_path / "project.toml")
+    assert plan.table["tonnes"].tolist() == (table["volume"] * table["density"]).tolist()
+    assert load(tmp_path / "project.toml").metals[0].column == "cu (%)"
+
+
+def test_ids_and_letters_of_windows(tmp_path):
+    exported(tmp_path / "m.csv", DESWIK, encoding="cp1252")
+    init.write(tmp_path / "m.csv", tmp_path / "project.toml")
+    _, project = said(tmp_path / "project.toml")
+    assert (project.table.id, project.table.encoding, project.table.rock) == ("Block ID", "cp1252", None)
+    assert (project.table.x, project.table.y, project.table.z) == ("Easting", "Northing", "RL")
+
+
+def test_the_project_runs_as_it_stands(tmp_path, capsys):
+    exported(tmp_path / "m.csv", DESWIK)
+    assert main(["init", str(tmp_path / "m.csv")]) == 0
+    told = capsys.readouterr()
+    assert told.out == f"{tmp_path / 'project.toml'}\n"
+    assert "256 blocks, 25,600 tonnes" in told.err and "passed over: Roche é" in told.err
+    # 8 of 256 blocks of 100 t hold 2 %.
+    assert "copper: Cu pct, mean 0.0625 and at most 2 percent" in told.err
+    assert main(["shells", str(tmp_path / "project.toml"), "--quiet"]) == 0
+    shells = pd.read_csv(tmp_path / "plan" / "shells.csv")
+    assert shells["blocks"].iloc[-1] > 0
+
+
+def test_each_guess_says_why(tmp_path):
+    exported(tmp_path / "m.csv", SURPAC)
+    init.write(tmp_path / "m.csv", tmp_path / "project.toml")
+    why, _ = said(tmp_path / "project.toml")
+    assert why.count("by its name") == 6
+    assert "unit by the column's name" in why
+    assert any("put your own" in line for line in why)
+
+
+def test_centres_without_a_name_are_told_by_their_steps():
+    table = rows(4, 5, 3).rename(columns={"x": "p", "y": "q", "z": "r"})
+    found = guesses.columns_of(table[["tonnes", "p", "q", "r"]])
+    assert {axis: guess.column for axis, guess in found.centres.items()} == {"x": "p", "y": "q", "z": "r"}
+    assert "steps" in found.centres["x"].why
+
+
+def test_ore_a_year_is_by_taylors_rule(tmp_path):
+    """16 Mt of ore last 0.2 * 16,000,000^(1/4) = 12.65 years: 1,265,000 t a year, by two digits 1,300,000."""
+    table = rows(8, 8, 4, cu=lambda i, j, k: 2.0 if k == 1 else 0.0, tonnes=lambda i, j, k: 250_000)
+    table.to_csv(tmp_path / "m.csv", index=False)
+    init.write(tmp_path / "m.csv", tmp_path / "project.toml")
+    assert load(tmp_path / "project.toml").schedule.ore_per_year == 1_300_000
+
+
+def test_sub_blocks_and_empty_grades_are_told(tmp_path):
+    more = {**INCREMENTS, "density": lambda i, j, k: 2.5, "dx": lambda i, j, k: 10.0 if i else 5.0}
+    exported(tmp_path / "m.csv", DATAMINE, **{**more, "cu": lambda i, j, k: 2.0 if k else float("nan")})
+    told = init.write(tmp_path / "m.csv", tmp_path / "project.toml")
+    assert "WARNING: blocks are of several sizes, and sub-blocks are refused: reblock first" in told
+    assert "WARNING: 64 tonnes or grades are empty, and taken as 0" in told
+    assert load(tmp_path / "project.toml").table.empty == "zero"
+
+
+@pytest.mark.parametrize(
+    ("dropped", "why"),
+    [
+        ("z", "no column seems to hold z of the centres"),
+        ("tonnes", "no column seems to hold tonnes or a density"),
+        ("cu", "no column seems to hold grades, such as cu_pct or AU"),
+    ],
+)
+def test_what_cannot_be_guessed_is_named(tmp_path, dropped, why):
+    table = rows(3, 3, 3, cu=lambda i, j, k: 0.5 * (i + j) + 0.1 * k).drop(columns=[dropped, "name"])
+    table.to_csv(tmp_path / "m.csv", index=False)
+    with pytest.raises(PlanError, match=f"m.csv row 1: {why}"):
+        init.write(tmp_path / "m.csv", tmp_path / "project.toml")
+    assert not (tmp_path / "project.toml").exists()
+
+
+def test_a_project_that_is_there_is_kept(tmp_path, capsys):
+    (tmp_path / "project.toml").write_text("mine")
+    rows(3, 3, 3).to_csv(tmp_path / "m.csv", index=False)
+    assert main(["init", str(tmp_path / "m.csv")]) == 1
+    assert "exists already: name another file by --out" in capsys.readouterr().err
+    assert (tmp_path / "project.toml").read_text() == "mine"
+
+
+def test_a_density_needs_a_size_and_no_tonnes(plan_folder):
+    table = rows(3, 3, 3).rename(columns={"tonnes": "sg"})
+    grid = ("[grid]\nsize = [10, 10, 10]", "[grid]")
+    path = plan_folder(table, plan_text('density = "sg"'), grid)
+    with pytest.raises(PlanError, match=r"\[grid\] size: is missing, by which a density gives tonnes"):
+        load(path)
+    for words, why in [('density = "sg"\ntonnes = "t"', "give it or tonnes, not both"), ('volume = "v"', "a density, which is missing")]:
+        path.write_text(plan_text(words))
+        with pytest.raises(PlanError, match=why):
+            load(path)
+
+
+def plan_text(words):
+    return PROJECT.replace('file = "blocks.csv"', f'file = "blocks.csv"\n{words}')
