@@ -342,6 +342,21 @@ def test_the_command_line_exports_in_silence(solved, capsys):
     assert said.err == "" and said.out == f"{folder / 'pit.csv'}\n"
 
 
+def test_the_command_line_writes_a_page_and_an_audit(solved, capsys):
+    project, folder = solved
+    assert main(["view", str(project.path), "--quiet"]) == 0
+    assert main(["audit", str(project.path), "--factor", "500", "--quiet"]) == 0
+    said = capsys.readouterr()
+    assert (said.out, said.err) == (f"{folder / 'view.html'}\n{folder / 'audit-500'}\n", "")
+    assert (folder / "view.html").is_file() and json.loads((folder / "audit-500" / "audit.json").read_text())["factor"] == 500
+
+
+def test_a_folder_with_another_record_is_no_plan(solved):
+    (solved[1] / "prepare.json").write_text("{}")
+    with pytest.raises(PlanError, match="prepare.json: is no record of a plan"):
+        files.read_folder(solved[1])
+
+
 def test_the_command_line_refuses_in_one_sentence(plan_folder, capsys):
     path = plan_folder(rows(3, 3, 3), PROJECT, ("mining_cost = 2", "mining_cost = -2"))
     assert main(["prepare", str(path)]) == 1

@@ -94,6 +94,16 @@ def test_a_surface_between_points_is_their_plane(plan_folder, tmp_path):
     assert 0 < len(plan.fixed.forced) < 72
 
 
+@pytest.mark.parametrize("points", ["3,4,0\n", "3,4,0\n3,4,2\n", "0,0,0\n10,5,0\n40,20,0\n"])
+def test_points_that_make_no_triangle_say_nothing_beside_them(plan_folder, tmp_path, points):
+    """Over the second and third column: one point, the same twice, and points on a line."""
+    (tmp_path / "mined.csv").write_text("x,y,z\n" + points)
+    plan = prepare(load(plan_folder(rows(3, 3, 1), with_section('[fixed]\nsurface = "mined.csv"\n'))))
+    over = {(int(x) // 10, int(y) // 10) for x, y, _ in np.atleast_2d(np.loadtxt(points.splitlines(), delimiter=",")) if x < 30}
+    assert plan.fixed.forced.tolist() == sorted(3 * j + i for i, j in over)
+    assert any(f"{9 - len(over)} columns of blocks lie beyond all points" in note for note in plan.notes)
+
+
 def test_a_triangle_bars_what_lies_in_it(plan_folder, tmp_path):
     """Below the line from 40 m in the north to 60 m in the east."""
     (tmp_path / "corner.csv").write_text("x,y\n0,0\n60,0\n0,40\n")

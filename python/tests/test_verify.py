@@ -2,6 +2,7 @@
 
 import json
 import shutil
+from decimal import Decimal
 
 import numpy as np
 import pandas as pd
@@ -229,6 +230,45 @@ def two_regions():
 LEVELS = ("levels = 3", "levels = 5")
 STEEP_ABOVE = '[[slopes.walls]]\nregion = "1"\nangle = 35\n[[slopes.walls]]\nregion = "2"\nangle = 65'
 MIXED = [("[[slopes.walls]]\npattern = \"1:5\"", STEEP_ABOVE)]
+
+
+def test_cost_by_elevation_is_looked_at(plan_folder, monkeypatch):
+    """Levels with centres 5, 15, .., 45 m, of which the lowest and the highest lie beyond the elevations that are named."""
+    change = ("mining_cost_per_level = 0.25", "mining_cost_by_elevation = [[10, 0.7], [20, 0.3], [40, 0.1]]")
+    path = plan_folder(deposit(), TEXT, change)
+    assert [rule.differences for rule in looked_at(prepare(path))] == [()] * 8
+    monkeypatch.setattr(money, "added_cost", lambda *_: Decimal(0))
+    differences = {rule.name: rule.differences for rule in looked_at(prepare(path)) if rule.differences}
+    # 99.7 t, of which each costs 0.7 more.
+    assert differences["money"][0] == "block b0-0-0: mining_cost 199.4 for 269.19"
+
+
+@pytest.mark.parametrize("discounting", ["continuous", "mid_year", "end_of_year"])
+def test_a_mine_in_which_nothing_pays_is_right(plan_folder, discounting):
+    plan = prepare(plan_folder(rows(3, 3, 2), PROJECT, ("rate = 0.1", f'rate = 0.1\ndiscounting = "{discounting}"')))
+    assert [rule.differences for rule in looked_at(plan)] == [()] * 8
+
+
+def test_a_block_without_an_id_is_called_by_its_centre(plan_folder):
+    plan = prepare(plan_folder(ore_everywhere().drop(columns="name"), PROJECT, ('id = "name"\n', "")))
+    assert [rule.differences for rule in looked_at(plan)] == [()] * 8
+    path = plan.project.folder / "blocks.csv"
+    plus_one(pd.read_csv(path), "mining_cost").to_csv(path, index=False)
+    (rule,) = [rule for rule in verify(plan.project.folder, plan.project) if rule.name == "money"]
+    assert rule.differences[0] == "the block at 600005, 6512005, 5: mining_cost 201 for 200"
+
+
+def test_a_folder_without_an_answer_is_named(copied, tmp_path):
+    with pytest.raises(PlanError, match="nowhere/prepare.json: cannot be read: run pitplan shells first"):
+        verify(tmp_path / "nowhere")
+    path = copied.parent / "blocks.csv"
+    whole = path.read_text()
+    path.write_text(whole + whole.splitlines()[1].replace("b0-0-0", "more").replace("5.0,5.0,5.0", "5.0,5.0,55.0") + "\n")
+    with pytest.raises(PlanError, match="1 blocks of the table are not in it: has the table changed since?"):
+        verify(copied)
+    (copied / "prepare.json").write_text("{}")
+    with pytest.raises(PlanError, match="is no folder that pitplan shells or pit has written"):
+        verify(copied)
 
 
 def test_rows_without_rock_are_no_blocks_that_are_left_standing(plan_folder):
