@@ -237,7 +237,8 @@ def test_shells_with_fixed_blocks_are_the_best_of_all_closed_sets_that_keep_to_t
             values = [factor * y / 1000 - 1200 if y > 1000 else Decimal(-200) for y in yields]
         worth, pit = best_by_trying(allowed, values)
         assert solution.worth[factor] == worth
-        assert set(np.flatnonzero((solution.entry[:9] > 0) & (solution.entry[:9] <= factor))) == pit
+        inside = (solution.entry > 0) & (solution.entry <= factor)
+        assert set(np.flatnonzero(inside[:9])) == pit and solution.nodes[factor] == inside.sum()
 
 
 def ores_and_fixed():

@@ -11,14 +11,14 @@ from conftest import PROJECT, rows
 from hypothesis import HealthCheck, given, settings
 from hypothesis import strategies as st
 
-from pitplan import PlanError, absent, commands, fixed, load, money, prepare, schedule, solve
+from pitplan import PlanError, absent, commands, fixed, load, money, prepare, schedule, slopes, solve
 from pitplan.cli import main
 from pitplan.progress import silent
 from pitplan.project import Wall
 from pitplan.verify import demand, verify
 from pitplan.verify.answer import read
 from pitplan.verify.money import sample
-from pitplan.verify.walls import high_walls
+from pitplan.verify.walls import flatness, high_walls
 
 TEXT = PROJECT.replace("mining_cost = 2\n", "mining_cost = { R = 2, S = 2.5 }\nmining_cost_per_level = 0.25\ndecimals = 2\n").replace(
     "[slopes]\n",
@@ -278,6 +278,15 @@ def test_rows_without_rock_are_no_blocks_that_are_left_standing(plan_folder):
     assert [rule.differences for rule in looked_at(plan)] == [()] * 8
     blocks = pd.read_csv(plan.project.folder / "blocks.csv")
     assert (blocks.loc[blocks["tonnes"] == 0, "factor"] == 0).any() and (blocks["factor"] == 500).sum() > 13
+
+
+def test_walls_between_azimuths_by_hand():
+    """60 degrees to the east and 30 to the west: what they step back for a metre up is linear between, also over the north."""
+    wall = Wall(None, None, ((90.0, 60.0), (270.0, 30.0)))
+    steep, flat = 1 / np.sqrt(3), np.sqrt(3)
+    expected = [(steep + flat) / 2, steep, (steep + flat) / 2, flat + (steep - flat) / 4, flat + (steep - flat) * 89 / 180]
+    assert flatness(wall, np.array([0.0, 90, 180, 315, 359])) == pytest.approx(expected)
+    assert slopes.cotangents(wall.angles, np.array([0.0, 90, 180, 315, 359])) == pytest.approx(expected)
 
 
 def test_high_walls_by_geometry():
