@@ -371,7 +371,9 @@ def test_a_run_that_is_ended_says_so_in_one_line_and_leaves_nothing(plan_folder,
     slow.chmod(0o755)
     path = plan_folder(rows(4, 4, 3, **ORE))
     words = [str(ROOT / "tools" / "pitplan"), "shells", str(path), "--quiet"]
-    ran = subprocess.Popen(words, env={**os.environ, "PITSHELL": str(slow)}, stderr=subprocess.PIPE, text=True)
+    # A job that a shell has put behind ignores SIGINT, and so would what it starts.
+    heeding = {"preexec_fn": lambda: signal.signal(signal.SIGINT, signal.SIG_DFL)}
+    ran = subprocess.Popen(words, env={**os.environ, "PITSHELL": str(slow)}, stderr=subprocess.PIPE, text=True, **heeding)
     for _ in range(600):
         if (tmp_path / "began").exists():
             break
