@@ -249,6 +249,19 @@ def test_a_mine_in_which_nothing_pays_is_right(plan_folder, discounting):
     assert [rule.differences for rule in looked_at(plan)] == [()] * 8
 
 
+@pytest.mark.parametrize(("discounting", "npv"), [("continuous", -200), ("mid_year", -200 / 1.1**0.5), ("end_of_year", -200 / 1.1)])
+def test_waste_that_takes_no_time_is_the_first_years(plan_folder, discounting, npv):
+    """The mill alone has a capacity: a block of waste that must be dug, which costs 200, and a deposit under waste."""
+    changes = ("rate = 0.1", f'rate = 0.1\ndiscounting = "{discounting}"')
+    table = rows(3, 3, 2, must=lambda i, j, k: int((i, j, k) == (1, 1, 1)))
+    plan = prepare(plan_folder(table, PROJECT + '\n[fixed]\nforced = "must"\n', changes))
+    assert [rule.differences for rule in looked_at(plan)] == [()] * 8
+    shells = pd.read_csv(plan.project.folder / "shells.csv")
+    assert shells["npv_best"].tolist() == shells["npv_worst"].tolist() == [pytest.approx(npv, abs=1e-3)] * 3
+    plan = prepare(plan_folder(deposit(), TEXT, changes, ("rock_per_year = 1000\n", "")))
+    assert [rule.differences for rule in looked_at(plan)] == [()] * 8
+
+
 def test_a_block_without_an_id_is_called_by_its_centre(plan_folder):
     plan = prepare(plan_folder(ore_everywhere().drop(columns="name"), PROJECT, ('id = "name"\n', "")))
     assert [rule.differences for rule in looked_at(plan)] == [()] * 8
