@@ -1,5 +1,6 @@
 """Fixed blocks from columns, from the surface as mined and from areas on the map; and the pit that keeps to them."""
 
+import io
 import os
 import subprocess
 from dataclasses import replace
@@ -18,7 +19,7 @@ from pitplan import commands, fixed, load, prepare, run, scenarios
 from pitplan.cli import main
 from pitplan.project import FixedRules
 from pitplan.errors import PlanError
-from pitplan.progress import silent
+from pitplan.progress import Progress, silent
 
 
 def with_section(text):
@@ -309,7 +310,9 @@ def test_scenarios_keep_to_fixed_blocks(plan_folder, tmp_path):
     text = with_section(FIXED_SECTION + '[scenarios]\ncolumns = { copper = ["first", "second"] }\n')
     project = load(plan_folder(table, text))
     folder = project.folder / "scenarios"
-    scenarios.solve(project, folder, scenarios.Request(workers=1), silent)
+    told = io.StringIO()
+    scenarios.solve(project, folder, scenarios.Request(workers=1), Progress(told))
+    assert "solving 2 scenarios .. 1 2 " in told.getvalue()
     likely = pd.read_csv(folder / "probability.csv")
     assert (likely.loc[likely["must"] == 1, "probability_500"] == 1).all()
     assert (likely.loc[likely["never"] == 1, "probability_1500"] == 0).all()

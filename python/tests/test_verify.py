@@ -432,9 +432,14 @@ def test_a_shell_of_other_blocks_is_found(plan_folder, monkeypatch):
 
 
 @settings(max_examples=12, suppress_health_check=[HealthCheck.function_scoped_fixture])
-@given(st.integers(0, 10**6), st.sampled_from(["moving", "fixed"]), st.sampled_from(["continuous", "mid_year", "end_of_year"]))
-def test_random_plans_are_right(plan_folder, seed, cutoff, discounting):
-    """Uneven ground, two regions of other walls, rocks, fixed blocks."""
+@given(
+    st.integers(0, 10**6),
+    st.sampled_from(["moving", "fixed"]),
+    st.sampled_from(["continuous", "mid_year", "end_of_year"]),
+    st.sampled_from(["", "rock_per_year = 1000\n"]),
+)
+def test_random_plans_are_right(plan_folder, seed, cutoff, discounting, shovels):
+    """Uneven ground, two regions of other walls, rocks, fixed blocks, with and without a capacity of shovels."""
     rng = np.random.default_rng(seed)
     ground = rng.integers(3, 6, (9, 8))
     table = rows(9, 8, 5, region=lambda i, j, k: "12"[int(i > 4)], rock=lambda i, j, k: "RS"[int(k > 2)])
@@ -450,6 +455,7 @@ def test_random_plans_are_right(plan_folder, seed, cutoff, discounting):
         ('[[slopes.walls]]\npattern = "1:5"', walls),
         ("decimals = 2", f'decimals = 2\ncutoff = "{cutoff}"'),
         ("rate = 0.1", f'rate = 0.1\ndiscounting = "{discounting}"'),
+        ("rock_per_year = 1000\n", shovels),
     ]
     plan = prepare(plan_folder(table, TEXT, *changes))
     assert [rule.differences for rule in looked_at(plan)] == [()] * 8
