@@ -511,3 +511,12 @@ def test_lists_of_models_that_differ_in_length_are_refused(plan_folder):
     text = COLUMNS.replace('copper = "sim_*"', 'copper = "sim_*", gold = ["sim_1", "sim_2"]')
     with pytest.raises(PlanError, match=r"\[scenarios\] columns: each metal needs as many columns as the others: 3 of copper, 2 of gold"):
         prepared(plan_folder(pillar(), text, ("[slopes]", second)))
+
+
+def test_probabilities_are_told_without_the_image_where_vtk_is_missing(plan_folder, monkeypatch):
+    shared = prepared(plan_folder(pillar(), COLUMNS, UPRIGHT))
+    solved_in_turn(shared)
+    monkeypatch.setitem(sys.modules, "vtk", None)
+    note, folder = scenarios.gather(shared.folder, Request(), silent)
+    assert note.startswith("probability.vti was not written: ") and "python3-vtk9" in note and folder == str(shared.folder)
+    assert likely(shared.folder)[0] == pytest.approx([1 / 3, 1 / 3, 2 / 3], abs=1e-6) and not (shared.folder / "probability.vti").exists()
