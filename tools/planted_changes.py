@@ -121,16 +121,15 @@ def stop(ran: subprocess.Popen) -> None:
 def trial(jobs: int) -> Iterator[Trial | None]:
     """Runs the tests once without a change; None where one fails. Then as many changes can be tried at once as there are jobs."""
     environment = {**os.environ, "PITSHELL": os.environ.get("PITSHELL", str(TOP / "build" / "pitshell"))}
-    with clone.clone() as copy, tempfile.TemporaryDirectory(prefix="pitshell-") as notes:
-        lines = line_coverage.run(copy, pathlib.Path(notes), environment)
-    if lines is None:
-        yield None
-        return
     with contextlib.ExitStack() as stack:
+        # All at once, so that the repository may be worked on meanwhile.
+        first, *others = [stack.enter_context(clone.clone()) for _ in range(jobs + 1)]
+        notes = stack.enter_context(tempfile.TemporaryDirectory(prefix="pitshell-"))
+        lines = line_coverage.run(first, pathlib.Path(notes), environment)
         copies: queue.SimpleQueue = queue.SimpleQueue()
-        for _ in range(jobs):
-            copies.put(stack.enter_context(clone.clone()))
-        yield Trial(lines, environment, copies)
+        for copy in others:
+            copies.put(copy)
+        yield None if lines is None else Trial(lines, environment, copies)
 
 
 def survivors(seed: int, sample: list[Change], tried: Trial, jobs: int) -> list[Change]:

@@ -132,13 +132,13 @@ def surface_of(grid: Grid, file: Path) -> Surface:
 
 def between_points(points: np.ndarray, x: np.ndarray, y: np.ndarray) -> np.ndarray:
     """Heights in the triangles (Delaunay's) between points x, y, z; infinite beyond them, and where the points make no triangle."""
-    places = np.unique(points[:, :2], axis=0)
+    places = points[:, :2]
     if not len(x) or np.linalg.matrix_rank(places - places[0]) < 2:
         return np.full(len(x), np.inf)
     interpolate = load("scipy.interpolate", "python3-scipy", "[fixed] surface")
     # About the points' middle, since coordinates of seven digits leave little room for differences.
     middle = places.mean(axis=0)
-    heights = interpolate.LinearNDInterpolator(points[:, :2] - middle, points[:, 2], fill_value=np.inf)
+    heights = interpolate.LinearNDInterpolator(places - middle, points[:, 2], fill_value=np.inf)
     return np.asarray(heights(x - middle[0], y - middle[1]))
 
 

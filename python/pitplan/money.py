@@ -89,7 +89,7 @@ class Values:
         gain = revenue - cost
         if self.cutoff == "fixed":
             return np.where(self.pays, gain, 0) - 1000 * self.mining.astype(object)
-        return np.where(gain > 0, gain, 0) - 1000 * self.mining.astype(object)
+        return np.maximum(gain, 0) - 1000 * self.mining.astype(object)
 
 
 @dataclass(frozen=True)

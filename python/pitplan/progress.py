@@ -13,7 +13,6 @@ class Progress:
 
     def __init__(self, stream: Optional[TextIO] = None) -> None:
         self.stream = stream
-        self.started = time.perf_counter()
 
     @contextmanager
     def step(self, what: str) -> Iterator[None]:
@@ -29,10 +28,6 @@ class Progress:
     def say(self, words: str, end: str = "\n") -> None:
         if self.stream is not None:
             print(words, end=end, file=self.stream, flush=True)
-
-    def total(self) -> float:
-        """Seconds since the progress was made."""
-        return time.perf_counter() - self.started
 
 
 silent = Progress()

@@ -84,7 +84,7 @@ class Pattern:
 def cotangents(angles: Angles, azimuths: np.ndarray) -> np.ndarray:
     """Cotangent of the asked angle at each azimuth in degrees: linear between two that are named, and round the circle."""
     given = np.array([azimuth for azimuth, _ in angles])
-    flatness = np.array([1 / math.tan(math.radians(angle)) if angle < 90 else 0.0 for _, angle in angles])
+    flatness = np.array([1 / math.tan(math.radians(angle)) for _, angle in angles])
     return np.interp(np.asarray(azimuths) % 360.0, given, flatness, period=360.0)
 
 

@@ -1,6 +1,5 @@
 """What the subcommands write: whole or not at all; audits, exports and pages of a small mine."""
 
-import functools
 import json
 import os
 import signal
@@ -343,6 +342,21 @@ def test_the_command_line_exports_in_silence(solved, capsys):
     assert said.err == "" and said.out == f"{folder / 'pit.csv'}\n"
 
 
+def test_the_command_line_writes_a_page_and_an_audit(solved, capsys):
+    project, folder = solved
+    assert main(["view", str(project.path), "--quiet"]) == 0
+    assert main(["audit", str(project.path), "--factor", "500", "--quiet"]) == 0
+    said = capsys.readouterr()
+    assert (said.out, said.err) == (f"{folder / 'view.html'}\n{folder / 'audit-500'}\n", "")
+    assert (folder / "view.html").is_file() and json.loads((folder / "audit-500" / "audit.json").read_text())["factor"] == 500
+
+
+def test_a_folder_with_another_record_is_no_plan(solved):
+    (solved[1] / "prepare.json").write_text("{}")
+    with pytest.raises(PlanError, match="prepare.json: is no record of a plan"):
+        files.read_folder(solved[1])
+
+
 def test_the_command_line_refuses_in_one_sentence(plan_folder, capsys):
     path = plan_folder(rows(3, 3, 3), PROJECT, ("mining_cost = 2", "mining_cost = -2"))
     assert main(["prepare", str(path)]) == 1
@@ -357,10 +371,9 @@ def test_a_run_that_is_ended_says_so_in_one_line_and_leaves_nothing(plan_folder,
     slow.chmod(0o755)
     path = plan_folder(rows(4, 4, 3, **ORE))
     words = [str(ROOT / "tools" / "pitplan"), "shells", str(path), "--quiet"]
-    # Whoever runs the tests in the background has it that they do not hear of Ctrl-C.
-    hears = functools.partial(signal.signal, signal.SIGINT, signal.SIG_DFL)
-    there = {**os.environ, "PITSHELL": str(slow)}
-    ran = subprocess.Popen(words, env=there, stderr=subprocess.PIPE, text=True, preexec_fn=hears)
+    # A job that a shell has put behind ignores SIGINT, and so would what it starts.
+    heeding = {"preexec_fn": lambda: signal.signal(signal.SIGINT, signal.SIG_DFL)}
+    ran = subprocess.Popen(words, env={**os.environ, "PITSHELL": str(slow)}, stderr=subprocess.PIPE, text=True, **heeding)
     for _ in range(600):
         if (tmp_path / "began").exists():
             break

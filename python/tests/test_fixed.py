@@ -1,5 +1,6 @@
 """Fixed blocks from columns, from the surface as mined and from areas on the map; and the pit that keeps to them."""
 
+import io
 import os
 import subprocess
 from dataclasses import replace
@@ -18,7 +19,7 @@ from pitplan import commands, fixed, load, prepare, run, scenarios
 from pitplan.cli import main
 from pitplan.project import FixedRules
 from pitplan.errors import PlanError
-from pitplan.progress import silent
+from pitplan.progress import Progress, silent
 
 
 def with_section(text):
@@ -92,6 +93,16 @@ def test_a_surface_between_points_is_their_plane(plan_folder, tmp_path):
     blocks = plan.blocks
     assert plan.fixed.forced.tolist() == blocks.loc[blocks["z"] > plane(blocks["x"], blocks["y"]), "id"].tolist()
     assert 0 < len(plan.fixed.forced) < 72
+
+
+@pytest.mark.parametrize("points", ["3,4,0\n", "3,4,0\n3,4,2\n", "0,0,0\n10,5,0\n40,20,0\n"])
+def test_points_that_make_no_triangle_say_nothing_beside_them(plan_folder, tmp_path, points):
+    """Over the second and third column: one point, the same twice, and points on a line."""
+    (tmp_path / "mined.csv").write_text("x,y,z\n" + points)
+    plan = prepare(load(plan_folder(rows(3, 3, 1), with_section('[fixed]\nsurface = "mined.csv"\n'))))
+    over = {(int(x) // 10, int(y) // 10) for x, y, _ in np.atleast_2d(np.loadtxt(points.splitlines(), delimiter=",")) if x < 30}
+    assert plan.fixed.forced.tolist() == sorted(3 * j + i for i, j in over)
+    assert any(f"{9 - len(over)} columns of blocks lie beyond all points" in note for note in plan.notes)
 
 
 def test_a_triangle_bars_what_lies_in_it(plan_folder, tmp_path):
@@ -227,7 +238,8 @@ def test_shells_with_fixed_blocks_are_the_best_of_all_closed_sets_that_keep_to_t
             values = [factor * y / 1000 - 1200 if y > 1000 else Decimal(-200) for y in yields]
         worth, pit = best_by_trying(allowed, values)
         assert solution.worth[factor] == worth
-        assert set(np.flatnonzero((solution.entry[:9] > 0) & (solution.entry[:9] <= factor))) == pit
+        inside = (solution.entry > 0) & (solution.entry <= factor)
+        assert set(np.flatnonzero(inside[:9])) == pit and solution.nodes[factor] == inside.sum()
 
 
 def ores_and_fixed():
@@ -298,7 +310,9 @@ def test_scenarios_keep_to_fixed_blocks(plan_folder, tmp_path):
     text = with_section(FIXED_SECTION + '[scenarios]\ncolumns = { copper = ["first", "second"] }\n')
     project = load(plan_folder(table, text))
     folder = project.folder / "scenarios"
-    scenarios.solve(project, folder, scenarios.Request(workers=1), silent)
+    told = io.StringIO()
+    scenarios.solve(project, folder, scenarios.Request(workers=1), Progress(told))
+    assert "solving 2 scenarios .. 1 2 " in told.getvalue()
     likely = pd.read_csv(folder / "probability.csv")
     assert (likely.loc[likely["must"] == 1, "probability_500"] == 1).all()
     assert (likely.loc[likely["never"] == 1, "probability_1500"] == 0).all()

@@ -14,8 +14,8 @@ from hypothesis import given, settings
 from hypothesis import strategies as st
 from test_shells import BOX, CLOSED, best_by_trying
 
-from pitplan import MissingPackage, PlanError, load, scenarios
-from pitplan.cli import main
+from pitplan import MissingPackage, PlanError, ProgramError, load, scenarios
+from pitplan.cli import main, parser
 from pitplan.progress import silent
 from pitplan.scenarios import Request, answers, folder as folders, job_lists, on_dask, prepare, work
 
@@ -190,6 +190,7 @@ def test_a_model_that_does_not_fit_is_named_by_file_and_row(plan_folder, bend, w
             COLUMNS.replace("copper = ", "gold = "),
             r"\[scenarios\] names gold, which is none of the \[\[metals\]\] copper",
         ),
+        (PROJECT + "[scenarios]\ncolumns = {}\n", r"\[scenarios\] columns: name the columns of at least one metal"),
         (PRICES.replace("12_000", "-1"), r"\[scenarios.prices 2\] copper: -1 is below 0"),
     ],
 )
@@ -401,3 +402,121 @@ def test_a_scheduler_that_is_not_there_is_named(plan_folder):
         scenarios.solve(
             *(lambda p: (p, p.folder))(load(plan_folder(pillar(), COLUMNS))), Request("nowhere://x"), silent
         )
+
+
+def likely(folder):
+    return pd.read_csv(folder / "probability.csv")[["probability_500", "probability_1000", "probability_1500"]].to_numpy().tolist()
+
+
+def test_answers_are_gathered_from_the_command_line(plan_folder, capsys):
+    """The first and the third model alone, then all."""
+    shared = prepared(plan_folder(pillar(), COLUMNS, UPRIGHT))
+    for number in (1, 3):
+        assert work.solve(str(shared.folder), number).status == 0
+    words = ["gather", str(shared.folder), "--quiet"]
+    assert main(words) == 1
+    assert "1 of 3 scenarios have no answer, first sim_2: was not solved" in capsys.readouterr().err
+    assert main([*words, "--partial"]) == 0
+    said = capsys.readouterr()
+    assert said.out == f"{shared.folder}\n"
+    assert "WARNING: 1 scenarios have no answer and are left out of everything" in said.err
+    assert likely(shared.folder) == [[0.5, 0.5, 0.5]] * 3
+    assert work.solve(str(shared.folder), 2).status == 0
+    assert main([*words, "--factor", "500"]) == 0
+    assert likely(shared.folder) == [pytest.approx([1 / 3, 1 / 3, 2 / 3], abs=1e-6)] * 3
+
+
+@pytest.mark.parametrize("kind", ["slurm", "parallel"])
+def test_no_lists_of_jobs_are_written_where_all_is_answered(plan_folder, kind):
+    path = plan_folder(pillar(), COLUMNS, UPRIGHT)
+    solved_in_turn(prepared(path))
+    *notes, last = scenarios.solve(load(path), load(path).folder, Request(where=kind), silent)
+    assert last == str(load(path).folder) and notes[-1] == "3 of 3 scenarios have their answer already"
+    assert (load(path).folder / "quantiles.csv").exists() and not (load(path).folder / "jobs.txt").exists()
+
+
+def test_cost_that_rises_with_the_level_is_one_for_all_scenarios(plan_folder):
+    """Mining costs 200, 225 and 250 from the top down, in every model, though in the third nothing is ore."""
+    change = ("mining_cost = 2", "mining_cost = 2\nmining_cost_per_level = 0.25")
+    gathered = solved_in_turn(prepared(plan_folder(pillar(), COLUMNS, UPRIGHT, change)))
+    worth = gathered.table.set_index(["model", "factor"])["worth_at_factor"].map(Decimal)
+    assert worth["sim_1"].tolist() == [3000 - 1675, 6000 - 1675, 9000 - 1675]
+    assert worth["sim_2"].tolist() == [0, 0, 2400 - 1675] and worth["sim_3"].tolist() == [0, 0, 0]
+
+
+@pytest.mark.parametrize(
+    ("error", "status"),
+    [
+        (PlanError("refused"), 5),
+        (ProgramError("there is no program"), 5),
+        *((ProgramError("ended", status), status) for status in (1, 2, 3, 4)),
+        *((ProgramError("ended", status), 75) for status in (-9, 0, 5, 137)),
+    ],
+)
+def test_a_scenario_has_the_status_of_the_program_s_own(error, status):
+    assert work.status_of(error) == status
+
+
+@pytest.mark.parametrize(
+    ("words", "said"),
+    [
+        (["scenarios", "project.toml", "--on", "cloud"], "cloud is none of local, tcp://host:port, slurm, parallel"),
+        (["scenarios", "project.toml", "--workers", "0"], "0 is no whole number from 1 on"),
+        (["scenarios", "project.toml", "--workers", "-1"], "-1 is no whole number from 1 on"),
+        (["scenario", "folder", "0"], "0 is no whole number from 1 on"),
+        (["scenario", "folder", "one"], "one is no whole number from 1 on"),
+    ],
+)
+def test_a_mistake_on_the_command_line_is_told(capsys, words, said):
+    with pytest.raises(SystemExit) as ended:
+        main(words)
+    assert ended.value.code == 2 and said in capsys.readouterr().err
+
+
+@pytest.mark.parametrize("where", ["local", "slurm", "parallel", "tcp://host:8786"])
+def test_where_scenarios_are_solved_is_a_word_or_an_address(where):
+    assert parser().parse_args(["scenarios", "project.toml", "--on", where, "--workers", "1"]).on == where
+
+
+def test_a_broken_folder_of_scenarios_is_named(plan_folder, tmp_path):
+    shared = prepared(plan_folder(pillar(), COLUMNS))
+    solved_in_turn(shared)
+    answer = shared.answer(shared.scenarios[1])
+    answer.write_bytes(b"nothing")
+    with pytest.raises(PlanError, match=f"{answer}: is no answer: remove it, and run pitplan scenarios again"):
+        answers.gather(shared)
+    with pytest.raises(PlanError, match="nowhere/scenarios.json: cannot be read: run pitplan scenarios first"):
+        folders.read_shared(tmp_path / "nowhere")
+    (shared.folder / "scenarios.json").write_text("{}")
+    with pytest.raises(PlanError, match="scenarios.json: is no record of scenarios"):
+        folders.read_shared(shared.folder)
+
+
+def test_a_folder_of_jobs_whose_name_no_script_can_hold_is_refused(plan_folder, tmp_path):
+    shared = prepared(plan_folder(pillar(), COLUMNS))
+    with pytest.raises(PlanError, match="may not have a line's end or a % in its name"):
+        job_lists.write("slurm", tmp_path / "50 %", shared.scenarios)
+
+
+def test_workers_that_cannot_import_pitplan_end_it_all(plan_folder):
+    scenario = prepared(plan_folder(pillar(), COLUMNS)).scenarios[1]
+    with pytest.raises(PlanError, match=r"Dask's workers cannot import pitplan \(no pitplan\)"):
+        on_dask.lost(ImportError("no pitplan"), scenario)
+    ended = on_dask.lost(RuntimeError("gone"), scenario)
+    assert (ended.number, ended.status, ended.why) == (2, 75, "sim_2: its worker was lost: gone: tried 3 times")
+
+
+def test_lists_of_models_that_differ_in_length_are_refused(plan_folder):
+    second = '[[metals]]\nname = "gold"\ncolumn = "au"\nunit = "percent"\nprice = 1\nrecovery = 1\n[slopes]'
+    text = COLUMNS.replace('copper = "sim_*"', 'copper = "sim_*", gold = ["sim_1", "sim_2"]')
+    with pytest.raises(PlanError, match=r"\[scenarios\] columns: each metal needs as many columns as the others: 3 of copper, 2 of gold"):
+        prepared(plan_folder(pillar(), text, ("[slopes]", second)))
+
+
+def test_probabilities_are_told_without_the_image_where_vtk_is_missing(plan_folder, monkeypatch):
+    shared = prepared(plan_folder(pillar(), COLUMNS, UPRIGHT))
+    solved_in_turn(shared)
+    monkeypatch.setitem(sys.modules, "vtk", None)
+    note, folder = scenarios.gather(shared.folder, Request(), silent)
+    assert note.startswith("probability.vti was not written: ") and "python3-vtk9" in note and folder == str(shared.folder)
+    assert likely(shared.folder)[0] == pytest.approx([1 / 3, 1 / 3, 2 / 3], abs=1e-6) and not (shared.folder / "probability.vti").exists()

@@ -293,3 +293,11 @@ def test_discounting_is_one_of_three(plan_folder):
     path = plan_folder(rows(2, 2, 2), PROJECT, ("rate = 0.1", 'rate = 0.1\ndiscounting = "yearly"'))
     with pytest.raises(PlanError, match="discounting: \"yearly\" is none of continuous, end_of_year, mid_year"):
         pitplan.load(path)
+
+
+def test_the_factor_to_show_is_that_of_the_best_mean_of_both_cases_up_to_1000():
+    table = pd.DataFrame({"factor": [400, 700, 1000, 1300], "npv_best": [5.0, 9, 10, 99], "npv_worst": [5.0, 4, 2, 99]})
+    schedule = project_of().schedule
+    assert analyse.chosen_factor(table, schedule) == 700
+    assert analyse.chosen_factor(table.assign(npv_best=[9.0, 9, 9, 9], npv_worst=[1.0, 2, 3, 4]), schedule) == 1000
+    assert analyse.chosen_factor(table, replace(schedule, chosen=400)) == 400

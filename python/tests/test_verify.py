@@ -2,6 +2,7 @@
 
 import json
 import shutil
+from decimal import Decimal
 
 import numpy as np
 import pandas as pd
@@ -10,14 +11,14 @@ from conftest import PROJECT, rows
 from hypothesis import HealthCheck, given, settings
 from hypothesis import strategies as st
 
-from pitplan import PlanError, absent, commands, fixed, load, money, prepare, schedule, solve
+from pitplan import PlanError, absent, commands, fixed, load, money, prepare, schedule, slopes, solve
 from pitplan.cli import main
 from pitplan.progress import silent
 from pitplan.project import Wall
 from pitplan.verify import demand, verify
 from pitplan.verify.answer import read
 from pitplan.verify.money import sample
-from pitplan.verify.walls import high_walls
+from pitplan.verify.walls import flatness, high_walls
 
 TEXT = PROJECT.replace("mining_cost = 2\n", "mining_cost = { R = 2, S = 2.5 }\nmining_cost_per_level = 0.25\ndecimals = 2\n").replace(
     "[slopes]\n",
@@ -231,6 +232,58 @@ STEEP_ABOVE = '[[slopes.walls]]\nregion = "1"\nangle = 35\n[[slopes.walls]]\nreg
 MIXED = [("[[slopes.walls]]\npattern = \"1:5\"", STEEP_ABOVE)]
 
 
+def test_cost_by_elevation_is_looked_at(plan_folder, monkeypatch):
+    """Levels with centres 5, 15, .., 45 m, of which the lowest and the highest lie beyond the elevations that are named."""
+    change = ("mining_cost_per_level = 0.25", "mining_cost_by_elevation = [[10, 0.7], [20, 0.3], [40, 0.1]]")
+    path = plan_folder(deposit(), TEXT, change)
+    assert [rule.differences for rule in looked_at(prepare(path))] == [()] * 8
+    monkeypatch.setattr(money, "added_cost", lambda *_: Decimal(0))
+    differences = {rule.name: rule.differences for rule in looked_at(prepare(path)) if rule.differences}
+    # 99.7 t, of which each costs 0.7 more.
+    assert differences["money"][0] == "block b0-0-0: mining_cost 199.4 for 269.19"
+
+
+@pytest.mark.parametrize("discounting", ["continuous", "mid_year", "end_of_year"])
+def test_a_mine_in_which_nothing_pays_is_right(plan_folder, discounting):
+    plan = prepare(plan_folder(rows(3, 3, 2), PROJECT, ("rate = 0.1", f'rate = 0.1\ndiscounting = "{discounting}"')))
+    assert [rule.differences for rule in looked_at(plan)] == [()] * 8
+
+
+@pytest.mark.parametrize(("discounting", "npv"), [("continuous", -200), ("mid_year", -200 / 1.1**0.5), ("end_of_year", -200 / 1.1)])
+def test_waste_that_takes_no_time_is_the_first_years(plan_folder, discounting, npv):
+    """The mill alone has a capacity: a block of waste that must be dug, which costs 200, and a deposit under waste."""
+    changes = ("rate = 0.1", f'rate = 0.1\ndiscounting = "{discounting}"')
+    table = rows(3, 3, 2, must=lambda i, j, k: int((i, j, k) == (1, 1, 1)))
+    plan = prepare(plan_folder(table, PROJECT + '\n[fixed]\nforced = "must"\n', changes))
+    assert [rule.differences for rule in looked_at(plan)] == [()] * 8
+    shells = pd.read_csv(plan.project.folder / "shells.csv")
+    assert shells["npv_best"].tolist() == shells["npv_worst"].tolist() == [pytest.approx(npv, abs=1e-3)] * 3
+    plan = prepare(plan_folder(deposit(), TEXT, changes, ("rock_per_year = 1000\n", "")))
+    assert [rule.differences for rule in looked_at(plan)] == [()] * 8
+
+
+def test_a_block_without_an_id_is_called_by_its_centre(plan_folder):
+    plan = prepare(plan_folder(ore_everywhere().drop(columns="name"), PROJECT, ('id = "name"\n', "")))
+    assert [rule.differences for rule in looked_at(plan)] == [()] * 8
+    path = plan.project.folder / "blocks.csv"
+    plus_one(pd.read_csv(path), "mining_cost").to_csv(path, index=False)
+    (rule,) = [rule for rule in verify(plan.project.folder, plan.project) if rule.name == "money"]
+    assert rule.differences[0] == "the block at 600005, 6512005, 5: mining_cost 201 for 200"
+
+
+def test_a_folder_without_an_answer_is_named(copied, tmp_path):
+    with pytest.raises(PlanError, match="nowhere/prepare.json: cannot be read: run pitplan shells first"):
+        verify(tmp_path / "nowhere")
+    path = copied.parent / "blocks.csv"
+    whole = path.read_text()
+    path.write_text(whole + whole.splitlines()[1].replace("b0-0-0", "more").replace("5.0,5.0,5.0", "5.0,5.0,55.0") + "\n")
+    with pytest.raises(PlanError, match="1 blocks of the table are not in it: has the table changed since?"):
+        verify(copied)
+    (copied / "prepare.json").write_text("{}")
+    with pytest.raises(PlanError, match="is no folder that pitplan shells or pit has written"):
+        verify(copied)
+
+
 def test_rows_without_rock_are_no_blocks_that_are_left_standing(plan_folder):
     """Ore below rock, and over it two levels of rows that hold nothing."""
     table = rows(9, 9, 5, tonnes=lambda i, j, k: 100 * (k < 3), cu=lambda i, j, k: 9 * ((i, j, k) == (4, 4, 0)))
@@ -238,6 +291,15 @@ def test_rows_without_rock_are_no_blocks_that_are_left_standing(plan_folder):
     assert [rule.differences for rule in looked_at(plan)] == [()] * 8
     blocks = pd.read_csv(plan.project.folder / "blocks.csv")
     assert (blocks.loc[blocks["tonnes"] == 0, "factor"] == 0).any() and (blocks["factor"] == 500).sum() > 13
+
+
+def test_walls_between_azimuths_by_hand():
+    """60 degrees to the east and 30 to the west: what they step back for a metre up is linear between, also over the north."""
+    wall = Wall(None, None, ((90.0, 60.0), (270.0, 30.0)))
+    steep, flat = 1 / np.sqrt(3), np.sqrt(3)
+    expected = [(steep + flat) / 2, steep, (steep + flat) / 2, flat + (steep - flat) / 4, flat + (steep - flat) * 89 / 180]
+    assert flatness(wall, np.array([0.0, 90, 180, 315, 359])) == pytest.approx(expected)
+    assert slopes.cotangents(wall.angles, np.array([0.0, 90, 180, 315, 359])) == pytest.approx(expected)
 
 
 def test_high_walls_by_geometry():
@@ -370,9 +432,14 @@ def test_a_shell_of_other_blocks_is_found(plan_folder, monkeypatch):
 
 
 @settings(max_examples=12, suppress_health_check=[HealthCheck.function_scoped_fixture])
-@given(st.integers(0, 10**6), st.sampled_from(["moving", "fixed"]), st.sampled_from(["continuous", "mid_year", "end_of_year"]))
-def test_random_plans_are_right(plan_folder, seed, cutoff, discounting):
-    """Uneven ground, two regions of other walls, rocks, fixed blocks."""
+@given(
+    st.integers(0, 10**6),
+    st.sampled_from(["moving", "fixed"]),
+    st.sampled_from(["continuous", "mid_year", "end_of_year"]),
+    st.sampled_from(["", "rock_per_year = 1000\n"]),
+)
+def test_random_plans_are_right(plan_folder, seed, cutoff, discounting, shovels):
+    """Uneven ground, two regions of other walls, rocks, fixed blocks, with and without a capacity of shovels."""
     rng = np.random.default_rng(seed)
     ground = rng.integers(3, 6, (9, 8))
     table = rows(9, 8, 5, region=lambda i, j, k: "12"[int(i > 4)], rock=lambda i, j, k: "RS"[int(k > 2)])
@@ -388,6 +455,7 @@ def test_random_plans_are_right(plan_folder, seed, cutoff, discounting):
         ('[[slopes.walls]]\npattern = "1:5"', walls),
         ("decimals = 2", f'decimals = 2\ncutoff = "{cutoff}"'),
         ("rate = 0.1", f'rate = 0.1\ndiscounting = "{discounting}"'),
+        ("rock_per_year = 1000\n", shovels),
     ]
     plan = prepare(plan_folder(table, TEXT, *changes))
     assert [rule.differences for rule in looked_at(plan)] == [()] * 8

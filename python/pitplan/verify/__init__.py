@@ -12,7 +12,7 @@ from typing import Optional
 from ..errors import PlanError
 from ..project import Project
 from . import answer as answers, fixed, money, sums, walls, years
-from .answer import Rule
+from .answer import TOLD, Rule
 
 CHECKS = (fixed.verify_places, walls.verify, walls.verify_steepness, fixed.verify, money.verify, sums.verify, sums.verify_worth, years.verify)
 
@@ -31,4 +31,4 @@ def demand(rules: list[Rule]) -> None:
     told = [f"{rule.name}: {difference}" for rule in rules for difference in rule.differences]
     if told:
         count = sum(rule.count for rule in rules)
-        raise PlanError("\n  ".join([f"what was written is not right in {count:,} places:", *told[:10]]))
+        raise PlanError("\n  ".join([f"what was written is not right in {count:,} places:", *told[:TOLD]]))

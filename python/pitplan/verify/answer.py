@@ -17,6 +17,8 @@ from ..project import GRADE_UNITS, AbsentRock, Project, Wall, load
 
 # In place of a factor: a cell that is not dug at any, and one where there is nothing to dig.
 UNDUG, NOTHING = 2**30, 0
+# So many differences of a rule are told.
+TOLD = 10
 # The columns of blocks.csv that are the answer's.
 SAID = ("id", "mining_cost", "revenue", "processing_cost", "factor", "process_factor")
 
@@ -32,7 +34,7 @@ class Rule:
 
 
 def rule(name: str, holds: str, differences: list[str], count: int | None = None) -> Rule:
-    return Rule(name, holds, tuple(differences[:10]), len(differences) if count is None else count)
+    return Rule(name, holds, tuple(differences[:TOLD]), len(differences) if count is None else count)
 
 
 @dataclass(frozen=True)

@@ -6,7 +6,7 @@ import numpy as np
 import pandas as pd
 from matplotlib.path import Path as Outline
 
-from .answer import Answer, Rule, rule
+from .answer import TOLD, Answer, Rule, rule
 
 
 # Metres: of a centre that lies at the surface or the edge of an area to within so much nothing is demanded.
@@ -25,8 +25,8 @@ def verify(answer: Answer) -> Rule:
         never = never | within(answer, table(area.polygon)[["x", "y"]].to_numpy(), area.barred == "inside")
     left = np.flatnonzero(must & rock & (first != min(answer.factors)))
     dug = np.flatnonzero(never & rock & (first > 0))
-    differences = [f"{answer.called(row)} must be dug, and is so from factor {first[row]} on" for row in left[:10]]
-    differences += [f"{answer.called(row)} may not be dug, and is so from factor {first[row]} on" for row in dug[:10]]
+    differences = [f"{answer.called(row)} must be dug, and is so from factor {first[row]} on" for row in left[:TOLD]]
+    differences += [f"{answer.called(row)} may not be dug, and is so from factor {first[row]} on" for row in dug[:TOLD]]
     return rule("fixed", "what must be dug is in every shell, and what may not be is in none", differences, len(left) + len(dug))
 
 
@@ -66,12 +66,12 @@ def verify_places(answer: Answer) -> Rule:
     for steps, cell, size in zip(answer.steps, answer.cells[::-1], answer.size):
         off = np.abs(steps - cell) * size
         far = np.flatnonzero(off > tolerance + 1e-6)
-        differences += [f"{answer.called(row)} lies {off[row]:.4g} m off its cell" for row in far[:10]]
+        differences += [f"{answer.called(row)} lies {off[row]:.4g} m off its cell" for row in far[:TOLD]]
         count += len(far)
     number = np.ravel_multi_index(answer.cells, answer.shape, mode="clip")
     wrong = np.flatnonzero(number != answer.said["id"].to_numpy())
-    differences += [f"{answer.called(row)} has the id {answer.said['id'].iloc[row]} for {number[row]}" for row in wrong[:10]]
+    differences += [f"{answer.called(row)} has the id {answer.said['id'].iloc[row]} for {number[row]}" for row in wrong[:TOLD]]
     strange = np.flatnonzero(~answer.said["factor"].isin([0, *answer.factors]))
-    differences += [f"{answer.called(row)} comes in at {answer.said['factor'].iloc[row]}" for row in strange[:10]]
+    differences += [f"{answer.called(row)} comes in at {answer.said['factor'].iloc[row]}" for row in strange[:TOLD]]
     count += len(wrong) + len(strange)
     return rule("blocks", "every block of the table stands in the answer, in its own cell", differences, count)

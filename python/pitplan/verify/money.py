@@ -10,7 +10,7 @@ from typing import Union
 import numpy as np
 
 from ..project import GRADE_UNITS
-from .answer import UNDUG, Answer, Rule, rule
+from .answer import TOLD, UNDUG, Answer, Rule, rule
 from .walls import needed_by
 
 SAMPLE = 10_000
@@ -158,6 +158,6 @@ def near(answer: Answer) -> tuple[list[str], int]:
     for name, amounts in zip(NAMES, (mining, revenue, processing)):
         said = answer.said[name].to_numpy()
         off = np.flatnonzero(np.abs(said - amounts) > 0.51 * unit + 1e-12 * np.abs(amounts))
-        differences += [f"{answer.called(row)}: {name} {said[row]:.10g} for {amounts[row]:.10g}" for row in off[:10]]
+        differences += [f"{answer.called(row)}: {name} {said[row]:.10g} for {amounts[row]:.10g}" for row in off[:TOLD]]
         count += len(off)
     return differences, count

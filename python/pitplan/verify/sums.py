@@ -6,7 +6,7 @@ from decimal import Decimal
 
 import numpy as np
 
-from .answer import Answer, Rule, rule
+from .answer import TOLD, Answer, Rule, rule
 
 # Up to here a float holds every whole number.
 EXACT_WHOLE = 2**53
@@ -99,4 +99,4 @@ def late(answer: Answer, revenue: np.ndarray, processing: np.ndarray) -> tuple[l
     else:
         expected = np.where(np.asarray(revenue > processing, dtype=bool), first, 0)
     off = np.flatnonzero(expected != said)
-    return [f"{answer.called(row)}: process_factor {said[row]} for {expected[row]}" for row in off[:10]], len(off)
+    return [f"{answer.called(row)}: process_factor {said[row]} for {expected[row]}" for row in off[:TOLD]], len(off)

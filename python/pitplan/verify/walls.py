@@ -10,7 +10,7 @@ from scipy.ndimage import maximum_filter1d
 from scipy.spatial import ConvexHull, QhullError
 
 from ..project import Wall
-from .answer import NOTHING, UNDUG, Answer, Rule, rule
+from .answer import NOTHING, TOLD, UNDUG, Answer, Rule, rule
 
 NEIGHBOURS = {"1:5": 1, "1:9": 2}
 HAIR = 1e-9
@@ -154,7 +154,7 @@ def box(mask: np.ndarray) -> tuple[slice, slice, slice] | None:
 
 def told(answer: Answer, wrong: np.ndarray) -> tuple[list[str], int]:
     rows = np.flatnonzero(wrong[answer.cells])
-    said = [f"{answer.called(row)}, dug at {answer.said['factor'].iloc[row]}, needs a block that is not" for row in rows[:10]]
+    said = [f"{answer.called(row)}, dug at {answer.said['factor'].iloc[row]}, needs a block that is not" for row in rows[:TOLD]]
     return said, len(rows)
 
 

@@ -82,10 +82,11 @@ def npv(pieces: pd.DataFrame, answer: Answer) -> float:
         return float(sum(amount * mean(end - years, end, schedule.rate) for amount, years, end in zip(cash, last, ends)))
     if not len(ends):
         return 0.0
-    moments = np.arange(0, max(math.ceil(ends[-1] - 1e-9), 1) + 1)
+    moments = np.arange(1, max(math.ceil(ends[-1] - 1e-9), 1) + 1)
+    # What takes no time at the very start is the first year's too.
     flowed = np.interp(moments, np.concatenate([[0.0], ends]), np.concatenate([[0.0], np.cumsum(cash)]))
-    when = moments[1:] - (0.5 if schedule.discounting == "mid_year" else 0.0)
-    return float((np.diff(flowed) / (1 + schedule.rate) ** when).sum())
+    when = moments - (0.5 if schedule.discounting == "mid_year" else 0.0)
+    return float((np.diff(flowed, prepend=0.0) / (1 + schedule.rate) ** when).sum())
 
 
 def mean(start: float, end: float, rate: float) -> float:
