@@ -16,7 +16,7 @@ from . import __version__, commands, init, report, scenarios
 from .errors import PlanError
 from .progress import Progress, on_standard_error, silent
 from .project import REFERENCE_FACTOR, Project, load
-from .verify import demand, verify
+from .verify import demand, verify_folder
 
 # As a shell has it: 128 and the signal's number.
 INTERRUPTED = 130
@@ -48,8 +48,8 @@ def parser() -> argparse.ArgumentParser:
             is_needed = name == "audit"
             kind = positive if name == "pit" else int
             sub.add_argument("--factor", type=kind, required=is_needed, default=None if is_needed else REFERENCE_FACTOR)
-    text = "look a second time at every number of a folder that shells or pit has written"
-    subs.add_parser("verify", help=text, description=text).add_argument("folder", type=Path, help="the folder of the plan")
+    text = "look a second time at the numbers of a folder that shells, pit, scenarios or gather has written"
+    subs.add_parser("verify", help=text, description=text).add_argument("folder", type=Path, help="the folder of the plan or the scenarios")
     add_scenarios(subs)
     text = "write other people's files as the program's"
     kinds = subs.add_parser("convert", help=text, description=text).add_subparsers(dest="kind", required=True)
@@ -84,6 +84,7 @@ def add_scenarios(subs: Any) -> None:
     for sub in (every, some):
         sub.add_argument("--factor", type=int, help="the factor to draw (default: the project's chosen one, or 1000)")
         sub.add_argument("--partial", action="store_true", help="gather although scenarios have no answer")
+        sub.add_argument("--no-verify", action="store_true", help="leave out the second look at what is gathered")
     one.add_argument("number", type=positive, help="the scenario, from 1")
     for sub in (every, some, one):
         sub.add_argument("--quiet", action="store_true", help="tell no progress on standard error")
@@ -174,7 +175,7 @@ def run_command(options: argparse.Namespace, project: Project, folder: Path, pro
 
 def tell_verified(folder: Path) -> None:
     """A line for each rule that holds. Raises PlanError where one does not."""
-    rules = verify(folder)
+    rules = verify_folder(folder)
     demand(rules)
     for rule in rules:
         print(f"{rule.name}: {rule.holds}")
@@ -182,11 +183,11 @@ def tell_verified(folder: Path) -> None:
 
 def run_scenarios(options: argparse.Namespace, progress: Progress) -> None:
     if options.command == "gather":
-        request = scenarios.Request(factor=options.factor, partial=options.partial)
+        request = scenarios.Request(factor=options.factor, partial=options.partial, verifies=not options.no_verify)
         *notes, path = scenarios.gather(options.folder, request, progress)
     else:
         project = load(options.project)
-        request = scenarios.Request(options.on, options.workers, options.factor, options.partial)
+        request = scenarios.Request(options.on, options.workers, options.factor, options.partial, not options.no_verify)
         *notes, path = scenarios.solve(project, options.out or project.folder / "scenarios", request, progress)
     tell_notes(notes)
     print(path)

@@ -12,10 +12,13 @@ from .. import export, files
 from ..errors import MissingPackage, PlanError
 from ..progress import Progress
 from ..project import REFERENCE_FACTOR, Project
+from ..verify import demand
+from ..verify.scenarios import verify
 from . import answers, folder as folders, job_lists, on_dask, pictures, prepare, work
 from .folder import Shared
 
 PROBABILITY, IMAGE, TABLE, QUANTILES = "probability.csv", "probability.vti", "scenarios.csv", "quantiles.csv"
+GATHERED = "gathered.json"
 PICTURES = {"plans": "probability_plans.png", "sections": "probability_sections.png", "spread": "spread.png"}
 
 
@@ -27,12 +30,14 @@ class Request:
     workers  how many processes `local` has; None: one for each processor
     factor   the factor whose probabilities are drawn; None: the project's chosen one, else 1000
     partial  gather although scenarios have no answer
+    verifies look a second time at what is gathered
     """
 
     where: str = "local"
     workers: Optional[int] = None
     factor: Optional[int] = None
     partial: bool = False
+    verifies: bool = True
 
 
 def solve(project: Project, folder: Path, request: Request, progress: Progress) -> list[str]:
@@ -77,18 +82,41 @@ def one(folder: Path, number: int) -> work.Outcome:
 
 
 def gather(folder: Path, request: Request, progress: Progress) -> list[str]:
-    """Writes probabilities, tables and pictures of all answers. Raises PlanError where one is missing."""
+    """Writes probabilities, tables and pictures of all answers, and gathered.json, which says what was verified of them.
+
+    Raises PlanError where an answer is missing, and where what is written is not right, unless it is not verified.
+    """
     shared = folders.read_shared(folder)
     factor = shown_factor(shared, request)
-    with progress.step("gathering the answers"):
-        gathered = answers.gather(shared, request.partial)
-        with files.staged(folder) as stage:
+    with files.staged(folder) as stage:
+        with progress.step("gathering the answers"):
+            gathered = answers.gather(shared, request.partial)
             write_tables(shared, gathered, stage)
-            notes = write_image(shared, gathered, stage)
+        notes = note_verified(shared, gathered, request, stage, progress)
+        with progress.step("drawing"):
+            notes += write_image(shared, gathered, stage)
             draw(shared, gathered, factor, stage)
     if gathered.missing:
         notes.append(f"WARNING: {len(gathered.missing):,} scenarios have no answer and are left out of everything")
     return [*notes, str(folder)]
+
+
+def note_verified(
+    shared: Shared, gathered: answers.Gathered, request: Request, stage: Path, progress: Progress
+) -> list[str]:
+    """Looks a second time at the answers and their tables, and writes down what was looked at; gives a note where it was left out.
+
+    Raises PlanError where something is not right.
+    """
+    verified: list[str] = []
+    if request.verifies:
+        with progress.step("verifying"):
+            rules = verify(shared.folder, stage)
+        demand(rules)
+        verified = [f"{rule.name}: {rule.holds}" for rule in rules]
+    answered = [scenario.number for scenario in shared.scenarios if scenario.number not in gathered.missing]
+    files.write_json(stage / GATHERED, {"answers": answered, "verified": verified})
+    return [] if request.verifies else [f"the second look was left out: pitplan verify {shared.folder} makes up for it"]
 
 
 def shown_factor(shared: Shared, request: Request) -> int:

@@ -11,7 +11,7 @@ from typing import Optional
 
 from ..errors import PlanError
 from ..project import Project
-from . import answer as answers, fixed, money, sums, walls, years
+from . import answer as answers, fixed, money, scenarios, sums, walls, years
 from .answer import TOLD, Rule
 
 CHECKS = (fixed.verify_places, walls.verify, walls.verify_steepness, fixed.verify, money.verify, sums.verify, sums.verify_worth, years.verify)
@@ -24,6 +24,11 @@ def verify(folder: Path, project: Optional[Project] = None) -> list[Rule]:
     """
     answer = answers.read(folder, project)
     return [check(answer) for check in CHECKS]
+
+
+def verify_folder(folder: Path) -> list[Rule]:
+    """What was looked at in a folder of scenarios, or else of a plan. Raises PlanError as `verify` of either does."""
+    return scenarios.verify(folder) if (folder / "scenarios.json").is_file() else verify(folder)
 
 
 def demand(rules: list[Rule]) -> None:

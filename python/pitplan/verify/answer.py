@@ -179,7 +179,8 @@ def read(folder: Path, project: Optional[Project] = None) -> Answer:
         raise PlanError(f"{error.filename}: cannot be read: run pitplan shells first") from error
     except (ValueError, KeyError) as error:
         raise PlanError(f"{folder}: is no folder that pitplan shells or pit has written: {error}") from error
-    rows, said = beside(tables.read(project).frame, written, project, record["grid"])
+    rows, order = beside(tables.read(project).frame, written, project, record["grid"], "blocks.csv")
+    said = written[list(SAID)].iloc[order].reset_index(drop=True)
     return Answer(folder, project, rows, said, shells, years, record, factors)
 
 
@@ -201,10 +202,12 @@ def read_shells(folder: Path, record: dict[str, Any]) -> tuple[pd.DataFrame, tup
     return table[table["fixed_blocks"] == "kept"].set_index("factor"), tuple(record["factors"])
 
 
-def beside(table: pd.DataFrame, written: pd.DataFrame, project: Project, grid: dict[str, Any]) -> tuple[pd.DataFrame, pd.DataFrame]:
-    """The table's rows, with the answer's own behind them, which are of cells without a row; and what the answer says of each.
+def beside(
+    table: pd.DataFrame, written: pd.DataFrame, project: Project, grid: dict[str, Any], source: str
+) -> tuple[pd.DataFrame, np.ndarray]:
+    """The table's rows, with the answer's own behind them, which are of cells without a row; and for each the row of the answer.
 
-    Raises PlanError where a block of either is not in the other.
+    Raises PlanError, with `source`, the answer's file, where a block of either is not in the other.
     """
     columns = project.table
     axes = (columns.x, columns.y, columns.z)
@@ -214,14 +217,15 @@ def beside(table: pd.DataFrame, written: pd.DataFrame, project: Project, grid: d
     at = row_of[nearest_cells(centres, grid)]
     lost = np.count_nonzero((at < 0) | (answered[at] != centres).any(axis=1))
     if lost or len(np.unique(at)) < len(at):
-        raise PlanError(f"blocks.csv: {lost:,} blocks of the table are not in it: has the table changed since?")
+        raise PlanError(f"{source}: {lost:,} blocks of the table are not in it: has the table changed since?")
     more = np.setdiff1d(np.arange(len(written)), at)
     if len(more) and not isinstance(columns.absent, AbsentRock):
-        raise PlanError(f"blocks.csv: {len(more):,} of its blocks are not in the table: has the table changed since?")
+        raise PlanError(f"{source}: {len(more):,} of its blocks are not in the table: has the table changed since?")
     own = written.rename(columns={own_name(name): name for name in table.columns})
     own = own.loc[:, ~own.columns.duplicated(keep="last")]
-    rows = pd.concat([table, own.iloc[more][list(table.columns)]], ignore_index=True) if len(more) else table
-    return rows, written[list(SAID)].iloc[np.concatenate([at, more])].reset_index(drop=True)
+    added = own.iloc[more].reindex(columns=table.columns, fill_value=0.0)
+    rows = pd.concat([table, added], ignore_index=True) if len(more) else table
+    return rows, np.concatenate([at, more])
 
 
 def nearest_cells(centres: np.ndarray, grid: dict[str, Any]) -> np.ndarray:
