@@ -64,7 +64,7 @@ def pit(
 ) -> tuple[pd.DataFrame, dict[str, Any]]:
     """Prepares, and solves the pit of one factor with the project's fixed blocks and without them; gives a table with a row of
     each, and the record. blocks.csv has the pit with them, and of the project's lesser factors the shells within it, by which the
-    best case is dug.
+    best case is dug; and as free_factor and free_process_factor the same without them.
 
     Raises PlanError where the project has no fixed blocks, and where what is written is not right, unless it is not verified.
     """
@@ -83,7 +83,8 @@ def pit(
         check_fixed(plan, keeping, factor, stage, progress)
         table = pd.concat([analyse.shells(plan, solution).tail(1) for solution in (keeping, free)], ignore_index=True)
         table.insert(0, "fixed_blocks", ["kept", "free"])
-        write_table(analyse.blocks(plan, keeping), stage)
+        of_free = analyse.blocks(plan, free)[["factor", "process_factor"]].add_prefix("free_")
+        write_table(pd.concat([analyse.blocks(plan, keeping), of_free], axis=1), stage)
         shown(table).to_csv(stage / PITS, index=False)
         note_verified(plan, record, stage, verifies, progress)
         finish(plan, record, [*written(plan), PIT_MODEL, files.TABLE, PITS], stage)

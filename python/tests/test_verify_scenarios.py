@@ -60,14 +60,14 @@ def bend(path, **changed):
     np.savez_compressed(path, **{**arrays, **{name: change(arrays[name]) for name, change in changed.items()}})
 
 
-RULES = ["blocks", "scenarios", "levels", "walls", "fixed", "shells", "worth", "probability", "tables"]
+RULES = ["blocks", "absent", "levels", "scenarios", "walls", "fixed", "shells", "worth", "probability", "tables"]
 
 
 def test_what_is_right_is_told_rule_by_rule(copied, capsys):
     assert main(["verify", str(copied)]) == 0
     lines = capsys.readouterr().out.splitlines()
     assert [line.split(":")[0] for line in lines] == RULES
-    assert "worth: of 6 of 6 answered scenarios: the program's worth of each shell is that of its blocks" in lines[6]
+    assert "worth: of 6 of 6 answered scenarios: the program's worth of each shell is that of its blocks" in lines[7]
     said = json.loads((copied / "gathered.json").read_text())
     assert said["answers"] == [1, 2, 3, 4, 5, 6] and said["verified"] == lines
 

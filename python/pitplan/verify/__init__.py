@@ -6,15 +6,17 @@ of the program, for the files that it was given; here is looked whether these sa
 
 from __future__ import annotations
 
+from decimal import Decimal
 from pathlib import Path
 from typing import Optional
 
 from ..errors import PlanError
 from ..project import Project
-from . import answer as answers, fixed, money, scenarios, sums, walls, years
-from .answer import TOLD, Rule
+from . import absent, answer as answers, fixed, money, scenarios, sums, walls, years
+from .answer import TOLD, Answer, Rule, rule
 
-CHECKS = (fixed.verify_places, walls.verify, walls.verify_steepness, fixed.verify, money.verify, sums.verify, sums.verify_worth, years.verify)
+OF_PITS = (walls.verify, sums.verify, sums.verify_worth, years.verify)
+CHECKS = (fixed.verify_places, absent.verify, walls.verify, walls.verify_steepness, fixed.verify, money.verify, *OF_PITS[1:])
 
 
 def verify(folder: Path, project: Optional[Project] = None) -> list[Rule]:
@@ -23,7 +25,20 @@ def verify(folder: Path, project: Optional[Project] = None) -> list[Rule]:
     Raises PlanError where the folder has no answer, or the table has changed since.
     """
     answer = answers.read(folder, project)
-    return [check(answer) for check in CHECKS]
+    return [*(check(answer) for check in CHECKS), *([verify_free(answer, answer.free)] if answer.free else [])]
+
+
+def verify_free(kept: Answer, free: Answer) -> Rule:
+    """The pit without fixed blocks, as the other; and that it is worth no less, since to keep to some can gain nothing."""
+    found = [check(free) for check in OF_PITS]
+    differences = [f"{rule_of.name}: {difference}" for rule_of in found for difference in rule_of.differences]
+    lost = [
+        f"factor {factor}: worth_at_factor {free.shells['worth_at_factor'][factor]} is less than with them"
+        for factor in free.shells.index
+        if Decimal(free.shells["worth_at_factor"][factor]) < Decimal(kept.shells["worth_at_factor"][factor])
+    ]
+    holds = "without fixed blocks walls hold, the row of the pit adds up, its worth is that of its blocks, and it is worth no less"
+    return rule("free", holds, [*differences, *lost], sum(rule_of.count for rule_of in found) + len(lost))
 
 
 def verify_folder(folder: Path) -> list[Rule]:

@@ -16,7 +16,7 @@ import numpy as np
 import pandas as pd
 
 from ..project import Project
-from . import fixed, money, sums, walls
+from . import absent, fixed, money, sums, walls
 from .answer import TOLD, Answer, Rule, rule
 from .simulated import QUANTILES, SCENARIOS, Scenario, Simulated, Told, prices_of, read
 
@@ -49,15 +49,16 @@ class Verification:
     folder: Simulated
 
     def rules(self) -> list[Rule]:
-        counted = self.counted()
-        return [fixed.verify_places(self.ground), self.listed(), walls.verify_steepness(self.ground), *self.sampled(), *counted]
+        of_ground = [check(self.ground) for check in (fixed.verify_places, absent.verify, walls.verify_steepness)]
+        return [*of_ground, self.listed(), *self.sampled(), *self.counted()]
 
     @cached_property
     def ground(self) -> Answer:
         """The blocks as if a plan had told of them in which none is dug."""
         folder = self.folder
         said = pd.DataFrame({"id": folder.likely["id"].to_numpy(), "factor": 0})
-        return Answer(folder.folder, folder.project, folder.rows, said, pd.DataFrame(), None, folder.record, folder.factors)
+        rows, known = folder.rows, len(folder.table)
+        return Answer(folder.folder, folder.project, rows, known, said, pd.DataFrame(), None, folder.record, folder.factors)
 
     def listed(self) -> Rule:
         """Every model at every set of prices is a scenario, and the list has no other."""

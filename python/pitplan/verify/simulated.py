@@ -167,7 +167,7 @@ def read(folder: Path, written: Path) -> Simulated:
         raise PlanError(f"{folder}: is no folder that pitplan scenarios has written: {error}") from error
     table = read_table(project)
     named = [name for name in (*tables.names_of(replace(project, metals=())), project.table.tonnes) if name in table]
-    rows, order = beside(table[list(dict.fromkeys(named))], told, project, grid, PROBABILITY)
+    rows, _, order = beside(table[list(dict.fromkeys(named))], told, project, grid, PROBABILITY)
     return Simulated(folder, written, project, record, table, rows, told.iloc[order].reset_index(drop=True))
 
 
