@@ -12,11 +12,11 @@ from typing import Any, Optional, Sequence
 import minelib
 from minelib.__main__ import add_arguments as add_minelib
 
-from . import __version__, commands, init, report, scenarios
+from . import __version__, commands, init, report, simulation
 from .errors import PlanError
 from .progress import Progress, on_standard_error, silent
 from .project import REFERENCE_FACTOR, Project, load
-from .verify import demand, verify_folder
+from .verification import demand, verify_folder
 
 # As a shell has it: 128 and the signal's number.
 INTERRUPTED = 130
@@ -113,7 +113,7 @@ def main(arguments: Optional[Sequence[str]] = None) -> int:
     end_where_asked()
     try:
         if options.command == "scenario":
-            outcome = scenarios.one(options.folder, options.number)
+            outcome = simulation.one(options.folder, options.number)
             if outcome.why:
                 print(f"pitplan: {outcome.why}", file=sys.stderr)
             return outcome.status
@@ -183,12 +183,12 @@ def tell_verified(folder: Path) -> None:
 
 def run_scenarios(options: argparse.Namespace, progress: Progress) -> None:
     if options.command == "gather":
-        request = scenarios.Request(factor=options.factor, partial=options.partial, verifies=not options.no_verify)
-        *notes, path = scenarios.gather(options.folder, request, progress)
+        request = simulation.Request(factor=options.factor, partial=options.partial, verifies=not options.no_verify)
+        *notes, path = simulation.gather(options.folder, request, progress)
     else:
         project = load(options.project)
-        request = scenarios.Request(options.on, options.workers, options.factor, options.partial, not options.no_verify)
-        *notes, path = scenarios.solve(project, options.out or project.folder / "scenarios", request, progress)
+        request = simulation.Request(options.on, options.workers, options.factor, options.partial, not options.no_verify)
+        *notes, path = simulation.solve(project, options.out or project.folder / "scenarios", request, progress)
     tell_notes(notes)
     print(path)
 

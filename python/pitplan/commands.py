@@ -10,13 +10,13 @@ from typing import Any
 import numpy as np
 import pandas as pd
 
-from . import absent, analyse, audit as audits, export as exports, files, pictures, report, run, view as views, yearly
+from . import absent, analyse, auditing, exports, files, page, pictures, report, run, yearly
 from .errors import PlanError
 from .pictures import Scene
 from .plan import Plan, prepare as prepare_plan
 from .progress import Progress
 from .project import Project
-from .verify import demand, verify
+from .verification import demand, verify
 
 PREPARED = [files.BLOCKS, files.MODEL, files.PREC]
 PIT_MODEL, PITS = "pit.upit", "pits.csv"
@@ -111,7 +111,7 @@ def check_fixed(plan: Plan, solution: run.Solution, factor: int, stage: Path, pr
     if plan.settled is None:
         return
     with progress.step(f"solving factor {factor} by itself, with the fixed blocks"):
-        files.write_model(stage / PIT_MODEL, plan.project.title, audits.values_at(stage / files.BLOCKS, factor))
+        files.write_model(stage / PIT_MODEL, plan.project.title, auditing.values_at(stage / files.BLOCKS, factor))
         pit = run.solve_pit(stage / PIT_MODEL, stage / files.PREC, stage / files.FIXED, factor)
     run.demand_same(solution, pit, factor)
 
@@ -225,7 +225,7 @@ def view(folder: Path, progress: Progress) -> Path:
     """Writes view.html beside the shells; gives its path. Raises MissingPackage without libjs-three."""
     result = files.read_folder(folder)
     with progress.step("writing the 3D page"), files.staged_file(folder / VIEW) as path:
-        views.write(path, result)
+        page.write(path, result)
     return folder / VIEW
 
 
@@ -247,5 +247,5 @@ def audit(folder: Path, factor: int, progress: Progress) -> Path:
         raise PlanError(f"factor {factor} is not among the factors {', '.join(map(str, result.factors))}")
     target = folder / f"audit-{factor}"
     with progress.step(f"writing {target.name}"), files.staged(target) as stage:
-        audits.write(stage, result, factor)
+        auditing.write(stage, result, factor)
     return target

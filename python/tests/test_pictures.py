@@ -10,7 +10,7 @@ from matplotlib.backends.backend_agg import FigureCanvasAgg
 import pitplan
 from pitplan import pictures, yearly
 from pitplan.grid import Grid
-from pitplan.scenarios import pictures as many
+from pitplan.simulation import pictures as many
 
 YEARS = pd.DataFrame(
     [

@@ -15,10 +15,10 @@ from pitplan import PlanError, absent, commands, fixed, load, money, prepare, sc
 from pitplan.cli import main
 from pitplan.progress import silent
 from pitplan.project import Wall
-from pitplan.verify import demand, verify
-from pitplan.verify.answer import read
-from pitplan.verify.money import sample
-from pitplan.verify.walls import flatness, high_walls
+from pitplan.verification import demand, verify
+from pitplan.verification.answer import read
+from pitplan.verification.money import sample
+from pitplan.verification.walls import flatness, high_walls
 
 TEXT = PROJECT.replace("mining_cost = 2\n", "mining_cost = { R = 2, S = 2.5 }\nmining_cost_per_level = 0.25\ndecimals = 2\n").replace(
     "[slopes]\n",
@@ -178,7 +178,7 @@ def test_all_that_is_bent_is_counted_and_ten_told(copied, name, bend, count, tol
 
 def test_amounts_are_looked_at_exactly_at_the_edges_of_shells(copied, monkeypatch):
     """A block that is dug and has one beside, above or below it that is dug at another factor or not at all, or none."""
-    monkeypatch.setattr("pitplan.verify.money.SAMPLE", 0)
+    monkeypatch.setattr("pitplan.verification.money.SAMPLE", 0)
     answer = read(copied)
     first = dict(zip(zip(*(axis.tolist() for axis in answer.cells)), answer.said["factor"]))
     inside = [axis.max() for axis in answer.cells]

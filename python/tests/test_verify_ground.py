@@ -12,10 +12,10 @@ from test_fixed import FIXED_SECTION, ores_and_fixed, with_section
 from test_scenarios import COLUMNS, UPRIGHT, pillar, prepared, solved_in_turn
 from test_verify import looked_at, ore_everywhere, wrong
 
-from pitplan import PlanError, absent, commands, fixed, load, prepare, run, scenarios
+from pitplan import PlanError, absent, commands, fixed, load, prepare, run, simulation
 from pitplan.progress import silent
-from pitplan.scenarios import Request
-from pitplan.verify import verify
+from pitplan.simulation import Request
+from pitplan.verification import verify
 
 
 def holed():
@@ -91,7 +91,7 @@ def test_rock_of_scenarios_that_the_project_does_not_give_is_found(plan_folder, 
     shared = prepared(path)
     solved_in_turn(shared)
     with pytest.raises(PlanError, match="absent: block absent-1: tonnes 95.0 for 90.0"):
-        scenarios.gather(shared.folder, Request(), silent)
+        simulation.gather(shared.folder, Request(), silent)
 
 
 def with_absent(project, changed):

@@ -10,12 +10,12 @@ from conftest import rows
 from test_scenarios import COLUMNS, MODELS, PRICES, UPRIGHT, hill, pillar, prepared, solved_in_turn, write_models
 from test_verify import TEXT, deposit
 
-from pitplan import PlanError, scenarios
+from pitplan import PlanError, simulation
 from pitplan.cli import main
 from pitplan.progress import silent
-from pitplan.scenarios import Request, ensemble, work
-from pitplan.verify.scenarios import Verification, verify
-from pitplan.verify.simulated import read
+from pitplan.simulation import Request, ensemble, work
+from pitplan.verification.scenarios import Verification, verify
+from pitplan.verification.simulated import read
 
 SETS = "\n[[scenarios.prices]]\ncopper = 8000\n[[scenarios.prices]]\ncopper = 11_000.5\ngold = 45\n"
 
@@ -34,7 +34,7 @@ def gathered(tmp_path_factory):
     (place / "project.toml").write_text(TEXT + '[scenarios]\ncolumns = { copper = "cu_*" }\n' + SETS)
     shared = prepared(place / "project.toml")
     solved_in_turn(shared)
-    notes = scenarios.gather(shared.folder, Request(), silent)
+    notes = simulation.gather(shared.folder, Request(), silent)
     assert not any("left out" in note for note in notes)
     return place
 
@@ -207,7 +207,7 @@ def test_models_of_a_folder_are_read_by_id_and_by_place(plan_folder):
     write_models(path, by_place=model[["x", "y", "z", "cu"]].sample(frac=1, random_state=2))
     folder = prepared(path).folder
     solved_in_turn(prepared(path))
-    scenarios.gather(folder, Request(), silent)
+    simulation.gather(folder, Request(), silent)
     assert wrong(folder) == set()
     models = read(folder, folder)
     assert [models.grades(scenario.model)[:, 0].tolist() for scenario in models.scenarios] == [(np.arange(12) / 10).tolist()] * 2
@@ -230,7 +230,7 @@ def test_rows_of_a_model_that_are_taken_in_their_own_order_are_found(plan_folder
     folder = prepared(path).folder
     solved_in_turn(prepared(path))
     with pytest.raises(PlanError, match="of 1 of 1|worth: scenario 1, mixed at copper 40000: factor"):
-        scenarios.gather(folder, Request(), silent)
+        simulation.gather(folder, Request(), silent)
     assert not (folder / "probability.csv").exists()
 
 
@@ -240,7 +240,7 @@ def test_prices_that_are_passed_over_are_found(plan_folder, monkeypatch):
     solved_in_turn(shared)
     # At 12,000 the metal of sim_1, 0.75 t, yields 4500 at factor 500, and the pit 2900.
     with pytest.raises(PlanError, match="worth: scenario 2, sim_1 at copper 12000: factor 500: worth_at_factor 1400.* for 2900"):
-        scenarios.gather(shared.folder, Request(), silent)
+        simulation.gather(shared.folder, Request(), silent)
 
 
 def test_a_cost_that_is_counted_from_another_level_is_found(plan_folder, monkeypatch):
@@ -251,7 +251,7 @@ def test_a_cost_that_is_counted_from_another_level_is_found(plan_folder, monkeyp
     path = plan_folder(pd.concat([table, side]), *text)
     shared = prepared(path)
     solved_in_turn(shared)
-    scenarios.gather(shared.folder, Request(), silent)
+    simulation.gather(shared.folder, Request(), silent)
     # 30 m is the top of the three blocks that ore needs, and 50 m that of the model.
     assert Verification(read(shared.folder, shared.folder)).reference == 30
     assert pd.read_csv(shared.folder / "scenarios.csv")["worth_at_factor"][1] == 4400 - 25 - 50
@@ -259,7 +259,7 @@ def test_a_cost_that_is_counted_from_another_level_is_found(plan_folder, monkeyp
     shared = prepared(path)
     solved_in_turn(shared)
     with pytest.raises(PlanError, match="worth: scenario 1, sim_1: factor 500: worth_at_factor "):
-        scenarios.gather(shared.folder, Request(), silent)
+        simulation.gather(shared.folder, Request(), silent)
 
 
 def test_ten_scenarios_of_more_are_looked_at_evenly(plan_folder):
@@ -267,7 +267,7 @@ def test_ten_scenarios_of_more_are_looked_at_evenly(plan_folder):
     sets = "".join(f"[[scenarios.prices]]\ncopper = {price}\n" for price in (8000, 9000, 10_000, 12_000))
     shared = prepared(plan_folder(pillar(), COLUMNS + sets, UPRIGHT))
     solved_in_turn(shared)
-    scenarios.gather(shared.folder, Request(), silent)
+    simulation.gather(shared.folder, Request(), silent)
     sample = Verification(read(shared.folder, shared.folder)).sample
     assert [scenario.number for scenario in sample] == [1, 2, 3, 5, 6, 7, 8, 10, 11, 12]
     assert all("of 10 of 12 answered scenarios: " in rule.holds for rule in verify(shared.folder) if rule.name in ("walls", "fixed", "shells", "worth"))
@@ -279,14 +279,14 @@ def test_sets_of_prices_that_name_other_metals_are_kept_apart(plan_folder):
     sets = "[[scenarios.prices]]\ncopper = 8000\n[[scenarios.prices]]\ncopper = 8000\ngold = 90\n"
     shared = prepared(plan_folder(simulated(), TEXT + '[scenarios]\ncolumns = { copper = "cu_*" }\n' + sets))
     solved_in_turn(shared)
-    scenarios.gather(shared.folder, Request(), silent)
+    simulation.gather(shared.folder, Request(), silent)
     assert wrong(shared.folder) == set()
 
 
 def test_answers_that_were_not_gathered_are_named(plan_folder):
     shared = prepared(plan_folder(pillar(), COLUMNS, UPRIGHT))
     assert [work.solve(str(shared.folder), number).status for number in (1, 3)] == [0, 0]
-    scenarios.gather(shared.folder, Request(partial=True), silent)
+    simulation.gather(shared.folder, Request(partial=True), silent)
     assert wrong(shared.folder) == set() and json.loads((shared.folder / "gathered.json").read_text())["answers"] == [1, 3]
     assert work.solve(str(shared.folder), 2).status == 0
     (rule,) = [rule for rule in verify(shared.folder) if rule.name == "tables"]
@@ -299,7 +299,7 @@ def test_a_density_and_ground_without_rows_are_looked_at(plan_folder):
     rock = 'density = "dens"\nvolume = "vol"\nabsent = { tonnes = 90, rock = "R", region = "1" }\nfile ='
     shared = prepared(plan_folder(table[table["name"] != "b0-0-1"], COLUMNS, UPRIGHT, ("file =", rock)))
     solved_in_turn(shared)
-    scenarios.gather(shared.folder, Request(), silent)
+    simulation.gather(shared.folder, Request(), silent)
     assert wrong(shared.folder) == set()
     assert pd.read_csv(shared.folder / "scenarios.csv")["worth_at_factor"][0] == 1400 + 20
 

@@ -8,12 +8,12 @@ from typing import Optional
 
 import numpy as np
 
-from .. import export, files
+from .. import exports, files
 from ..errors import MissingPackage, PlanError
 from ..progress import Progress
 from ..project import REFERENCE_FACTOR, Project
-from ..verify import demand
-from ..verify.scenarios import verify
+from ..verification import demand
+from ..verification.scenarios import verify
 from . import answers, folder as folders, job_lists, on_dask, pictures, prepare, work
 from .folder import Shared
 
@@ -145,7 +145,7 @@ def write_image(shared: Shared, gathered: answers.Gathered, stage: Path) -> list
     }
     tonnes = shared.frame[shared.project.table.tonnes].to_numpy()
     try:
-        export.write_image(stage / IMAGE, grid, {**arrays, "tonnes": grid.spread(tonnes)})
+        exports.write_image(stage / IMAGE, grid, {**arrays, "tonnes": grid.spread(tonnes)})
     except MissingPackage as error:
         return [f"{IMAGE} was not written: {error}"]
     return []
