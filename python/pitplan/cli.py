@@ -12,11 +12,11 @@ from typing import Any, Optional, Sequence
 import minelib
 from minelib.__main__ import add_arguments as add_minelib
 
-from . import __version__, commands, init, report, simulation
+from . import __version__, commands, exports, files, init, report, simulation
 from .errors import PlanError
 from .progress import Progress, on_standard_error, silent
 from .project import REFERENCE_FACTOR, Project, load
-from .verification import demand, verify_folder
+from .verification import demand
 
 # As a shell has it: 128 and the signal's number.
 INTERRUPTED = 130
@@ -41,7 +41,7 @@ def parser() -> argparse.ArgumentParser:
         sub.add_argument("--out", type=Path, help="the folder of the plan (default: the project's output folder)")
         sub.add_argument("--quiet", action="store_true", help="tell no progress on standard error")
         if name == "export":
-            sub.add_argument("--to", required=True, choices=("csv", "vti", "dxf"))
+            sub.add_argument("--to", required=True, choices=tuple(exports.WRITERS))
         if name in ("pit", "shells"):
             sub.add_argument("--no-verify", action="store_true", help="leave out the second look at every number")
         if name in ("pit", "export", "audit"):
@@ -152,18 +152,18 @@ def run_command(options: argparse.Namespace, project: Project, folder: Path, pro
         tell_notes(record["notes"])
         print(folder)
     elif options.command == "shells":
-        table, record = commands.shells(project, folder, progress, not options.no_verify)
+        table = commands.write_shells(project, folder, progress, not options.no_verify)
         columns = report.columns_of(table, project)
         print_table([heading for _, heading, _, _ in columns], report.cells_of(table, columns))
-        tell_notes(record["notes"])
+        tell_notes(files.read_record(folder)["notes"])
         print(folder / commands.REPORT)
     elif options.command == "pit":
         folder = options.out or project.folder / "pit"
-        table, record = commands.pit(project, folder, options.factor, progress, not options.no_verify)
+        table = commands.pit(project, options.factor, folder, progress, not options.no_verify)
         columns = report.columns_of(table, project)
         lines = [[name, *row] for name, row in zip(table["fixed_blocks"], report.cells_of(table, columns))]
         print_table(["fixed, blocks", *(heading for _, heading, _, _ in columns)], lines)
-        tell_notes(record["notes"])
+        tell_notes(files.read_record(folder)["notes"])
         print(folder / commands.PITS)
     elif options.command == "view":
         print(commands.view(folder, progress))
@@ -175,7 +175,7 @@ def run_command(options: argparse.Namespace, project: Project, folder: Path, pro
 
 def tell_verified(folder: Path) -> None:
     """A line for each rule that holds. Raises PlanError where one does not."""
-    rules = verify_folder(folder)
+    rules = commands.verify(folder)
     demand(rules)
     for rule in rules:
         print(f"{rule.name}: {rule.holds}")
@@ -184,13 +184,12 @@ def tell_verified(folder: Path) -> None:
 def run_scenarios(options: argparse.Namespace, progress: Progress) -> None:
     if options.command == "gather":
         request = simulation.Request(factor=options.factor, partial=options.partial, verifies=not options.no_verify)
-        *notes, path = simulation.gather(options.folder, request, progress)
+        result = commands.gather(options.folder, request, progress)
     else:
-        project = load(options.project)
         request = simulation.Request(options.on, options.workers, options.factor, options.partial, not options.no_verify)
-        *notes, path = simulation.solve(project, options.out or project.folder / "scenarios", request, progress)
-    tell_notes(notes)
-    print(path)
+        result = commands.scenarios(options.project, options.out, request, progress)
+    tell_notes(list(result.notes))
+    print(result.start or result.folder)
 
 
 def tell_notes(notes: list[str]) -> None:

@@ -49,7 +49,7 @@ def test_shells_write_tables_pictures_and_a_page_that_needs_no_other_file(solved
 
 def test_a_mine_without_ore_has_a_report_and_a_page_too(plan_folder):
     project = load(plan_folder(rows(4, 4, 3), PROJECT, ("[500, 1000, 1500]", "[1000]")))
-    table, _ = commands.shells(project, project.folder, silent)
+    table = commands.write_shells(project, project.folder, silent)
     assert table["blocks"].tolist() == [0] and table["worth"].tolist() == [0]
     commands.view(project.folder, silent)
     assert (
@@ -212,7 +212,7 @@ def test_rings_have_a_point_at_each_corner_and_at_no_other(seed):
 def test_the_planners_own_table_is_never_written_over(plan_folder):
     path = plan_folder(rows(4, 4, 3, **ORE))
     before = (path.parent / "blocks.csv").read_bytes()
-    for command in (commands.prepare, commands.shells):
+    for command in (commands.prepare, commands.write_shells):
         with pytest.raises(
             PlanError, match="blocks.csv: the plan would be written over it: give another folder by --out"
         ):
@@ -258,7 +258,7 @@ def test_a_failed_run_leaves_the_earlier_one(solved, monkeypatch):
     before = {path.name: path.read_bytes() for path in folder.iterdir()}
     monkeypatch.setattr(commands, "draw", lambda *_: (_ for _ in ()).throw(PlanError("no pictures")))
     with pytest.raises(PlanError, match="no pictures"):
-        commands.shells(project, folder, silent)
+        commands.write_shells(project, folder, silent)
     assert {path.name: path.read_bytes() for path in folder.iterdir()} == before
 
 
@@ -400,7 +400,7 @@ import matplotlib.pyplot as plt
 from pitplan import commands, load
 from pitplan.progress import silent
 project = load({str(solved[0].path)!r})
-commands.shells(project, project.folder, silent, verifies=False)
+commands.write_shells(project, project.folder, silent, verifies=False)
 assert matplotlib.get_backend() == "svg" and plt.get_fignums() == [], (matplotlib.get_backend(), plt.get_fignums())
 """
     subprocess.run([sys.executable, "-c", text], check=True, env={**os.environ, "PYTHONPATH": str(ROOT / "python")})

@@ -288,7 +288,7 @@ def test_some_answers_are_gathered_on_request_alone(plan_folder):
     assert [work.solve(str(shared.folder), number).status for number in (1, 3)] == [0, 0]
     with pytest.raises(PlanError, match="1 of 3 scenarios have no answer, first sim_2: was not solved"):
         simulation.gather(shared.folder, Request(), silent)
-    notes = simulation.gather(shared.folder, Request(partial=True, factor=1500), silent)
+    notes = simulation.gather(shared.folder, Request(partial=True, factor=1500), silent).notes
     assert "WARNING: 1 scenarios have no answer and are left out of everything" in notes
     blocks = pd.read_csv(shared.folder / "probability.csv")
     assert (
@@ -316,10 +316,10 @@ def test_the_image_has_the_probabilities_of_all_cells(plan_folder):
 def test_lists_of_jobs_are_shell_and_name_what_is_missing(plan_folder, kind):
     path = plan_folder(pillar(), COLUMNS, UPRIGHT)
     assert work.solve(str(prepared(path).folder), 1).status == 0
-    *notes, start = simulation.solve(load(path), load(path).folder, Request(where=kind), silent)
+    result = simulation.solve(load(path), load(path).folder, Request(where=kind), silent)
     folder = load(path).folder
-    assert notes[-1] == "1 of 3 scenarios have their answer already"
-    assert start == str(folder / "start.sh") and (folder / "jobs.txt").read_text() == "2\n3\n"
+    assert result.notes[-1] == "1 of 3 scenarios have their answer already"
+    assert result.start == folder / "start.sh" and (folder / "jobs.txt").read_text() == "2\n3\n"
     names = ["start.sh", "scenario.sh"] + (["array.sbatch", "gather.sbatch"] if kind == "slurm" else [])
     for name in names:
         subprocess.run(["sh", "-n", str(folder / name)], check=True)
@@ -430,8 +430,9 @@ def test_answers_are_gathered_from_the_command_line(plan_folder, capsys):
 def test_no_lists_of_jobs_are_written_where_all_is_answered(plan_folder, kind):
     path = plan_folder(pillar(), COLUMNS, UPRIGHT)
     solved_in_turn(prepared(path))
-    *notes, last = simulation.solve(load(path), load(path).folder, Request(where=kind), silent)
-    assert last == str(load(path).folder) and notes[-1] == "3 of 3 scenarios have their answer already"
+    result = simulation.solve(load(path), load(path).folder, Request(where=kind), silent)
+    assert (result.folder, result.start) == (load(path).folder, None)
+    assert result.notes[-1] == "3 of 3 scenarios have their answer already"
     assert (load(path).folder / "quantiles.csv").exists() and not (load(path).folder / "jobs.txt").exists()
 
 
@@ -517,6 +518,6 @@ def test_probabilities_are_told_without_the_image_where_vtk_is_missing(plan_fold
     shared = prepared(plan_folder(pillar(), COLUMNS, UPRIGHT))
     solved_in_turn(shared)
     monkeypatch.setitem(sys.modules, "vtk", None)
-    note, folder = simulation.gather(shared.folder, Request(), silent)
-    assert note.startswith("probability.vti was not written: ") and "python3-vtk9" in note and folder == str(shared.folder)
+    (note,) = simulation.gather(shared.folder, Request(), silent).notes
+    assert note.startswith("probability.vti was not written: ") and "python3-vtk9" in note
     assert likely(shared.folder)[0] == pytest.approx([1 / 3, 1 / 3, 2 / 3], abs=1e-6) and not (shared.folder / "probability.vti").exists()

@@ -11,7 +11,7 @@ from conftest import PROJECT, rows
 from hypothesis import HealthCheck, given, settings
 from hypothesis import strategies as st
 
-from pitplan import PlanError, absent, commands, fixed, load, money, prepare, schedule, slopes, solve
+from pitplan import PlanError, absent, commands, files, fixed, load, money, prepare, schedule, slopes, solve
 from pitplan.cli import main
 from pitplan.progress import silent
 from pitplan.project import Wall
@@ -48,8 +48,8 @@ def answered(tmp_path_factory):
     deposit().to_csv(place / "blocks.csv", index=False)
     (place / "project.toml").write_text(TEXT)
     project = load(place / "project.toml")
-    _, record = commands.shells(project, project.folder, silent)
-    return place, record
+    commands.write_shells(project)
+    return place, files.read_record(project.folder)
 
 
 @pytest.fixture
@@ -207,7 +207,7 @@ def refused(plan_folder, table=None, text=TEXT, *changes):
     """What a run says that is refused by its second look; nothing of it stays."""
     path = plan_folder(deposit() if table is None else table, text, *changes)
     with pytest.raises(PlanError, match="what was written is not right") as said:
-        commands.shells(load(path), path.parent / "plan", silent)
+        commands.write_shells(load(path), path.parent / "plan", silent)
     assert list((path.parent / "plan").iterdir()) == []
     return str(said.value)
 

@@ -34,7 +34,7 @@ def gathered(tmp_path_factory):
     (place / "project.toml").write_text(TEXT + '[scenarios]\ncolumns = { copper = "cu_*" }\n' + SETS)
     shared = prepared(place / "project.toml")
     solved_in_turn(shared)
-    notes = simulation.gather(shared.folder, Request(), silent)
+    notes = simulation.gather(shared.folder, Request(), silent).notes
     assert not any("left out" in note for note in notes)
     return place
 

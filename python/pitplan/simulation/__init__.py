@@ -16,8 +16,8 @@ from ..verification import demand
 from ..verification.scenarios import verify
 from . import answers, folder as folders, job_lists, on_dask, pictures, prepare, work
 from .folder import Shared
+from .result import IMAGE, PROBABILITY, QUANTILES, TABLE, ScenarioResult
 
-PROBABILITY, IMAGE, TABLE, QUANTILES = "probability.csv", "probability.vti", "scenarios.csv", "quantiles.csv"
 GATHERED = "gathered.json"
 PICTURES = {"plans": "probability_plans.png", "sections": "probability_sections.png", "spread": "spread.png"}
 
@@ -40,28 +40,25 @@ class Request:
     verifies: bool = True
 
 
-def solve(project: Project, folder: Path, request: Request, progress: Progress) -> list[str]:
-    """Solves the scenarios that have no answer yet, and gathers all; or writes the lists of jobs that do so.
-
-    Gives the notes that a planner should read, and as the last one the path to look at next. Raises PlanError.
-    """
+def solve(project: Project, folder: Path, request: Request, progress: Progress) -> ScenarioResult:
+    """Solves the scenarios that have no answer yet, and gathers all; or writes the lists of jobs that do so. Raises PlanError."""
     shared = prepare.prepare(project, folder, progress)
     # Asked before hours of solving, not behind them.
     shown_factor(shared, request)
     missing, count = shared.missing(), len(shared.scenarios)
     notes = [*shared.record["notes"], f"{count - len(missing):,} of {count:,} scenarios have their answer already"]
     if request.where in ("slurm", "parallel"):
-        if not missing:
-            return [*notes, *gather(folder, request, progress)]
-        return [*notes, str(job_lists.write(request.where, folder, missing))]
-    if missing:
+        if missing:
+            return ScenarioResult(folder, tuple(notes), job_lists.write(request.where, folder, missing))
+    elif missing:
         where = on_dask.Where(request.where, request.workers)
         outcomes = on_dask.run(where, folder, missing, progress)
         ended = notes_of_outcomes(outcomes)
         if any(outcome.status for outcome in outcomes) and not request.partial:
             raise PlanError(f"{'; '.join(ended)}: run again, or gather the others by --partial")
         notes += ended
-    return [*notes, *gather(folder, request, progress)]
+    gathered = gather(folder, request, progress)
+    return ScenarioResult(folder, (*notes, *gathered.notes))
 
 
 def notes_of_outcomes(outcomes: list[work.Outcome]) -> list[str]:
@@ -81,7 +78,7 @@ def one(folder: Path, number: int) -> work.Outcome:
     return work.solve(str(folder), number)
 
 
-def gather(folder: Path, request: Request, progress: Progress) -> list[str]:
+def gather(folder: Path, request: Request, progress: Progress) -> ScenarioResult:
     """Writes probabilities, tables and pictures of all answers, and gathered.json, which says what was verified of them.
 
     Raises PlanError where an answer is missing, and where what is written is not right, unless it is not verified.
@@ -98,7 +95,7 @@ def gather(folder: Path, request: Request, progress: Progress) -> list[str]:
             draw(shared, gathered, factor, stage)
     if gathered.missing:
         notes.append(f"WARNING: {len(gathered.missing):,} scenarios have no answer and are left out of everything")
-    return [*notes, str(folder)]
+    return ScenarioResult(folder, tuple(notes))
 
 
 def note_verified(
