@@ -12,7 +12,6 @@ import pandas as pd
 
 from . import absent, analyse, auditing, exports, files, page, pictures, report, run, simulation, verification, yearly
 from .errors import PlanError
-from .pictures import Scene
 from .plan import Plan, prepare as prepare_plan
 from .progress import Progress, silent
 from .project import REFERENCE_FACTOR, Project, load
@@ -158,7 +157,7 @@ def write_shells(
         note_verified(plan, record, stage, verifies, progress)
         with progress.step("drawing"):
             draw(plan, solution, table, chosen, stage)
-            yearly.picture(years, project, chosen, stage / PICTURES["years"])
+            yearly.write_years(years, project, chosen, stage / PICTURES["years"])
         names = [*written(plan), *([PIT_MODEL] if project.fixed else []), files.ANSWER, files.TABLE, files.SHELLS, files.YEARS]
         finish(plan, record, [*names, *PICTURES.values()], stage)
         write_report(project, table, record, stage)
@@ -213,20 +212,10 @@ def shown(table: pd.DataFrame) -> pd.DataFrame:
 
 
 def draw(plan: Plan, solution: run.Solution, table: pd.DataFrame, chosen: int, stage: Path) -> None:
-    first = plan.project.metals[0]
-    cells = analyse.cells_of(plan, solution)
-    grid = plan.grid
-    scene = Scene(
-        grid=grid,
-        factor=grid.cube(cells.factor),
-        solid=grid.cube(cells.tonnes > 0),
-        grade=grid.cube(grid.spread(plan.table[first.column].to_numpy())),
-        metal=first,
-        chosen=chosen,
-    )
-    pictures.pit_by_pit(table, plan.project.money.currency, chosen, stage / PICTURES["pit_by_pit"])
-    pictures.plans(scene, stage / PICTURES["plans"])
-    pictures.sections(scene, stage / PICTURES["sections"])
+    scene = pictures.scene_of(plan, solution, chosen)
+    pictures.write_pit_by_pit(table, plan.project.money.currency, chosen, stage / PICTURES["pit_by_pit"])
+    pictures.write_plans(scene, stage / PICTURES["plans"])
+    pictures.write_sections(scene, stage / PICTURES["sections"])
 
 
 def write_report(project: Project, table: pd.DataFrame, record: dict[str, Any], stage: Path) -> None:

@@ -9,6 +9,7 @@ from decimal import Decimal
 import pandas as pd
 import pytest
 from conftest import ROOT
+from matplotlib.figure import Figure
 from test_fixed import FIXED_SECTION, ores_and_fixed, with_section
 from test_scenarios import COLUMNS, PRICES, UPRIGHT, pillar
 
@@ -106,6 +107,14 @@ def test_scenarios_are_given_as_frames(plan_folder):
     assert found.table["worth_at_factor"].tolist()[:3] == [Decimal(1400), Decimal(4400), Decimal(7400)]
     assert found.quantiles.set_index(["price_copper", "factor"])["tonnes_greatest"][8000, 500] == 300
     assert [rule.count for rule in pitplan.verify(found.folder)] == [0] * 10
+    likely = found.likely(500)
+    assert (likely.factor, likely.count, likely.shown.ravel().tolist()) == (500, 6, [pytest.approx(1 / 3, abs=1e-6)] * 3)
+    axes = Figure().subplots(2)
+    left, right = pitplan.simulation.pictures.plot_spread(found.table, "USD", axes)
+    # At 8000 and at factor 500 one of three models is worth 1400, so that the median is 0; at 12,000 it is worth 2900.
+    assert [line.get_ydata()[0] for line in right.lines] == [0, 0] and [line.get_ydata()[2] for line in left.lines] == [300, 300]
+    with pytest.raises(PlanError, match="probability.csv: has no factor 900"):
+        found.likely(900)
 
 
 def test_lists_of_jobs_are_told_by_what_to_start(plan_folder):

@@ -2,6 +2,7 @@
 
 from __future__ import annotations
 
+import json
 from dataclasses import dataclass
 from decimal import Decimal
 from pathlib import Path
@@ -10,9 +11,11 @@ from typing import Any, Optional
 import pandas as pd
 
 from ..errors import PlanError
-from ..plan import codes_of
-from ..project import load
+from ..files import grid_of
+from ..plan import codes_of, shown_name
+from ..project import REFERENCE_FACTOR, load
 from . import folder as folders
+from .pictures import Likely
 
 PROBABILITY, IMAGE, TABLE, QUANTILES = "probability.csv", "probability.vti", "scenarios.csv", "quantiles.csv"
 
@@ -46,6 +49,17 @@ class ScenarioResult:
     def quantiles(self) -> pd.DataFrame:
         """One row a set of prices and factor, over the models: mean, least, greatest and quantiles of tonnes, metal and worth."""
         return self.frame(QUANTILES)
+
+    def likely(self, factor: int = REFERENCE_FACTOR) -> Likely:
+        """What the pictures of probability show of a factor, in per mille. Raises PlanError where it is none of the factors."""
+        blocks, name = self.probability, f"probability_{factor}"
+        if name not in blocks:
+            raise PlanError(f"{self.folder / PROBABILITY}: has no factor {factor}")
+        record = json.loads((self.folder / folders.RECORD).read_text(encoding="utf-8"))
+        grid = grid_of(record["grid"], blocks["id"].to_numpy())
+        solid = blocks[shown_name(load(self.folder / folders.PROJECT).table.tonnes)].to_numpy() > 0
+        count = self.table["scenario"].nunique()
+        return Likely(grid, grid.cube(grid.spread(blocks[name].to_numpy())), grid.cube(grid.spread(solid, fill=False)), factor, count)
 
     def frame(self, name: str, **reading: Any) -> pd.DataFrame:
         try:
