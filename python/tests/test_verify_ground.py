@@ -2,6 +2,7 @@
 
 from dataclasses import replace
 from decimal import Decimal
+from itertools import combinations
 
 import numpy as np
 import pandas as pd
@@ -19,9 +20,10 @@ from pitplan.verification import verify
 
 
 def holed():
-    """Seven columns of three blocks, of which one lacks its middle, another its floor, and a third has no rows; one has no top."""
+    """Seven columns of three blocks, of which one lacks its middle, another its floor, and a third has no rows; one has no top, and one
+    has its floor alone."""
     table = deposit()
-    return table[~table["name"].isin(["b1-0-1", "b5-0-0", "b4-0-0", "b4-0-1", "b4-0-2", "b2-0-2"])]
+    return table[~table["name"].isin(["b1-0-1", "b5-0-0", "b4-0-0", "b4-0-1", "b4-0-2", "b2-0-2", "b6-0-1", "b6-0-2"])]
 
 
 # By the program's numbers, which run from the top level of seven down.
@@ -64,14 +66,15 @@ def test_rock_that_the_project_does_not_give_is_found(plan_folder, monkeypatch, 
     monkeypatch.setattr(absent, "with_rows", bent)
     rule = absent_rule(path)
     assert rule.count == 5
-    assert rule.differences[0] == (f"block absent-4: {said}" if said else "block none-15 is of the cell 4")
+    assert rule.differences[0] == (f"block absent-4: {said}" if said else "block none-13 is of the cell 4")
 
 
 @pytest.mark.parametrize(
     ("cells", "said"),
     [
         (CELLS[:-1], "the cell 19 has no row, and no block stands for it"),
-        ([2, *CELLS], "block absent-2 stands for a cell above the highest of its column"),
+        ([*CELLS, 6], "block absent-6 stands for a cell above the highest of its column"),
+        ([*CELLS, 13], "block absent-13 stands for a cell above the highest of its column"),
     ],
 )
 def test_cells_that_are_passed_over_or_are_air_are_found(plan_folder, monkeypatch, cells, said):
@@ -146,6 +149,33 @@ def test_the_highest_triangle_of_a_square_is_demanded(plan_folder, tmp_path, mon
     heights = [max(8 * abs(u - v), 16 - 8 * abs(u + v)) for u, v in shares]
     assert max(heights) == 16
     assert fixed_rule(path).count == sum(height < z for height in heights for z in (5, 15)) > 0
+
+
+def laid(points, x, y):
+    """The height at a place by definition: of three points round it, through which a circle goes that holds no other; else infinite."""
+    for three in combinations(range(len(points)), 3):
+        corners, heights = points[list(three), :2], points[list(three), 2]
+        shares = np.linalg.solve(np.vstack([corners.T, np.ones(3)]), [x, y, 1])
+        middle = np.linalg.solve(2 * (corners[1:] - corners[0]), (corners[1:] ** 2 - corners[0] ** 2).sum(axis=1))
+        far = np.hypot(*(points[:, :2] - middle).T)
+        if shares.min() >= 0 and far.min() > far[three[0]] - 1e-6:
+            return float(shares @ heights)
+    return np.inf
+
+
+@pytest.mark.parametrize("seed", range(4))
+def test_demanded_is_what_lies_above_the_points_and_their_triangles(plan_folder, tmp_path, monkeypatch, seed):
+    """Points in no order at all, some of them over columns, and nothing that is dug."""
+    rng = np.random.default_rng(seed)
+    points = np.column_stack([rng.uniform([-30, -30], [100, 60], (16, 2)), rng.uniform(-15, 20, 16)])
+    expected = 0
+    for column, row in np.ndindex(7, 3):
+        over = points[(points[:, 0] // 10 == column) & (points[:, 1] // 10 == row), 2]
+        ground = over.mean() if len(over) else laid(points, 5 + 10 * column, 5 + 10 * row)
+        expected += sum(z > ground for z in (5, 15))
+    path = surfaced(plan_folder, tmp_path, points)
+    monkeypatch.setattr(fixed, "of_table", lambda *_: fixed.NOTHING)
+    assert fixed_rule(path).count == expected > 0
 
 
 @pytest.mark.parametrize("points", [[(3, 4, 0)], [(3, 4, 0), (3, 4, 2)], [(0, 0, 0), (10, 5, 0), (40, 20, 0)]])
