@@ -307,12 +307,34 @@ def test_a_density_and_ground_without_rows_are_looked_at(plan_folder):
 def test_a_folder_that_is_none_of_scenarios_is_named(copied, tmp_path):
     with pytest.raises(PlanError, match="nowhere/scenarios.json: cannot be read: run pitplan scenarios or gather first"):
         verify(tmp_path / "nowhere")
+    record = json.loads((copied / "scenarios.json").read_text())
+    for name in ("factors", "grid", "project"):
+        (copied / "scenarios.json").write_text(json.dumps({key: value for key, value in record.items() if key != name}))
+        with pytest.raises(PlanError, match=f"plan: is no folder that pitplan scenarios and gather have written: '{name}' is missing"):
+            verify(copied)
+    (copied / "scenarios.json").write_text("no record")
+    with pytest.raises(PlanError, match="plan: is no folder that pitplan scenarios has written"):
+        verify(copied)
+
+
+def test_answers_that_are_none_are_named(copied):
     answer_of(copied, 3).write_bytes(b"nothing")
     with pytest.raises(PlanError, match=r"\.npz: is no answer of scenario 3, cu_b at copper 8000"):
         verify(copied)
     bend(answer_of(copied, 2), places=lambda it: it[1:])
     with pytest.raises(PlanError, match=r"\.npz: tells of 458 blocks, and the table has 459"):
         verify(copied)
-    (copied / "scenarios.json").write_text("{}")
-    with pytest.raises(PlanError, match="is no folder that pitplan scenarios has written"):
+
+
+def test_tables_and_models_that_are_gone_are_named(copied, plan_folder):
+    (copied / "quantiles.csv").unlink()
+    with pytest.raises(PlanError, match="plan/quantiles.csv: cannot be read: No such file or directory"):
         verify(copied)
+    table, model = hill()
+    path = plan_folder(table, MODELS)
+    write_models(path, only=model)
+    solved_in_turn(prepared(path))
+    simulation.gather(prepared(path).folder, Request(), silent)
+    shutil.rmtree(path.parent / "models")
+    with pytest.raises(PlanError, match="/models: cannot be read: No such file or directory"):
+        verify(path.parent / "plan")

@@ -15,6 +15,7 @@ from typing import Any, Optional
 import numpy as np
 import pandas as pd
 
+from ..errors import PlanError
 from ..project import Project
 from . import absent, fixed, money, sums, walls
 from .answer import TOLD, Answer, Rule, rule
@@ -39,7 +40,12 @@ def verify(folder: Path, written: Optional[Path] = None) -> list[Rule]:
 
     Raises PlanError where the folder has no answers or no tables of them, or the table or a model has changed since.
     """
-    return Verification(read(folder, written or folder)).rules()
+    try:
+        return Verification(read(folder, written or folder)).rules()
+    except OSError as error:
+        raise PlanError(f"{error.filename}: cannot be read: {error.strerror}") from error
+    except KeyError as error:
+        raise PlanError(f"{folder}: is no folder that pitplan scenarios and gather have written: {error} is missing") from error
 
 
 @dataclass(frozen=True)

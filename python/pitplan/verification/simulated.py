@@ -154,20 +154,19 @@ class Simulated:
 def read(folder: Path, written: Path) -> Simulated:
     """The answers in a folder, to the project as it was when they were asked for, and the tables of them in `written`.
 
-    Raises PlanError where the folder is none of `pitplan scenarios`, where nothing is gathered, or where the table has changed.
+    Raises PlanError where nothing is gathered or the table has changed, and KeyError where the record lacks a part.
     """
     try:
         record = json.loads((folder / "scenarios.json").read_text(encoding="utf-8"))
         project = load(folder / "project.toml", folder / record["project"])
         told = read_blocks(written / PROBABILITY, project)
-        grid = record["grid"]
     except OSError as error:
         raise PlanError(f"{error.filename}: cannot be read: run pitplan scenarios or gather first") from error
-    except (ValueError, KeyError) as error:
+    except ValueError as error:
         raise PlanError(f"{folder}: is no folder that pitplan scenarios has written: {error}") from error
     table = read_table(project)
     named = [name for name in (*tables.names_of(replace(project, metals=())), project.table.tonnes) if name in table]
-    rows, _, order = beside(table[list(dict.fromkeys(named))], told, project, grid, PROBABILITY)
+    rows, _, order = beside(table[list(dict.fromkeys(named))], told, project, record["grid"], PROBABILITY)
     return Simulated(folder, written, project, record, table, rows, told.iloc[order].reset_index(drop=True))
 
 
