@@ -244,10 +244,13 @@ def test_prices_that_are_passed_over_are_found(plan_folder, monkeypatch):
 
 
 def test_a_cost_that_is_counted_from_another_level_is_found(plan_folder, monkeypatch):
-    """Five levels of which the upper two hold rock that no ore needs; the model's first ore lies at the floor."""
+    """Ore lies at the floor of three levels. Beside it are five, of rock T whose metal yields 1400 a block, which is what processing it
+    costs: by floats it yields a hair more."""
     table = rows(1, 1, 3).drop(columns="cu").assign(sim_1=[1.5, 0, 0], sim_2=[0.4, 0, 0])
-    side = rows(1, 1, 5).drop(columns="cu").assign(name=list("abcde"), x=95.0, sim_1=0, sim_2=0)
-    text = (COLUMNS, UPRIGHT, ("mining_cost = 2", "mining_cost = 2\nmining_cost_per_level = 0.25"), ("file =", 'absent = "air"\nfile ='))
+    side = rows(1, 1, 5, rock=lambda i, j, k: "T").drop(columns="cu").assign(name=list("abcde"), x=95.0, sim_1=0.35, sim_2=0.2)
+    assert 100 * 0.35 * 0.01 * 0.5 * 8000 > 1400
+    costs = ("mining_cost = 2\nprocessing_cost = 10", "mining_cost = 2\nmining_cost_per_level = 0.25\nprocessing_cost = { R = 10, T = 14 }")
+    text = (COLUMNS, UPRIGHT, costs, ("file =", 'absent = "air"\nfile ='))
     path = plan_folder(pd.concat([table, side]), *text)
     shared = prepared(path)
     solved_in_turn(shared)
@@ -294,14 +297,14 @@ def test_answers_that_were_not_gathered_are_named(plan_folder):
 
 
 def test_a_density_and_ground_without_rows_are_looked_at(plan_folder):
-    """A block in the middle of a pillar has no row: it is 90 t of rock, and the others 100 m3 of 1 t each."""
-    table = pillar().drop(columns="tonnes").assign(dens=1.0, vol=100)
+    """A block in the middle of a pillar has no row: it is 90 t of rock. The others are of 1 t a cubic metre, the topmost half of one."""
+    table = pillar().drop(columns="tonnes").assign(dens=1.0, vol=[100, 100, 0.5])
     rock = 'density = "dens"\nvolume = "vol"\nabsent = { tonnes = 90, rock = "R", region = "1" }\nfile ='
     shared = prepared(plan_folder(table[table["name"] != "b0-0-1"], COLUMNS, UPRIGHT, ("file =", rock)))
     solved_in_turn(shared)
     simulation.gather(shared.folder, Request(), silent)
     assert wrong(shared.folder) == set()
-    assert pd.read_csv(shared.folder / "scenarios.csv")["worth_at_factor"][0] == 1400 + 20
+    assert pd.read_csv(shared.folder / "scenarios.csv")["worth_at_factor"][0] == 1400 + 20 + 199
 
 
 def test_a_folder_that_is_none_of_scenarios_is_named(copied, tmp_path):
