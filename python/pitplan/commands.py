@@ -282,8 +282,11 @@ def scenarios(
 ) -> ScenarioResult:
     """Solves simulated models at several prices, as `pitplan scenarios` does; gives notes, and the tables as frames.
 
-    The folder is by default scenarios in the project's own. Raises PlanError where the project has no `[scenarios]`, a model is not
-    usable, a scenario ends without an answer, or what is gathered is not right, and MissingPackage without Dask where it is asked for.
+    The folder is by default scenarios in the project's own. A script calls it below `if __name__ == "__main__":`, since the processes that
+    solve read the script too.
+
+    Raises PlanError where the project has no `[scenarios]`, a model is not usable, a scenario ends without an answer, or what is gathered
+    is not right, and MissingPackage without Dask where it is asked for.
     """
     project = read(project)
     return simulation.solve(project, project.folder / "scenarios" if folder is None else Path(folder), request, progress)

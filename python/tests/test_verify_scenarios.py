@@ -7,6 +7,8 @@ import numpy as np
 import pandas as pd
 import pytest
 from conftest import rows
+from hypothesis import HealthCheck, given, settings
+from hypothesis import strategies as st
 from test_scenarios import COLUMNS, MODELS, PRICES, UPRIGHT, hill, pillar, prepared, solved_in_turn, write_models
 from test_verify import TEXT, deposit
 
@@ -327,6 +329,31 @@ def test_answers_that_are_none_are_named(copied):
     bend(answer_of(copied, 2), places=lambda it: it[1:])
     with pytest.raises(PlanError, match=r"\.npz: tells of 458 blocks, and the table has 459"):
         verify(copied)
+
+
+@settings(max_examples=6, suppress_health_check=[HealthCheck.function_scoped_fixture])
+@given(st.integers(0, 10**6), st.sampled_from(["moving", "fixed"]), st.sampled_from(["per_level = 0.25", "by_elevation = [[10, 0.7], [40, 0.1]]"]))
+def test_random_scenarios_are_right(plan_folder, seed, cutoff, deeper):
+    """Uneven ground, rocks, fixed blocks, two regions, three models by place in a folder, of which one has no gold, at two sets of prices."""
+    rng = np.random.default_rng(seed)
+    table = rows(8, 7, 5, region=lambda i, j, k: "12"[int(i > 4)], rock=lambda i, j, k: "RS"[int(k > 2)]).drop(columns="cu")
+    ground = rng.integers(3, 6, (8, 7))[(table["x"] // 10).astype(int), (table["y"] // 10).astype(int)]
+    table = table.assign(must=(rng.random(len(table)) < 0.01).astype(int), never=0)[table["z"] < 10 * ground]
+    walls = '[[slopes.walls]]\nregion = "1"\nangle = 42\n[[slopes.walls]]\nregion = "2"\nazimuths = [[0, 60], [180, 35]]'
+    changes = [
+        ('[[slopes.walls]]\npattern = "1:5"', walls),
+        ("mining_cost_per_level = 0.25", f'cutoff = "{cutoff}"\nmining_cost_{deeper}'),
+    ]
+    path = plan_folder(table, TEXT + '[scenarios]\nmodels = "models"\n' + SETS, *changes)
+    shutil.rmtree(path.parent / "models", ignore_errors=True)
+    shutil.rmtree(path.parent / "plan", ignore_errors=True)
+    for number in range(3):
+        some = rng.random((2, len(table))) < 0.06
+        grades = {"cu": np.where(some[0], rng.random(len(table)).round(3) * 8, 0.0), "au": np.where(some[1] & (number > 0), 2.5, 0.0)}
+        write_models(path, **{f"m{number}": table[["x", "y", "z"]].assign(**grades).sample(frac=1, random_state=number)})
+    solved_in_turn(prepared(path))
+    simulation.gather(prepared(path).folder, Request(), silent)
+    assert wrong(path.parent / "plan") == set()
 
 
 def test_tables_and_models_that_are_gone_are_named(copied, plan_folder):
