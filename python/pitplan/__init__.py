@@ -8,15 +8,20 @@
     pitplan.shells(plan, solution)              # one row a factor: tonnes, grades, strip ratio, worth, NPV
     pitplan.years(plan, solution)               # one row a case, factor and year: rock, ore, metal, cash
 
+What the subcommands write, `write_shells`, `pit`, `view`, `export`, `audit`, `scenarios`, `gather` and `verify` write too, or look at.
+
 That a shell is the smallest set of greatest worth that keeps the needs is proved of the program, for the files that it
 reads. This layer, which writes those files, is not proved; `plan.notes` says what it rounded, dropped and clipped.
 """
 
 from .analyse import blocks, shells, years
+from .commands import audit, export, gather, pit, scenarios, verify, view, write_shells
 from .errors import BudgetUsedUp, MissingPackage, PlanError, ProgramError
 from .plan import Plan, prepare
 from .project import Project, load
 from .run import Solution, solve
+from .simulation import Request, ScenarioResult
+from .verification import Rule
 
 __version__ = "0.1.0"
 
@@ -27,11 +32,22 @@ __all__ = [
     "PlanError",
     "ProgramError",
     "Project",
+    "Request",
+    "Rule",
+    "ScenarioResult",
     "Solution",
+    "audit",
     "blocks",
+    "export",
+    "gather",
     "load",
+    "pit",
     "prepare",
+    "scenarios",
     "shells",
     "solve",
+    "verify",
+    "view",
+    "write_shells",
     "years",
 ]

@@ -12,11 +12,11 @@ from typing import Any, Optional, Sequence
 import minelib
 from minelib.__main__ import add_arguments as add_minelib
 
-from . import __version__, commands, init, report, scenarios
+from . import __version__, commands, exports, files, init, report, simulation
 from .errors import PlanError
 from .progress import Progress, on_standard_error, silent
 from .project import REFERENCE_FACTOR, Project, load
-from .verify import demand, verify
+from .verification import demand
 
 # As a shell has it: 128 and the signal's number.
 INTERRUPTED = 130
@@ -41,15 +41,15 @@ def parser() -> argparse.ArgumentParser:
         sub.add_argument("--out", type=Path, help="the folder of the plan (default: the project's output folder)")
         sub.add_argument("--quiet", action="store_true", help="tell no progress on standard error")
         if name == "export":
-            sub.add_argument("--to", required=True, choices=("csv", "vti", "dxf"))
+            sub.add_argument("--to", required=True, choices=tuple(exports.WRITERS))
         if name in ("pit", "shells"):
             sub.add_argument("--no-verify", action="store_true", help="leave out the second look at every number")
         if name in ("pit", "export", "audit"):
             is_needed = name == "audit"
             kind = positive if name == "pit" else int
             sub.add_argument("--factor", type=kind, required=is_needed, default=None if is_needed else REFERENCE_FACTOR)
-    text = "look a second time at every number of a folder that shells or pit has written"
-    subs.add_parser("verify", help=text, description=text).add_argument("folder", type=Path, help="the folder of the plan")
+    text = "look a second time at the numbers of a folder that shells, pit, scenarios or gather has written"
+    subs.add_parser("verify", help=text, description=text).add_argument("folder", type=Path, help="the folder of the plan or the scenarios")
     add_scenarios(subs)
     text = "write other people's files as the program's"
     kinds = subs.add_parser("convert", help=text, description=text).add_subparsers(dest="kind", required=True)
@@ -84,6 +84,7 @@ def add_scenarios(subs: Any) -> None:
     for sub in (every, some):
         sub.add_argument("--factor", type=int, help="the factor to draw (default: the project's chosen one, or 1000)")
         sub.add_argument("--partial", action="store_true", help="gather although scenarios have no answer")
+        sub.add_argument("--no-verify", action="store_true", help="leave out the second look at what is gathered")
     one.add_argument("number", type=positive, help="the scenario, from 1")
     for sub in (every, some, one):
         sub.add_argument("--quiet", action="store_true", help="tell no progress on standard error")
@@ -112,7 +113,7 @@ def main(arguments: Optional[Sequence[str]] = None) -> int:
     end_where_asked()
     try:
         if options.command == "scenario":
-            outcome = scenarios.one(options.folder, options.number)
+            outcome = simulation.one(options.folder, options.number)
             if outcome.why:
                 print(f"pitplan: {outcome.why}", file=sys.stderr)
             return outcome.status
@@ -151,18 +152,18 @@ def run_command(options: argparse.Namespace, project: Project, folder: Path, pro
         tell_notes(record["notes"])
         print(folder)
     elif options.command == "shells":
-        table, record = commands.shells(project, folder, progress, not options.no_verify)
+        table = commands.write_shells(project, folder, progress, not options.no_verify)
         columns = report.columns_of(table, project)
         print_table([heading for _, heading, _, _ in columns], report.cells_of(table, columns))
-        tell_notes(record["notes"])
+        tell_notes(files.read_record(folder)["notes"])
         print(folder / commands.REPORT)
     elif options.command == "pit":
         folder = options.out or project.folder / "pit"
-        table, record = commands.pit(project, folder, options.factor, progress, not options.no_verify)
+        table = commands.pit(project, options.factor, folder, progress, not options.no_verify)
         columns = report.columns_of(table, project)
         lines = [[name, *row] for name, row in zip(table["fixed_blocks"], report.cells_of(table, columns))]
         print_table(["fixed, blocks", *(heading for _, heading, _, _ in columns)], lines)
-        tell_notes(record["notes"])
+        tell_notes(files.read_record(folder)["notes"])
         print(folder / commands.PITS)
     elif options.command == "view":
         print(commands.view(folder, progress))
@@ -174,7 +175,7 @@ def run_command(options: argparse.Namespace, project: Project, folder: Path, pro
 
 def tell_verified(folder: Path) -> None:
     """A line for each rule that holds. Raises PlanError where one does not."""
-    rules = verify(folder)
+    rules = commands.verify(folder)
     demand(rules)
     for rule in rules:
         print(f"{rule.name}: {rule.holds}")
@@ -182,14 +183,13 @@ def tell_verified(folder: Path) -> None:
 
 def run_scenarios(options: argparse.Namespace, progress: Progress) -> None:
     if options.command == "gather":
-        request = scenarios.Request(factor=options.factor, partial=options.partial)
-        *notes, path = scenarios.gather(options.folder, request, progress)
+        request = simulation.Request(factor=options.factor, partial=options.partial, verifies=not options.no_verify)
+        result = commands.gather(options.folder, request, progress)
     else:
-        project = load(options.project)
-        request = scenarios.Request(options.on, options.workers, options.factor, options.partial)
-        *notes, path = scenarios.solve(project, options.out or project.folder / "scenarios", request, progress)
-    tell_notes(notes)
-    print(path)
+        request = simulation.Request(options.on, options.workers, options.factor, options.partial, not options.no_verify)
+        result = commands.scenarios(options.project, options.out, request, progress)
+    tell_notes(list(result.notes))
+    print(result.start or result.folder)
 
 
 def tell_notes(notes: list[str]) -> None:

@@ -1,23 +1,26 @@
-"""What each subcommand writes: `prepare`, `shells`, `pit`, `view`, `export` and `audit`."""
+"""What each subcommand does, as functions, for the command line and for notebooks."""
 
 from __future__ import annotations
 
 import os
 from dataclasses import replace
 from pathlib import Path
-from typing import Any
+from typing import Any, Optional, Union
 
 import numpy as np
 import pandas as pd
 
-from . import absent, analyse, audit as audits, export as exports, files, pictures, report, run, view as views, yearly
+from . import absent, analyse, auditing, exports, files, page, pictures, report, run, simulation, verification, yearly
 from .errors import PlanError
-from .pictures import Scene
 from .plan import Plan, prepare as prepare_plan
-from .progress import Progress
-from .project import Project
-from .verify import demand, verify
+from .progress import Progress, silent
+from .project import REFERENCE_FACTOR, Project, load
+from .simulation import Request, ScenarioResult
+from .verification import Rule
 
+# A project, or where its project.toml is; and a folder.
+Source = Union[str, Path, Project]
+Place = Union[str, Path]
 PREPARED = [files.BLOCKS, files.MODEL, files.PREC]
 PIT_MODEL, PITS = "pit.upit", "pits.csv"
 PICTURES = {
@@ -44,6 +47,10 @@ WRITTEN = {
 WRITTEN |= {PIT_MODEL, PITS}
 
 
+def read(project: Source) -> Project:
+    return project if isinstance(project, Project) else load(project)
+
+
 def prepare(project: Project, folder: Path, progress: Progress) -> dict[str, Any]:
     """Writes the program's files, blocks.csv and prepare.json; gives the record. Raises PlanError, with nothing written."""
     demand_apart(project, folder)
@@ -60,22 +67,31 @@ def written(plan: Plan) -> list[str]:
 
 
 def pit(
-    project: Project, folder: Path, factor: int, progress: Progress, verifies: bool = True
-) -> tuple[pd.DataFrame, dict[str, Any]]:
-    """Prepares, and solves the pit of one factor with the project's fixed blocks and without them; gives a table with a row of
-    each, and the record. blocks.csv has the pit with them, and of the project's lesser factors the shells within it, by which the
-    best case is dug.
+    project: Source,
+    factor: int = REFERENCE_FACTOR,
+    folder: Optional[Place] = None,
+    progress: Progress = silent,
+    verifies: bool = True,
+) -> pd.DataFrame:
+    """Solves the pit of one factor, in per mille, with the project's fixed blocks and without them, as `pitplan pit` does.
+
+    Gives a table with a row of each, `fixed_blocks` being kept or free, and the columns of `shells`. Into the folder (by default pit in
+    the project's own) it writes this table, blocks.csv and the record prepare.json. blocks.csv has the pit with the fixed blocks, and of
+    the project's lesser factors the shells within it, by which the best case is dug; as free_factor and free_process_factor the same
+    without them.
 
     Raises PlanError where the project has no fixed blocks, and where what is written is not right, unless it is not verified.
     """
+    project = read(project)
+    target = project.folder / "pit" if folder is None else Path(folder)
     if project.fixed is None:
         raise PlanError(f"{project.path}: [fixed] is missing: it says which blocks must be dug and which may not be")
     within = tuple(sorted({factor, *(inner for inner in project.schedule.factors if inner < factor)}))
     schedule = replace(project.schedule, factors=within, chosen=None, reference_added=False)
     project = replace(project, schedule=schedule)
-    demand_apart(project, folder)
+    demand_apart(project, target)
     plan = prepare_plan(project, progress=progress)
-    with files.staged(folder) as stage:
+    with files.staged(target) as stage:
         record = write_prepared(plan, stage, progress)
         keeping = run.solve(plan, stage, progress)
         free = run.solve_files(stage / files.BLOCKS, stage / files.PREC, within)
@@ -83,11 +99,12 @@ def pit(
         check_fixed(plan, keeping, factor, stage, progress)
         table = pd.concat([analyse.shells(plan, solution).tail(1) for solution in (keeping, free)], ignore_index=True)
         table.insert(0, "fixed_blocks", ["kept", "free"])
-        write_table(analyse.blocks(plan, keeping), stage)
+        of_free = analyse.blocks(plan, free)[["factor", "process_factor"]].add_prefix("free_")
+        write_table(pd.concat([analyse.blocks(plan, keeping), of_free], axis=1), stage)
         shown(table).to_csv(stage / PITS, index=False)
         note_verified(plan, record, stage, verifies, progress)
         finish(plan, record, [*written(plan), PIT_MODEL, files.TABLE, PITS], stage)
-    return table, record
+    return table
 
 
 def note_verified(plan: Plan, record: dict[str, Any], stage: Path, verifies: bool, progress: Progress) -> None:
@@ -100,8 +117,8 @@ def note_verified(plan: Plan, record: dict[str, Any], stage: Path, verifies: boo
     if verifies:
         files.write_json(stage / files.RECORD, record)
         with progress.step("verifying"):
-            rules = verify(stage, plan.project)
-        demand(rules)
+            rules = verification.verify(stage, plan.project)
+        verification.demand(rules)
         record["verified"] = [f"{rule.name}: {rule.holds}" for rule in rules]
 
 
@@ -110,22 +127,25 @@ def check_fixed(plan: Plan, solution: run.Solution, factor: int, stage: Path, pr
     if plan.settled is None:
         return
     with progress.step(f"solving factor {factor} by itself, with the fixed blocks"):
-        files.write_model(stage / PIT_MODEL, plan.project.title, audits.values_at(stage / files.BLOCKS, factor))
+        files.write_model(stage / PIT_MODEL, plan.project.title, auditing.values_at(stage / files.BLOCKS, factor))
         pit = run.solve_pit(stage / PIT_MODEL, stage / files.PREC, stage / files.FIXED, factor)
     run.demand_same(solution, pit, factor)
 
 
-def shells(
-    project: Project, folder: Path, progress: Progress, verifies: bool = True
-) -> tuple[pd.DataFrame, dict[str, Any]]:
-    """Prepares, runs the program, and writes tables, pictures and the report; gives the table of shells and the record.
+def write_shells(
+    project: Source, folder: Optional[Place] = None, progress: Progress = silent, verifies: bool = True
+) -> pd.DataFrame:
+    """Prepares, runs the program, and writes tables, pictures, the report and the record prepare.json, as `pitplan shells` does.
 
-    Raises PlanError where what is written is not right, unless it is not verified.
+    Gives the table that `shells` gives. The folder is by default the project's own. Raises PlanError where the input is not usable, and
+    where what is written is not right, unless it is not verified.
     """
-    demand_apart(project, folder)
+    project = read(project)
+    target = project.folder if folder is None else Path(folder)
+    demand_apart(project, target)
     identity = run.identity()
     plan = prepare_plan(project, progress=progress)
-    with files.staged(folder) as stage:
+    with files.staged(target) as stage:
         record = write_prepared(plan, stage, progress)
         solution = run.solve(plan, stage, progress)
         with progress.step("counting the shells"):
@@ -137,11 +157,11 @@ def shells(
         note_verified(plan, record, stage, verifies, progress)
         with progress.step("drawing"):
             draw(plan, solution, table, chosen, stage)
-            yearly.picture(years, project, chosen, stage / PICTURES["years"])
+            yearly.write_years(years, project, chosen, stage / PICTURES["years"])
         names = [*written(plan), *([PIT_MODEL] if project.fixed else []), files.ANSWER, files.TABLE, files.SHELLS, files.YEARS]
         finish(plan, record, [*names, *PICTURES.values()], stage)
         write_report(project, table, record, stage)
-    return table, record
+    return table
 
 
 def write_tables(plan: Plan, solution: run.Solution, stage: Path) -> tuple[pd.DataFrame, pd.DataFrame]:
@@ -192,20 +212,10 @@ def shown(table: pd.DataFrame) -> pd.DataFrame:
 
 
 def draw(plan: Plan, solution: run.Solution, table: pd.DataFrame, chosen: int, stage: Path) -> None:
-    first = plan.project.metals[0]
-    cells = analyse.cells_of(plan, solution)
-    grid = plan.grid
-    scene = Scene(
-        grid=grid,
-        factor=grid.cube(cells.factor),
-        solid=grid.cube(cells.tonnes > 0),
-        grade=grid.cube(grid.spread(plan.table[first.column].to_numpy())),
-        metal=first,
-        chosen=chosen,
-    )
-    pictures.pit_by_pit(table, plan.project.money.currency, chosen, stage / PICTURES["pit_by_pit"])
-    pictures.plans(scene, stage / PICTURES["plans"])
-    pictures.sections(scene, stage / PICTURES["sections"])
+    scene = pictures.scene_of(plan, solution, chosen)
+    pictures.write_pit_by_pit(table, plan.project.money.currency, chosen, stage / PICTURES["pit_by_pit"])
+    pictures.write_plans(scene, stage / PICTURES["plans"])
+    pictures.write_sections(scene, stage / PICTURES["sections"])
 
 
 def write_report(project: Project, table: pd.DataFrame, record: dict[str, Any], stage: Path) -> None:
@@ -220,31 +230,80 @@ def write_report(project: Project, table: pd.DataFrame, record: dict[str, Any], 
     report.write(stage / REPORT, project, table, facts)
 
 
-def view(folder: Path, progress: Progress) -> Path:
-    """Writes view.html beside the shells; gives its path. Raises MissingPackage without libjs-three."""
-    result = files.read_folder(folder)
-    with progress.step("writing the 3D page"), files.staged_file(folder / VIEW) as path:
-        views.write(path, result)
-    return folder / VIEW
+def view(folder: Place, progress: Progress = silent) -> Path:
+    """Writes view.html, a page that shows the shells in 3D, into a folder that `write_shells` has written; gives its path.
+
+    Raises MissingPackage without libjs-three, and PlanError where the folder has no shells or has changed since.
+    """
+    result = files.read_folder(Path(folder))
+    with progress.step("writing the 3D page"), files.staged_file(result.path / VIEW) as path:
+        page.write(path, result)
+    return result.path / VIEW
 
 
-def export(folder: Path, kind: str, factor: int, progress: Progress) -> Path:
-    """Writes shells.csv, .vti or .dxf files for other programs; gives the path. Raises PlanError and MissingPackage."""
-    result = files.read_folder(folder)
-    if factor not in result.factors:
-        raise PlanError(f"factor {factor} is not among the factors {', '.join(map(str, result.factors))}")
-    target = folder / exports.name_of(kind, factor)
+def export(folder: Place, kind: str, factor: int = REFERENCE_FACTOR, progress: Progress = silent) -> Path:
+    """Writes the shells of a folder that `write_shells` has written for other programs; gives the file's path.
+
+    `csv` and `vti` hold the shells of all factors, and `dxf` the outline of one at each level, in metres. The factor is in per mille.
+    Raises PlanError where the folder has no shells or not this factor, or the kind is another, and MissingPackage without a library.
+    """
+    if kind not in exports.WRITERS:
+        raise PlanError(f"{kind} is none of {', '.join(exports.WRITERS)}")
+    result = read_factor(folder, factor)
+    target = result.path / exports.name_of(kind, factor)
     with progress.step(f"writing {target.name}"), files.staged_file(target) as path:
         exports.WRITERS[kind](path, result, factor)
     return target
 
 
-def audit(folder: Path, factor: int, progress: Progress) -> Path:
-    """Writes a folder by which others can check one shell; gives its path. Raises PlanError and ProgramError."""
-    result = files.read_folder(folder)
+def audit(folder: Place, factor: int, progress: Progress = silent) -> Path:
+    """Writes a folder by which others can check the shell of a factor, in per mille, with the program and without; gives its path.
+
+    Raises PlanError where the folder has no shells or not this factor, or another pit is found than its shell, and ProgramError where
+    the program refuses.
+    """
+    result = read_factor(folder, factor)
+    target = result.path / f"audit-{factor}"
+    with progress.step(f"writing {target.name}"), files.staged(target) as stage:
+        auditing.write(stage, result, factor)
+    return target
+
+
+def read_factor(folder: Place, factor: int) -> files.Folder:
+    """The files of a plan. Raises PlanError where there is no shell of this factor."""
+    result = files.read_folder(Path(folder))
     if factor not in result.factors:
         raise PlanError(f"factor {factor} is not among the factors {', '.join(map(str, result.factors))}")
-    target = folder / f"audit-{factor}"
-    with progress.step(f"writing {target.name}"), files.staged(target) as stage:
-        audits.write(stage, result, factor)
-    return target
+    return result
+
+
+def scenarios(
+    project: Source, folder: Optional[Place] = None, request: Request = Request(), progress: Progress = silent
+) -> ScenarioResult:
+    """Solves simulated models at several prices, as `pitplan scenarios` does; gives notes, and the tables as frames.
+
+    The folder is by default scenarios in the project's own. A script calls it below `if __name__ == "__main__":`, since the processes that
+    solve read the script too.
+
+    Raises PlanError where the project has no `[scenarios]`, a model is not usable, a scenario ends without an answer, or what is gathered
+    is not right, and MissingPackage without Dask where it is asked for.
+    """
+    project = read(project)
+    return simulation.solve(project, project.folder / "scenarios" if folder is None else Path(folder), request, progress)
+
+
+def gather(folder: Place, request: Request = Request(), progress: Progress = silent) -> ScenarioResult:
+    """Writes probabilities, tables and pictures of scenarios that others have solved; gives notes, and the tables as frames.
+
+    Raises PlanError where an answer is missing, unless the request is for part of them, and where what is gathered is not right.
+    """
+    return simulation.gather(Path(folder), request, progress)
+
+
+def verify(folder: Place) -> list[Rule]:
+    """Looks a second time at every number of a folder of shells, of a pit, or of scenarios; gives what was looked at.
+
+    A rule says in words what `holds`; `differences` are the first ten places where it does not, and `count` how many there are. Raises
+    PlanError where the folder has no answer, or the table has changed since.
+    """
+    return verification.verify_folder(Path(folder))

@@ -163,6 +163,12 @@ def grid_of(box: dict[str, Any], rows: np.ndarray) -> Grid:
     return Grid((levels, north, east), (x, y, z), (dx, dy, dz), rows)
 
 
+def read_record(folder: Path) -> dict[str, Any]:
+    """What prepare.json says."""
+    record: dict[str, Any] = json.loads((folder / RECORD).read_text(encoding="utf-8"))
+    return record
+
+
 @dataclass(frozen=True)
 class Folder:
     """The files of a plan, read back.
@@ -187,7 +193,7 @@ class Folder:
 def read_folder(path: Path) -> Folder:
     """Raises PlanError where `pitplan shells` has not written the folder, or a file has changed since."""
     try:
-        record = json.loads((path / RECORD).read_text(encoding="utf-8"))
+        record = read_record(path)
         for name, digest in record["files"].items():
             if hash_of(path / name) != digest:
                 raise PlanError(f"{path / name}: has changed since {RECORD} was written: run pitplan shells again")

@@ -1,12 +1,14 @@
 """The pictures of a plan, by matplotlib: the pit-by-pit plot, plans of levels, and sections.
 
-Figures are made without pyplot, so that a notebook keeps its backend and shows none that it did not ask for."""
+Each `plot_` function draws on axes that it is given, and gives them back; a legend or a title for several axes stands on the figure of the
+first. Each `write_` function writes a file by it. Figures are made without pyplot, so that a notebook keeps its backend and shows none that
+it did not ask for."""
 
 from __future__ import annotations
 
 from dataclasses import dataclass
 from pathlib import Path
-from typing import Any
+from typing import Any, Optional
 
 import matplotlib
 import numpy as np
@@ -18,9 +20,13 @@ from matplotlib.figure import Figure
 from matplotlib.image import AxesImage
 from matplotlib.ticker import MaxNLocator
 
+from . import analyse
+from .errors import PlanError
 from .grid import Grid, metres
 from .outlines import edges
+from .plan import Plan
 from .project import Metal
+from .run import Solution
 
 ORE, WASTE, GROUND = "#3b6ea5", "#cfc9bd", "#ece8df"
 BEST, WORST, PLAIN, CHOSEN = "#1b7f4b", "#c0392b", "#444444", "#ffe9a6"
@@ -96,6 +102,28 @@ class Scene:
         return colours, BoundaryNorm([used[0] - 1, *middles, used[-1] + 1], len(used)), used
 
 
+def scene_of(plan: Plan, solution: Solution, chosen: Optional[int] = None) -> Scene:
+    """What plans and sections of a plan's shells show; the chosen factor, in per mille, is by default that of the report."""
+    first, grid = plan.project.metals[0], plan.grid
+    cells = analyse.cells_of(plan, solution)
+    return Scene(
+        grid=grid,
+        factor=grid.cube(cells.factor),
+        solid=grid.cube(cells.tonnes > 0),
+        grade=grid.cube(grid.spread(plan.table[first.column].to_numpy())),
+        metal=first,
+        chosen=analyse.chosen_factor(analyse.shells(plan, solution), plan.project.schedule) if chosen is None else chosen,
+    )
+
+
+def list_of(axes: Any, count: int) -> list[Axes]:
+    """So many axes, given as a list or as an array of any shape. Raises PlanError where there are more or fewer."""
+    found = list(np.ravel(axes))
+    if len(found) != count:
+        raise PlanError(f"{len(found)} axes are given, and the picture has {count}")
+    return found
+
+
 def scaled(most: float) -> tuple[float, str]:
     """A unit in which numbers up to `most` have two digits before the point or more: its size and its sign."""
     for size, sign in ((1e6, "M"), (1e3, "k")):
@@ -104,19 +132,27 @@ def scaled(most: float) -> tuple[float, str]:
     return 1.0, ""
 
 
-def pit_by_pit(table: pd.DataFrame, currency: str, chosen: int, path: Path) -> None:
-    """Tonnes of ore and waste, and worth and NPV at the price as given, of each shell."""
+def write_pit_by_pit(table: pd.DataFrame, currency: str, chosen: int, path: Path) -> None:
     with matplotlib.rc_context(STYLE):
         figure = Figure(figsize=(9.5, 4.8))
-        left = figure.subplots()
-        right = left.twinx()
-        draw_tonnes(left, table, chosen)
-        draw_worth(right, table, currency)
-        shown = [axis.get_legend_handles_labels() for axis in (left, right)]
-        handles, names = ([*shown[0][k], *shown[1][k]] for k in (0, 1))
-        figure.legend(handles, names, ncol=6, loc="upper center", frameon=False)
-        figure.tight_layout(rect=(0, 0, 1, 0.94))
+        plot_pit_by_pit(table, currency, chosen, figure.subplots())
+        figure.tight_layout()
         finish(figure, path)
+
+
+def plot_pit_by_pit(table: pd.DataFrame, currency: str, chosen: int, ax: Axes) -> Axes:
+    """Tonnes of ore and waste of each shell, and on a second scale to the right worth and NPV at the price as given; gives `ax`.
+
+    table   as `pitplan.shells` gives it
+    chosen  the factor, in per mille, that is marked
+    """
+    right = ax.twinx()
+    draw_tonnes(ax, table, chosen)
+    draw_worth(right, table, currency)
+    shown = [axis.get_legend_handles_labels() for axis in (ax, right)]
+    handles, names = ([*shown[0][k], *shown[1][k]] for k in (0, 1))
+    ax.legend(handles, names, ncol=6, loc="lower center", bbox_to_anchor=(0.5, 1.0), frameon=False)
+    return ax
 
 
 def draw_tonnes(axis: Axes, table: pd.DataFrame, chosen: int) -> None:
@@ -152,45 +188,54 @@ def draw_worth(axis: Axes, table: pd.DataFrame, currency: str) -> None:
     axis.set_ylim(min(0.0, 1.1 * float(amounts.min().min()) / size), axis.get_ylim()[1] * 1.05)
 
 
-def plans(scene: Scene, path: Path) -> None:
-    """The depth of the chosen pit, and the shells on three of its levels."""
+def write_plans(scene: Scene, path: Path) -> None:
     with matplotlib.rc_context(STYLE):
-        west, east, south, north, _, top = scene.grid.extent()
+        west, east, south, north, _, _ = scene.grid.extent()
         figure, axes = panels(east - west, north - south)
-        draw_floor(figure, axes[0], scene)
-        height = scene.grid.size[2]
-        for axis, number in zip(axes[1:], levels_to_show(scene)):
-            draw_shells(figure, axis, scene, scene.level(number))
-            axis.set_title(f"Shells on the level {metres(top - (number + 1) * height)} to {metres(top - number * height)} m")
-        for axis in axes:
-            name_axes(axis, "east", "north")
+        plot_plans(scene, axes)
         finish(figure, path)
 
 
-def sections(scene: Scene, path: Path) -> None:
-    """A section from west to east and one from south to north through the chosen pit: shells, and grades."""
+def plot_plans(scene: Scene, axes: Any) -> list[Axes]:
+    """The depth of the chosen pit, and the shells on three of its levels, on four axes, which it gives."""
+    first, *others = found = list_of(axes, 4)
+    plot_floor(scene, first)
+    for ax, number in zip(others, levels_to_show(scene)):
+        plot_level(scene, number, ax)
+    return found
+
+
+def write_sections(scene: Scene, path: Path) -> None:
     with matplotlib.rc_context(STYLE):
         west, east, _, _, bottom, top = scene.grid.extent()
-        row, column = busiest(scene.dug, 1), busiest(scene.dug, 2)
-        x, y, _ = scene.grid.centres(np.array(row * scene.grid.shape[2] + column))
         figure, axes = panels(east - west, top - bottom)
-        cuts = (
-            (scene.from_west_to_east(row), f"west to east at north {metres(y)}", "east"),
-            (scene.from_south_to_north(column), f"south to north at east {metres(x)}", "north"),
-        )
-        for (plane, where, label), left, right in zip(cuts, axes[::2], axes[1::2]):
-            draw_shells(figure, left, scene, plane)
-            left.set_title(f"Shells, {where}")
-            draw_grade(figure, right, scene, plane)
-            for axis in (left, right):
-                name_axes(axis, label, "elevation")
+        plot_sections(scene, axes)
         finish(figure, path)
+
+
+def plot_sections(scene: Scene, axes: Any) -> list[Axes]:
+    """A section from west to east and one from south to north through the chosen pit, on four axes, which it gives: of each the shells,
+    and the grades."""
+    found = list_of(axes, 4)
+    row, column = busiest(scene.dug, 1), busiest(scene.dug, 2)
+    x, y, _ = scene.grid.centres(np.array(row * scene.grid.shape[2] + column))
+    cuts = (
+        (scene.from_west_to_east(row), f"west to east at north {metres(y)}", "east"),
+        (scene.from_south_to_north(column), f"south to north at east {metres(x)}", "north"),
+    )
+    for (plane, where, label), left, right in zip(cuts, found[::2], found[1::2]):
+        plot_shells(scene, plane, left).set_title(f"Shells, {where}")
+        plot_grades(scene, plane, right)
+        for ax in (left, right):
+            name_axes(ax, label, "elevation")
+    return found
 
 
 def name_axes(axis: Axes, across: str, up: str) -> None:
-    """Labels in metres, and so few ticks below that coordinates of seven digits keep apart."""
+    """Labels in metres, coordinates in full, and so few ticks below that those of seven digits keep apart."""
     axis.set_xlabel(f"{across}, m")
     axis.set_ylabel(f"{up}, m")
+    axis.ticklabel_format(style="plain", useOffset=False)
     axis.xaxis.set_major_locator(MaxNLocator(MOST_COORDINATES, steps=[1, 2, 2.5, 5, 10]))
 
 
@@ -201,34 +246,48 @@ def panels(wide: float, high: float) -> tuple[Figure, list[Axes]]:
     return figure, list(figure.subplots(2, 2).flat)
 
 
-def draw_floor(figure: Figure, axis: Axes, scene: Scene) -> None:
-    """The elevation of the chosen pit's floor."""
+def plot_floor(scene: Scene, ax: Axes) -> Axes:
+    """The elevation of the chosen pit's floor, in metres, on the map; gives `ax`."""
     west, east, south, north, _, top = scene.grid.extent()
     level = np.arange(scene.grid.shape[0])[:, None, None]
     deepest = np.where(scene.dug, level, -1).max(axis=0)
     floor = np.where(deepest >= 0, top - (deepest + 1) * scene.grid.size[2], np.nan)
-    image = axis.imshow(floor, extent=(west, east, south, north), cmap="cividis", **MAP)
-    axis.set_title(f"Floor of the pit at factor {scene.chosen}, elevation in m")
-    figure.colorbar(image, ax=axis, shrink=0.85)
+    image = ax.imshow(floor, extent=(west, east, south, north), cmap="cividis", **MAP)
+    ax.set_title(f"Floor of the pit at factor {scene.chosen}, elevation in m")
+    ax.figure.colorbar(image, ax=ax, shrink=0.85)
+    name_axes(ax, "east", "north")
+    return ax
 
 
-def draw_shells(figure: Figure, axis: Axes, scene: Scene, plane: Plane) -> None:
-    """The first factors of a plane's cells over the ground, and the chosen pit's outline."""
+def plot_level(scene: Scene, number: int, ax: Axes) -> Axes:
+    """The shells on a level, counted from 0 at the top; gives `ax`."""
+    top, height = scene.grid.extent()[5], scene.grid.size[2]
+    plot_shells(scene, scene.level(number), ax)
+    ax.set_title(f"Shells on the level {metres(top - (number + 1) * height)} to {metres(top - number * height)} m")
+    name_axes(ax, "east", "north")
+    return ax
+
+
+def plot_shells(scene: Scene, plane: Plane, ax: Axes) -> Axes:
+    """The first factors of a plane's cells over the ground, and the chosen pit's outline; gives `ax`."""
     colours, norm, _ = scene.shades
-    draw_ground(axis, plane)
+    draw_ground(ax, plane)
     shown = np.ma.masked_where((plane.factor == 0) | ~plane.solid, plane.factor)
-    image = axis.imshow(shown, extent=plane.extent, cmap=colours, norm=norm, **MAP)
-    colour_bar(figure, image, axis, scene)
-    draw_outline(axis, plane)
+    image = ax.imshow(shown, extent=plane.extent, cmap=colours, norm=norm, **MAP)
+    colour_bar(image, ax, scene)
+    draw_outline(ax, plane)
+    return ax
 
 
-def draw_grade(figure: Figure, axis: Axes, scene: Scene, plane: Plane) -> None:
-    draw_ground(axis, plane)
+def plot_grades(scene: Scene, plane: Plane, ax: Axes) -> Axes:
+    """The first metal's grades of a plane's cells over the ground, and the chosen pit's outline; gives `ax`."""
+    draw_ground(ax, plane)
     shown = np.ma.masked_where(~plane.solid | (plane.grade <= 0), plane.grade)
-    image = axis.imshow(shown, extent=plane.extent, cmap="YlOrRd", vmin=0, **MAP)
-    axis.set_title(f"{scene.metal.name.capitalize()} and the outline of the pit at factor {scene.chosen}")
-    figure.colorbar(image, ax=axis, shrink=0.85, label=f"{scene.metal.name}, {scene.metal.sign}")
-    draw_outline(axis, plane)
+    image = ax.imshow(shown, extent=plane.extent, cmap="YlOrRd", vmin=0, **MAP)
+    ax.set_title(f"{scene.metal.name.capitalize()} and the outline of the pit at factor {scene.chosen}")
+    ax.figure.colorbar(image, ax=ax, shrink=0.85, label=f"{scene.metal.name}, {scene.metal.sign}")
+    draw_outline(ax, plane)
+    return ax
 
 
 def draw_ground(axis: Axes, plane: Plane) -> None:
@@ -245,12 +304,12 @@ def draw_outline(axis: Axes, plane: Plane) -> None:
     axis.add_collection(LineCollection(edges(plane.dug) * size + (left, low), colors="black", linewidths=1.3))
 
 
-def colour_bar(figure: Figure, image: AxesImage, axis: Axes, scene: Scene) -> None:
+def colour_bar(image: AxesImage, axis: Axes, scene: Scene) -> None:
     """A step of colour a factor, with as many of the factors written as are legible."""
     _, norm, used = scene.shades
     step = -(-len(used) // MOST_TICKS)
     middles = [(a + b) / 2 for a, b in zip(norm.boundaries, norm.boundaries[1:])]
-    bar = figure.colorbar(image, ax=axis, shrink=0.85, label="first factor, per mille", spacing="uniform")
+    bar = axis.figure.colorbar(image, ax=axis, shrink=0.85, label="first factor, per mille", spacing="uniform")
     bar.set_ticks(middles[::step], labels=[str(factor) for factor in used[::step]])
     bar.ax.minorticks_off()
 

@@ -200,8 +200,11 @@ class Project:
     fixed: Optional[FixedRules] = None
 
 
-def load(path: Union[str, Path]) -> Project:
-    """Reads a project. Raises PlanError, with the file, the section and the key, where something is missing or wrong."""
+def load(path: Union[str, Path], original: Optional[Path] = None) -> Project:
+    """Reads a project; of a copy, `original` is the place that it was copied from, beside which the files lie that it names.
+
+    Raises PlanError, with the file, the section and the key, where something is missing or wrong.
+    """
     path = Path(path)
     try:
         data = tomllib.loads(path.read_text(encoding="utf-8-sig"), parse_float=Decimal)
@@ -211,7 +214,7 @@ def load(path: Union[str, Path]) -> Project:
         raise PlanError(f"{path}: is not written in UTF-8: save it so") from error
     except tomllib.TOMLDecodeError as error:
         raise PlanError(f"{path}: {error}") from error
-    return of_data(data, path)
+    return of_data(data, original or path)
 
 
 def of_data(data: dict, path: Path) -> Project:

@@ -1,9 +1,10 @@
-"""The picture of the chosen pit's years: rock and ore beside the yearly capacities, and cash, best case and worst case."""
+"""The picture of a pit's years: rock and ore beside the yearly capacities, and cash, best case and worst case."""
 
 from __future__ import annotations
 
 from dataclasses import dataclass
 from pathlib import Path
+from typing import Any
 
 import matplotlib
 import pandas as pd
@@ -11,7 +12,7 @@ from matplotlib.axes import Axes
 from matplotlib.figure import Figure
 from matplotlib.ticker import MaxNLocator
 
-from .pictures import ORE, PLAIN, STYLE, WASTE, finish, scaled
+from .pictures import ORE, PLAIN, STYLE, WASTE, finish, list_of, scaled
 from .project import Project, Schedule
 
 CASES = {"best": "Best case", "worst": "Worst case"}
@@ -53,23 +54,31 @@ def scale_of(years: pd.DataFrame, settings: Schedule) -> Scale:
     return Scale(tonnes, money, (-top * below / (1 - below), top), (-whole * below, whole * (1 - below)))
 
 
-def picture(table: pd.DataFrame, project: Project, chosen: int, path: Path) -> None:
-    """Writes years.png from `years.csv`'s table; a pit without rock has an empty picture that says so."""
-    years = table[table["factor"] == chosen]
+def write_years(table: pd.DataFrame, project: Project, chosen: int, path: Path) -> None:
     with matplotlib.rc_context(STYLE):
         figure = Figure(figsize=(12, 4.6))
-        axes = figure.subplots(1, 2, sharex=True)
-        if years.empty:
-            for axis in axes:
-                axis.set_axis_off()
-            figure.suptitle(f"The pit of factor {chosen} is empty")
-        else:
-            draw(figure, list(axes), years, project)
+        plot_years(table, project, chosen, figure.subplots(1, 2, sharex=True))
+        if (table["factor"] == chosen).any():
             figure.tight_layout(rect=(0, 0, 1, 0.92))
         finish(figure, path)
 
 
-def draw(figure: Figure, axes: list[Axes], years: pd.DataFrame, project: Project) -> None:
+def plot_years(table: pd.DataFrame, project: Project, chosen: int, axes: Any) -> list[Axes]:
+    """The years of the pit of a factor, in per mille, the best case and the worst case on axes of its own, which it gives.
+
+    The table is as `pitplan.years` gives it. A pit without rock has empty axes, under a title that says so.
+    """
+    found, years = list_of(axes, 2), table[table["factor"] == chosen]
+    if years.empty:
+        for ax in found:
+            ax.set_axis_off()
+        found[0].figure.suptitle(f"The pit of factor {chosen} is empty")
+    else:
+        draw(found, years, project)
+    return found
+
+
+def draw(axes: list[Axes], years: pd.DataFrame, project: Project) -> None:
     """A panel a case, and one legend for both."""
     scale = scale_of(years, project.schedule)
     currency = project.money.currency
@@ -87,7 +96,7 @@ def draw(figure: Figure, axes: list[Axes], years: pd.DataFrame, project: Project
     drawn = [axes[0].containers, axes[0].lines, rights[0].lines[:1]]
     handles = [handle for handles in drawn for handle in handles]
     names = [str(handle.get_label()) for handle in handles]
-    figure.legend(handles, names, ncol=len(names), loc="upper center", frameon=False)
+    axes[0].figure.legend(handles, names, ncol=len(names), loc="upper center", frameon=False)
 
 
 def draw_tonnes(axis: Axes, years: pd.DataFrame, scale: Scale, settings: Schedule) -> None:

@@ -15,7 +15,7 @@ import pandas as pd
 import pytest
 from conftest import PROJECT, ROOT, rows
 
-from pitplan import BudgetUsedUp, PlanError, ProgramError, audit as audits, commands, files, load, outlines, packages, run
+from pitplan import BudgetUsedUp, PlanError, ProgramError, auditing, commands, files, load, outlines, packages, run
 from pitplan.cli import main
 from pitplan.progress import silent
 
@@ -49,7 +49,7 @@ def test_shells_write_tables_pictures_and_a_page_that_needs_no_other_file(solved
 
 def test_a_mine_without_ore_has_a_report_and_a_page_too(plan_folder):
     project = load(plan_folder(rows(4, 4, 3), PROJECT, ("[500, 1000, 1500]", "[1000]")))
-    table, _ = commands.shells(project, project.folder, silent)
+    table = commands.write_shells(project, project.folder, silent)
     assert table["blocks"].tolist() == [0] and table["worth"].tolist() == [0]
     commands.view(project.folder, silent)
     assert (
@@ -117,20 +117,20 @@ def test_a_bent_audit_is_not_confirmed(solved):
 def test_an_audit_of_other_blocks_or_of_another_worth_is_refused(solved):
     folder = files.read_folder(solved[1])
     stage = commands.audit(solved[1], 1000, silent)
-    worth = audits.demand_same(stage, folder, 1000)
+    worth = auditing.demand_same(stage, folder, 1000)
     shells = pd.read_csv(solved[1] / "shells.csv", dtype={"worth_at_factor": str})
     assert [worth] == shells.loc[shells["factor"] == 1000, "worth_at_factor"].map(Decimal).tolist()
     dug = folder.blocks["factor"] == 500
     other = replace(folder, blocks=folder.blocks.assign(factor=folder.blocks["factor"].where(~dug | (dug.cumsum() > 1), 0)))
     with pytest.raises(PlanError, match="the audited pit is not the shell of factor 1000"):
-        audits.demand_same(stage, other, 1000)
+        auditing.demand_same(stage, other, 1000)
     shells.assign(worth_at_factor=shells["worth_at_factor"] + "1").to_csv(solved[1] / "shells.csv", index=False)
     with pytest.raises(PlanError, match="the audited pit is not the shell of factor 1000"):
-        audits.demand_same(stage, folder, 1000)
+        auditing.demand_same(stage, folder, 1000)
 
 
 def test_values_of_an_audit_are_exact(tmp_path):
-    from pitplan.audit import values_at
+    from pitplan.auditing import values_at
 
     (tmp_path / "mine.blocks").write_text("0 0 0 0 0 1.000001\n1 0 0 0 12345.678901 0.1\n")
     assert values_at(tmp_path / "mine.blocks", 333).tolist() == [-1000001000, 333 * 12345678901 - 100000000]
@@ -212,7 +212,7 @@ def test_rings_have_a_point_at_each_corner_and_at_no_other(seed):
 def test_the_planners_own_table_is_never_written_over(plan_folder):
     path = plan_folder(rows(4, 4, 3, **ORE))
     before = (path.parent / "blocks.csv").read_bytes()
-    for command in (commands.prepare, commands.shells):
+    for command in (commands.prepare, commands.write_shells):
         with pytest.raises(
             PlanError, match="blocks.csv: the plan would be written over it: give another folder by --out"
         ):
@@ -225,14 +225,14 @@ def test_the_planners_own_table_is_never_written_over(plan_folder):
     [
         ("money", "MOST_BLOCKS", "144 blocks and 3 processing nodes are 147 nodes, and the program takes at most 100"),
         ("plan", "MOST_PAIRS", "needs, and the program takes at most 100: give fewer"),
-        ("view", "MOST_FACTORS", "the 3D page can show 2 shells, and there are 3: give fewer factors"),
+        ("page", "MOST_FACTORS", "the 3D page can show 2 shells, and there are 3: give fewer factors"),
     ],
 )
 def test_what_is_above_a_limit_is_refused(plan_folder, monkeypatch, solved, module, limit, words):
-    monkeypatch.setattr(f"pitplan.{module}.{limit}", 2 if module == "view" else 100)
+    monkeypatch.setattr(f"pitplan.{module}.{limit}", 2 if module == "page" else 100)
     path = plan_folder(rows(6, 6, 4, **ORE))
     with pytest.raises(PlanError, match=words):
-        commands.view(solved[1], silent) if module == "view" else commands.prepare(
+        commands.view(solved[1], silent) if module == "page" else commands.prepare(
             load(path), path.parent / "out", silent
         )
 
@@ -258,7 +258,7 @@ def test_a_failed_run_leaves_the_earlier_one(solved, monkeypatch):
     before = {path.name: path.read_bytes() for path in folder.iterdir()}
     monkeypatch.setattr(commands, "draw", lambda *_: (_ for _ in ()).throw(PlanError("no pictures")))
     with pytest.raises(PlanError, match="no pictures"):
-        commands.shells(project, folder, silent)
+        commands.write_shells(project, folder, silent)
     assert {path.name: path.read_bytes() for path in folder.iterdir()} == before
 
 
@@ -400,7 +400,7 @@ import matplotlib.pyplot as plt
 from pitplan import commands, load
 from pitplan.progress import silent
 project = load({str(solved[0].path)!r})
-commands.shells(project, project.folder, silent, verifies=False)
+commands.write_shells(project, project.folder, silent, verifies=False)
 assert matplotlib.get_backend() == "svg" and plt.get_fignums() == [], (matplotlib.get_backend(), plt.get_fignums())
 """
     subprocess.run([sys.executable, "-c", text], check=True, env={**os.environ, "PYTHONPATH": str(ROOT / "python")})

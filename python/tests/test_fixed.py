@@ -15,7 +15,7 @@ from hypothesis import strategies as st
 from test_shells import BOX, CLOSED, SMALL, best_by_trying, grades, project_of
 
 import pitplan
-from pitplan import commands, fixed, load, prepare, run, scenarios
+from pitplan import commands, files, fixed, load, prepare, run, simulation
 from pitplan.cli import main
 from pitplan.project import FixedRules
 from pitplan.errors import PlanError
@@ -201,9 +201,9 @@ def test_a_pit_that_keeps_to_fixed_blocks(plan_folder, capsys):
 
 def test_a_pit_with_forced_blocks(plan_folder):
     project = load(plan_folder(ore_below_waste(), with_section('[fixed]\nforced = "must"\n')))
-    table, record = commands.pit(project, project.folder / "pit", 1000, silent)
+    table = commands.pit(project, 1000)
     assert table["blocks"].tolist() == [6, 4]
-    assert record["fixed"] == {"forced": 1, "barred": 0}
+    assert files.read_record(project.folder / "pit")["fixed"] == {"forced": 1, "barred": 0}
     # the block at the floor and the one above it, at 2 a tonne and 100 t a block
     assert table["worth"][0] == table["worth"][1] - 400
 
@@ -271,7 +271,7 @@ def test_a_pit_of_the_least_factor_of_all_is_compared_too(plan_folder):
     """At a thousandth of eight millions the ore of 6 % yields 24,000, and that of 0.5 % 2000: both pay for processing and four blocks."""
     text = with_section(FIXED_SECTION).replace("price = 8000", "price = 8_000_000")
     project = load(plan_folder(ores_and_fixed(), text))
-    table, _ = commands.pit(project, project.folder / "pit", 1, silent)
+    table = commands.pit(project, 1)
     # Four blocks each; and the one block more that must be dug, at the floor of the last column.
     assert table["blocks"].tolist() == [9, 8]
 
@@ -281,21 +281,21 @@ def test_a_shell_that_is_not_the_pit_of_the_program_is_refused(plan_folder, monk
     path = plan_folder(ores_and_fixed(), with_section(FIXED_SECTION))
     monkeypatch.setattr(run, "joined", lambda rest, settled, values: rest)
     with pytest.raises(PlanError, match="is not the program's pit with the fixed blocks: 3 nodes differ"):
-        commands.shells(load(path), path.parent / "plan", silent)
+        commands.write_shells(load(path), path.parent / "plan", silent)
     assert not (path.parent / "plan" / "report.html").exists()
 
 
 def test_the_best_case_of_a_pit_digs_its_inner_shells_first(plan_folder):
     project = load(plan_folder(ores_and_fixed(), with_section(FIXED_SECTION)))
-    pits, _ = commands.pit(project, project.folder / "pit", 1500, silent)
-    shells, _ = commands.shells(project, project.folder, silent)
+    pits = commands.pit(project, 1500)
+    shells = commands.write_shells(project, project.folder, silent)
     kept, last = pits.iloc[0], shells.set_index("factor").loc[1500]
     assert kept["npv_best"] == last["npv_best"] > kept["npv_worst"] == last["npv_worst"]
 
 
 def test_an_audit_of_a_shell_with_fixed_blocks_is_confirmed_from_any_folder(plan_folder, tmp_path):
     project = load(plan_folder(ores_and_fixed(), with_section(FIXED_SECTION)))
-    commands.shells(project, project.folder, silent)
+    commands.write_shells(project, project.folder, silent)
     target = commands.audit(project.folder, 1000, silent)
     (tmp_path / "bin").mkdir()
     (tmp_path / "bin" / "program").symlink_to(run.program().resolve())
@@ -311,7 +311,7 @@ def test_scenarios_keep_to_fixed_blocks(plan_folder, tmp_path):
     project = load(plan_folder(table, text))
     folder = project.folder / "scenarios"
     told = io.StringIO()
-    scenarios.solve(project, folder, scenarios.Request(workers=1), Progress(told))
+    simulation.solve(project, folder, simulation.Request(workers=1), Progress(told))
     assert "solving 2 scenarios .. 1 2 " in told.getvalue()
     likely = pd.read_csv(folder / "probability.csv")
     assert (likely.loc[likely["must"] == 1, "probability_500"] == 1).all()

@@ -1,5 +1,7 @@
 """What the pictures draw, by the artists on their axes."""
 
+import json
+
 import numpy as np
 import pandas as pd
 import pytest
@@ -10,7 +12,7 @@ from matplotlib.backends.backend_agg import FigureCanvasAgg
 import pitplan
 from pitplan import pictures, yearly
 from pitplan.grid import Grid
-from pitplan.scenarios import pictures as many
+from pitplan.simulation import pictures as many
 
 YEARS = pd.DataFrame(
     [
@@ -37,7 +39,7 @@ def test_years_are_drawn_as_bars_capacities_and_cash(plan_folder, panels):
     """In millions of tonnes and of dollars, of which the axes have ten or more."""
     figure, axes = panels
     project = pitplan.load(plan_folder(rows(2, 2, 2), PROJECT, CAPACITIES))
-    yearly.draw(figure, list(axes), YEARS[YEARS["factor"] == 1000], project)
+    yearly.plot_years(YEARS, project, 1000, axes)
     expected = {
         0: ("Best case: NPV 28.0 M USD", [0, 3], [9, 1], [-2.5, 40]),
         1: ("Worst case: NPV 23.5 M USD", [1, 2, 0], [7, 3, 1], [5, 32, -1]),
@@ -58,7 +60,7 @@ def test_years_are_drawn_as_bars_capacities_and_cash(plan_folder, panels):
 def test_the_axes_of_years_hold_all_and_have_nothing_at_one_height(plan_folder, panels):
     figure, axes = panels
     project = pitplan.load(plan_folder(rows(2, 2, 2), PROJECT, CAPACITIES))
-    yearly.draw(figure, list(axes), YEARS[YEARS["factor"] == 1000], project)
+    yearly.plot_years(YEARS, project, 1000, axes)
     limits = [axis.get_ylim() for axis in figure.axes]
     assert limits[0] == limits[1] and limits[2] == limits[3]
     heights = [-low / (high - low) for low, high in limits]
@@ -70,7 +72,7 @@ def test_the_axes_of_years_hold_all_and_have_nothing_at_one_height(plan_folder, 
 def test_a_capacity_far_above_all_years_is_told_and_not_drawn_to(plan_folder, panels):
     figure, axes = panels
     far = (CAPACITIES[0], CAPACITIES[1].replace("10_000_000", "1_000_000_000"))
-    yearly.draw(figure, list(axes), YEARS[YEARS["factor"] == 1000], pitplan.load(plan_folder(rows(2, 2, 2), PROJECT, far)))
+    yearly.plot_years(YEARS, pitplan.load(plan_folder(rows(2, 2, 2), PROJECT, far)), 1000, axes)
     assert "shovels: 1,000,000 kt a year" in [text.get_text() for text in figure.legends[0].get_texts()]
     assert 9000 < axes[0].get_ylim()[1] < 20_000
 
@@ -80,7 +82,7 @@ def test_years_that_earn_nothing_are_drawn_too(plan_folder, panels, cash):
     figure, axes = panels
     project = pitplan.load(plan_folder(rows(2, 2, 2), PROJECT, CAPACITIES))
     years = YEARS[(YEARS["factor"] == 1000) & (YEARS["case"] == "best")].assign(cash=cash)
-    yearly.draw(figure, list(axes), pd.concat([years, years.assign(case="worst")]), project)
+    yearly.plot_years(pd.concat([years, years.assign(case="worst")]), project, 1000, axes)
     low, high = figure.axes[2].get_ylim()
     assert np.isfinite([low, high]).all() and high > 0
     size = 1 if min(cash) == 0 else 1e6 if min(cash) <= -10e6 else 1e3
@@ -108,7 +110,7 @@ def corners(collection):
 
 def test_each_set_of_prices_has_a_band_and_a_median_of_its_own(panels):
     figure, axes = panels
-    many.draw_spread(figure, list(axes), scenarios_at(300, 100.5, 200), "USD")
+    many.plot_spread(scenarios_at(300, 100.5, 200), "USD", axes)
     for axis, size in zip(axes, (1, 10)):
         starts = [500, 100_000, 200_000]
         assert len(axis.collections) == 3 and len(axis.lines) == 3
@@ -127,7 +129,7 @@ def test_each_set_of_prices_has_a_band_and_a_median_of_its_own(panels):
 
 def test_many_sets_of_prices_are_medians_alone(panels):
     figure, axes = panels
-    many.draw_spread(figure, list(axes), scenarios_at(*range(100, 3100, 100)), "USD")
+    many.plot_spread(scenarios_at(*range(100, 3100, 100)), "USD", axes)
     for axis in axes:
         assert not axis.collections and len(axis.lines) == 30
     names = [text.get_text() for text in figure.legends[0].get_texts()]
@@ -136,21 +138,22 @@ def test_many_sets_of_prices_are_medians_alone(panels):
 
 def test_six_sets_have_bands_and_seven_have_none(panels):
     figure, axes = panels
-    many.draw_spread(figure, list(axes)[:1], scenarios_at(*range(100, 700, 100)), "USD")
-    many.draw_spread(figure, list(axes)[1:], scenarios_at(*range(100, 800, 100)), "USD")
-    assert [len(axis.collections) for axis in axes] == [6, 0] and [len(axis.lines) for axis in axes] == [6, 7]
+    for count, bands in ((6, 6), (7, 0)):
+        for axis in many.plot_spread(scenarios_at(*range(100, 100 + 100 * count, 100)), "USD", axes):
+            assert (len(axis.collections), len(axis.lines)) == (bands, count)
+            axis.clear()
 
 
 def test_the_projects_own_prices_have_the_band_of_all_models_too(panels):
     figure, axes = panels
-    many.draw_spread(figure, list(axes), scenarios_at(100).drop(columns="price_copper"), "USD")
+    many.plot_spread(scenarios_at(100).drop(columns="price_copper"), "USD", axes)
     assert [corners(shown)[1000] for shown in axes[0].collections] == [(10_000, 20_000), (11_000, 19_000)]
     assert [text.get_text() for text in figure.legends[0].get_texts()] == ["all", "eight in ten", "median"]
 
 
 def test_one_set_of_prices_is_named(panels):
     figure, axes = panels
-    many.draw_spread(figure, list(axes), scenarios_at(100), "USD")
+    many.plot_spread(scenarios_at(100), "USD", axes)
     assert [text.get_text() for text in figure.legends[0].get_texts()] == ["all", "eight in ten", "median, copper 100"]
 
 
@@ -187,7 +190,7 @@ def test_plans_and_sections_have_coordinates_in_full(monkeypatch):
     grid, factor = at_a_zone()
     metal = pitplan.project.Metal("copper", "cu", "percent", 0, 0, 1)
     scene = pictures.Scene(grid, factor, np.ones(grid.shape, dtype=bool), np.ones(grid.shape), metal, 1000)
-    for draw in (pictures.plans, pictures.sections):
+    for draw in (pictures.write_plans, pictures.write_sections):
         figure = drawn_of(monkeypatch, pictures, lambda draw=draw: draw(scene, None))
         demand_plain_coordinates(figure)
         titles = [axis.get_title(loc="left") for axis in figure.axes]
@@ -199,8 +202,105 @@ def test_plans_and_sections_have_coordinates_in_full(monkeypatch):
 def test_probabilities_have_coordinates_in_full(monkeypatch):
     grid, factor = at_a_zone()
     likely = many.Likely(grid, factor / 1000, np.ones(grid.shape, dtype=bool), 1000, 3)
-    for draw in (many.plans, many.sections):
+    for draw in (many.write_plans, many.write_sections):
         figure = drawn_of(monkeypatch, many, lambda draw=draw: draw(likely, None))
         demand_plain_coordinates(figure)
         titles = [axis.get_title(loc="left") for axis in figure.axes]
     assert titles[:2] == ["West to east at north 6512262.5", "South to north at east 430250"]
+
+
+SHELLS = pd.DataFrame(
+    {
+        "factor": [500, 1000, 1500],
+        "tonnes": [20e6, 40e6, 60e6],
+        "ore_tonnes": [12e6, 15e6, 20e6],
+        "waste_tonnes": [8e6, 25e6, 40e6],
+        "worth": [100.0, 300.0, 200.0],
+        "npv_best": [90.0, 250.0, 180.0],
+        "npv_worst": [80.0, 150.0, -50.0],
+    }
+)
+
+
+def scene():
+    grid, factor = at_a_zone()
+    metal = pitplan.project.Metal("copper", "cu", "percent", 0, 0, 1)
+    return pictures.Scene(grid, factor, np.ones(grid.shape, dtype=bool), np.ones(grid.shape), metal, 1000)
+
+
+def likely():
+    grid, factor = at_a_zone()
+    return many.Likely(grid, factor / 1000, np.ones(grid.shape, dtype=bool), 1000, 3)
+
+
+EACH = {
+    "pit by pit": (1, lambda axes, project: [pictures.plot_pit_by_pit(SHELLS, "USD", 1000, axes[0])]),
+    "floor": (1, lambda axes, project: [pictures.plot_floor(scene(), axes[0])]),
+    "level": (1, lambda axes, project: [pictures.plot_level(scene(), 2, axes[0])]),
+    "shells": (1, lambda axes, project: [pictures.plot_shells(scene(), scene().from_west_to_east(10), axes[0])]),
+    "grades": (1, lambda axes, project: [pictures.plot_grades(scene(), scene().from_south_to_north(12), axes[0])]),
+    "plans": (4, lambda axes, project: pictures.plot_plans(scene(), axes)),
+    "sections": (4, lambda axes, project: pictures.plot_sections(scene(), axes)),
+    "years": (2, lambda axes, project: yearly.plot_years(YEARS, project, 1000, axes)),
+    "plans of scenarios": (4, lambda axes, project: many.plot_plans(likely(), axes)),
+    "sections of scenarios": (2, lambda axes, project: many.plot_sections(likely(), axes)),
+    "spread": (2, lambda axes, project: many.plot_spread(scenarios_at(100, 200), "USD", axes)),
+}
+
+
+@pytest.mark.parametrize("name", EACH)
+def test_each_picture_is_drawn_on_given_axes_which_it_gives(plan_folder, name):
+    """In one half of a figure; the other half and the backend stay as they were, and no figure comes up."""
+    count, draw = EACH[name]
+    project = pitplan.load(plan_folder(rows(2, 2, 2), PROJECT, CAPACITIES))
+    figure = plt.figure(figsize=(20, 10))
+    half, other = figure.subfigures(1, 2)
+    axes, beside = half.subplots(count, squeeze=False).ravel(), other.subplots()
+    before = plt.get_backend(), plt.get_fignums()
+    given = draw(axes, project)
+    assert len(given) == count and all(one is ax for one, ax in zip(given, axes))
+    assert all(ax.has_data() for ax in axes) and not beside.has_data()
+    assert (plt.get_backend(), plt.get_fignums()) == before
+    assert figure.legends == other.legends == [] and other.axes == [beside]
+    FigureCanvasAgg(figure).draw()
+    plt.close(figure)
+
+
+@pytest.mark.parametrize("name", [name for name, (count, _) in EACH.items() if count > 1])
+def test_too_few_axes_are_refused(plan_folder, panels, name):
+    project = pitplan.load(plan_folder(rows(2, 2, 2), PROJECT, CAPACITIES))
+    count, draw = EACH[name]
+    with pytest.raises(pitplan.PlanError, match=f"1 axes are given, and the picture has {count}"):
+        draw(panels[1][:1], project)
+
+
+def test_shells_are_drawn_as_bars_and_curves(panels):
+    """In millions of tonnes, of which the axis has 60, and in dollars."""
+    ax = pictures.plot_pit_by_pit(SHELLS, "USD", 1000, panels[1][0])
+    (right,) = [other for other in panels[0].axes if other not in panels[1]]
+    ore, waste = ax.containers
+    assert [bar.get_height() for bar in ore] == [12, 15, 20] and [bar.get_height() for bar in waste] == [8, 25, 40]
+    assert [line.get_ydata().tolist() for line in right.lines[::2]] == [[100, 300, 200], [90, 250, 180], [80, 150, -50]]
+    # Each curve's greatest has a ring.
+    assert [(line.get_xdata()[0], line.get_ydata()[0]) for line in right.lines[1::2]] == [(1000, 300), (1000, 250), (1000, 150)]
+    names = [text.get_text() for text in ax.get_legend().get_texts()]
+    assert names == ["chosen: 1000", "ore", "waste", "undiscounted", "NPV, best case", "NPV, worst case"]
+
+
+def test_what_plans_show_of_a_solved_plan(solved):
+    """The pit of a hill of ten by nine columns; its scene is what blocks.csv says."""
+    plan = pitplan.prepare(solved[0])
+    scene = pictures.scene_of(plan, pitplan.solve(plan), 1500)
+    blocks = pd.read_csv(solved[1] / "blocks.csv")
+    assert scene.dug.sum() == (blocks["factor"] > 0).sum() and scene.solid.sum() == len(blocks)
+    places = [((45 - blocks["z"]) // 10).astype(int), (blocks["y"] // 10).astype(int), (blocks["x"] // 10).astype(int)]
+    assert scene.grade[tuple(places)].tolist() == blocks["cu"].tolist()
+    figure, axes = plt.subplots()
+    (image,) = pictures.plot_floor(scene, axes).images
+    deepest = blocks[blocks["factor"] > 0].assign(column=lambda it: it["x"] // 10, row=lambda it: it["y"] // 10).groupby(["row", "column"])["z"].min()
+    drawn = image.get_array()
+    assert {(row, column): drawn[int(row), int(column)] for row, column in deepest.index} == (deepest - 5).to_dict()
+    assert np.ma.count(np.ma.masked_invalid(drawn)) == len(deepest)
+    plt.close(figure)
+    chosen = pictures.scene_of(plan, pitplan.solve(plan)).chosen
+    assert chosen == json.loads((solved[1] / "prepare.json").read_text())["shells"]["chosen"]

@@ -11,14 +11,14 @@ from conftest import PROJECT, rows
 from hypothesis import HealthCheck, given, settings
 from hypothesis import strategies as st
 
-from pitplan import PlanError, absent, commands, fixed, load, money, prepare, schedule, slopes, solve
+from pitplan import PlanError, absent, commands, files, fixed, load, money, prepare, schedule, slopes, solve
 from pitplan.cli import main
 from pitplan.progress import silent
 from pitplan.project import Wall
-from pitplan.verify import demand, verify
-from pitplan.verify.answer import read
-from pitplan.verify.money import sample
-from pitplan.verify.walls import flatness, high_walls
+from pitplan.verification import demand, verify
+from pitplan.verification.answer import read
+from pitplan.verification.money import sample
+from pitplan.verification.walls import flatness, high_walls
 
 TEXT = PROJECT.replace("mining_cost = 2\n", "mining_cost = { R = 2, S = 2.5 }\nmining_cost_per_level = 0.25\ndecimals = 2\n").replace(
     "[slopes]\n",
@@ -48,8 +48,8 @@ def answered(tmp_path_factory):
     deposit().to_csv(place / "blocks.csv", index=False)
     (place / "project.toml").write_text(TEXT)
     project = load(place / "project.toml")
-    _, record = commands.shells(project, project.folder, silent)
-    return place, record
+    commands.write_shells(project)
+    return place, files.read_record(project.folder)
 
 
 @pytest.fixture
@@ -67,6 +67,7 @@ def test_what_is_right_is_told_rule_by_rule(answered, copied, capsys):
     assert main(["verify", str(copied)]) == 0
     assert [line.split(":")[0] for line in capsys.readouterr().out.splitlines()] == [
         "blocks",
+        "absent",
         "walls",
         "levels",
         "fixed",
@@ -75,7 +76,7 @@ def test_what_is_right_is_told_rule_by_rule(answered, copied, capsys):
         "worth",
         "years",
     ]
-    assert len(answered[1]["verified"]) == 8
+    assert len(answered[1]["verified"]) == 9
     assert "no block of any shell leaves one standing" in (copied / "report.html").read_text()
 
 
@@ -177,7 +178,7 @@ def test_all_that_is_bent_is_counted_and_ten_told(copied, name, bend, count, tol
 
 def test_amounts_are_looked_at_exactly_at_the_edges_of_shells(copied, monkeypatch):
     """A block that is dug and has one beside, above or below it that is dug at another factor or not at all, or none."""
-    monkeypatch.setattr("pitplan.verify.money.SAMPLE", 0)
+    monkeypatch.setattr("pitplan.verification.money.SAMPLE", 0)
     answer = read(copied)
     first = dict(zip(zip(*(axis.tolist() for axis in answer.cells)), answer.said["factor"]))
     inside = [axis.max() for axis in answer.cells]
@@ -206,7 +207,7 @@ def refused(plan_folder, table=None, text=TEXT, *changes):
     """What a run says that is refused by its second look; nothing of it stays."""
     path = plan_folder(deposit() if table is None else table, text, *changes)
     with pytest.raises(PlanError, match="what was written is not right") as said:
-        commands.shells(load(path), path.parent / "plan", silent)
+        commands.write_shells(load(path), path.parent / "plan", silent)
     assert list((path.parent / "plan").iterdir()) == []
     return str(said.value)
 
@@ -236,7 +237,7 @@ def test_cost_by_elevation_is_looked_at(plan_folder, monkeypatch):
     """Levels with centres 5, 15, .., 45 m, of which the lowest and the highest lie beyond the elevations that are named."""
     change = ("mining_cost_per_level = 0.25", "mining_cost_by_elevation = [[10, 0.7], [20, 0.3], [40, 0.1]]")
     path = plan_folder(deposit(), TEXT, change)
-    assert [rule.differences for rule in looked_at(prepare(path))] == [()] * 8
+    assert [rule.differences for rule in looked_at(prepare(path))] == [()] * 9
     monkeypatch.setattr(money, "added_cost", lambda *_: Decimal(0))
     differences = {rule.name: rule.differences for rule in looked_at(prepare(path)) if rule.differences}
     # 99.7 t, of which each costs 0.7 more.
@@ -246,7 +247,7 @@ def test_cost_by_elevation_is_looked_at(plan_folder, monkeypatch):
 @pytest.mark.parametrize("discounting", ["continuous", "mid_year", "end_of_year"])
 def test_a_mine_in_which_nothing_pays_is_right(plan_folder, discounting):
     plan = prepare(plan_folder(rows(3, 3, 2), PROJECT, ("rate = 0.1", f'rate = 0.1\ndiscounting = "{discounting}"')))
-    assert [rule.differences for rule in looked_at(plan)] == [()] * 8
+    assert [rule.differences for rule in looked_at(plan)] == [()] * 9
 
 
 @pytest.mark.parametrize(("discounting", "npv"), [("continuous", -200), ("mid_year", -200 / 1.1**0.5), ("end_of_year", -200 / 1.1)])
@@ -255,16 +256,16 @@ def test_waste_that_takes_no_time_is_the_first_years(plan_folder, discounting, n
     changes = ("rate = 0.1", f'rate = 0.1\ndiscounting = "{discounting}"')
     table = rows(3, 3, 2, must=lambda i, j, k: int((i, j, k) == (1, 1, 1)))
     plan = prepare(plan_folder(table, PROJECT + '\n[fixed]\nforced = "must"\n', changes))
-    assert [rule.differences for rule in looked_at(plan)] == [()] * 8
+    assert [rule.differences for rule in looked_at(plan)] == [()] * 9
     shells = pd.read_csv(plan.project.folder / "shells.csv")
     assert shells["npv_best"].tolist() == shells["npv_worst"].tolist() == [pytest.approx(npv, abs=1e-3)] * 3
     plan = prepare(plan_folder(deposit(), TEXT, changes, ("rock_per_year = 1000\n", "")))
-    assert [rule.differences for rule in looked_at(plan)] == [()] * 8
+    assert [rule.differences for rule in looked_at(plan)] == [()] * 9
 
 
 def test_a_block_without_an_id_is_called_by_its_centre(plan_folder):
     plan = prepare(plan_folder(ore_everywhere().drop(columns="name"), PROJECT, ('id = "name"\n', "")))
-    assert [rule.differences for rule in looked_at(plan)] == [()] * 8
+    assert [rule.differences for rule in looked_at(plan)] == [()] * 9
     path = plan.project.folder / "blocks.csv"
     plus_one(pd.read_csv(path), "mining_cost").to_csv(path, index=False)
     (rule,) = [rule for rule in verify(plan.project.folder, plan.project) if rule.name == "money"]
@@ -288,7 +289,7 @@ def test_rows_without_rock_are_no_blocks_that_are_left_standing(plan_folder):
     """Ore below rock, and over it two levels of rows that hold nothing."""
     table = rows(9, 9, 5, tonnes=lambda i, j, k: 100 * (k < 3), cu=lambda i, j, k: 9 * ((i, j, k) == (4, 4, 0)))
     plan = prepare(plan_folder(table, PROJECT))
-    assert [rule.differences for rule in looked_at(plan)] == [()] * 8
+    assert [rule.differences for rule in looked_at(plan)] == [()] * 9
     blocks = pd.read_csv(plan.project.folder / "blocks.csv")
     assert (blocks.loc[blocks["tonnes"] == 0, "factor"] == 0).any() and (blocks["factor"] == 500).sum() > 13
 
@@ -333,7 +334,7 @@ def test_amounts_with_more_digits_than_floats_have_are_no_difference(plan_folder
         ("decimals = 2", f"decimals = {decimals}"),
     ]
     plan = prepare(plan_folder(deposit(), TEXT, *changes))
-    assert [rule.differences for rule in looked_at(plan)] == [()] * 8
+    assert [rule.differences for rule in looked_at(plan)] == [()] * 9
 
 
 @pytest.mark.parametrize(("more", "differs"), [("0.01", False), ("0.05", True)])
@@ -390,7 +391,7 @@ AREA = '[[fixed.areas]]\npolygon = "map.csv"\nbarred = '
 def test_areas_that_are_passed_over_are_found(plan_folder, tmp_path, monkeypatch, section, corners, first, count):
     pd.DataFrame(np.array(corners) + [600_000, 6_512_000], columns=["x", "y"]).to_csv(tmp_path / "map.csv", index=False)
     path = plan_folder(ore_everywhere(), PROJECT + "\n" + section)
-    assert [rule.differences for rule in looked_at(prepare(path))] == [()] * 8
+    assert [rule.differences for rule in looked_at(prepare(path))] == [()] * 9
     monkeypatch.setattr(fixed, "of_table", lambda *_: fixed.NOTHING)
     (rule,) = [rule for rule in looked_at(prepare(path)) if rule.differences]
     assert (rule.name, rule.count, len(rule.differences)) == ("fixed", count, min(count, 10))
@@ -404,7 +405,7 @@ def test_a_surface_that_is_passed_over_is_found(plan_folder, tmp_path, monkeypat
     path = plan_folder(ore_everywhere().assign(cu=0), PROJECT + '\n[fixed]\nsurface = "mined.csv"\n')
     plan = prepare(path)
     assert len(plan.fixed.forced) == 7 + 2 * 7
-    assert [rule.differences for rule in looked_at(plan)] == [()] * 8
+    assert [rule.differences for rule in looked_at(plan)] == [()] * 9
     monkeypatch.setattr(fixed, "of_table", lambda *_: fixed.NOTHING)
     (rule,) = [rule for rule in looked_at(prepare(path)) if rule.differences]
     assert (rule.name, rule.count, len(rule.differences)) == ("fixed", 7 + 2 * 7, 10)
@@ -458,4 +459,4 @@ def test_random_plans_are_right(plan_folder, seed, cutoff, discounting, shovels)
         ("rock_per_year = 1000\n", shovels),
     ]
     plan = prepare(plan_folder(table, TEXT, *changes))
-    assert [rule.differences for rule in looked_at(plan)] == [()] * 8
+    assert [rule.differences for rule in looked_at(plan)] == [()] * 9

@@ -9,7 +9,7 @@ import numpy as np
 import pandas as pd
 import pytest
 
-from pitplan import PlanError, commands, files, view as views
+from pitplan import PlanError, commands, files, page as pages
 from pitplan.progress import silent
 
 CHROMIUM = shutil.which("chromium")
@@ -81,7 +81,7 @@ def test_the_page_draws_the_ground_with_a_pit(page, tmp_path):
 
 def test_the_model_of_the_page_by_hand(solved):
     """Grades of 6, 0.9 and 0.8 per cent: a hundredth of these lie above 5.898, and 0.8 is 34.6 of 255 parts of it."""
-    model = views.model_of(files.read_folder(solved[1]))
+    model = pages.model_of(files.read_folder(solved[1]))
     blocks = pd.read_csv(solved[1] / "blocks.csv")
     shell, tint = (np.frombuffer(base64.b64decode(model[name]), dtype=np.uint8) for name in ("shell", "grade"))
     assert (model["shape"], model["size"], model["corner"], model["top"]) == ([5, 9, 10], [10, 10, 10], [0, 0, 0], 50)
@@ -97,11 +97,11 @@ def test_the_model_of_the_page_by_hand(solved):
 
 def test_as_many_factors_as_a_byte_tells_apart_are_shown(solved, monkeypatch):
     folder = files.read_folder(solved[1])
-    monkeypatch.setattr(views, "MOST_FACTORS", 3)
-    views.model_of(folder)
-    monkeypatch.setattr(views, "MOST_FACTORS", 2)
+    monkeypatch.setattr(pages, "MOST_FACTORS", 3)
+    pages.model_of(folder)
+    monkeypatch.setattr(pages, "MOST_FACTORS", 2)
     with pytest.raises(PlanError, match="the 3D page can show 2 shells, and there are 3"):
-        views.model_of(folder)
+        pages.model_of(folder)
 
 
 def test_the_page_needs_no_other_file(page):

@@ -6,10 +6,11 @@ import numpy as np
 import pandas as pd
 from matplotlib.path import Path as Outline
 
+from ..project import FixedRules
+from . import surface
 from .answer import TOLD, Answer, Rule, rule
 
-
-# Metres: of a centre that lies at the surface or the edge of an area to within so much nothing is demanded.
+# Metres: of a centre that lies at the edge of an area to within so much nothing is demanded.
 HAIR = 1e-6
 
 
@@ -18,16 +19,27 @@ def verify(answer: Answer) -> Rule:
     rules, first = answer.project.fixed, answer.said["factor"].to_numpy()
     if rules is None:
         return rule("fixed", "nothing is fixed", [])
-    rock = answer.tonnes > 0
-    must = marked(answer, rules.forced) | (above_points(answer) if rules.surface is not None else False)
-    never = marked(answer, rules.barred)
-    for area in rules.areas:
-        never = never | within(answer, table(area.polygon)[["x", "y"]].to_numpy(), area.barred == "inside")
-    left = np.flatnonzero(must & rock & (first != min(answer.factors)))
-    dug = np.flatnonzero(never & rock & (first > 0))
+    must, never = demanded(answer, rules)
+    left = np.flatnonzero(must & (first != min(answer.factors)))
+    dug = np.flatnonzero(never & (first > 0))
     differences = [f"{answer.called(row)} must be dug, and is so from factor {first[row]} on" for row in left[:TOLD]]
     differences += [f"{answer.called(row)} may not be dug, and is so from factor {first[row]} on" for row in dug[:TOLD]]
-    return rule("fixed", "what must be dug is in every shell, and what may not be is in none", differences, len(left) + len(dug))
+    ground = ", with the rock above the surface as mined," if rules.surface else ""
+    holds = f"what must be dug{ground} is in every shell, and what may not be is in none"
+    return rule("fixed", holds, differences, len(left) + len(dug))
+
+
+def demanded(answer: Answer, rules: FixedRules) -> tuple[np.ndarray, np.ndarray]:
+    """Which blocks of rock must be dug, and which may not be; the same for all answers to one project and table."""
+    if "fixed" not in answer.found:
+        rock = answer.tonnes > 0
+        must, never = marked(answer, rules.forced), marked(answer, rules.barred)
+        if rules.surface is not None:
+            must = must | surface.above(answer, rules.surface)
+        for area in rules.areas:
+            never = never | within(answer, table(area.polygon)[["x", "y"]].to_numpy(), area.barred == "inside")
+        answer.found["fixed"] = must & rock, never & rock
+    return answer.found["fixed"]
 
 
 def marked(answer: Answer, column: str | None) -> np.ndarray:
@@ -46,18 +58,6 @@ def within(answer: Answer, corners: np.ndarray, inside: bool) -> np.ndarray:
     centres = answer.rows[[columns.x, columns.y]].to_numpy() - middle
     narrow, wide = (outline.contains_points(centres, radius=radius) for radius in (-HAIR, HAIR))
     return narrow & wide if inside else ~narrow & ~wide
-
-
-def above_points(answer: Answer) -> np.ndarray:
-    """Blocks whose centre is above the mean of the points over their column; where there is none, nothing is said of it here."""
-    assert answer.project.fixed is not None and answer.project.fixed.surface is not None
-    points = table(answer.project.fixed.surface)
-    origin, size = answer.record["grid"]["origin"], answer.size
-    over = [np.floor((points[name] - first) / step + 0.5).astype(int) for name, first, step in zip("xy", origin, size)]
-    height = points["z"].groupby([over[1], over[0]]).mean()
-    _, row, column = answer.cells
-    ground = height.reindex(pd.MultiIndex.from_arrays([row, column])).to_numpy()
-    return answer.rows[answer.project.table.z].to_numpy() > np.where(np.isnan(ground), np.inf, ground + HAIR)
 
 
 def verify_places(answer: Answer) -> Rule:

@@ -1,4 +1,6 @@
-"""The pictures of a set of scenarios: plans and sections of probability, and worth and tonnes with their spread."""
+"""The pictures of a set of scenarios: plans and sections of probability, and worth and tonnes with their spread.
+
+As those of a plan: each `plot_` function draws on axes that it is given, and each `write_` function writes a file by it."""
 
 from __future__ import annotations
 
@@ -17,7 +19,7 @@ from matplotlib.lines import Line2D
 
 from ..grid import Grid, metres
 from ..outlines import edges
-from ..pictures import GROUND, MAP, STYLE, busiest, finish, name_axes, panels, scaled
+from ..pictures import GROUND, MAP, STYLE, busiest, finish, list_of, name_axes, panels, scaled
 
 STEPS = np.linspace(0, 1, 11)
 COLOURS = ListedColormap(matplotlib.colormaps["viridis_r"](np.linspace(0.02, 1, len(STEPS) - 1)))
@@ -49,46 +51,57 @@ class Likely:
         return np.where(self.solid, self.share, 0.0)
 
 
-def plans(likely: Likely, path: Path) -> None:
-    """Where anything is dug, and three levels."""
+def write_plans(likely: Likely, path: Path) -> None:
     with matplotlib.rc_context(STYLE):
-        west, east, south, north, _, top = likely.grid.extent()
-        extent, height = (west, east, south, north), likely.grid.size[2]
+        west, east, south, north, _, _ = likely.grid.extent()
         figure, axes = panels(east - west, north - south)
-        draw(axes[0], likely.shown.max(axis=0), likely.solid.any(axis=0), extent)
-        axes[0].set_title("Any level")
-        for axis, number in zip(axes[1:], levels_to_show(likely)):
-            draw(axis, likely.shown[number], likely.solid[number], extent)
-            axis.set_title(f"Level {metres(top - (number + 1) * height)} to {metres(top - number * height)} m")
-        for axis in axes:
-            name_axes(axis, "east", "north")
-        explain(figure, axes, likely)
+        plot_plans(likely, axes)
         finish(figure, path)
 
 
-def sections(likely: Likely, path: Path) -> None:
-    """A section from west to east and one from south to north through the pit that half of the scenarios hold."""
+def plot_plans(likely: Likely, axes: Any) -> list[Axes]:
+    """The probability of the most probable block of each column, and of the blocks of three levels, on four axes, which it gives."""
+    first, *others = found = list_of(axes, 4)
+    west, east, south, north, _, top = likely.grid.extent()
+    extent, height = (west, east, south, north), likely.grid.size[2]
+    draw(first, likely.shown.max(axis=0), likely.solid.any(axis=0), extent)
+    first.set_title("Any level")
+    for ax, number in zip(others, levels_to_show(likely)):
+        draw(ax, likely.shown[number], likely.solid[number], extent)
+        ax.set_title(f"Level {metres(top - (number + 1) * height)} to {metres(top - number * height)} m")
+    for ax in found:
+        name_axes(ax, "east", "north")
+    explain(found, likely)
+    return found
+
+
+def write_sections(likely: Likely, path: Path) -> None:
     with matplotlib.rc_context(STYLE):
         west, east, south, north, bottom, top = likely.grid.extent()
-        row, column = busiest(likely.shown >= 0.5, 1), busiest(likely.shown >= 0.5, 2)
-        x, y, _ = likely.grid.centres(np.array(row * likely.grid.shape[2] + column))
         share = min(max((top - bottom) / max(east - west, north - south), 0.2), 1.0)
         figure = Figure(figsize=(10, 15 * share + 2), constrained_layout=True)
-        axes = figure.subplots(2, 1)
-        cuts: tuple[Any, ...] = (
-            (slice(None, None, -1), row, slice(None)),
-            (slice(None, None, -1), slice(None), column),
-        )
-        places = (
-            ((west, east, bottom, top), f"West to east at north {metres(y)}", "east"),
-            ((south, north, bottom, top), f"South to north at east {metres(x)}", "north"),
-        )
-        for axis, cut, (extent, title, label) in zip(axes, cuts, places):
-            draw(axis, likely.shown[cut], likely.solid[cut], extent)
-            axis.set_title(title)
-            name_axes(axis, label, "elevation")
-        explain(figure, list(axes), likely)
+        plot_sections(likely, figure.subplots(2, 1))
         finish(figure, path)
+
+
+def plot_sections(likely: Likely, axes: Any) -> list[Axes]:
+    """A section from west to east and one from south to north through the pit that half of the scenarios hold, on two axes, which it
+    gives."""
+    found = list_of(axes, 2)
+    west, east, south, north, bottom, top = likely.grid.extent()
+    row, column = busiest(likely.shown >= 0.5, 1), busiest(likely.shown >= 0.5, 2)
+    x, y, _ = likely.grid.centres(np.array(row * likely.grid.shape[2] + column))
+    cuts: tuple[Any, ...] = ((slice(None, None, -1), row, slice(None)), (slice(None, None, -1), slice(None), column))
+    places = (
+        ((west, east, bottom, top), f"West to east at north {metres(y)}", "east"),
+        ((south, north, bottom, top), f"South to north at east {metres(x)}", "north"),
+    )
+    for ax, cut, (extent, title, label) in zip(found, cuts, places):
+        draw(ax, likely.shown[cut], likely.solid[cut], extent)
+        ax.set_title(title)
+        name_axes(ax, label, "elevation")
+    explain(found, likely)
+    return found
 
 
 def draw(axis: Axes, share: np.ndarray, solid: np.ndarray, extent: tuple[float, float, float, float]) -> None:
@@ -104,8 +117,9 @@ def draw(axis: Axes, share: np.ndarray, solid: np.ndarray, extent: tuple[float, 
         axis.add_collection(LineCollection(edges(share >= least - 1e-9) * size + (left, low), **style))
 
 
-def explain(figure: Figure, axes: list[Axes], likely: Likely) -> None:
+def explain(axes: list[Axes], likely: Likely) -> None:
     """One bar of colours and one legend for all panels."""
+    figure = axes[0].figure
     bar = figure.colorbar(axes[0].images[-1], ax=axes, shrink=0.6, ticks=STEPS[::2])
     bar.set_label(f"share of {likely.count:,} scenarios with the block in the pit")
     handles = [
@@ -124,24 +138,24 @@ def levels_to_show(likely: Likely) -> list[int]:
     return [int(used[int(share * (len(used) - 1))]) for share in (0.2, 0.5, 0.8)]
 
 
-def spread(table: pd.DataFrame, currency: str, path: Path) -> None:
-    """Tonnes and worth by factor, at each scenario's own prices: for each set of prices the median of its models, and between
-    which most of them lie."""
+def write_spread(table: pd.DataFrame, currency: str, path: Path) -> None:
     with matplotlib.rc_context(STYLE):
         figure = Figure(figsize=(11, 4.8))
-        axes = figure.subplots(1, 2)
-        draw_spread(figure, list(axes), table, currency)
+        plot_spread(table, currency, figure.subplots(1, 2))
+        leave_room(figure)
         finish(figure, path)
 
 
-def draw_spread(figure: Figure, axes: list[Axes], table: pd.DataFrame, currency: str) -> None:
-    """Bands and medians of up to six sets of prices, medians alone of more, and a legend below both panels."""
+def plot_spread(table: pd.DataFrame, currency: str, axes: Any) -> list[Axes]:
+    """Tonnes, and worth, by factor at each scenario's own prices, on two axes, which it gives: for each set of prices the median of its
+    models, and of up to six sets the band in which eight in ten of them lie. The table has the columns of scenarios.csv."""
+    found = list_of(axes, 2)
     sets = sets_of(table.assign(worth_at_factor=table["worth_at_factor"].astype(float)))
     columns = (
         ("tonnes", "rock in the pit", "t"),
         ("worth_at_factor", "worth at the factor's prices", f" {currency}"),
     )
-    for axis, (column, title, unit) in zip(axes, columns):
+    for axis, (column, title, unit) in zip(found, columns):
         for (prices, amounts), (colour, marker) in zip(sets, looks(len(sets))):
             groups = amounts.groupby("factor")[column]
             if len(sets) <= MOST_BANDS:
@@ -153,8 +167,9 @@ def draw_spread(figure: Figure, axes: list[Axes], table: pd.DataFrame, currency:
         axis.yaxis.set_major_formatter(lambda value, _, size=size: f"{value / size:,.4g}")
         axis.set_xlabel("price factor, per mille of each scenario's price")
         axis.set_ylabel(f"{title}, {sign}{unit}")
-    figure.suptitle(f"{table['scenario'].nunique():,} scenarios", x=0.01, ha="left")
-    explain_sets(figure, axes[0], len(sets))
+    found[0].figure.suptitle(f"{table['scenario'].nunique():,} scenarios", x=0.01, ha="left")
+    explain_sets(found[0], len(sets))
+    return found
 
 
 def sets_of(table: pd.DataFrame) -> list[tuple[str, pd.DataFrame]]:
@@ -187,14 +202,18 @@ def band(axis: Axes, groups: Any, colour: str, count: int) -> None:
     axis.fill_between(factors, groups.quantile(0.1), groups.quantile(0.9), label=label, **colours)
 
 
-def explain_sets(figure: Figure, axis: Axes, count: int) -> None:
+def explain_sets(axis: Axes, count: int) -> None:
     """The legend: every set's prices, or so many of them that it can be read."""
     handles, names = axis.get_legend_handles_labels()
     step = -(-len(names) // MOST_NAMES)
     handles, names = handles[::step], names[::step]
     what = "medians of the models" if count > MOST_BANDS else "medians and eight in ten of the models"
     title = None if count == 1 else f"{what}, by prices"
-    wide = min(4, len(names))
-    figure.legend(handles, names, ncol=wide, loc="lower center", frameon=False, title=title)
-    lines = -(-len(names) // wide) + (title is not None)
+    axis.figure.legend(handles, names, ncol=min(4, len(names)), loc="lower center", frameon=False, title=title)
+
+
+def leave_room(figure: Figure) -> None:
+    """Lifts the panels over the lines of the legend."""
+    (legend,) = figure.legends
+    lines = -(-len(legend.get_texts()) // 4) + bool(legend.get_title().get_text())
     figure.tight_layout(rect=(0, 0.055 * lines, 1, 1))

@@ -135,6 +135,19 @@ class Exactly:
 
 def near(answer: Answer) -> tuple[list[str], int]:
     """What differs by more than a rounding, of all blocks, by floats: the first ten of each name, and how many there are."""
+    mining, revenue, processing = by_floats(answer)
+    processing = np.where(answer.said["revenue"] > 0, processing, 0.0)
+    unit, differences, count = 10.0**-answer.project.money.decimals, [], 0
+    for name, amounts in zip(NAMES, (mining, revenue, processing)):
+        said = answer.said[name].to_numpy()
+        off = np.flatnonzero(np.abs(said - amounts) > 0.51 * unit + 1e-12 * np.abs(amounts))
+        differences += [f"{answer.called(row)}: {name} {said[row]:.10g} for {amounts[row]:.10g}" for row in off[:TOLD]]
+        count += len(off)
+    return differences, count
+
+
+def by_floats(answer: Answer) -> tuple[np.ndarray, np.ndarray, np.ndarray]:
+    """Mining cost, revenue, and cost of processing and selling of each block, as floats that are not rounded."""
     project, columns = answer.project, answer.project.table
     rock = answer.rows[columns.rock].astype(str) if columns.rock else None
 
@@ -151,13 +164,4 @@ def near(answer: Answer) -> tuple[list[str], int]:
         quantity = answer.quantities[metal.name]
         revenue += quantity * float(metal.price)
         selling += quantity * float(metal.selling_cost)
-    processing = answer.tonnes * by_rock(project.money.processing_cost) + selling
-    unit = 10.0**-project.money.decimals
-    processing = np.where(answer.said["revenue"] > 0, processing, 0.0)
-    differences, count = [], 0
-    for name, amounts in zip(NAMES, (mining, revenue, processing)):
-        said = answer.said[name].to_numpy()
-        off = np.flatnonzero(np.abs(said - amounts) > 0.51 * unit + 1e-12 * np.abs(amounts))
-        differences += [f"{answer.called(row)}: {name} {said[row]:.10g} for {amounts[row]:.10g}" for row in off[:TOLD]]
-        count += len(off)
-    return differences, count
+    return mining, revenue, answer.tonnes * by_rock(project.money.processing_cost) + selling

@@ -2,6 +2,7 @@
 
 from __future__ import annotations
 
+import os
 import shutil
 from dataclasses import dataclass
 from pathlib import Path
@@ -103,9 +104,11 @@ def write_record(plan: Plan, scenarios: list[Scenario], program: dict[str, str],
     written = [folders.BASE, files.PREC, folders.PROJECT, BLOCKS]
     record: dict[str, Any] = {
         "title": plan.project.title,
+        "project": os.path.relpath(plan.project.path, stage.parent),
         "factors": list(plan.project.schedule.factors),
         "program": program,
         "grid": {"shape": plan.grid.shape, "origin": plan.grid.origin, "size": plan.grid.size},
+        "walls": [pattern.as_json() for pattern in plan.walls.patterns],
         "mining_cost_reference": plan.reference,
         "notes": [note for note in plan.notes if "amounts were rounded" not in note],
         "files": files.hashes(stage, written),

@@ -3,7 +3,7 @@
 from __future__ import annotations
 
 import json
-from dataclasses import dataclass, field
+from dataclasses import dataclass, field, replace
 from functools import cached_property
 from pathlib import Path
 from typing import Any, Optional
@@ -21,6 +21,8 @@ UNDUG, NOTHING = 2**30, 0
 TOLD = 10
 # The columns of blocks.csv that are the answer's.
 SAID = ("id", "mining_cost", "revenue", "processing_cost", "factor", "process_factor")
+# Those that `pitplan pit` writes besides, of the pit that keeps to no fixed blocks.
+FREE = ("free_factor", "free_process_factor")
 
 
 @dataclass(frozen=True)
@@ -42,23 +44,27 @@ class Answer:
     """A folder as it is read.
 
     rows    one row a block: the planner's columns of the table as it is now, and behind them those of cells that it has no row of
+    known   how many of the rows are the table's
     said    the same rows of blocks.csv: id, mining_cost, revenue, processing_cost, factor, process_factor
     shells  shells.csv (of `pitplan pit`: the one row that keeps to the fixed blocks), by factor
     years   years.csv; None where the folder has none
     record  prepare.json
     factors the factors of which the folder has shells
+    free    of `pitplan pit` the answer that keeps to no fixed blocks
     found   what was told of it before, by name
     """
 
     folder: Path
     project: Project
     rows: pd.DataFrame
+    known: int
     said: pd.DataFrame
     shells: pd.DataFrame
     years: pd.DataFrame | None
     record: dict[str, Any]
     factors: tuple[int, ...]
-    found: dict[str, float] = field(default_factory=dict)
+    free: Optional[Answer] = None
+    found: dict[str, Any] = field(default_factory=dict)
 
     @property
     def shape(self) -> tuple[int, int, int]:
@@ -173,14 +179,32 @@ def read(folder: Path, project: Optional[Project] = None) -> Answer:
         record = json.loads((folder / "prepare.json").read_text(encoding="utf-8"))
         project = project or load(folder / record["project"])
         written = read_blocks(folder / "blocks.csv", project)
-        shells, factors = read_shells(folder, record)
-        years = pd.read_csv(folder / "years.csv") if (folder / "years.csv").exists() else None
+        return read_shells(folder, record, project, written) if "shells" in record else read_pits(folder, record, project, written)
     except OSError as error:
         raise PlanError(f"{error.filename}: cannot be read: run pitplan shells first") from error
     except (ValueError, KeyError) as error:
         raise PlanError(f"{folder}: is no folder that pitplan shells or pit has written: {error}") from error
-    rows, said = beside(tables.read(project).frame, written, project, record["grid"])
-    return Answer(folder, project, rows, said, shells, years, record, factors)
+
+
+def read_shells(folder: Path, record: dict[str, Any], project: Project, written: pd.DataFrame) -> Answer:
+    """The answer of `pitplan shells`."""
+    shells = pd.read_csv(folder / "shells.csv", dtype={"worth_at_factor": str}).set_index("factor")
+    years = pd.read_csv(folder / "years.csv") if (folder / "years.csv").exists() else None
+    rows, known, order = beside(tables.read(project).frame, written, project, record["grid"], "blocks.csv")
+    said = written[list(SAID)].iloc[order].reset_index(drop=True)
+    return Answer(folder, project, rows, known, said, shells, years, record, tuple(record["shells"]["factors"]))
+
+
+def read_pits(folder: Path, record: dict[str, Any], project: Project, written: pd.DataFrame) -> Answer:
+    """The two answers of `pitplan pit`: that which keeps to the fixed blocks, and in it the one that does not."""
+    pits = pd.read_csv(folder / "pits.csv", dtype={"worth_at_factor": str})
+    kept, free = (pits[pits["fixed_blocks"] == name].set_index("factor") for name in ("kept", "free"))
+    rows, known, order = beside(tables.read(project).frame, written, project, record["grid"], "blocks.csv")
+    said = written[[*SAID, *FREE]].iloc[order].reset_index(drop=True)
+    other = said.assign(**{name: said[f"free_{name}"] for name in ("factor", "process_factor")})
+    factors = tuple(record["factors"])
+    alone = Answer(folder, replace(project, fixed=None), rows, known, other, free, None, record, factors)
+    return Answer(folder, project, rows, known, said, kept, None, record, factors, alone)
 
 
 def read_blocks(path: Path, project: Project) -> pd.DataFrame:
@@ -190,21 +214,16 @@ def read_blocks(path: Path, project: Project) -> pd.DataFrame:
 
 def own_name(column: str) -> str:
     """A column of the planner's, as blocks.csv names it."""
-    return f"planner_{column}" if column in SAID else column
+    return f"planner_{column}" if column in (*SAID, *FREE) else column
 
 
-def read_shells(folder: Path, record: dict[str, Any]) -> tuple[pd.DataFrame, tuple[int, ...]]:
-    if "shells" in record:
-        table = pd.read_csv(folder / "shells.csv", dtype={"worth_at_factor": str}).set_index("factor")
-        return table, tuple(record["shells"]["factors"])
-    table = pd.read_csv(folder / "pits.csv", dtype={"worth_at_factor": str})
-    return table[table["fixed_blocks"] == "kept"].set_index("factor"), tuple(record["factors"])
+def beside(
+    table: pd.DataFrame, written: pd.DataFrame, project: Project, grid: dict[str, Any], source: str
+) -> tuple[pd.DataFrame, int, np.ndarray]:
+    """The table's rows, with the answer's own behind them, which are of cells without a row; how many are the table's; and for each the
+    row of the answer.
 
-
-def beside(table: pd.DataFrame, written: pd.DataFrame, project: Project, grid: dict[str, Any]) -> tuple[pd.DataFrame, pd.DataFrame]:
-    """The table's rows, with the answer's own behind them, which are of cells without a row; and what the answer says of each.
-
-    Raises PlanError where a block of either is not in the other.
+    Raises PlanError, with `source`, the answer's file, where a block of either is not in the other.
     """
     columns = project.table
     axes = (columns.x, columns.y, columns.z)
@@ -214,14 +233,15 @@ def beside(table: pd.DataFrame, written: pd.DataFrame, project: Project, grid: d
     at = row_of[nearest_cells(centres, grid)]
     lost = np.count_nonzero((at < 0) | (answered[at] != centres).any(axis=1))
     if lost or len(np.unique(at)) < len(at):
-        raise PlanError(f"blocks.csv: {lost:,} blocks of the table are not in it: has the table changed since?")
+        raise PlanError(f"{source}: {lost:,} blocks of the table are not in it: has the table changed since?")
     more = np.setdiff1d(np.arange(len(written)), at)
     if len(more) and not isinstance(columns.absent, AbsentRock):
-        raise PlanError(f"blocks.csv: {len(more):,} of its blocks are not in the table: has the table changed since?")
+        raise PlanError(f"{source}: {len(more):,} of its blocks are not in the table: has the table changed since?")
     own = written.rename(columns={own_name(name): name for name in table.columns})
     own = own.loc[:, ~own.columns.duplicated(keep="last")]
-    rows = pd.concat([table, own.iloc[more][list(table.columns)]], ignore_index=True) if len(more) else table
-    return rows, written[list(SAID)].iloc[np.concatenate([at, more])].reset_index(drop=True)
+    added = own.iloc[more].reindex(columns=table.columns, fill_value=0.0)
+    rows = pd.concat([table, added], ignore_index=True) if len(more) else table
+    return rows, len(table), np.concatenate([at, more])
 
 
 def nearest_cells(centres: np.ndarray, grid: dict[str, Any]) -> np.ndarray:

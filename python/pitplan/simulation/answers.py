@@ -60,6 +60,8 @@ def read_answer(shared: Shared, scenario: Scenario) -> tuple[np.ndarray, pd.Data
         with np.load(path, allow_pickle=False) as answer:
             table = pd.DataFrame(answer["table"], columns=answer["columns"])
             worth, places = answer["worth_at_factor"], answer["places"].astype(np.int64)
+        if places.shape != (len(shared.frame),) or places.max(initial=0) > len(shared.record["factors"]):
+            raise ValueError("it tells of other blocks or factors")
     except (OSError, ValueError, KeyError, EOFError) as error:
         raise PlanError(f"{path}: is no answer: remove it, and run pitplan scenarios again: {error}") from error
     heads: dict[str, object] = {"scenario": scenario.number, "model": scenario.model}

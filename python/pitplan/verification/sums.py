@@ -61,8 +61,16 @@ def sums(answer: Answer, factor: int) -> dict[str, float]:
 def verify_worth(answer: Answer) -> Rule:
     """The program's own worth of each shell is that of its blocks in the factor's own values, exactly; and a dug block is processed from
     the first factor on at which that pays."""
+    differences, count = late(answer)
+    other = unlike_worth(answer)
+    holds = "the program's worth of each shell is that of its blocks, to the last digit that blocks.csv holds"
+    return rule("worth", holds, [*differences, *other], count + len(other))
+
+
+def unlike_worth(answer: Answer) -> list[str]:
+    """The factors at which the program's worth is not the sum of what the pit's blocks are worth at that factor."""
     revenue, processing, mining = (millionths(answer, name) for name in ("revenue", "processing_cost", "mining_cost"))
-    differences, count = late(answer, revenue, processing)
+    differences = []
     for factor in answer.shells.index:
         inside = within(answer, int(factor))
         pays = factor * revenue > 1000 * processing if answer.project.money.cutoff == "moving" else revenue > processing
@@ -71,8 +79,7 @@ def verify_worth(answer: Answer) -> Rule:
         said = Decimal(answer.shells["worth_at_factor"][factor]).scaleb(9)
         if abs(said - (gain - cost)) > lost_digits(answer) * (gain + cost):
             differences.append(f"factor {factor}: worth_at_factor {said.scaleb(-9)} for {Decimal(gain - cost).scaleb(-9)}")
-            count += 1
-    return rule("worth", "the program's worth of each shell is that of its blocks, to the last digit that blocks.csv holds", differences, count)
+    return differences
 
 
 def lost_digits(answer: Answer) -> Decimal:
@@ -87,16 +94,20 @@ def millionths(answer: Answer, name: str) -> np.ndarray:
     return np.rint(answer.said[name].to_numpy() * 10**decimals).astype(np.int64).astype(object) * 10 ** (6 - decimals)
 
 
-def late(answer: Answer, revenue: np.ndarray, processing: np.ndarray) -> tuple[list[str], int]:
-    """Blocks whose process_factor is not the first of the folder's factors from theirs on at which processing pays: the first ten, and
-    how many there are."""
-    first, said = (answer.said[name].to_numpy() for name in ("factor", "process_factor"))
+def first_processed(answer: Answer) -> np.ndarray:
+    """For each block the first of the folder's factors, from that on at which it is dug, at which processing it pays; 0 at none."""
+    first, revenue, processing = answer.said["factor"].to_numpy(), millionths(answer, "revenue"), millionths(answer, "processing_cost")
     expected = np.zeros(len(first), dtype=np.int64)
     if answer.project.money.cutoff == "moving":
         for factor in sorted(answer.factors, reverse=True):
             pays = np.asarray(factor * revenue > 1000 * processing, dtype=bool)
             expected[pays & (first > 0) & (first <= factor)] = factor
-    else:
-        expected = np.where(np.asarray(revenue > processing, dtype=bool), first, 0)
+        return expected
+    return np.where(np.asarray(revenue > processing, dtype=bool), first, 0)
+
+
+def late(answer: Answer) -> tuple[list[str], int]:
+    """Blocks whose process_factor is not the first factor at which they are processed: the first ten, and how many there are."""
+    expected, said = first_processed(answer), answer.said["process_factor"].to_numpy()
     off = np.flatnonzero(expected != said)
     return [f"{answer.called(row)}: process_factor {said[row]} for {expected[row]}" for row in off[:TOLD]], len(off)

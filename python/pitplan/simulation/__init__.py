@@ -8,14 +8,17 @@ from typing import Optional
 
 import numpy as np
 
-from .. import export, files
+from .. import exports, files
 from ..errors import MissingPackage, PlanError
 from ..progress import Progress
 from ..project import REFERENCE_FACTOR, Project
+from ..verification import demand
+from ..verification.scenarios import verify
 from . import answers, folder as folders, job_lists, on_dask, pictures, prepare, work
 from .folder import Shared
+from .result import IMAGE, PROBABILITY, QUANTILES, TABLE, ScenarioResult
 
-PROBABILITY, IMAGE, TABLE, QUANTILES = "probability.csv", "probability.vti", "scenarios.csv", "quantiles.csv"
+GATHERED = "gathered.json"
 PICTURES = {"plans": "probability_plans.png", "sections": "probability_sections.png", "spread": "spread.png"}
 
 
@@ -27,36 +30,35 @@ class Request:
     workers  how many processes `local` has; None: one for each processor
     factor   the factor whose probabilities are drawn; None: the project's chosen one, else 1000
     partial  gather although scenarios have no answer
+    verifies look a second time at what is gathered
     """
 
     where: str = "local"
     workers: Optional[int] = None
     factor: Optional[int] = None
     partial: bool = False
+    verifies: bool = True
 
 
-def solve(project: Project, folder: Path, request: Request, progress: Progress) -> list[str]:
-    """Solves the scenarios that have no answer yet, and gathers all; or writes the lists of jobs that do so.
-
-    Gives the notes that a planner should read, and as the last one the path to look at next. Raises PlanError.
-    """
+def solve(project: Project, folder: Path, request: Request, progress: Progress) -> ScenarioResult:
+    """Solves the scenarios that have no answer yet, and gathers all; or writes the lists of jobs that do so. Raises PlanError."""
     shared = prepare.prepare(project, folder, progress)
     # Asked before hours of solving, not behind them.
     shown_factor(shared, request)
     missing, count = shared.missing(), len(shared.scenarios)
     notes = [*shared.record["notes"], f"{count - len(missing):,} of {count:,} scenarios have their answer already"]
     if request.where in ("slurm", "parallel"):
-        if not missing:
-            return [*notes, *gather(folder, request, progress)]
-        return [*notes, str(job_lists.write(request.where, folder, missing))]
-    if missing:
+        if missing:
+            return ScenarioResult(folder, tuple(notes), job_lists.write(request.where, folder, missing))
+    elif missing:
         where = on_dask.Where(request.where, request.workers)
         outcomes = on_dask.run(where, folder, missing, progress)
         ended = notes_of_outcomes(outcomes)
         if any(outcome.status for outcome in outcomes) and not request.partial:
             raise PlanError(f"{'; '.join(ended)}: run again, or gather the others by --partial")
         notes += ended
-    return [*notes, *gather(folder, request, progress)]
+    gathered = gather(folder, request, progress)
+    return ScenarioResult(folder, (*notes, *gathered.notes))
 
 
 def notes_of_outcomes(outcomes: list[work.Outcome]) -> list[str]:
@@ -76,19 +78,42 @@ def one(folder: Path, number: int) -> work.Outcome:
     return work.solve(str(folder), number)
 
 
-def gather(folder: Path, request: Request, progress: Progress) -> list[str]:
-    """Writes probabilities, tables and pictures of all answers. Raises PlanError where one is missing."""
+def gather(folder: Path, request: Request, progress: Progress) -> ScenarioResult:
+    """Writes probabilities, tables and pictures of all answers, and gathered.json, which says what was verified of them.
+
+    Raises PlanError where an answer is missing, and where what is written is not right, unless it is not verified.
+    """
     shared = folders.read_shared(folder)
     factor = shown_factor(shared, request)
-    with progress.step("gathering the answers"):
-        gathered = answers.gather(shared, request.partial)
-        with files.staged(folder) as stage:
+    with files.staged(folder) as stage:
+        with progress.step("gathering the answers"):
+            gathered = answers.gather(shared, request.partial)
             write_tables(shared, gathered, stage)
-            notes = write_image(shared, gathered, stage)
+        notes = note_verified(shared, gathered, request, stage, progress)
+        with progress.step("drawing"):
+            notes += write_image(shared, gathered, stage)
             draw(shared, gathered, factor, stage)
     if gathered.missing:
         notes.append(f"WARNING: {len(gathered.missing):,} scenarios have no answer and are left out of everything")
-    return [*notes, str(folder)]
+    return ScenarioResult(folder, tuple(notes))
+
+
+def note_verified(
+    shared: Shared, gathered: answers.Gathered, request: Request, stage: Path, progress: Progress
+) -> list[str]:
+    """Looks a second time at the answers and their tables, and writes down what was looked at; gives a note where it was left out.
+
+    Raises PlanError where something is not right.
+    """
+    verified: list[str] = []
+    if request.verifies:
+        with progress.step("verifying"):
+            rules = verify(shared.folder, stage)
+        demand(rules)
+        verified = [f"{rule.name}: {rule.holds}" for rule in rules]
+    answered = [scenario.number for scenario in shared.scenarios if scenario.number not in gathered.missing]
+    files.write_json(stage / GATHERED, {"answers": answered, "verified": verified})
+    return [] if request.verifies else [f"the second look was left out: pitplan verify {shared.folder} makes up for it"]
 
 
 def shown_factor(shared: Shared, request: Request) -> int:
@@ -117,7 +142,7 @@ def write_image(shared: Shared, gathered: answers.Gathered, stage: Path) -> list
     }
     tonnes = shared.frame[shared.project.table.tonnes].to_numpy()
     try:
-        export.write_image(stage / IMAGE, grid, {**arrays, "tonnes": grid.spread(tonnes)})
+        exports.write_image(stage / IMAGE, grid, {**arrays, "tonnes": grid.spread(tonnes)})
     except MissingPackage as error:
         return [f"{IMAGE} was not written: {error}"]
     return []
@@ -129,6 +154,6 @@ def draw(shared: Shared, gathered: answers.Gathered, factor: int, stage: Path) -
     solid = grid.spread(shared.frame[shared.project.table.tonnes].to_numpy() > 0)
     count = gathered.table["scenario"].nunique()
     likely = pictures.Likely(grid, grid.cube(grid.spread(share)), grid.cube(solid), factor, count)
-    pictures.plans(likely, stage / PICTURES["plans"])
-    pictures.sections(likely, stage / PICTURES["sections"])
-    pictures.spread(gathered.table, shared.project.money.currency, stage / PICTURES["spread"])
+    pictures.write_plans(likely, stage / PICTURES["plans"])
+    pictures.write_sections(likely, stage / PICTURES["sections"])
+    pictures.write_spread(gathered.table, shared.project.money.currency, stage / PICTURES["spread"])

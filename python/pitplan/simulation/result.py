@@ -1,0 +1,68 @@
+"""What became of scenarios, and their tables as frames."""
+
+from __future__ import annotations
+
+import json
+from dataclasses import dataclass
+from decimal import Decimal
+from pathlib import Path
+from typing import Any, Optional
+
+import pandas as pd
+
+from ..errors import PlanError
+from ..files import grid_of
+from ..plan import codes_of, shown_name
+from ..project import REFERENCE_FACTOR, load
+from . import folder as folders
+from .pictures import Likely
+
+PROBABILITY, IMAGE, TABLE, QUANTILES = "probability.csv", "probability.vti", "scenarios.csv", "quantiles.csv"
+
+
+@dataclass(frozen=True)
+class ScenarioResult:
+    """What `scenarios` and `gather` have done. The frames raise PlanError where nothing is gathered yet.
+
+    folder  where answers, tables and pictures stand
+    notes   sentences that a planner should read
+    start   of `slurm` and `parallel` the script to start, where scenarios have no answer yet; else None
+    """
+
+    folder: Path
+    notes: tuple[str, ...]
+    start: Optional[Path] = None
+
+    @property
+    def probability(self) -> pd.DataFrame:
+        """One row a block: the planner's columns, and `probability_F`, from 0 to 1, for each factor F in per mille."""
+        codes = codes_of(load(self.folder / folders.PROJECT))
+        return self.frame(PROBABILITY, dtype={name: str for name in codes}, keep_default_na=False, na_values={})
+
+    @property
+    def table(self) -> pd.DataFrame:
+        """One row a scenario and factor: model, prices, tonnes, grades, metal, and worth; `worth_at_factor` is exact (Decimal)."""
+        table = self.frame(TABLE, dtype={"model": str, "worth_at_factor": str}, keep_default_na=False, na_values=[""])
+        return table.assign(worth_at_factor=table["worth_at_factor"].map(Decimal))
+
+    @property
+    def quantiles(self) -> pd.DataFrame:
+        """One row a set of prices and factor, over the models: mean, least, greatest and quantiles of tonnes, metal and worth."""
+        return self.frame(QUANTILES)
+
+    def likely(self, factor: int = REFERENCE_FACTOR) -> Likely:
+        """What the pictures of probability show of a factor, in per mille. Raises PlanError where it is none of the factors."""
+        blocks, name = self.probability, f"probability_{factor}"
+        if name not in blocks:
+            raise PlanError(f"{self.folder / PROBABILITY}: has no factor {factor}")
+        record = json.loads((self.folder / folders.RECORD).read_text(encoding="utf-8"))
+        grid = grid_of(record["grid"], blocks["id"].to_numpy())
+        solid = blocks[shown_name(load(self.folder / folders.PROJECT).table.tonnes)].to_numpy() > 0
+        count = self.table["scenario"].nunique()
+        return Likely(grid, grid.cube(grid.spread(blocks[name].to_numpy())), grid.cube(grid.spread(solid, fill=False)), factor, count)
+
+    def frame(self, name: str, **reading: Any) -> pd.DataFrame:
+        try:
+            return pd.read_csv(self.folder / name, **reading)
+        except OSError as error:
+            raise PlanError(f"{error.filename}: cannot be read: run pitplan scenarios or gather first") from error

@@ -1,0 +1,54 @@
+"""A second way to every number that a plan's folder tells: from the project, its table and the files of the answer alone.
+
+It has nothing in common with what it checks but the reader of the project and of its table. Whether each shell is the best is proved
+of the program, for the files that it was given; here is looked whether these say what the project says, and whether the answer does.
+"""
+
+from __future__ import annotations
+
+from decimal import Decimal
+from pathlib import Path
+from typing import Optional
+
+from ..errors import PlanError
+from ..project import Project
+from . import absent, answer as answers, fixed, money, scenarios, sums, walls, years
+from .answer import TOLD, Answer, Rule, rule
+
+OF_PITS = (walls.verify, sums.verify, sums.verify_worth, years.verify)
+CHECKS = (fixed.verify_places, absent.verify, walls.verify, walls.verify_steepness, fixed.verify, money.verify, *OF_PITS[1:])
+
+
+def verify(folder: Path, project: Optional[Project] = None) -> list[Rule]:
+    """What was looked at, one rule after the other; a rule without differences holds. The project is the one that the folder names.
+
+    Raises PlanError where the folder has no answer, or the table has changed since.
+    """
+    answer = answers.read(folder, project)
+    return [*(check(answer) for check in CHECKS), *([verify_free(answer, answer.free)] if answer.free else [])]
+
+
+def verify_free(kept: Answer, free: Answer) -> Rule:
+    """The pit without fixed blocks, as the other; and that it is worth no less, since to keep to some can gain nothing."""
+    found = [check(free) for check in OF_PITS]
+    differences = [f"{rule_of.name}: {difference}" for rule_of in found for difference in rule_of.differences]
+    lost = [
+        f"factor {factor}: worth_at_factor {free.shells['worth_at_factor'][factor]} is less than with them"
+        for factor in free.shells.index
+        if Decimal(free.shells["worth_at_factor"][factor]) < Decimal(kept.shells["worth_at_factor"][factor])
+    ]
+    holds = "without fixed blocks walls hold, the row of the pit adds up, its worth is that of its blocks, and it is worth no less"
+    return rule("free", holds, [*differences, *lost], sum(rule_of.count for rule_of in found) + len(lost))
+
+
+def verify_folder(folder: Path) -> list[Rule]:
+    """What was looked at in a folder of scenarios, or else of a plan. Raises PlanError as `verify` of either does."""
+    return scenarios.verify(folder) if (folder / "scenarios.json").is_file() else verify(folder)
+
+
+def demand(rules: list[Rule]) -> None:
+    """Raises PlanError with the first ten differences, where there are any."""
+    told = [f"{rule.name}: {difference}" for rule in rules for difference in rule.differences]
+    if told:
+        count = sum(rule.count for rule in rules)
+        raise PlanError("\n  ".join([f"what was written is not right in {count:,} places:", *told[:TOLD]]))

@@ -1,0 +1,51 @@
+"""Cells that the table has no row of: each block that stands for one is of the rock that the project gives it."""
+
+from __future__ import annotations
+
+import numpy as np
+import pandas as pd
+
+from ..project import AbsentRock
+from .answer import TOLD, Answer, Rule, rule
+
+
+def verify(answer: Answer) -> Rule:
+    """Ground without rows is blocks of the project's rock, where it names one, and otherwise none are."""
+    rock = answer.project.table.absent
+    if not isinstance(rock, AbsentRock):
+        return rule("absent", "no block stands for a cell that the table has no row of", [])
+    differences, count = unlike_cells(answer)
+    for name, expected in words(answer, rock).items():
+        added = answer.rows[name].iloc[answer.known :]
+        off = np.flatnonzero((added.astype(str) if isinstance(expected, str) else added) != expected)
+        differences += [f"{answer.called(answer.known + k)}: {name} {added.iloc[k]} for {expected}" for k in off[:TOLD]]
+        count += len(off)
+    holds = f"every cell without a row that is not above the highest of its column is a block of {rock.tonnes:g} t"
+    return rule("absent", f"{holds} of the project's rock, and no other is", differences, count)
+
+
+def words(answer: Answer, rock: AbsentRock) -> dict[str, str | float]:
+    """What each column says of such a block: its tonnes and codes, and 0 in every other but for its centre and its id."""
+    columns = answer.project.table
+    told = {columns.tonnes: rock.tonnes, columns.rock: rock.rock, columns.region: rock.region}
+    passed = {columns.x, columns.y, columns.z, columns.id}
+    return {name: told.get(name, 0.0) for name in answer.rows.columns if name not in passed}
+
+
+def unlike_cells(answer: Answer) -> tuple[list[str], int]:
+    """Cells that lack such a block, blocks where there is none to be, and blocks that are not called by the number of their cell."""
+    table, added = (tuple(axis[part] for axis in answer.cells) for part in (slice(answer.known), slice(answer.known, None)))
+    known = np.zeros(answer.shape, dtype=bool)
+    known[table] = True
+    top = pd.DataFrame({"place": table[1] * answer.shape[2] + table[2], "level": table[0]}).groupby("place")["level"].min()
+    highest = top.reindex(range(answer.shape[1] * answer.shape[2]), fill_value=-1).to_numpy().reshape(answer.shape[1:])
+    ground = ~known & (np.arange(answer.shape[0])[:, None, None] > highest)
+    blocks = np.zeros(answer.shape, dtype=bool)
+    blocks[added] = True
+    lacking, more = np.flatnonzero(ground & ~blocks), np.flatnonzero((blocks & ~ground)[added])
+    differences = [f"the cell {cell} has no row, and no block stands for it" for cell in lacking[:TOLD]]
+    differences += [f"{answer.called(answer.known + k)} stands for a cell above the highest of its column" for k in more[:TOLD]]
+    named, cells = answer.project.table.id, np.ravel_multi_index(added, answer.shape)
+    called = answer.rows[named].iloc[answer.known :] if named else [f"absent-{cell}" for cell in cells]
+    off = [f"block {name} is of the cell {cell}" for name, cell in zip(called, cells) if name != f"absent-{cell}"]
+    return differences + off, len(lacking) + len(more) + len(off)

@@ -1,0 +1,275 @@
+"""A second way to what a folder of scenarios tells: from the project, its table, its models and the written answers alone.
+
+Each answer is added up and counted; of a sample of scenarios every pit is looked at block by block.
+"""
+
+from __future__ import annotations
+
+import math
+from dataclasses import dataclass, replace
+from decimal import Decimal
+from functools import cached_property
+from pathlib import Path
+from typing import Any, Optional
+
+import numpy as np
+import pandas as pd
+
+from ..errors import PlanError
+from ..project import Project
+from . import absent, fixed, money, sums, walls
+from .answer import TOLD, Answer, Rule, rule
+from .simulated import QUANTILES, SCENARIOS, Scenario, Simulated, Told, prices_of, read
+
+# So many scenarios are looked at block by block.
+SAMPLE = 10
+SHARES = {"quantile_0.1": 0.1, "quantile_0.5": 0.5, "quantile_0.9": 0.9}
+# What is looked at in each scenario of the sample.
+OF_EACH = {
+    "walls": "no block of any shell leaves one standing in its own region's whole cone",
+    "fixed": "what must be dug is in every shell, and what may not be is in none",
+    "shells": "tonnes, grades, metal and worth of each shell are the sums of its blocks",
+    "worth": "the program's worth of each shell is that of its blocks, by the scenario's own grades and prices",
+}
+AMOUNTS = ("blocks", "tonnes", "ore_tonnes", "waste_tonnes", "worth", "worth_at_factor")
+
+
+def verify(folder: Path, written: Optional[Path] = None) -> list[Rule]:
+    """What was looked at, one rule after the other; a rule without differences holds. The tables may stand in another folder than the
+    answers, `written`.
+
+    Raises PlanError where the folder has no answers or no tables of them, or the table or a model has changed since.
+    """
+    try:
+        return Verification(read(folder, written or folder)).rules()
+    except OSError as error:
+        raise PlanError(f"{error.filename}: cannot be read: {error.strerror}") from error
+    except KeyError as error:
+        raise PlanError(f"{folder}: is no folder that pitplan scenarios and gather have written: {error} is missing") from error
+
+
+@dataclass(frozen=True)
+class Verification:
+    """A folder that is verified, and what was found of it."""
+
+    folder: Simulated
+
+    def rules(self) -> list[Rule]:
+        of_ground = [check(self.ground) for check in (fixed.verify_places, absent.verify, walls.verify_steepness)]
+        return [*of_ground, self.listed(), *self.sampled(), *self.counted()]
+
+    @cached_property
+    def ground(self) -> Answer:
+        """The blocks as if a plan had told of them in which none is dug."""
+        folder = self.folder
+        said = pd.DataFrame({"id": folder.likely["id"].to_numpy(), "factor": 0})
+        rows, known = folder.rows, len(folder.table)
+        return Answer(folder.folder, folder.project, rows, known, said, pd.DataFrame(), None, folder.record, folder.factors)
+
+    def listed(self) -> Rule:
+        """Every model at every set of prices is a scenario, and the list has no other."""
+        folder, differences = self.folder, []
+        own, listed = folder.scenarios, folder.record["scenarios"]
+        if len(own) != len(listed):
+            differences.append(f"scenarios.json lists {len(listed):,} scenarios, and the models and prices make {len(own):,}")
+        if tuple(folder.record["factors"]) != folder.factors:
+            differences.append(f"scenarios.json lists the factors {folder.record['factors']}")
+        for scenario, entry in zip(own, listed):
+            prices = {metal: Decimal(price) for metal, price in entry["prices"].items()}
+            if entry["model"] != scenario.model.name or prices != scenario.prices:
+                differences.append(f"scenarios.json lists {entry['model']} at {entry['prices']} for {scenario.label}")
+        return rule("scenarios", "each model at each set of prices is a scenario, at the project's factors", differences)
+
+    @cached_property
+    def sample(self) -> list[Scenario]:
+        """Some of the answered scenarios, evenly from the first to the last."""
+        there = self.folder.answered
+        places = np.linspace(0, len(there) - 1, min(len(there), SAMPLE)).round().astype(int)
+        return [there[place] for place in np.unique(places)]
+
+    def sampled(self) -> list[Rule]:
+        """Walls, fixed blocks, sums and worth of the sampled scenarios, by their own grades and prices."""
+        found: dict[str, list[Rule]] = {name: [] for name in OF_EACH}
+        for scenario in self.sample:
+            whole = self.of_scenario(scenario)
+            dug = self.weighed(whole)
+            worth = rule("worth", "", sums.unlike_worth(dug))
+            for it in (walls.verify(whole), fixed.verify(whole), sums.verify(dug), worth):
+                told = tuple(f"{scenario.label}: {difference}" for difference in it.differences)
+                found[it.name].append(replace(it, differences=told))
+        count = f"of {len(self.sample):,} of {len(self.folder.answered):,} answered scenarios: "
+        return [joined(name, count + holds, found[name]) for name, holds in OF_EACH.items()]
+
+    def of_scenario(self, scenario: Scenario) -> Answer:
+        """A scenario's answer, as a plan at its prices and grades would have told it, without costs and revenue."""
+        folder, told = self.folder, self.folder.answer(scenario)
+        factors = np.array([0, *folder.factors])
+        said = self.ground.said.assign(factor=factors[np.clip(told.places, 0, len(folder.factors))])
+        rows = self.with_grades(folder.grades(scenario.model))
+        return replace(self.ground, project=self.priced(scenario.prices), rows=rows, said=said, shells=told.table)
+
+    def priced(self, prices: dict[str, Decimal]) -> Project:
+        """The project at a set of prices, and with the elevation from which on mining costs more in every scenario."""
+        project = self.folder.project
+        metals = tuple(replace(metal, price=prices.get(metal.name, metal.price)) for metal in project.metals)
+        charges = project.money
+        if charges.mining_cost_per_level and charges.mining_cost_reference is None:
+            charges = replace(charges, mining_cost_reference=self.reference)
+        return replace(project, metals=metals, money=charges)
+
+    def with_grades(self, grades: np.ndarray) -> pd.DataFrame:
+        metals = self.folder.project.metals
+        return self.folder.rows.assign(**{metal.column: grades[:, number] for number, metal in enumerate(metals)})
+
+    def weighed(self, whole: Answer) -> Answer:
+        """The blocks that are dug at any factor, with exact costs and revenue."""
+        dug = (whole.said["factor"] > 0).to_numpy()
+        part = replace(whole, rows=whole.rows[dug].reset_index(drop=True), said=whole.said[dug].reset_index(drop=True))
+        exactly = money.Exactly.of(part)
+        amounts = [[float(amount) for amount in exactly.amounts(row)] for row in range(len(part.rows))]
+        frame = pd.DataFrame(amounts, columns=list(money.NAMES), dtype=np.float64)
+        part = replace(part, said=pd.concat([part.said, frame], axis=1))
+        return replace(part, said=part.said.assign(process_factor=sums.first_processed(part)))
+
+    @cached_property
+    def reference(self) -> Decimal:
+        """Metres of the top of the highest block that ore of any scenario needs. Ore is what pays for its processing at the greatest grade
+        of all models and the greatest price of all sets, before costs of selling."""
+        folder = self.folder
+        grades = np.zeros((len(folder.rows), len(folder.project.metals)))
+        for model in {scenario.model.name: scenario.model for scenario in folder.scenarios}.values():
+            grades = np.maximum(grades, folder.grades(model))
+        sets = prices_of(folder.project)
+        dearest = {it.name: max(prices.get(it.name, it.price) for prices in sets) for it in folder.project.metals}
+        metals = tuple(replace(it, price=dearest[it.name], selling_cost=Decimal(0)) for it in folder.project.metals)
+        # What is ore does not hang on what mining costs.
+        charges = replace(folder.project.money, mining_cost_per_level=Decimal(0))
+        project = replace(folder.project, metals=metals, money=charges)
+        answer = replace(self.ground, project=project, rows=self.with_grades(grades), found={})
+        return Decimal(repr(float(money.highest_needed(replace(answer, said=gains(answer))))))
+
+    def counted(self) -> list[Rule]:
+        """Rules of probability.csv, and of scenarios.csv and quantiles.csv, by all answers that there are."""
+        folder, differences, tables = self.folder, [], []
+        held = np.zeros((len(folder.rows), len(folder.factors)), dtype=np.int64)
+        for scenario, told in folder.answers():
+            inside = in_pits(told, len(folder.factors))
+            held += inside
+            differences += self.unlike_places(scenario, told, inside)
+            tables.append((scenario, told.table))
+        differences += [*unlike_rows(folder, tables), *unlike_quantiles(folder, tables)]
+        words = f"each is the share of {len(tables):,} answers whose pit holds the block"
+        return [
+            rule("probability", words, *self.unlike_shares(held / max(len(tables), 1))),
+            rule("tables", "blocks and tonnes of all answers add up, and every row of the tables follows from the answers", differences),
+        ]
+
+    def unlike_places(self, scenario: Scenario, told: Told, inside: np.ndarray) -> list[str]:
+        """Where an answer's count of blocks and of tonnes are not those of the blocks that it holds."""
+        folder = self.folder
+        found = [] if told.places.max(initial=0) <= len(folder.factors) else [f"{scenario.label}: a block comes in at no factor"]
+        tonnes = self.ground.tonnes
+        for name, amounts in (("blocks", inside[tonnes > 0].sum(axis=0)), ("tonnes", tonnes @ inside)):
+            said = told.table[name].to_numpy()
+            off = np.flatnonzero(~np.isclose(said, amounts, rtol=1e-9, atol=1e-9))
+            found += [f"{scenario.label}: factor {folder.factors[k]}: {name} {said[k]:.10g} for {amounts[k]:.10g}" for k in off]
+        return found
+
+    def unlike_shares(self, expected: np.ndarray) -> tuple[list[str], int]:
+        """Where probability.csv does not say these shares, to its six digits: the first ten of each factor, and how many there are."""
+        differences, count = [], 0
+        for number, factor in enumerate(self.folder.factors):
+            said = self.folder.likely[f"probability_{factor}"].to_numpy()
+            off = np.flatnonzero(~(np.abs(said - expected[:, number]) <= 1e-6))
+            for row in off[:TOLD]:
+                differences.append(f"{self.ground.called(row)}: probability_{factor} {said[row]:g} for {expected[row, number]:.6g}")
+            count += len(off)
+        return differences, count
+
+
+def joined(name: str, holds: str, found: list[Rule]) -> Rule:
+    """One rule of what was found of several scenarios."""
+    return rule(name, holds, [said for it in found for said in it.differences], sum(it.count for it in found))
+
+
+def in_pits(answer: Told, factors: int) -> np.ndarray:
+    """A truth for each block and factor: whether the factor's pit holds the block."""
+    return (answer.places[:, None] > 0) & (answer.places[:, None] <= np.arange(1, factors + 1))
+
+
+def gains(answer: Answer) -> pd.DataFrame:
+    """Revenue and processing cost of each block: by floats, and exactly where these are close to one another."""
+    _, revenue, processing = money.by_floats(answer)
+    unit = 10.0**-answer.project.money.decimals
+    exactly = money.Exactly.of(answer)
+    for row in np.flatnonzero((revenue > 0) & (np.abs(revenue - processing) <= 2 * unit + 1e-9 * revenue)).tolist():
+        revenue[row], processing[row] = (float(amount) for amount in exactly.amounts(row)[1:])
+    return answer.said.assign(revenue=revenue, processing_cost=np.where(revenue > 0, processing, 0.0))
+
+
+def unlike_rows(folder: Simulated, tables: list[tuple[Scenario, pd.DataFrame]]) -> list[str]:
+    """Where scenarios.csv does not say what the answers do."""
+    codes = {"model": str, "worth_at_factor": str}
+    written = pd.read_csv(folder.tables / SCENARIOS, dtype=codes, keep_default_na=False, na_values=[""])
+    found = []
+    for number in sorted({*written["scenario"]} ^ {scenario.number for scenario, _ in tables}):
+        found.append(f"{SCENARIOS}: scenario {number} has an answer or rows there, not both: run pitplan gather again")
+    for scenario, table in tables:
+        rows = written[written["scenario"] == scenario.number].set_index("factor")
+        if rows.index.equals(table.index):
+            found += [f"{SCENARIOS}: {scenario.label}, {said}" for said in unlike_row(rows, scenario, table)]
+        elif len(rows):
+            found.append(f"{SCENARIOS}: {scenario.label} has rows of factors {rows.index.tolist()}")
+    return found
+
+
+def unlike_row(rows: pd.DataFrame, scenario: Scenario, table: pd.DataFrame) -> list[str]:
+    expected = table.assign(**{f"price_{metal}": float(price) for metal, price in scenario.prices.items()})
+    found = [] if (rows["model"] == scenario.model.name).all() else [f"the model is {rows['model'].iloc[0]}"]
+    for name in expected:
+        if name == "worth_at_factor":
+            off = np.array([Decimal(said) != Decimal(worth) for said, worth in zip(rows[name], expected[name])])
+        else:
+            off = ~np.isclose(rows[name].to_numpy(), expected[name].to_numpy(), rtol=1e-9, atol=1e-9, equal_nan=True)
+        found += [f"factor {rows.index[k]}: {name} {rows[name].iloc[k]} for {expected[name].iloc[k]}" for k in np.flatnonzero(off)]
+    return found
+
+
+def unlike_quantiles(folder: Simulated, tables: list[tuple[Scenario, pd.DataFrame]]) -> list[str]:
+    """Where quantiles.csv does not follow from the answers, of each set of prices and factor."""
+    written = pd.read_csv(folder.tables / QUANTILES)
+    sets: dict[tuple[tuple[str, float], ...], list[pd.DataFrame]] = {}
+    for scenario, table in tables:
+        prices = tuple((f"price_{metal}", float(price)) for metal, price in scenario.prices.items())
+        sets.setdefault(prices, []).append(table)
+    found = [] if len(written) == len(sets) * len(folder.factors) else [f"{QUANTILES}: has {len(written):,} rows"]
+    for prices, group in sets.items():
+        of_set = written[np.logical_and.reduce([np.isclose(written[name], price) for name, price in prices] or [written["factor"] > 0])]
+        for factor in folder.factors:
+            rows = of_set[of_set["factor"] == factor]
+            found += unlike_spread(rows, [table.loc[factor] for table in group], f"{QUANTILES}: factor {factor} of {prices}")
+    return found
+
+
+def unlike_spread(rows: pd.DataFrame, models: list[Any], what: str) -> list[str]:
+    if len(rows) != 1 or rows["models"].iloc[0] != len(models):
+        return [f"{what}: has {len(rows)} rows, and there are {len(models)} models"]
+    found = []
+    for name in [*AMOUNTS, *(name for name in models[0].index if name.startswith("metal_"))]:
+        amounts = sorted(float(model[name]) for model in models)
+        expected = {"mean": math.fsum(amounts) / len(amounts), "least": amounts[0], "greatest": amounts[-1]}
+        expected |= {said: between(amounts, share) for said, share in SHARES.items()}
+        slack = 1e-9 * max(abs(amounts[0]), abs(amounts[-1]))
+        for word, amount in expected.items():
+            said = float(rows[f"{name}_{word}"].iloc[0])
+            if not abs(said - amount) <= slack + 1e-9 * abs(amount):
+                found.append(f"{what}: {name}_{word} {said:.10g} for {amount:.10g}")
+    return found
+
+
+def between(amounts: list[float], share: float) -> float:
+    """The amount that a share of rising amounts do not reach, linear between two."""
+    place = share * (len(amounts) - 1)
+    low = math.floor(place)
+    high = min(low + 1, len(amounts) - 1)
+    return amounts[low] + (place - low) * (amounts[high] - amounts[low])

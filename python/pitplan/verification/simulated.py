@@ -1,0 +1,207 @@
+"""A folder of scenarios as it was written, laid beside the project that it was made of, its table and its models as they are now."""
+
+from __future__ import annotations
+
+import fnmatch
+import json
+from dataclasses import dataclass, replace
+from decimal import Decimal
+from functools import cached_property
+from itertools import chain, product, repeat
+from pathlib import Path
+from typing import Any, Iterator, Optional
+
+import numpy as np
+import pandas as pd
+
+from .. import table as tables
+from ..errors import PlanError
+from ..project import Project, Scenarios, load
+from ..table_format import format_of
+from .answer import beside, nearest_cells, read_blocks
+
+PROBABILITY, SCENARIOS, QUANTILES = "probability.csv", "scenarios.csv", "quantiles.csv"
+
+
+@dataclass(frozen=True)
+class Model:
+    """One model of the grades: by metal a column of the table, or else a table of its own."""
+
+    name: str
+    columns: dict[str, str]
+    file: Optional[Path] = None
+
+
+@dataclass(frozen=True)
+class Scenario:
+    """A model at one set of prices, by its number from 1, and the file of its answer. The prices are those of all metals that some set
+    names."""
+
+    number: int
+    model: Model
+    prices: dict[str, Decimal]
+    file: Path
+
+    @property
+    def label(self) -> str:
+        said = ", ".join(f"{metal} {price}" for metal, price in self.prices.items())
+        return f"scenario {self.number}, {self.model.name}" + (f" at {said}" if said else "")
+
+
+@dataclass(frozen=True)
+class Told:
+    """What a scenario's answer says.
+
+    places  for each block the place of the least factor whose pit holds it, from 1; 0 where none does
+    table   one row a factor: what its pit holds and is worth
+    """
+
+    places: np.ndarray
+    table: pd.DataFrame
+
+
+@dataclass(frozen=True)
+class Simulated:
+    """A folder as it is read.
+
+    tables  where probability.csv, scenarios.csv and quantiles.csv are
+    record  scenarios.json
+    table   the table as it is now, with the columns of the models, where they are columns
+    rows    one row a block without grades: those of the table, and behind them those of cells that it has no row of
+    likely  the same rows of probability.csv
+    """
+
+    folder: Path
+    tables: Path
+    project: Project
+    record: dict[str, Any]
+    table: pd.DataFrame
+    rows: pd.DataFrame
+    likely: pd.DataFrame
+
+    @property
+    def factors(self) -> tuple[int, ...]:
+        return self.project.schedule.factors
+
+    @cached_property
+    def scenarios(self) -> list[Scenario]:
+        """Each model at each set of prices, all sets of a model one after the other; one that the folder does not list has no answer."""
+        keys = [entry["key"] for entry in self.record["scenarios"]]
+        pairs = product(models_of(self.project), prices_of(self.project))
+        files = (self.folder / "done" / f"{key}.npz" for key in chain(keys, repeat("")))
+        return [Scenario(number, *pair, file) for number, (pair, file) in enumerate(zip(pairs, files), 1)]
+
+    @property
+    def answered(self) -> list[Scenario]:
+        return [scenario for scenario in self.scenarios if scenario.file.is_file()]
+
+    def grades(self, model: Model) -> np.ndarray:
+        """Grades of a model, a row a block and a column a metal; 0 in cells that the table has no row of.
+
+        Raises PlanError where the model's blocks are not those of the table.
+        """
+        metals, found = self.project.metals, np.zeros((len(self.rows), len(self.project.metals)))
+        if model.file is None:
+            columns = [model.columns.get(metal.name, metal.column) for metal in metals]
+            found[: len(self.table)] = self.table[columns].to_numpy()
+            return found
+        frame = self.read_model(model.file)
+        at = self.places_of(frame, model.file)
+        for number, metal in enumerate(metals):
+            zero = self.project.table.empty == "zero"
+            found[at, number] = tables.filled_numbers(frame[metal.column], str(model.file), metal.column, zero)[0]
+        return found
+
+    def read_model(self, file: Path) -> pd.DataFrame:
+        columns = self.project.table
+        codes = [columns.id] if columns.id else []
+        wanted = [*codes, columns.x, columns.y, columns.z, *(metal.column for metal in self.project.metals)]
+        frame, _ = tables.read_as_written(file, columns, codes, wanted)
+        return frame
+
+    def places_of(self, frame: pd.DataFrame, file: Path) -> np.ndarray:
+        """The rows of the blocks of a model's table, told by their ids where it has these, else by their centres."""
+        columns, grid = self.project.table, self.record["grid"]
+        if columns.id and columns.id in frame:
+            numbers = {name: row for row, name in enumerate(self.rows[columns.id])}
+            at = frame[columns.id].str.strip().map(numbers).fillna(-1).to_numpy(dtype=np.int64)
+        else:
+            axes = [columns.x, columns.y, columns.z]
+            row_of = np.full(int(np.prod(grid["shape"])), -1, dtype=np.int64)
+            row_of[nearest_cells(self.rows[axes].to_numpy(), grid)] = np.arange(len(self.rows))
+            at = row_of[nearest_cells(frame[axes].to_numpy(dtype=np.float64), grid)]
+        if (at < 0).any():
+            raise PlanError(f"{file}: {np.count_nonzero(at < 0):,} of its blocks are not in the table: has it changed since?")
+        return at
+
+    def answers(self) -> Iterator[tuple[Scenario, Told]]:
+        """What the answers say that there are, one after the other. Raises PlanError where one cannot be read."""
+        for scenario in self.answered:
+            yield scenario, self.answer(scenario)
+
+    def answer(self, scenario: Scenario) -> Told:
+        try:
+            with np.load(scenario.file, allow_pickle=False) as said:
+                table = pd.DataFrame(said["table"], columns=said["columns"], index=pd.Index(self.factors, name="factor"))
+                told = Told(said["places"].astype(np.int64), table.assign(worth_at_factor=said["worth_at_factor"]))
+        except (OSError, ValueError, KeyError, EOFError) as error:
+            raise PlanError(f"{scenario.file}: is no answer of {scenario.label}: {error}") from error
+        if len(told.places) != len(self.rows):
+            raise PlanError(f"{scenario.file}: tells of {len(told.places):,} blocks, and the table has {len(self.rows):,}")
+        return told
+
+
+def read(folder: Path, written: Path) -> Simulated:
+    """The answers in a folder, to the project as it was when they were asked for, and the tables of them in `written`.
+
+    Raises PlanError where nothing is gathered or the table has changed, and KeyError where the record lacks a part.
+    """
+    try:
+        record = json.loads((folder / "scenarios.json").read_text(encoding="utf-8"))
+        project = load(folder / "project.toml", folder / record["project"])
+        told = read_blocks(written / PROBABILITY, project)
+    except OSError as error:
+        raise PlanError(f"{error.filename}: cannot be read: run pitplan scenarios or gather first") from error
+    except ValueError as error:
+        raise PlanError(f"{folder}: is no folder that pitplan scenarios has written: {error}") from error
+    table = read_table(project)
+    named = [name for name in (*tables.names_of(replace(project, metals=())), project.table.tonnes) if name in table]
+    rows, _, order = beside(table[list(dict.fromkeys(named))], told, project, record["grid"], PROBABILITY)
+    return Simulated(folder, written, project, record, table, rows, told.iloc[order].reset_index(drop=True))
+
+
+def asked(project: Project) -> Scenarios:
+    assert project.scenarios is not None
+    return project.scenarios
+
+
+def models_of(project: Project) -> list[Model]:
+    """The models, as the project names them: files by name, or columns in the order that they are named in."""
+    scenarios, table = asked(project), project.table
+    if scenarios.folder is not None:
+        files = [path for path in scenarios.folder.iterdir() if path.name.endswith((".csv", ".csv.gz"))]
+        return [Model(path.name.split(".")[0], {}, path) for path in sorted(files)]
+    header = tables.read_header(table.file, format_of(table.file, table))
+    named = {metal: [it for name in names for it in matching(name, header)] for metal, names in scenarios.columns.items()}
+    return [Model(columns[0], dict(zip(named, columns))) for columns in zip(*named.values())]
+
+
+def prices_of(project: Project) -> list[dict[str, Decimal]]:
+    """The sets of prices, each with the project's own for metals that another set names."""
+    sets = asked(project).prices
+    named = {metal.name: metal.price for metal in project.metals if any(metal.name in prices for prices in sets)}
+    return [{**named, **prices} for prices in sets]
+
+
+def matching(name: str, header: list[str]) -> list[str]:
+    return fnmatch.filter(header, name) if "*" in name else [name]
+
+
+def read_table(project: Project) -> pd.DataFrame:
+    """The table with every column of grades that some model takes."""
+    if asked(project).folder is not None:
+        return tables.read(replace(project, metals=())).frame
+    metals = {metal.name: metal for metal in project.metals}
+    wanted = {(name, column) for model in models_of(project) for name, column in model.columns.items()}
+    wanted |= {(name, metal.column) for name, metal in metals.items() if name not in asked(project).columns}
+    return tables.read(replace(project, metals=tuple(replace(metals[name], column=column) for name, column in sorted(wanted)))).frame

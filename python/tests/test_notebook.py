@@ -1,0 +1,141 @@
+"""What import pitplan gives: each subcommand as a function, with paths, frames and rules, of a small mine."""
+
+import importlib.util
+import inspect
+import re
+import typing
+from decimal import Decimal
+
+import pandas as pd
+import pytest
+from conftest import ROOT
+from matplotlib.figure import Figure
+from test_fixed import FIXED_SECTION, ores_and_fixed, with_section
+from test_scenarios import COLUMNS, PRICES, UPRIGHT, pillar
+
+import pitplan
+from pitplan import PlanError, Request
+
+PAGE = (ROOT / "docs" / "PLANNING.md").read_text(encoding="utf-8")
+FUNCTIONS = [name for name in pitplan.__all__ if inspect.isfunction(getattr(pitplan, name))]
+
+
+def test_no_function_hides_a_module():
+    """A module of the name would take the function's place as soon as something imports it."""
+    assert {"pit", "view", "export", "audit", "scenarios", "verify"} < set(FUNCTIONS)
+    assert [name for name in pitplan.__all__ if importlib.util.find_spec(f"pitplan.{name}")] == []
+
+
+@pytest.mark.parametrize("name", FUNCTIONS)
+def test_each_function_has_types_and_says_what_it_gives(name):
+    function = getattr(pitplan, name)
+    hints = typing.get_type_hints(function)
+    assert set(hints) == {*inspect.signature(function).parameters, "return"}
+    assert len(hints) <= 6 and function.__doc__
+
+
+@pytest.fixture
+def plan(plan_folder):
+    return plan_folder(ores_and_fixed(), with_section(FIXED_SECTION))
+
+
+def test_shells_are_written_and_given_as_a_frame(plan):
+    table = pitplan.write_shells(plan)
+    # The ore of 6 % is dug from 500 on, with three blocks above it; the block at the floor that must be dug needs the two above it.
+    assert table["factor"].tolist() == [500, 1000, 1500]
+    assert table["worth_at_factor"].tolist() == [Decimal(12_000 - 1000 - 800 - 600), Decimal(24_000 + 2000 - 2000 - 1600 - 200), Decimal(36_000 + 3000 - 3800)]
+    assert (plan.parent / "plan" / "report.html").exists()
+    again = pitplan.write_shells(str(plan), str(plan.parent / "other"), verifies=False)
+    pd.testing.assert_frame_equal(again, table)
+    assert "this run left it out" in (plan.parent / "other" / "report.html").read_text()
+
+
+def test_a_page_exports_and_a_folder_for_auditors_are_told_by_their_paths(solved):
+    folder = solved[1]
+    assert pitplan.view(str(folder)) == folder / "view.html"
+    assert pitplan.export(folder, "csv") == folder / "pit.csv"
+    blocks = pd.read_csv(folder / "blocks.csv")
+    assert len(pd.read_csv(folder / "pit.csv")) == (blocks["factor"] > 0).sum()
+    assert pitplan.export(folder, "dxf", 500) == folder / "pit-500.dxf"
+    assert (pitplan.audit(folder, 500) / "check.sh").exists()
+
+
+@pytest.mark.parametrize(
+    ("call", "said"),
+    [
+        (lambda folder: pitplan.export(folder, "dwg"), "dwg is none of csv, vti, dxf"),
+        (lambda folder: pitplan.export(folder, "dxf", 900), "factor 900 is not among the factors 500, 1000, 1500"),
+        (lambda folder: pitplan.audit(folder, 900), "factor 900 is not among the factors 500, 1000, 1500"),
+        (lambda folder: pitplan.view(folder / "nowhere"), "nowhere/prepare.json: cannot be read: run pitplan shells first"),
+        (lambda folder: pitplan.verify(folder / "nowhere"), "nowhere/prepare.json: cannot be read: run pitplan shells first"),
+        (lambda folder: pitplan.gather(folder), "scenarios.json: cannot be read: run pitplan scenarios first"),
+        (lambda folder: pitplan.scenarios(folder.parent / "project.toml"), r"\[scenarios\] is missing"),
+        (lambda folder: pitplan.pit(folder.parent / "project.toml"), r"\[fixed\] is missing"),
+    ],
+)
+def test_what_cannot_be_is_refused_in_words(solved, call, said):
+    with pytest.raises(PlanError, match=said):
+        call(solved[1])
+
+
+def test_a_verified_folder_is_told_rule_by_rule(solved):
+    rules = pitplan.verify(solved[1])
+    assert all(isinstance(rule, pitplan.Rule) and rule.holds and rule.differences == () and rule.count == 0 for rule in rules)
+    path = solved[1] / "shells.csv"
+    table = pd.read_csv(path, dtype=str)
+    right = float(table["waste_tonnes"][0])
+    table.assign(waste_tonnes=[right + 1, *table["waste_tonnes"][1:]]).to_csv(path, index=False)
+    found = {rule.name: rule.differences for rule in pitplan.verify(solved[1]) if rule.count}
+    assert found == {"shells": (f"factor 500: waste_tonnes {right + 1:g} for {right:g}",)}
+
+
+def test_a_pit_with_fixed_blocks_and_without_them(plan):
+    table = pitplan.pit(plan, 500)
+    assert table["fixed_blocks"].tolist() == ["kept", "free"] and table["factor"].tolist() == [500, 500]
+    assert (table["worth_at_factor"][1] - table["worth_at_factor"][0]) == 600
+    assert (plan.parent / "plan" / "pit" / "pits.csv").exists()
+
+
+def test_scenarios_are_given_as_frames(plan_folder):
+    """Three blocks above each other: at 8000 a tonne one of three models pays at 500 and 1000, at 12,000 two do at 1000."""
+    pytest.importorskip("distributed", reason="needs the Debian package python3-distributed")
+    path = plan_folder(pillar(), PRICES, UPRIGHT)
+    found = pitplan.scenarios(path, request=Request(workers=1))
+    assert found.folder == path.parent / "plan" / "scenarios" and found.start is None
+    assert "6 solved (status 0)" in found.notes
+    assert found.probability["probability_1000"].tolist() == [0.5] * 3
+    assert found.table["worth_at_factor"].tolist()[:3] == [Decimal(1400), Decimal(4400), Decimal(7400)]
+    assert found.quantiles.set_index(["price_copper", "factor"])["tonnes_greatest"][8000, 500] == 300
+    assert [rule.count for rule in pitplan.verify(found.folder)] == [0] * 10
+    likely = found.likely(500)
+    assert (likely.factor, likely.count, likely.shown.ravel().tolist()) == (500, 6, [pytest.approx(1 / 3, abs=1e-6)] * 3)
+    axes = Figure().subplots(2)
+    left, right = pitplan.simulation.pictures.plot_spread(found.table, "USD", axes)
+    # At 8000 and at factor 500 one of three models is worth 1400, so that the median is 0; at 12,000 it is worth 2900.
+    assert [line.get_ydata()[0] for line in right.lines] == [0, 0] and [line.get_ydata()[2] for line in left.lines] == [300, 300]
+    with pytest.raises(PlanError, match="probability.csv: has no factor 900"):
+        found.likely(900)
+
+
+def test_lists_of_jobs_are_told_by_what_to_start(plan_folder):
+    path = plan_folder(pillar(), COLUMNS, UPRIGHT)
+    found = pitplan.scenarios(path, path.parent / "many", Request("parallel"))
+    assert found.start == path.parent / "many" / "start.sh"
+    with pytest.raises(PlanError, match="probability.csv: cannot be read: run pitplan scenarios or gather first"):
+        found.probability
+    with pytest.raises(PlanError, match="3 of 3 scenarios have no answer"):
+        pitplan.gather(found.folder)
+
+
+def test_the_lines_of_the_page_that_write_run(plan_folder, monkeypatch):
+    """In a folder whose project has fixed blocks, scenarios and the page's factor."""
+    pytest.importorskip("distributed", reason="needs the Debian package python3-distributed")
+    table = ores_and_fixed().assign(sim_1=lambda it: it["cu"], sim_2=lambda it: it["cu"] / 2)
+    text = with_section(FIXED_SECTION + '[scenarios]\ncolumns = { copper = "sim_*" }\n').replace("[500, 1000, 1500]", "[500, 800, 1000]")
+    path = plan_folder(table, text)
+    monkeypatch.chdir(path.parent)
+    names = {}
+    exec(re.findall(r"```python\n(.*?)```", PAGE, re.DOTALL)[1], names)
+    assert names["table"]["factor"].tolist() == [500, 800, 1000] and all(rule.count == 0 for rule in names["rules"])
+    assert (path.parent / "out" / "audit-800" / "check.sh").exists()
+    assert names["found"].quantiles["factor"].tolist() == [500, 800, 1000]
