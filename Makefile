@@ -65,7 +65,7 @@ test-program: setup
 	test -x build/pitshell || $(MAKE) build
 	/usr/bin/python3 -m pytest tests -q -p no:cacheprovider
 
-# The tests of the planner's layer alone. Where there is no program yet it is proved and built first, for ten minutes or more.
+# The tests of the planner's layer alone. Where there is no program yet it is proved and built first, for half an hour.
 test-plan: setup
 	test -x build/pitshell || $(MAKE) build
 	/usr/bin/python3 -m pytest python/tests -q -p no:cacheprovider

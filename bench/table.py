@@ -16,7 +16,7 @@ and its flow, without the writing. `clock`: seconds on the clock of the whole ru
 
 What needs more processor seconds than the limit, mode single aside, is left out there and at the larger sizes of those slopes. `--quick` stops at
 100,000 blocks. The table goes to bench/results/, anew after each mine, so that a run that is stopped leaves what it measured;
-its first part, one line a mine with the strongest peer, is README's.
+README has rows of its first part, one line a mine with the strongest peer.
 """
 
 import argparse

@@ -17,12 +17,12 @@ def runs_in(block: str) -> list[tuple[str, str]]:
     return [(piece.partition("\n")[0], piece.partition("\n")[2]) for piece in re.split(r"^\$ ", block, flags=re.MULTILINE)[1:]]
 
 
-def test_the_first_example_of_readme() -> None:
-    block = re.findall(r"^```\n(.*?)^```", (TOP / "README.md").read_text(), re.MULTILINE | re.DOTALL)[0]
-    command, shown = runs_in(block)[-1]
-    assert told_by_shell(command.replace("build/pitshell", str(PROGRAM)), TOP) == shown
-    both = (TOP / "examples" / "first_pit" / "mine.upit").read_text() + (TOP / "examples" / "first_pit" / "mine.prec").read_text()
-    assert all(line in block for line in both.splitlines())
+def test_the_first_example_of_readme(tmp_path: pathlib.Path) -> None:
+    section = (TOP / "README.md").read_text().partition("\n## A first answer\n")[2].partition("\n## ")[0]
+    commands, shown = re.findall(r"^```(?:sh)?\n(.*?)^```", section, re.MULTILINE | re.DOTALL)
+    assert told_by_shell(re.sub(r"^pitshell", str(PROGRAM), commands, flags=re.MULTILINE), tmp_path) == shown
+    for name in ("mine.upit", "mine.prec"):
+        assert (tmp_path / name).read_text() == (TOP / "examples" / "first_pit" / name).read_text()
 
 
 def test_the_shells_of_the_guide() -> None:

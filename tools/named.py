@@ -1,7 +1,7 @@
 #!/usr/bin/env python3
 """Lists what the documents name and nothing has, and ends with 1 if there is any.
 
-The documents are README.md, docs/ and the crates' READMEs. Of each is looked at:
+The documents are README.md, CONTRIBUTING.md, docs/ and the crates' READMEs. Of each is looked at:
 - a link to a file, which must exist; and where the link's words are a name in backticks, the file must have that name;
 - a path in backticks, alone or in a command, which must exist (beside the document, or from the top); stars stand for anything;
 - a name in backticks, which must stand as a word somewhere in the sources, whole or by its parts (`Holder::law`).
@@ -15,7 +15,7 @@ import sys
 
 from crates import TOP
 
-DOCUMENTS = ("README.md", "docs/*.md", "crates/*/README.md")
+DOCUMENTS = ("README.md", "CONTRIBUTING.md", "docs/*.md", "crates/*/README.md")
 SOURCES = {".rt", ".antt", ".py", ".c", ".cpp", ".sh", ".toml", ".txt", ".fish", ".bash", ".html", ".1", ".edit", ".js", ""}
 FOLDERS = ("bench", "completions", "crates", "docs", "examples", "man", "proofs", "python", "specs", "src", "tests", "tools", "mutants")
 # words of the system, the toolchain and the field, which the sources need not hold
