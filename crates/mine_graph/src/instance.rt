@@ -71,13 +71,28 @@ impl Instance {
     pub fn share(&self, alloc: Global) -> Result<Instance, AllocError>
         ensures { IfOk result (λ other. other ≡ self.now) }
     {
-        let graph = Arc::try_clone(&self.graph)?;
-        let values = self.values.copy(alloc)?;
+        self.over(alloc, Arc::try_clone(&self.graph)?)
+    }
+
+    /// The instance of other pairs of the same blocks, with the same values. The gauge is shared.
+    pub fn over(&self, alloc: Global, graph: Arc<Graph>) -> Result<Instance, AllocError>
+        requires { graph.value.blocks ≡ self.now.blocks }
+        ensures blocks { IfOk result (λ other. other.blocks ≡ self.now.blocks) }
+        ensures values { IfOk result (λ other. other.values ≡ self.now.values) }
+        ensures pairs { IfOk result (λ other. other.pairs ≡ graph.value.pairs) }
+    {
         Ok(Instance {
             graph,
-            values,
+            values: self.values.copy(alloc)?,
             gauge: self.gauge.share(),
         })
+    }
+
+    /// The value of each block, in a list of its own.
+    pub fn values(&self, alloc: Global) -> Result<Vec<i128>, AllocError>
+        ensures { IfOk result (λ v. v.items ≡ self.now.values) }
+    {
+        self.values.to_vec(alloc)
     }
 
     /// What is true of each instance.
