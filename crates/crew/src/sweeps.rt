@@ -135,10 +135,31 @@ impl<'a, S: Site + Send + Sync, G: Gate + Sync> Crew<'a, S, G> {
 
     /// Makes the route of the next sweep over the tree.
     fn renew(&mut self, alloc: Global, tree: &NormTree) -> Result<(), Fault>
-        ensures { IfErr result (λ e. e ≡ no_memory) }
+        ensures workers { self.new.workers ≡ self.old.workers }
+        ensures refused { IfErr result (λ e. e ≡ no_memory) }
     {
         self.route = Route::over_mergers(alloc, tree, self.chunk)?;
         Ok(())
+    }
+
+    /// The driver's decision after a sweep: it answers whether the solve has ended, and else makes the route of the next sweep.
+    fn decide<R: Threads + Wait + Sync>(
+        &mut self,
+        rt: &R,
+        alloc: Global,
+        holder: &mut Holder<S>,
+    ) -> Result<bool, Fault>
+        ensures ended { IfOk result (λ is_ended. is_ended ≡ true → IsEnded holder.new) }
+        ensures met { All (λ worker. HasMet holder.old.journal worker.asks worker.looks) self.new.workers.items }
+        ensures refused { IfErr result IsNoRoom }
+    {
+        self.meet(holder);
+        holder.tree().instance().gauge().swept();
+        if is_ended(rt, holder)? {
+            return Ok(true);
+        }
+        self.renew(alloc, holder.tree())?;
+        Ok(false)
     }
 
     /// A sweep under the lock, and the driver's decision after it, when it has the holder for itself. It answers the holder, and
@@ -160,15 +181,8 @@ impl<'a, S: Site + Send + Sync, G: Gate + Sync> Crew<'a, S, G> {
             holder.into_parts(rt);
             return Err(fault);
         }
-        self.meet(&mut holder);
-        holder.tree().instance().gauge().swept();
-        let renewed = match is_ended(rt, &mut holder) {
-            Ok(true) => return Ok((holder, true)),
-            Ok(false) => self.renew(alloc, holder.tree()),
-            Err(fault) => Err(fault),
-        };
-        match renewed {
-            Ok(()) => Ok((holder, false)),
+        match self.decide(rt, alloc, &mut holder) {
+            Ok(is_ended) => Ok((holder, is_ended)),
             Err(fault) => {
                 holder.into_parts(rt);
                 Err(fault)
