@@ -21,7 +21,7 @@ use std::alloc::Global;
 use std::marker::Brand;
 use std::sync::Wait;
 use std::thread::Threads;
-use tree_lock::{Entry, Holder, SharedTree, Site, UnnamedList};
+use tree_lock::{Entry, Holder, LockId, SharedTree, UnnamedList};
 
 /// So many workers have a seat; the driver's is seat 0.
 const MOST_WORKERS: u32 = 64;
@@ -35,7 +35,7 @@ struct Beginning {
 }
 
 /// A worker for each seat at the board, with a seat to look from.
-fn workers_of<S: Site>(
+fn workers_of<S: LockId>(
     alloc: Global,
     shared: &SharedTree<S>,
     seats: Vec<WorkerSeat<S>>,
@@ -52,7 +52,7 @@ fn workers_of<S: Site>(
 }
 
 /// The workers, and the tree for the holder alone, which is given up where a seat was refused.
-fn with_workers<S: Site, R: Wait>(
+fn with_workers<S: LockId, R: Wait>(
     rt: &R,
     alloc: Global,
     shared: SharedTree<S>,
@@ -72,7 +72,7 @@ fn with_workers<S: Site, R: Wait>(
 }
 
 /// Runs the crew to its end, and answers by the tree that is left.
-fn run_crew<'a, S: Site + Send + Sync, G: Gate + Sync, R: Threads + Wait + Sync>(
+fn run_crew<'a, S: LockId + Send + Sync, G: Gate + Sync, R: Threads + Wait + Sync>(
     rt: &R,
     alloc: Global,
     crew: Crew<'a, S, G>,
@@ -86,7 +86,7 @@ fn run_crew<'a, S: Site + Send + Sync, G: Gate + Sync, R: Threads + Wait + Sync>
     end_of(rt, crew.run(rt, alloc, holder)?)
 }
 
-fn solve_at<S: Site + Send + Sync, G: Gate + Sync, R: Threads + Wait + Sync>(
+fn solve_at<S: LockId + Send + Sync, G: Gate + Sync, R: Threads + Wait + Sync>(
     rt: &R,
     alloc: Global,
     begun: Beginning,

@@ -12,17 +12,17 @@ use crate::route::Route;
 use crate::worker::{Sweep, Worker};
 use faults::Fault;
 use norm_tree::NormTree;
-use proposals::{Board, DrawSeat, Draws, Lot, UnnamedDraws};
+use proposals::{Board, CounterId, DrawSeat, Draws, UnnamedDraws};
 use std::alloc::Global;
 use std::marker::Brand;
 use std::sync::Wait;
 use std::thread;
 use std::thread::Threads;
-use tree_lock::{Holder, SharedTree, Site};
+use tree_lock::{Holder, LockId, SharedTree};
 
 /// The workers with what they share beside the tree.
 #[derive(Drop)]
-pub struct Crew<'a, S: Site, G: Gate> {
+pub struct Crew<'a, S: LockId, G: Gate> {
     pub board: &'a Board<S>,
     pub workers: Vec<Worker<S>>,
     /// What the next sweep goes over.
@@ -34,9 +34,9 @@ pub struct Crew<'a, S: Site, G: Gate> {
 
 /// The workers, each in a thread of its own with its seats. All have ended afterwards.
 fn run_workers<
-    S: Site + Send + Sync,
+    S: LockId + Send + Sync,
     G: Gate + Sync,
-    L: Lot + Send + Sync,
+    L: CounterId + Send + Sync,
     R: Threads + Wait + Sync,
 >(
     rt: &R,
@@ -72,7 +72,7 @@ fn as_count(length: usize) -> u32 {
 }
 
 /// The seats of each meet the holder's.
-fn meet_all<S: Site>(board: &Board<S>, workers: &mut [Worker<S>], holder: &mut Holder<S>)
+fn meet_all<S: LockId>(board: &Board<S>, workers: &mut [Worker<S>], holder: &mut Holder<S>)
     ensures same { holder.new ≡ holder.old }
     ensures met { All (λ worker. HasMet holder.old.journal worker.asks worker.looks) workers.new }
 {
@@ -81,9 +81,9 @@ fn meet_all<S: Site>(board: &Board<S>, workers: &mut [Worker<S>], holder: &mut H
     }
 }
 
-impl<'a, S: Site + Send + Sync, G: Gate + Sync> Crew<'a, S, G> {
+impl<'a, S: LockId + Send + Sync, G: Gate + Sync> Crew<'a, S, G> {
     /// One sweep, by this counter.
-    fn sweep_by<L: Lot + Send + Sync, R: Threads + Wait + Sync>(
+    fn sweep_by<L: CounterId + Send + Sync, R: Threads + Wait + Sync>(
         &mut self,
         rt: &R,
         alloc: Global,

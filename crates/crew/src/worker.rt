@@ -6,9 +6,9 @@ ghost use Rattle.crew.specs.Solved.{HasMet};
 
 use crate::gate::Gate;
 use crate::route::Route;
-use proposals::{Board, DrawSeat, Draws, Lot, WorkerSeat};
+use proposals::{Board, CounterId, DrawSeat, Draws, WorkerSeat};
 use std::sync::{MutexGuard, Wait};
-use tree_lock::{Holder, LookSeat, SharedTree, Site, Verdict};
+use tree_lock::{Holder, LockId, LookSeat, SharedTree, Verdict};
 
 /// So many asks of its own a worker serves before it lets go of the lock. Two that hand the lock over at each ask sleep and wake
 /// one another each time, which takes longer than what is done with it.
@@ -20,12 +20,12 @@ const LOOKS_BEFORE_WAITING: u32 = 1_000;
 
 /// The lock, while a worker has it, and how many asks more it may serve with it. It is not `Drop`: it ends by `end`, or by `left`
 /// after the last ask.
-struct Turn<'a, S: Site> {
+struct Turn<'a, S: LockId> {
     holder: MutexGuard<'a, Holder<S>>,
     asks: u32,
 }
 
-impl<'a, S: Site> Turn<'a, S> {
+impl<'a, S: LockId> Turn<'a, S> {
     fn begin(holder: MutexGuard<'a, Holder<S>>) -> Turn<'a, S>
         ensures { result.asks ≡ 64 }
     {
@@ -60,7 +60,7 @@ impl<'a, S: Site> Turn<'a, S> {
 
 /// A worker's number, from 1, and its seats. The seat to look from is None while it is lent, and never between calls.
 #[derive(Drop)]
-pub struct Worker<S: Site> {
+pub struct Worker<S: LockId> {
     number: u32,
     asks: WorkerSeat<S>,
     looks: Option<LookSeat<S>>,
@@ -68,7 +68,7 @@ pub struct Worker<S: Site> {
 
 /// What all workers have in common in a sweep.
 #[derive(Drop)]
-pub struct Sweep<'a, S: Site, G: Gate, L: Lot> {
+pub struct Sweep<'a, S: LockId, G: Gate, L: CounterId> {
     pub board: &'a Board<S>,
     pub shared: &'a SharedTree<S>,
     pub draws: &'a Draws<L>,
@@ -77,7 +77,7 @@ pub struct Sweep<'a, S: Site, G: Gate, L: Lot> {
     ghost known: { S.arcs ≡ arcs S.mine },
 }
 
-impl<S: Site> Worker<S> {
+impl<S: LockId> Worker<S> {
     pub fn new(number: u32, asks: WorkerSeat<S>, looks: LookSeat<S>) -> Worker<S> {
         Worker {
             number,
@@ -109,7 +109,7 @@ impl<S: Site> Worker<S> {
 
     /// Collects the reply to its ask, and answers whether the worker is to go on: not where the budget is used up. None where
     /// there is no reply.
-    fn collect<G: Gate, L: Lot>(&mut self, sweep: &Sweep<S, G, L>) -> Option<bool> {
+    fn collect<G: Gate, L: CounterId>(&mut self, sweep: &Sweep<S, G, L>) -> Option<bool> {
         let reply = sweep.board.collect(&mut self.asks)?;
         sweep.gate.served(self.number);
         Some(reply.verdict != Verdict::Spent)
@@ -117,7 +117,7 @@ impl<S: Site> Worker<S> {
 
     /// Serves the board with the lock, and collects the reply to its ask. It answers whether the worker is to go on, and the lock
     /// where it keeps it. It is not to go on where memory was refused; an ask that was not answered then stays open.
-    fn serve<'a, G: Gate, L: Lot, R: Wait>(
+    fn serve<'a, G: Gate, L: CounterId, R: Wait>(
         &mut self,
         rt: &R,
         sweep: &Sweep<'a, S, G, L>,
@@ -134,7 +134,7 @@ impl<S: Site> Worker<S> {
 
     /// Collects the reply of whoever has the lock, or serves once the lock is free. It waits for the lock only where it found it
     /// taken so often.
-    fn meet_holder<'a, G: Gate, L: Lot, R: Wait>(
+    fn meet_holder<'a, G: Gate, L: CounterId, R: Wait>(
         &mut self,
         rt: &R,
         sweep: &Sweep<'a, S, G, L>,
@@ -154,7 +154,7 @@ impl<S: Site> Worker<S> {
 
     /// Asks for the arc, serves where nobody answered yet, and collects. It answers whether the worker is to go on, and the lock
     /// where it keeps it. It is not to go on where the budget is used up, or memory was refused.
-    fn propose<'a, G: Gate, L: Lot, R: Wait>(
+    fn propose<'a, G: Gate, L: CounterId, R: Wait>(
         &mut self,
         rt: &R,
         sweep: &Sweep<'a, S, G, L>,
@@ -173,7 +173,7 @@ impl<S: Site> Worker<S> {
     }
 
     /// Goes over the arcs of a chunk, and frees the lock. It answers whether the worker is to go on.
-    fn go_over<'a, G: Gate, L: Lot, R: Wait>(
+    fn go_over<'a, G: Gate, L: CounterId, R: Wait>(
         &mut self,
         rt: &R,
         sweep: &Sweep<'a, S, G, L>,
@@ -194,7 +194,7 @@ impl<S: Site> Worker<S> {
     }
 
     /// The worker's part of a sweep, until no chunk is left.
-    pub fn sweep<G: Gate, L: Lot, R: Wait>(
+    pub fn sweep<G: Gate, L: CounterId, R: Wait>(
         &mut self,
         rt: &R,
         sweep: &Sweep<S, G, L>,

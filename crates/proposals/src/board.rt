@@ -4,8 +4,8 @@ ghost use Rattle.std.specs.Prelude.{◌≡◌, ◌<◌, [], length, IfOk, IfErr,
 ghost use Rattle.proposals.specs.Ledger.{opener, nothing, desks};
 ghost use Rattle.faults.specs.Refused.{no_memory, IsNoRoom};
 
+use crate::board_id::BoardId;
 use crate::knows::Knows;
-use crate::room::Room;
 use crate::seats::{HolderSeat, WorkerSeat};
 use crate::steps::{Asks, Deal};
 use atomic_table::{Seat, Table};
@@ -20,10 +20,10 @@ pub(crate) const ASKED: u64 = 1 << 32;
 
 /// The words on which workers ask and the holder answers. Workers are numbered from 1.
 #[derive(Drop)]
-pub struct Board<B: Room> {
+pub struct Board<B: BoardId> {
     pub(crate) cells: Cells,
     pub(crate) arcs: u32,
-    room: PhantomData<B>,
+    id: PhantomData<B>,
     ghost known: { arcs ≡ B.arcs },
     ghost named: { cells.shared.table_id ≡ B.board },
     ghost counted: { cells.shared.key ≡ cells.shared.table_id.words },
@@ -72,7 +72,7 @@ impl UnnamedBoard {
     }
 }
 
-impl<B: Room> Board<B> {
+impl<B: BoardId> Board<B> {
     /// The board under the name `B`, with a seat for each worker, in order, and the holder's, on which so many arcs may be
     /// asked for. Nothing was asked, answered or collected, and nothing is claimed.
     /// Errors: `NoMemory` where memory for the seats was refused.
@@ -100,18 +100,18 @@ impl<B: Room> Board<B> {
                 cell,
                 ask: None,
                 seat: theirs,
-                room: PhantomData,
+                id: PhantomData,
             })?;
             cell += 1;
         }
         let board = Board {
             cells,
             arcs,
-            room: PhantomData,
+            id: PhantomData,
         };
         let holder = HolderSeat {
             seat,
-            room: PhantomData,
+            id: PhantomData,
         };
         Ok((board, seats, holder))
     }

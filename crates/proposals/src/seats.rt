@@ -1,20 +1,20 @@
 //! The seats at a board: one for each worker, and the holder's.
 //! A seat has no lifetime and may move to another thread; `ask` and `serve` have its calls.
+use crate::board_id::BoardId;
 use crate::knows::Knows;
-use crate::room::Room;
 use atomic_table::Seat;
 use std::marker::{Model, PhantomData};
 
 /// A worker's seat. To a contract it is its cell, the arcs that it asked and the replies that it collected.
 #[derive(Drop)]
-pub struct WorkerSeat<B: Room> {
+pub struct WorkerSeat<B: BoardId> {
     pub(crate) cell: u32,
     pub(crate) ask: Option<u32>,
     pub(crate) seat: Seat<(), Knows>,
-    pub(crate) room: PhantomData<B>,
+    pub(crate) id: PhantomData<B>,
 }
 
-impl<B: Room> Model for WorkerSeat<B> {
+impl<B: BoardId> Model for WorkerSeat<B> {
     ghost use Rattle.proposals.specs.declared.knows.Desk.{Desk};
 
     ghost Value = { Desk };
@@ -28,12 +28,12 @@ impl<B: Room> Model for WorkerSeat<B> {
 
 /// The holder's seat. To a contract it is, for each worker, what was answered to it and what is claimed from it.
 #[derive(Drop)]
-pub struct HolderSeat<B: Room> {
+pub struct HolderSeat<B: BoardId> {
     pub(crate) seat: Seat<(), Knows>,
-    pub(crate) room: PhantomData<B>,
+    pub(crate) id: PhantomData<B>,
 }
 
-impl<B: Room> Model for HolderSeat<B> {
+impl<B: BoardId> Model for HolderSeat<B> {
     ghost use Rattle.std.specs.Prelude.{List};
     ghost use Rattle.proposals.specs.declared.knows.Served.{Served};
 

@@ -6,21 +6,21 @@ ghost use Rattle.versions.specs.Published.{are_same};
 
 use crate::head::{Head, MOST, UNIT};
 use crate::link::Link;
-use crate::origin::Origin;
+use crate::list_id::ListId;
 use crate::steps::{ListRule, Look, Nothing};
 use logbook::{Offer, Seen};
 use std::marker::{Model, PhantomData};
 
 /// To a contract it is its arcs.
 #[derive(Drop)]
-pub struct Beginning<V: Origin> {
+pub struct Beginning<V: ListId> {
     pub(crate) count: u64,
     pub(crate) last: u32,
     pub(crate) seen: Seen<Link, u64, ListRule>,
-    pub(crate) origin: PhantomData<V>,
+    pub(crate) id: PhantomData<V>,
 }
 
-impl<V: Origin> Model for Beginning<V> {
+impl<V: ListId> Model for Beginning<V> {
     ghost use Rattle.std.specs.Prelude.{◌≡◌, ℕ, ◌+◌, List, length};
     ghost use Rattle.versions.specs.ArcList.{arcs_of, last_of};
 
@@ -31,7 +31,7 @@ impl<V: Origin> Model for Beginning<V> {
     ghost invariant = { λ b. (b.seen.book ≡ V.book) × (length b.seen.log ≡ b.count + 1) × ((last_of b.seen.log).arc ≡ b.last) };
 }
 
-impl<V: Origin> Beginning<V> {
+impl<V: ListId> Beginning<V> {
     /// The same beginning. It takes no memory.
     pub fn again(&self) -> Beginning<V>
         ensures { result ≡ self.now }
@@ -40,7 +40,7 @@ impl<V: Origin> Beginning<V> {
             count: self.count,
             last: self.last,
             seen: self.seen.again(),
-            origin: PhantomData,
+            id: PhantomData,
         }
     }
 
@@ -104,7 +104,7 @@ impl<V: Origin> Beginning<V> {
             count: self.count + 1,
             last: arc,
             seen,
-            origin: PhantomData,
+            id: PhantomData,
         })
     }
 }

@@ -3,7 +3,7 @@ ghost use Rattle.std.specs.Prelude.{◌≡◌};
 ghost use Rattle.versions.specs.ArcList.{head_of};
 
 use crate::link::Link;
-use crate::origin::Origin;
+use crate::list_id::ListId;
 use crate::steps::ListRule;
 use logbook::Word;
 use std::marker::PhantomData;
@@ -14,10 +14,10 @@ pub(crate) const UNIT: u64 = 1 << 26;
 /// So many arcs a list takes at most: a journal of them would fill more than a terabyte.
 pub(crate) const MOST: u64 = 1 << 36;
 
-/// The word, of the origin's book.
+/// The word, of the id's book.
 #[derive(Drop)]
-pub struct Head<V: Origin> {
+pub struct Head<V: ListId> {
     pub(crate) word: Word<Link, u64, ListRule>,
-    pub(crate) origin: PhantomData<V>,
+    pub(crate) id: PhantomData<V>,
     ghost head_is: { word ≡ head_of V.book },
 }

@@ -4,15 +4,15 @@
 mod beginning;
 mod head;
 mod link;
+mod list_id;
 mod look;
-mod origin;
 mod publisher;
 mod scribe;
 mod steps;
 mod taken;
 mod tree_copy;
 
+pub use list_id::ListId;
 pub use look::{LookSeat, LookSeats, Version};
-pub use origin::Origin;
 pub use publisher::Publisher;
 pub use scribe::UnnamedList;

@@ -8,8 +8,8 @@ ghost use Rattle.pit_model.specs.Version.{version_tree, IsVersion};
 ghost use Rattle.versions.specs.Published.{taken_in, tree_over};
 
 use crate::head::MOST;
+use crate::list_id::ListId;
 use crate::look::{LookSeat, LookSeats};
-use crate::origin::Origin;
 use crate::scribe::{Scribe, UnnamedList};
 use crate::taken::Addition;
 use crate::tree_copy::TreeCopy;
@@ -27,7 +27,7 @@ type Copies<V> = Writer<TreeCopy<V>, Addition<V>, (), Unruled>;
 
 /// To a contract it is the arcs that were merged over, all of which are published. It is not `Drop`, since its end waits for
 /// readers: end it by `into_tree`.
-pub struct Publisher<V: Origin>
+pub struct Publisher<V: ListId>
 where
     TreeCopy<V>: Absorb<Addition<V>, State = TreeCopy<V>>,
 {
@@ -35,7 +35,7 @@ where
     copies: Copies<V>,
 }
 
-impl<V: Origin> Model for Publisher<V>
+impl<V: ListId> Model for Publisher<V>
 where
     TreeCopy<V>: Absorb<Addition<V>, State = TreeCopy<V>>,
 {
@@ -50,7 +50,7 @@ where
 }
 
 /// Shows readers the copy that has taken in every arc. It waits for those that still look at that copy.
-fn shown<V: Origin, R: Wait>(copies: Copies<V>, rt: &R) -> Copies<V>
+fn shown<V: ListId, R: Wait>(copies: Copies<V>, rt: &R) -> Copies<V>
     ensures shown { result.desk.shown.value ≡ fold taken_in copies.desk.shown.value (drop copies.behind copies.log.items) }
     ensures none_left { drop result.behind result.log.items ≡ [] }
 {
@@ -59,14 +59,14 @@ fn shown<V: Origin, R: Wait>(copies: Copies<V>, rt: &R) -> Copies<V>
 }
 
 /// The same through a `&mut`.
-fn show<V: Origin, R: Wait>(copies: &mut Copies<V>, rt: &R)
+fn show<V: ListId, R: Wait>(copies: &mut Copies<V>, rt: &R)
     ensures shown { copies.new.desk.shown.value ≡ fold taken_in copies.old.desk.shown.value (drop copies.old.behind copies.old.log.items) }
     ensures none_left { drop copies.new.behind copies.new.log.items ≡ [] }
 {
     replace_with(copies, rt, |copies, rt| (shown(copies, rt), ()));
 }
 
-impl<V: Origin> Publisher<V> {
+impl<V: ListId> Publisher<V> {
     /// Publishes the opening tree, and makes a copy of it and room for so many seats.
     /// Errors: `NoMemory` where memory was refused, `NoSeat` where the table of places was.
     pub fn new(

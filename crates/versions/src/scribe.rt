@@ -9,7 +9,7 @@ ghost use Rattle.versions.specs.ArcList.{link, head_of};
 use crate::beginning::Beginning;
 use crate::head::{Head, UNIT};
 use crate::link::Link;
-use crate::origin::Origin;
+use crate::list_id::ListId;
 use crate::steps::{Begin, Confirm, ListRule, Look, NextLink, Nothing, Widen, Write};
 use faults::Fault;
 use logbook::{Offer, Pen, Seen, Start, Word};
@@ -63,7 +63,7 @@ impl UnnamedList {
 
 /// To a contract it is the list.
 #[derive(Drop)]
-pub struct Scribe<V: Origin> {
+pub struct Scribe<V: ListId> {
     head: Arc<Head<V>, Global>,
     count: u64,
     last: u32,
@@ -71,7 +71,7 @@ pub struct Scribe<V: Origin> {
     pen: Pen,
 }
 
-impl<V: Origin> Model for Scribe<V> {
+impl<V: ListId> Model for Scribe<V> {
     ghost use Rattle.std.specs.Prelude.{◌≡◌, ℕ, ◌+◌, List, length};
     ghost use Rattle.logbook.specs.Pages.{may_write};
     ghost use Rattle.versions.specs.ArcList.{arcs_of, last_of};
@@ -83,7 +83,7 @@ impl<V: Origin> Model for Scribe<V> {
     ghost invariant = { λ s. (s.seen.book ≡ V.book) × (length s.seen.log ≡ s.count + 1) × ((last_of s.seen.log).arc ≡ s.last) × (s.pen.book ≡ V.book) × (s.pen.nib.right ≡ may_write) × (s.pen.nib.key ≡ (last_of s.seen.log).next) };
 }
 
-impl<V: Origin> Scribe<V> {
+impl<V: ListId> Scribe<V> {
     /// The list under the name `V`. Errors: `NoMemory` where memory for its word was refused.
     pub fn new(alloc: Global, list: UnnamedList) -> Result<Scribe<V>, Fault>
         requires { list ≡ V.book }
@@ -93,7 +93,7 @@ impl<V: Origin> Scribe<V> {
         let UnnamedList { word, seen, pen } = list;
         let head = Head {
             word,
-            origin: PhantomData,
+            id: PhantomData,
         };
         Ok(Scribe {
             head: Arc::new(alloc, head)?,
@@ -126,7 +126,7 @@ impl<V: Origin> Scribe<V> {
             count: self.count,
             last: self.last,
             seen: self.seen.again(),
-            origin: PhantomData,
+            id: PhantomData,
         }
     }
 

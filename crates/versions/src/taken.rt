@@ -5,17 +5,17 @@ ghost use Rattle.versions.specs.Published.{are_same};
 
 use crate::beginning::Beginning;
 use crate::head::Head;
-use crate::origin::Origin;
+use crate::list_id::ListId;
 use std::marker::Model;
 
 /// An arc that the copies are to take in, and the list before it. To a contract it is both.
 #[derive(Drop)]
-pub struct Addition<V: Origin> {
+pub struct Addition<V: ListId> {
     before: Beginning<V>,
     arc: u32,
 }
 
-impl<V: Origin> Model for Addition<V> {
+impl<V: ListId> Model for Addition<V> {
     ghost use Rattle.std.specs.Prelude.{ℕ, List};
 
     ghost Value = { List ℕ × ℕ };
@@ -23,7 +23,7 @@ impl<V: Origin> Model for Addition<V> {
     ghost view = { λ a. (a.before, a.arc) };
 }
 
-impl<V: Origin> Addition<V> {
+impl<V: ListId> Addition<V> {
     pub fn new(before: Beginning<V>, arc: u32) -> Addition<V>
         ensures { result ≡ (before, arc) }
     {
@@ -45,13 +45,13 @@ impl<V: Origin> Addition<V> {
 
 /// To a contract it is the arcs.
 #[derive(Drop)]
-pub struct TakenIn<V: Origin> {
+pub struct TakenIn<V: ListId> {
     told: Beginning<V>,
     /// An arc behind them of which the list's word did not tell when it was taken in, as in no run. The next addition tells of it.
     last: Option<u32>,
 }
 
-impl<V: Origin> Model for TakenIn<V> {
+impl<V: ListId> Model for TakenIn<V> {
     ghost use Rattle.std.specs.Prelude.{ℕ, List};
     ghost use Rattle.versions.specs.Published.{with_last};
 
@@ -60,7 +60,7 @@ impl<V: Origin> Model for TakenIn<V> {
     ghost view = { λ t. with_last t.told t.last };
 }
 
-impl<V: Origin> TakenIn<V> {
+impl<V: ListId> TakenIn<V> {
     pub fn new(told: Beginning<V>) -> TakenIn<V>
         ensures { result ≡ told }
     {

@@ -7,7 +7,7 @@ ghost use Rattle.versions.specs.Published.{copied, taken_in};
 
 use crate::beginning::Beginning;
 use crate::head::Head;
-use crate::origin::Origin;
+use crate::list_id::ListId;
 use crate::taken::{Addition, TakenIn};
 use left_right::Absorb;
 use norm_tree::NormTree;
@@ -17,13 +17,13 @@ use std::sync::Arc;
 
 /// To a contract it is the instance, the tree and the arcs.
 #[derive(Drop)]
-pub struct TreeCopy<V: Origin> {
+pub struct TreeCopy<V: ListId> {
     tree: NormTree,
     head: Arc<Head<V>, Global>,
     arcs: TakenIn<V>,
 }
 
-impl<V: Origin> Model for TreeCopy<V> {
+impl<V: ListId> Model for TreeCopy<V> {
     ghost use Rattle.std.specs.Prelude.{◌≡◌};
     ghost use Rattle.pit_model.specs.Version.{IsVersion};
     ghost use Rattle.versions.specs.Published.{Copied, copied};
@@ -35,7 +35,7 @@ impl<V: Origin> Model for TreeCopy<V> {
     ghost invariant = { λ c. (c.tree.mine ≡ V.mine) × IsVersion V.mine c.tree.tree c.arcs };
 }
 
-impl<V: Origin> TreeCopy<V> {
+impl<V: ListId> TreeCopy<V> {
     /// The opening tree, before any arc.
     pub fn new(tree: NormTree, head: Arc<Head<V>, Global>, list: Beginning<V>) -> TreeCopy<V>
         requires mine { tree.mine ≡ V.mine }
@@ -81,7 +81,7 @@ impl<V: Origin> TreeCopy<V> {
     }
 }
 
-impl<V: Origin> Absorb<Addition<V>> for TreeCopy<V> {
+impl<V: ListId> Absorb<Addition<V>> for TreeCopy<V> {
     type State = TreeCopy<V>;
 
     ghost state = { λ c. c };

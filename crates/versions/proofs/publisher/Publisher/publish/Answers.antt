@@ -9,7 +9,7 @@ use Rattle.versions.proofs.publisher.Publisher.publish.Goals as goal
 
 pub invariant_of-self-2 : goal.invariant_of-self-2
 invariant_of-self-2 g c =
-    let mine = g.V.Origin.mine in
+    let mine = g.V.ListId.mine in
     let i = c.self.invariant in
     let did = c.in-Ok.ensures in
     let copy : Copied = c.self.inside.copies.desk.shown.value in

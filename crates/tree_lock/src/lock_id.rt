@@ -1,12 +1,12 @@
 //! Which instance, which list of mergers, which budget and which board a lock works on: a type without bytes names them, so no
 //! call compares anything.
-use proposals::Room;
+use proposals::BoardId;
 use std::marker::Brand;
-use versions::Origin;
+use versions::ListId;
 
-/// Names a budget and the number of workers at the board, beside the board of a `Room` and the instance and the list of
-/// mergers of an `Origin`. A caller that has them picks them, as its `ghosts-F`.
-pub trait Site: Room + Origin {
+/// Names a budget and the number of workers at the board, beside the board of a `BoardId` and the instance and the list of
+/// mergers of an `ListId`. A caller that has them picks them, as its `ghosts-F`.
+pub trait LockId: BoardId + ListId {
     ghost use Rattle.std.specs.Prelude.{ℕ, Option};
 
     ghost budget: { Option ℕ };
@@ -14,7 +14,7 @@ pub trait Site: Room + Origin {
     ghost workers: { ℕ };
 }
 
-impl Site for Brand {
+impl LockId for Brand {
     ghost use Rattle.std.specs.Prelude.{None};
 
     ghost budget = { None };

@@ -2,8 +2,8 @@
 use std::marker::Brand;
 
 /// Names one board, and how many arcs there are to ask for: only lesser numbers are. A caller that has an unnamed board picks
-/// them, as its `ghosts-F-B-Room`.
-pub trait Room {
+/// them, as its `ghosts-F-B-BoardId`.
+pub trait BoardId {
     ghost use Rattle.std.specs.Prelude.{ℕ};
     ghost use Rattle.atomic_table.specs.Seated.{TableId};
 
@@ -12,8 +12,8 @@ pub trait Room {
     ghost arcs: { ℕ };
 }
 
-impl Room for Brand {
-    ghost use Rattle.proposals.specs.Rooms.{no_table};
+impl BoardId for Brand {
+    ghost use Rattle.proposals.specs.BoardIds.{no_table};
 
     ghost board = { no_table };
 

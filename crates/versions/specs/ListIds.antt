@@ -1,4 +1,4 @@
--- The origin that names nothing.
+-- The id that names nothing.
 use Rattle.std.specs.Prelude.{[]}
 use Rattle.logbook.specs.Pages.{Book}
 use Rattle.pit_model.specs.Mine.{Instance}

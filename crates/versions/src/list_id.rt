@@ -3,7 +3,7 @@ use std::marker::Brand;
 
 /// Names the book of a list of merger arcs, and the instance at whose opening tree the versions begin. A caller that has
 /// both picks them, as its `ghosts-F`.
-pub trait Origin {
+pub trait ListId {
     ghost use Rattle.logbook.specs.Pages.{Book};
     ghost use Rattle.pit_model.specs.Mine.{Instance};
 
@@ -12,8 +12,8 @@ pub trait Origin {
     ghost mine: { Instance };
 }
 
-impl Origin for Brand {
-    ghost use Rattle.versions.specs.Origins.{no_book, no_mine};
+impl ListId for Brand {
+    ghost use Rattle.versions.specs.ListIds.{no_book, no_mine};
 
     ghost book = { no_book };
 
