@@ -7,7 +7,7 @@ use Rattle.pit_model.specs.Journal.{is_used_up, applied_count, IsLawful, AreSeat
 use Rattle.pit_model.specs.FirstRun.{HasMerger, HasNoMerger, IsFirstMerger}
 use Rattle.certificate.specs.Certificate.{IsCertificateOf}
 use Rattle.pit_model.specs.Version.{applied_arcs}
-use Rattle.proposals.specs.declared.knows.Desk.{Desk}
+use Rattle.proposals.specs.declared.knows.WorkerLedger.{WorkerLedger}
 use Rattle.tree_lock.specs.Held.{Held, Decides}
 use Rattle.tree_lock.specs.Served.{MeetsJournal}
 use Rattle.merging.specs.declared.outcome.Outcome.{Outcome}
@@ -35,5 +35,5 @@ DecidesFirst old new (Some verdict) = (arc : ℕ) × IsFirstMerger old.mine old.
 
 -- a worker's seats have met the holder's: what it asked and collected agrees with the entries under its seat, and its seat to look
 -- from, which is None only while it is lent, is told of all mergers
-abbrev pub HasMet : List Entry → Desk → Option (List ℕ) → Type 0
+abbrev pub HasMet : List Entry → WorkerLedger → Option (List ℕ) → Type 0
 HasMet journal asks looks = MeetsJournal asks journal × IfSome looks (λ list. list ≡ applied_arcs journal)

@@ -1,7 +1,7 @@
 //! The board: one word for each worker, and the seats that step on them.
 //! It is made without a name, and named by a type; its calls stand in `ask`, `serve` and `settle`.
 ghost use Rattle.std.specs.Prelude.{◌≡◌, ◌<◌, [], length, IfOk, IfErr, replicate};
-ghost use Rattle.proposals.specs.Ledger.{opener, nothing, desks};
+ghost use Rattle.proposals.specs.Ledger.{opener, nothing, worker_ledgers};
 ghost use Rattle.faults.specs.Refused.{no_memory, IsNoRoom};
 
 use crate::board_id::BoardId;
@@ -83,7 +83,7 @@ impl<B: BoardId> Board<B> {
     ) -> Result<(Board<B>, Vec<WorkerSeat<B>>, HolderSeat<B>), Fault>
         requires board { unnamed ≡ B.board }
         requires arcs { arcs ≡ B.arcs }
-        ensures workers { IfOk result (λ made. made.1.items ≡ desks unnamed.words) }
+        ensures workers { IfOk result (λ made. made.1.items ≡ worker_ledgers unnamed.words) }
         ensures holder { IfOk result (λ made. made.2 ≡ replicate unnamed.words nothing) }
         ensures refused { IfErr result (λ fault. fault ≡ no_memory) }
     {

@@ -1,6 +1,6 @@
 //! The seats at a counter of chunks, and the name under which a counter and its seats belong together.
 //! `draws` has their calls.
-use crate::hand::Hand;
+use crate::draw_ledger::DrawLedger;
 use atomic_table::Seat;
 use std::marker::{Brand, Model, PhantomData};
 
@@ -22,14 +22,14 @@ impl CounterId for Brand {
 pub struct DrawSeat<L: CounterId> {
     pub(crate) chunks: u32,
     pub(crate) ended: bool,
-    pub(crate) seat: Seat<(), Hand>,
+    pub(crate) seat: Seat<(), DrawLedger>,
     pub(crate) id: PhantomData<L>,
 }
 
 impl<L: CounterId> Model for DrawSeat<L> {
-    ghost use Rattle.proposals.specs.declared.hand.Hand.{Hand};
+    ghost use Rattle.proposals.specs.declared.draw_ledger.DrawLedger.{DrawLedger};
 
-    ghost Value = { Hand };
+    ghost Value = { DrawLedger };
 
     ghost use Rattle.proposals.specs.DrawSeats.{IsDrawer};
 

@@ -4,15 +4,15 @@ ghost use Rattle.std.specs.Prelude.{◌≡◌, ◌<◌, ◌≤◌, [], length, I
 ghost use Rattle.proposals.specs.Drawn.{batch, whole, new_seats, Gets, GetsNone, all_drawn, IsEachBelowOnce};
 ghost use Rattle.faults.specs.Refused.{no_memory, no_seat};
 
+use crate::draw_ledger::{Batch, DrawLedger};
 use crate::draw_seats::{CounterId, DrawSeat};
 use crate::draw_steps::{Counts, Deal, Draw, Gather, Sit};
-use crate::hand::{Batch, Hand};
 use atomic_table::{Seat, Table};
 use faults::Fault;
 use std::alloc::Global;
 use std::marker::{Model, PhantomData};
 
-type Counter = Table<(), Hand, Batch, Counts, Global>;
+type Counter = Table<(), DrawLedger, Batch, Counts, Global>;
 
 /// A counter from which seats draw the numbers of chunks, from 0. To a contract it is the number of its seats.
 #[derive(Drop)]
@@ -38,7 +38,7 @@ impl<L: CounterId> Model for Draws<L> {
 #[derive(Drop)]
 pub struct UnnamedDraws {
     counter: Counter,
-    seat: Seat<(), Hand>,
+    seat: Seat<(), DrawLedger>,
     chunks: u32,
     seats: u32,
     ghost seated: { seat.table_id ≡ counter.shared.table_id },

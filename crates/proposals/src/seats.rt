@@ -15,13 +15,13 @@ pub struct WorkerSeat<B: BoardId> {
 }
 
 impl<B: BoardId> Model for WorkerSeat<B> {
-    ghost use Rattle.proposals.specs.declared.knows.Desk.{Desk};
+    ghost use Rattle.proposals.specs.declared.knows.WorkerLedger.{WorkerLedger};
 
-    ghost Value = { Desk };
+    ghost Value = { WorkerLedger };
 
-    ghost use Rattle.proposals.specs.Seats.{desk_in, IsWorker};
+    ghost use Rattle.proposals.specs.Seats.{worker_ledger_in, IsWorker};
 
-    ghost view = { λ s. desk_in s.seat };
+    ghost view = { λ s. worker_ledger_in s.seat };
 
     ghost invariant = { λ s. IsWorker B.board s.cell s.ask s.seat };
 }
@@ -39,9 +39,9 @@ impl<B: BoardId> Model for HolderSeat<B> {
 
     ghost Value = { List Served };
 
-    ghost use Rattle.proposals.specs.Seats.{rack_in, IsHolder};
+    ghost use Rattle.proposals.specs.Seats.{holder_ledger_in, IsHolder};
 
-    ghost view = { λ s. (rack_in s.seat).served };
+    ghost view = { λ s. (holder_ledger_in s.seat).served };
 
     ghost invariant = { λ s. IsHolder B.board s.seat };
 }

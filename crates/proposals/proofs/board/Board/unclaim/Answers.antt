@@ -1,7 +1,7 @@
 -- The load tells the arc that is claimed, so the store gives back the very ask.
 use Rattle.std.proofs.Common.{arith, Some, sym, ap, ◌∙◌, ◌≡◌, ◌-◌, ◌<◌, subst, ℕ}
-use Rattle.proposals.specs.Seats.{rack_in}
-use Rattle.proposals.specs.Ledger.{claimed_from, rack_or}
+use Rattle.proposals.specs.Seats.{holder_ledger_in}
+use Rattle.proposals.specs.Ledger.{claimed_from, holder_ledger_or}
 use Rattle.proposals.proofs.Seated.{cell_in, read_as, same_holder, unclaim_as}
 use Rattle.proposals.proofs.board.Board.unclaim.Goals as goal
 
@@ -25,6 +25,6 @@ store-requires g c =
     let has = subst (λ xs. claimed_from xs (c.args.worker - 1) ≡ Some c.requires.claimed.0) (sym v) c.requires.claimed.1 in
     let e = c.load-found.ensures in
     let j = same_holder g.B.BoardId.board c.holder.inside.seat c.load-found.new.seat i e.0 e.2.0 in
-    let found = e.2.1 (rack_in c.holder.inside.seat) c.requires.claimed.0 i.is has in
-    let again = ap (λ m. claimed_from (rack_or m.0.holder).served (c.args.worker - 1)) e.2.0 ∙ has in
+    let found = e.2.1 (holder_ledger_in c.holder.inside.seat) c.requires.claimed.0 i.is has in
+    let again = ap (λ m. claimed_from (holder_ledger_or m.0.holder).served (c.args.worker - 1)) e.2.0 ∙ has in
     (j.table ∙ sym named, inside, unclaim_as g.B.BoardId.board _ c.args.self.now.cells.shared.table_id.slots (c.args.worker - 1) c.load-found.new.seat j c.requires.claimed.0 again (c.load-found.result - 4294967296) low (omega (arith, found.0)))

@@ -4,7 +4,7 @@ use std::collections::LinkedList;
 
 /// What a seat knows: the number of chunks, how many seats it stands for, and the numbers that the counter gave to it, in order.
 /// No value of it is made.
-pub struct Hand {
+pub struct DrawLedger {
     pub chunks: u64,
     pub seats: u64,
     pub drawn: LinkedList<u64>,
