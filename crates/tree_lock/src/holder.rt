@@ -135,7 +135,7 @@ impl<S: LockId> Holder<S> {
         self.book.decide(rt, DRIVER, arc)
     }
 
-    /// Tells a seat to look from of all mergers that were made: all that it saw or was told of before was a beginning of these.
+    /// Tells a seat to look from of all mergers that were made: all that it saw or was told of before was a prefix of these.
     /// True where nothing is left to be published, which is always.
     pub fn tell(&mut self, seat: &mut LookSeat<S>) -> bool
         ensures same { self.new ≡ self.old }

@@ -87,7 +87,7 @@ impl<S: LockId> SharedTree<S> {
     }
 
     /// Takes the lock and tells the seat of all mergers that were made by then: all that it saw or was told of before was a
-    /// beginning of these. True where nothing is left to be published, which is always.
+    /// prefix of these. True where nothing is left to be published, which is always.
     pub fn tell<R: Wait>(&self, rt: &R, seat: &mut LookSeat<S>) -> bool
         ensures before { IsPrefix seat.old seat.new }
         ensures all { result ≡ true }

@@ -6,8 +6,8 @@ ghost use Rattle.faults.specs.Refused.{no_seat};
 ghost use Rattle.pit_model.specs.Tree.{is_merger, is_strong};
 ghost use Rattle.pit_model.specs.Version.{version_tree, IsVersion};
 
-use crate::beginning::Beginning;
 use crate::list_id::ListId;
+use crate::prefix::Prefix;
 use crate::tree_copy::TreeCopy;
 use crossbeam_utils::rule::Unruled;
 use faults::Fault;
@@ -19,7 +19,7 @@ use std::marker::Model;
 #[derive(Drop)]
 pub struct LookSeats<V: ListId> {
     factory: Factory<TreeCopy<V>, (), Unruled>,
-    list: Beginning<V>,
+    list: Prefix<V>,
 }
 
 impl<V: ListId> Model for LookSeats<V> {
@@ -35,7 +35,7 @@ impl<V: ListId> Model for LookSeats<V> {
 #[derive(Drop)]
 pub struct LookSeat<V: ListId> {
     reader: Reader<TreeCopy<V>, (), Unruled>,
-    list: Beginning<V>,
+    list: Prefix<V>,
 }
 
 impl<V: ListId> Model for LookSeat<V> {
@@ -49,7 +49,7 @@ impl<V: ListId> Model for LookSeat<V> {
 /// A version of the tree, which stays as it is until it is left. To a contract it is the arcs that were merged over.
 pub struct Version<V: ListId> {
     reading: Reading<TreeCopy<V>, (), Unruled>,
-    list: Beginning<V>,
+    list: Prefix<V>,
 }
 
 impl<V: ListId> Model for Version<V> {
@@ -64,10 +64,7 @@ impl<V: ListId> Model for Version<V> {
 }
 
 impl<V: ListId> LookSeats<V> {
-    pub(crate) fn new(
-        factory: Factory<TreeCopy<V>, (), Unruled>,
-        list: Beginning<V>,
-    ) -> LookSeats<V>
+    pub(crate) fn new(factory: Factory<TreeCopy<V>, (), Unruled>, list: Prefix<V>) -> LookSeats<V>
         ensures { result ≡ list }
     {
         LookSeats { factory, list }
@@ -90,14 +87,14 @@ impl<V: ListId> LookSeats<V> {
 
 impl<V: ListId> LookSeat<V> {
     /// What it saw or was told of.
-    pub(crate) fn list(&self) -> &Beginning<V>
+    pub(crate) fn list(&self) -> &Prefix<V>
         ensures { result.now ≡ self.now }
     {
         &self.list
     }
 
     /// It is told of this list.
-    pub(crate) fn learn(&mut self, list: Beginning<V>)
+    pub(crate) fn learn(&mut self, list: Prefix<V>)
         ensures { self.new ≡ list }
     {
         self.list = list;

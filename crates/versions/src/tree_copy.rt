@@ -5,9 +5,9 @@ ghost use Rattle.pit_model.specs.Tree.{opening};
 ghost use Rattle.pit_model.specs.Version.{IsVersion};
 ghost use Rattle.versions.specs.Published.{copied, taken_in};
 
-use crate::beginning::Beginning;
-use crate::head::Head;
 use crate::list_id::ListId;
+use crate::list_word::ListWord;
+use crate::prefix::Prefix;
 use crate::taken::{Addition, TakenIn};
 use left_right::Absorb;
 use norm_tree::NormTree;
@@ -19,7 +19,7 @@ use std::sync::Arc;
 #[derive(Drop)]
 pub struct TreeCopy<V: ListId> {
     tree: NormTree,
-    head: Arc<Head<V>, Global>,
+    list_word: Arc<ListWord<V>, Global>,
     arcs: TakenIn<V>,
 }
 
@@ -37,7 +37,7 @@ impl<V: ListId> Model for TreeCopy<V> {
 
 impl<V: ListId> TreeCopy<V> {
     /// The opening tree, before any arc.
-    pub fn new(tree: NormTree, head: Arc<Head<V>, Global>, list: Beginning<V>) -> TreeCopy<V>
+    pub fn new(tree: NormTree, list_word: Arc<ListWord<V>, Global>, list: Prefix<V>) -> TreeCopy<V>
         requires mine { tree.mine ≡ V.mine }
         requires opening { tree.tree ≡ opening tree.mine }
         requires empty { list ≡ [] }
@@ -45,7 +45,7 @@ impl<V: ListId> TreeCopy<V> {
     {
         TreeCopy {
             tree,
-            head,
+            list_word,
             arcs: TakenIn::new(list),
         }
     }
@@ -74,7 +74,7 @@ impl<V: ListId> TreeCopy<V> {
     {
         let TreeCopy {
             tree,
-            head: _,
+            list_word: _,
             arcs: _,
         } = self;
         tree
@@ -96,7 +96,7 @@ impl<V: ListId> Absorb<Addition<V>> for TreeCopy<V> {
         _other: &TreeCopy<V>,
     ) -> Result<(), AllocError> {
         if self.arcs.are(operation.before()) && self.tree.try_merge(operation.arc()) {
-            self.arcs.grow(&self.head, operation);
+            self.arcs.grow(&self.list_word, operation);
         }
         Ok(())
     }

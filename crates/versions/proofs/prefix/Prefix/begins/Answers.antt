@@ -2,7 +2,7 @@ use Rattle.std.proofs.Common.{◌≤◌, ap, subst, arith, length, List}
 use mathlib.Core.List.{IsPrefix}
 use Rattle.versions.specs.declared.link.Link.{Link}
 use Rattle.versions.proofs.Lists.{begins, arcs_begin}
-use Rattle.versions.proofs.beginning.Beginning.begins.Goals as goal
+use Rattle.versions.proofs.prefix.Prefix.begins.Goals as goal
 
 pub returns : goal.returns
 returns g c fits =

@@ -4,7 +4,7 @@ use Rattle.versions.specs.declared.link.Link.{Link}
 use Rattle.versions.specs.ArcList.{link, last_of}
 use Rattle.versions.proofs.Lists.{last_of-snoc}
 use Rattle.versions.proofs.StepLaws.{writes}
-use Rattle.versions.proofs.scribe.Scribe.write.Goals as goal
+use Rattle.versions.proofs.list_writer.ListWriter.write.Goals as goal
 
 pub compare_exchange-self-inside-requires : goal.compare_exchange-self-inside-requires
 compare_exchange-self-inside-requires g c =

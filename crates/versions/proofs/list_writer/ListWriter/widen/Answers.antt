@@ -1,6 +1,6 @@
 use Rattle.std.proofs.Common.{ap, sym, ◌∙◌}
 use Rattle.versions.proofs.StepLaws.{widens}
-use Rattle.versions.proofs.scribe.Scribe.widen.Goals as goal
+use Rattle.versions.proofs.list_writer.ListWriter.widen.Goals as goal
 
 pub compare_exchange-requires : goal.compare_exchange-requires
 compare_exchange-requires g c =

@@ -3,7 +3,7 @@ use mathlib.Core.List.{IsPrefix}
 use Rattle.versions.specs.declared.link.Link.{Link}
 use Rattle.versions.specs.ArcList.{word_of, arcs_of}
 use Rattle.versions.proofs.Lists.{grown, decoded}
-use Rattle.versions.proofs.beginning.Beginning.followed.Goals as goal
+use Rattle.versions.proofs.prefix.Prefix.followed.Goals as goal
 
 pub returns : goal.returns
 returns g c =

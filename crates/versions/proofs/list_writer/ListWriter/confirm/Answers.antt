@@ -4,7 +4,7 @@ use Rattle.logbook.specs.Pages.{cell}
 use Rattle.versions.specs.declared.link.Link.{Link}
 use Rattle.versions.proofs.Lists.{through, arcs_begin}
 use Rattle.versions.proofs.StepLaws.{whole}
-use Rattle.versions.proofs.scribe.Scribe.confirm.Goals as goal
+use Rattle.versions.proofs.list_writer.ListWriter.confirm.Goals as goal
 
 pub returns-clause-begins : goal.returns-clause-begins
 returns-clause-begins g c =

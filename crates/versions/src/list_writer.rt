@@ -1,15 +1,15 @@
 //! Who writes the list of arcs. There is one, so it knows the list whole, and with it that whatever anyone saw is a
-//! beginning of it.
+//! prefix of it.
 ghost use Rattle.std.specs.Prelude.{◌≡◌, ◌<◌, ◌^◌, [], ◌∷◌, ◌++◌, length, IfOk, IfErr};
 ghost use mathlib.Core.List.{IsPrefix};
 ghost use Rattle.logbook.specs.Pages.{nib, may_write};
 ghost use Rattle.faults.specs.Refused.{no_memory, no_seat};
 ghost use Rattle.versions.specs.ArcList.{link, head_of};
 
-use crate::beginning::Beginning;
-use crate::head::{Head, UNIT};
 use crate::link::Link;
 use crate::list_id::ListId;
+use crate::list_word::{ListWord, UNIT};
+use crate::prefix::Prefix;
 use crate::steps::{Begin, Confirm, ListRule, Look, NextLink, Nothing, Widen, Write};
 use faults::Fault;
 use logbook::{Offer, Pen, Seen, Start, Word};
@@ -63,15 +63,15 @@ impl UnnamedList {
 
 /// To a contract it is the list.
 #[derive(Drop)]
-pub struct Scribe<V: ListId> {
-    head: Arc<Head<V>, Global>,
+pub struct ListWriter<V: ListId> {
+    list_word: Arc<ListWord<V>, Global>,
     count: u64,
     last: u32,
     seen: Seen<Link, u64, ListRule>,
     pen: Pen,
 }
 
-impl<V: ListId> Model for Scribe<V> {
+impl<V: ListId> Model for ListWriter<V> {
     ghost use Rattle.std.specs.Prelude.{◌≡◌, ℕ, ◌+◌, List, length};
     ghost use Rattle.logbook.specs.Pages.{may_write};
     ghost use Rattle.versions.specs.ArcList.{arcs_of, last_of};
@@ -83,20 +83,20 @@ impl<V: ListId> Model for Scribe<V> {
     ghost invariant = { λ s. (s.seen.book ≡ V.book) × (length s.seen.log ≡ s.count + 1) × ((last_of s.seen.log).arc ≡ s.last) × (s.pen.book ≡ V.book) × (s.pen.nib.right ≡ may_write) × (s.pen.nib.key ≡ (last_of s.seen.log).next) };
 }
 
-impl<V: ListId> Scribe<V> {
+impl<V: ListId> ListWriter<V> {
     /// The list under the name `V`. Errors: `NoMemory` where memory for its word was refused.
-    pub fn new(alloc: Global, list: UnnamedList) -> Result<Scribe<V>, Fault>
+    pub fn new(alloc: Global, list: UnnamedList) -> Result<ListWriter<V>, Fault>
         requires { list ≡ V.book }
-        ensures made { IfOk result (λ scribe. scribe ≡ []) }
+        ensures made { IfOk result (λ list_writer. list_writer ≡ []) }
         ensures refused { IfErr result (λ fault. fault ≡ no_memory) }
     {
         let UnnamedList { word, seen, pen } = list;
-        let head = Head {
+        let list_word = ListWord {
             word,
             id: PhantomData,
         };
-        Ok(Scribe {
-            head: Arc::new(alloc, head)?,
+        Ok(ListWriter {
+            list_word: Arc::new(alloc, list_word)?,
             count: 0,
             last: 0,
             seen,
@@ -105,10 +105,10 @@ impl<V: ListId> Scribe<V> {
     }
 
     /// The word of the list, to be shared. Errors: `NoMemory` where the count of its owners is full.
-    pub fn head(&self) -> Result<Arc<Head<V>, Global>, Fault>
+    pub fn list_word(&self) -> Result<Arc<ListWord<V>, Global>, Fault>
         ensures { IfErr result (λ fault. fault ≡ no_memory) }
     {
-        Ok(Arc::try_clone(&self.head)?)
+        Ok(Arc::try_clone(&self.list_word)?)
     }
 
     /// How many arcs the list has.
@@ -118,11 +118,11 @@ impl<V: ListId> Scribe<V> {
         self.count
     }
 
-    /// The whole list, as a beginning.
-    pub fn whole(&self) -> Beginning<V>
+    /// The whole list, as a prefix.
+    pub fn whole(&self) -> Prefix<V>
         ensures { result ≡ self.now }
     {
-        Beginning {
+        Prefix {
             count: self.count,
             last: self.last,
             seen: self.seen.again(),
@@ -131,7 +131,7 @@ impl<V: ListId> Scribe<V> {
     }
 
     /// The list begins with whatever was seen of it.
-    pub fn confirm(&mut self, other: &Beginning<V>)
+    pub fn confirm(&mut self, other: &Prefix<V>)
         ensures same { self.new ≡ self.old }
         ensures begins { IsPrefix other.now self.old }
     {
@@ -140,7 +140,7 @@ impl<V: ListId> Scribe<V> {
         let mut offer: Offer<Link, u64, ListRule, Nothing> = seen.plain::<Nothing, Link, Look>(
             &Link::blank(),
         );
-        let word = &self.head.word;
+        let word = &self.list_word.word;
         word.compare_exchange::<Confirm, Nothing>(0, 0, &mut seen, &mut offer, &mut self.pen);
     }
 
@@ -153,7 +153,7 @@ impl<V: ListId> Scribe<V> {
         let mut offer: Offer<Link, u64, ListRule, Nothing> = seen.plain::<Nothing, Link, Look>(
             &Link::blank(),
         );
-        let word = &self.head.word;
+        let word = &self.list_word.word;
         word.compare_exchange::<Widen, Nothing>(0, 0, &mut seen, &mut offer, &mut pen);
         let _cell: Word<Link, u64, ListRule> = Word::tracked(0, &mut pen);
         pen
@@ -174,7 +174,7 @@ impl<V: ListId> Scribe<V> {
             .plain::<Nothing, NextLink, Write>(&next);
         let old = (self.count + 1) * UNIT + u64::from(self.last);
         let new = (self.count + 2) * UNIT + u64::from(arc);
-        let word = &self.head.word;
+        let word = &self.list_word.word;
         word.compare_exchange::<Write, Nothing>(
             old,
             new,

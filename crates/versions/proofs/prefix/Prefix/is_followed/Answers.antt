@@ -5,7 +5,7 @@ use Rattle.versions.specs.ArcList.{arcs_of, last_of}
 use Rattle.versions.specs.Published.{last_arc}
 use Rattle.versions.proofs.Lists.{begins, grown}
 use Rattle.versions.proofs.Same.{same_where, not_same_last, last_arc-snoc, last_of_arcs}
-use Rattle.versions.proofs.beginning.Beginning.is_followed.Goals as goal
+use Rattle.versions.proofs.prefix.Prefix.is_followed.Goals as goal
 
 pub returns-then-other-arc-clause-exact : goal.returns-then-other-arc-clause-exact
 returns-then-other-arc-clause-exact g c =

@@ -16,7 +16,7 @@ pub(crate) const MOST: u64 = 1 << 36;
 
 /// The word, of the id's book.
 #[derive(Drop)]
-pub struct Head<V: ListId> {
+pub struct ListWord<V: ListId> {
     pub(crate) word: Word<Link, u64, ListRule>,
     pub(crate) id: PhantomData<V>,
     ghost head_is: { word ≡ head_of V.book },

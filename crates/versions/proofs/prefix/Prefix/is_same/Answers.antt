@@ -3,7 +3,7 @@ use mathlib.Core.List.{IsPrefix}
 use Rattle.versions.specs.declared.link.Link.{Link}
 use Rattle.versions.specs.ArcList.{arcs_of}
 use Rattle.versions.proofs.Same.{as_long, same_where}
-use Rattle.versions.proofs.beginning.Beginning.is_same.Goals as goal
+use Rattle.versions.proofs.prefix.Prefix.is_same.Goals as goal
 
 pub returns-clause-exact : goal.returns-clause-exact
 returns-clause-exact g c =

@@ -1,6 +1,6 @@
 use Rattle.std.proofs.Common.{ap, sym, ◌∙◌}
 use Rattle.versions.proofs.StepLaws.{begins}
-use Rattle.versions.proofs.scribe.UnnamedList.new.Goals as goal
+use Rattle.versions.proofs.list_writer.UnnamedList.new.Goals as goal
 
 pub compare_exchange-found-requires : goal.compare_exchange-found-requires
 compare_exchange-found-requires c =
