@@ -20,32 +20,32 @@ const LOOKS_BEFORE_WAITING: u32 = 1_000;
 
 /// The lock, while a worker has it, and how many asks more it may serve with it. It is not `Drop`: it ends by `end`, or by `left`
 /// after the last ask.
-struct Turn<'a, S: LockId> {
+struct HeldLock<'a, S: LockId> {
     holder: MutexGuard<'a, Holder<S>>,
     asks: u32,
 }
 
-impl<'a, S: LockId> Turn<'a, S> {
-    fn begin(holder: MutexGuard<'a, Holder<S>>) -> Turn<'a, S>
+impl<'a, S: LockId> HeldLock<'a, S> {
+    fn begin(holder: MutexGuard<'a, Holder<S>>) -> HeldLock<'a, S>
         ensures { result.asks ≡ 64 }
     {
-        Turn {
+        HeldLock {
             holder,
             asks: ASKS_IN_TURN,
         }
     }
 
     /// The same after an ask; None after the last, and then the lock is free.
-    fn left(self) -> Option<Turn<'a, S>>
+    fn left(self) -> Option<HeldLock<'a, S>>
         ensures ends { self.entry.asks ≤ 1 → result ≡ None }
-        ensures fewer { IfSome result (λ turn. suc turn.asks ≡ self.entry.asks) }
+        ensures fewer { IfSome result (λ held. suc held.asks ≡ self.entry.asks) }
     {
-        let Turn { holder, asks } = self;
+        let HeldLock { holder, asks } = self;
         if asks <= 1 {
             MutexGuard::unlock(holder);
             return None;
         }
-        Some(Turn {
+        Some(HeldLock {
             holder,
             asks: asks - 1,
         })
@@ -53,7 +53,7 @@ impl<'a, S: LockId> Turn<'a, S> {
 
     /// Frees the lock.
     fn end(self) {
-        let Turn { holder, asks: _ } = self;
+        let HeldLock { holder, asks: _ } = self;
         MutexGuard::unlock(holder);
     }
 }
@@ -121,15 +121,15 @@ impl<S: LockId> Worker<S> {
         &mut self,
         rt: &R,
         sweep: &Sweep<'a, S, G, L>,
-        turn: Turn<'a, S>,
-    ) -> (bool, Option<Turn<'a, S>>) {
-        let mut turn = turn;
-        let served = turn.holder.serve(rt, sweep.board);
+        held: HeldLock<'a, S>,
+    ) -> (bool, Option<HeldLock<'a, S>>) {
+        let mut held = held;
+        let served = held.holder.serve(rt, sweep.board);
         let goes_on = match self.collect(sweep) {
             Some(goes_on) => served.is_ok() && goes_on,
             None => false,
         };
-        (goes_on, turn.left())
+        (goes_on, held.left())
     }
 
     /// Collects the reply of whoever has the lock, or serves once the lock is free. It waits for the lock only where it found it
@@ -138,10 +138,10 @@ impl<S: LockId> Worker<S> {
         &mut self,
         rt: &R,
         sweep: &Sweep<'a, S, G, L>,
-    ) -> (bool, Option<Turn<'a, S>>) {
+    ) -> (bool, Option<HeldLock<'a, S>>) {
         for _look in 0..LOOKS_BEFORE_WAITING {
             match sweep.shared.try_lock() {
-                Some(holder) => return self.serve(rt, sweep, Turn::begin(holder)),
+                Some(holder) => return self.serve(rt, sweep, HeldLock::begin(holder)),
                 None => {}
             }
             match self.collect(sweep) {
@@ -149,7 +149,7 @@ impl<S: LockId> Worker<S> {
                 None => {}
             }
         }
-        self.serve(rt, sweep, Turn::begin(sweep.shared.lock(rt)))
+        self.serve(rt, sweep, HeldLock::begin(sweep.shared.lock(rt)))
     }
 
     /// Asks for the arc, serves where nobody answered yet, and collects. It answers whether the worker is to go on, and the lock
@@ -158,16 +158,16 @@ impl<S: LockId> Worker<S> {
         &mut self,
         rt: &R,
         sweep: &Sweep<'a, S, G, L>,
-        turn: Option<Turn<'a, S>>,
+        held: Option<HeldLock<'a, S>>,
         arc: u32,
-    ) -> (bool, Option<Turn<'a, S>>)
+    ) -> (bool, Option<HeldLock<'a, S>>)
         requires { arc < S.arcs }
     {
         sweep.board.ask(&mut self.asks, arc);
         sweep.gate.asked(self.number);
-        match (self.collect(sweep), turn) {
-            (Some(goes_on), turn) => (goes_on, turn),
-            (None, Some(turn)) => self.serve(rt, sweep, turn),
+        match (self.collect(sweep), held) {
+            (Some(goes_on), held) => (goes_on, held),
+            (None, Some(held)) => self.serve(rt, sweep, held),
             (None, None) => self.meet_holder(rt, sweep),
         }
     }
@@ -179,15 +179,15 @@ impl<S: LockId> Worker<S> {
         sweep: &Sweep<'a, S, G, L>,
         arcs: &[u32],
     ) -> bool {
-        let mut turn = None;
+        let mut held = None;
         let mut goes_on = true;
         for &arc in arcs {
             if goes_on && self.sees_merger(arc) {
-                (goes_on, turn) = self.propose(rt, sweep, turn, arc);
+                (goes_on, held) = self.propose(rt, sweep, held, arc);
             }
         }
-        match turn {
-            Some(turn) => turn.end(),
+        match held {
+            Some(held) => held.end(),
             None => {}
         }
         goes_on
