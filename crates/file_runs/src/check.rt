@@ -4,7 +4,7 @@ ghost use Rattle.file_runs.specs.Ended.{Ended};
 ghost use Rattle.file_runs.specs.Over.{EndsCheck};
 ghost use Rattle.file_runs.specs.Place.{state};
 
-use crate::ending::told;
+use crate::ending::report_fault;
 use crate::inputs::InputFiles;
 use crate::mine::open_mine;
 use crate::options::CheckOptions;
@@ -47,5 +47,5 @@ pub fn check_call<F: InputFiles, W: OutBytes, E: OutBytes>(
         (state files.old (W.progress out.old)) (state files.new (W.progress out.new))) }
 {
     let outcome = check_files(alloc, files, options, out);
-    told(err, &outcome)
+    report_fault(err, &outcome)
 }

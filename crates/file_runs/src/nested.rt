@@ -4,7 +4,7 @@ ghost use Rattle.file_runs.specs.Ended.{Ended};
 ghost use Rattle.file_runs.specs.Nested.{EndsShells};
 ghost use Rattle.file_runs.specs.Place.{state};
 
-use crate::ending::told;
+use crate::ending::report_fault;
 use crate::inputs::InputFiles;
 use crate::options::ShellsOptions;
 use crate::place::Readable;
@@ -62,5 +62,5 @@ pub fn shells_call<R: AllocGlobal + Threads + Wait + Sync, F: InputFiles, W: Out
         (state files.old (W.progress out.old)) (state files.new (W.progress out.new))) }
 {
     let outcome = shells_files(rt, files, options, out);
-    told(err, &outcome)
+    report_fault(err, &outcome)
 }

@@ -4,7 +4,7 @@ ghost use Rattle.file_runs.specs.Ended.{Ended};
 ghost use Rattle.file_runs.specs.Place.{state};
 ghost use Rattle.file_runs.specs.Solved.{EndsSolve};
 
-use crate::ending::told;
+use crate::ending::report_fault;
 use crate::made::{Outputs, end_outputs, make_outputs};
 use crate::mine::open_mine;
 use crate::options::SolveOptions;
@@ -75,5 +75,5 @@ pub fn solve_call<
         (state files.old (W.progress out)) (state files.new (W.progress result.1))) }
 {
     let (outcome, out) = solve_files(rt, files, options, out);
-    (told(err, &outcome), out)
+    (report_fault(err, &outcome), out)
 }

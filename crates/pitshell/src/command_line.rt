@@ -135,7 +135,7 @@ fn shells_command<'a>(alloc: Global) -> Result<Command<'a>, AllocError> {
         .about("Writes the nested pits: the ultimate pit at each price factor")
         .after_help(STATUSES);
     let shells = with_columns(alloc, with_blocks(alloc, shells)?)?.arg(factors_list(alloc))?;
-    with_told(alloc, with_asked(alloc, shells, 5)?)
+    with_watch(alloc, with_asked(alloc, shells, 5)?)
 }
 
 /// The word of the mode.
@@ -214,7 +214,7 @@ fn output<'a>(alloc: Global, name: &'a str, help: &'a str) -> Arg<'a> {
 }
 
 /// What is told of a run beside its answer. Help shows it last.
-fn with_told<'a>(alloc: Global, command: Command<'a>) -> Result<Command<'a>, AllocError> {
+fn with_watch<'a>(alloc: Global, command: Command<'a>) -> Result<Command<'a>, AllocError> {
     command.arg(progress_seconds(alloc))?.arg(output(
         alloc,
         "stats",
@@ -244,7 +244,7 @@ fn solve_command<'a>(alloc: Global) -> Result<Command<'a>, AllocError> {
         .about("Writes the smallest closed set of greatest worth: the ultimate pit")
         .after_help(STATUSES);
     let solve = with_mine(alloc, with_asked(alloc, solve, 3)?)?;
-    with_told(alloc, with_outputs(alloc, solve)?)
+    with_watch(alloc, with_outputs(alloc, solve)?)
 }
 
 /// `pitshell` with its subcommands. Its version is the release.

@@ -2,7 +2,7 @@
 //! it did. The answer, the other files and the exit status are those of the call without it, but where the file cannot be made
 //! or not be kept.
 
-use crate::options::{Options, Told};
+use crate::options::{Options, WatchOptions};
 use crate::output::Output;
 use crate::stats::{end_stats, make_stats, shells_inputs, solve_inputs};
 use crate::system_files::SystemFiles;
@@ -37,7 +37,7 @@ fn call<R: AllocGlobal + Threads + Wait + Sync>(
 }
 
 /// The call beside a thread that watches it, and how long it was at each phase: no time where the thread could not be started.
-fn watched_call<R: AllocGlobal + Threads + Wait + Clock + Eprint + Sync>(
+fn timed_call<R: AllocGlobal + Threads + Wait + Clock + Eprint + Sync>(
     rt: &HostRuntime,
     threads: &R,
     options: &Options<'_>,
@@ -75,7 +75,7 @@ fn watched<R: AllocGlobal + Threads + Wait + Clock + Eprint + Sync>(
     rt: &HostRuntime,
     threads: &R,
     options: &Options<'_>,
-    asked: &Told<'_>,
+    asked: &WatchOptions<'_>,
 ) -> Result<u8, Fault> {
     let mut files = SystemFiles {
         rt,
@@ -83,7 +83,7 @@ fn watched<R: AllocGlobal + Threads + Wait + Clock + Eprint + Sync>(
         stats: stats_of(rt, options, asked.stats)?,
     };
     let every = asked.every.map(Duration::from_secs);
-    let (status, times) = watched_call(rt, threads, options, every, &mut files);
+    let (status, times) = timed_call(rt, threads, options, every, &mut files);
     let SystemFiles { gauge, stats, .. } = files;
     if let (Some(output), Some(counted)) = (stats, gauge.counted()) {
         let is_kept = status == 0 || status == 3;
@@ -94,11 +94,11 @@ fn watched<R: AllocGlobal + Threads + Wait + Clock + Eprint + Sync>(
 
 /// Does what is asked for, tells of it as is asked for, and answers the exit status. A fault of the file of what the run did is
 /// told as one of the call.
-pub fn told_call<R: AllocGlobal + Threads + Wait + Clock + Eprint + Sync>(
+pub fn watched_call<R: AllocGlobal + Threads + Wait + Clock + Eprint + Sync>(
     rt: &HostRuntime,
     threads: &R,
     options: &Options<'_>,
-    asked: &Told<'_>,
+    asked: &WatchOptions<'_>,
 ) -> Result<u8, Fault> {
     if asked.is_nothing() {
         let mut files = SystemFiles {

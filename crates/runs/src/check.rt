@@ -14,7 +14,7 @@ use report::write_answer;
 use std::alloc::Global;
 
 /// How a run ends that has answered.
-fn told(answer: bool) -> Status
+fn status_of(answer: bool) -> Status
     ensures { result ≡ status_of_answer answer }
 {
     if answer { Status::Done } else { Status::No }
@@ -62,5 +62,5 @@ pub fn run_check<M: InBytes, P: InBytes, F: InBytes, C: InBytes, W: OutBytes>(
     task.mine.law();
     let answer = answer_of(alloc, &task, certificate)?;
     write_answer(out, answer)?;
-    Ok(told(answer))
+    Ok(status_of(answer))
 }

@@ -38,7 +38,7 @@ fn replay_of<J: InBytes>(alloc: Global, task: &Task, journal: &mut J) -> Result<
     ensures replayed { IfOk result (IsReplayed (task_of task.now) (reading (J.progress journal.old) (J.progress journal.new) (J.IsAtEnd journal.new))) }
     ensures refused { IfErr result (λ e. RefusesJournal e.refusal e (task_of task.now) (reading (J.progress journal.old) (J.progress journal.new) (J.IsAtEnd journal.new))) }
 {
-    if task.fixed.is_none() {
+    if task.fixed.is_empty() {
         return replay_on(alloc, &task.mine, journal);
     }
     let rest = Rest::of(alloc, &task.mine, &task.fixed)?;

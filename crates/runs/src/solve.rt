@@ -69,7 +69,7 @@ fn put_entries<J: OutBytes>(
     ensures refused { IfErr result (λ e. RefusesEntries (task_of task.now) budget entries.now e.refusal e (J.progress writer.old) (J.progress writer.new)) }
 {
     task.mine.law();
-    if task.fixed.is_none() {
+    if task.fixed.is_empty() {
         return write_journal(writer, task.mine.graph(), budget, entries);
     }
     let rest = task.fixed.rest(task.mine.graph())?;

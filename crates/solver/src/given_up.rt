@@ -62,7 +62,7 @@ fn fixed_pit_and_values<G: Gate + Sync, R: Threads + Wait + Sync>(
     ensures within { IfOk result (λ _. OfSearched search.now.direction mine (fixed_of fixed.now.lists) (EndsWithin search.now.mode.now)) }
     ensures refused { IfErr result (λ e. RefusesSearch search.now.mode.now search.now.direction mine (fixed_of fixed.now.lists) e.refusal e) }
 {
-    if fixed.is_none() {
+    if fixed.is_empty() {
         return pit_and_values(rt, alloc, mine, search);
     }
     let n = mine.graph().n();

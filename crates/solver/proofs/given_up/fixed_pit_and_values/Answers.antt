@@ -15,19 +15,19 @@ use Rattle.solver.specs.Searched.{OfSearched, RefusesSearch}
 use Rattle.solver.proofs.Searching.{found_inside, is_rest_of, joined_pit, plain_refused, plain_search, rest_refused, searched_of_rest}
 use Rattle.solver.proofs.given_up.fixed_pit_and_values.Goals as goal
 
-pub returns-then-is_none-clause-within : goal.returns-then-is_none-clause-within
-returns-then-is_none-clause-within g c =
+pub returns-then-is_empty-clause-within : goal.returns-then-is_empty-clause-within
+returns-then-is_empty-clause-within g c =
     let direction = c.args.search.now.direction in
     let ends = EndsWithin c.args.search.now.mode.now in
-    let none = c.is_none.ensures.0 c.if-is_none.true in
+    let none = c.is_empty.ensures.0 c.if-is_empty.true in
     IfOk-weaker c.pit_and_values.result (λ r. OfSearched direction c.args.mine nothing ends) (λ r. OfSearched direction c.args.mine (fixed_of c.args.fixed.now.lists) ends)
     (λ r within. plain_search direction c.args.mine c.args.fixed.now.lists ends none within) c.pit_and_values.ensures.within
 
-pub returns-then-is_none-clause-refused : goal.returns-then-is_none-clause-refused
-returns-then-is_none-clause-refused g c =
+pub returns-then-is_empty-clause-refused : goal.returns-then-is_empty-clause-refused
+returns-then-is_empty-clause-refused g c =
     let direction = c.args.search.now.direction in
     let mode = c.args.search.now.mode.now in
-    let none = c.is_none.ensures.0 c.if-is_none.true in
+    let none = c.is_empty.ensures.0 c.if-is_empty.true in
     IfErr-weaker c.pit_and_values.result (λ e. RefusesSearch mode direction c.args.mine nothing e.refusal e) (λ e. RefusesSearch mode direction c.args.mine (fixed_of c.args.fixed.now.lists) e.refusal e)
     (λ e h. plain_refused mode direction c.args.mine c.args.fixed.now.lists e.refusal e none h) c.pit_and_values.ensures.refused
 
@@ -37,7 +37,7 @@ returns-in_err-found-clause-refused g c =
     let rest = c.in_ok-blocks.field-0 in
     let p = err_from_is_err_and c.from_residual-in_err-found.result c.from_residual-in_err-found.ensures.1 in
     let e = c.in_err-found.field-0.0 in
-    let some : fixed.lists ≡ no_lists → ⊥ = λ none. true≢false (sym (c.is_none.ensures.1 none) ∙ c.if-is_none.false) in
+    let some : fixed.lists ≡ no_lists → ⊥ = λ none. true≢false (sym (c.is_empty.ensures.1 none) ∙ c.if-is_empty.false) in
     rw (p.1, p.2) (rest_refused c.args.search.now.mode.now c.args.search.now.direction c.args.mine (fixed_of fixed.lists) rest.mine e.refusal e
     (is_rest_of c.args.mine fixed rest some c.in_ok-blocks.ensures.rest) c.in_err-found.ensures.refused)
 
@@ -74,6 +74,6 @@ returns-clause-within g c =
     let mine = c.args.mine in
     let fixed = c.args.fixed.now in
     let rest = c.in_ok-blocks.field-0 in
-    let some : fixed.lists ≡ no_lists → ⊥ = λ none. true≢false (sym (c.is_none.ensures.1 none) ∙ c.if-is_none.false) in
+    let some : fixed.lists ≡ no_lists → ⊥ = λ none. true≢false (sym (c.is_empty.ensures.1 none) ∙ c.if-is_empty.false) in
     searched_of_rest c.args.search.now.direction mine (fixed_of fixed.lists) rest.mine (EndsWithin c.args.search.now.mode.now)
     (is_rest_of mine fixed rest some c.in_ok-blocks.ensures.rest) c.in_ok-found.ensures.within
