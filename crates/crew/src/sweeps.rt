@@ -154,7 +154,7 @@ impl<'a, S: LockId + Send + Sync, G: Gate + Sync> Crew<'a, S, G> {
         ensures refused { IfErr result IsNoRoom }
     {
         self.meet(holder);
-        holder.tree().instance().gauge().swept();
+        holder.tree().instance().counters().swept();
         if is_ended(rt, holder)? {
             return Ok(true);
         }

@@ -27,7 +27,7 @@ fn check_files<F: InputFiles, W: OutBytes>(
 {
     let mine = open_mine(files, &options.mine)?;
     let certificate = files.open_certificate(options.certificate)?;
-    let mut mine = readers_of(mine, &files.gauge());
+    let mut mine = readers_of(mine, &files.counters());
     let mut certificate = FileReader::new(certificate);
     run_check(alloc, &mut mine, &mut certificate, out)
 }

@@ -4,8 +4,8 @@ ghost use Rattle.faults.specs.declared.source.Source.{Source as AnySource};
 ghost use Rattle.faults.specs.declared.source.Source.TheVariants as sources;
 ghost use Rattle.file_runs.specs.Faults.{IsUnopened};
 
+use counters::Counters;
 use faults::Fault;
-use gauge::Gauge;
 use minelib_reader::InputStream;
 use runs::MineFiles;
 
@@ -61,8 +61,8 @@ pub trait InputFiles {
         ensures lacked { IfErr result (λ e. IsUnopened sources.Blocks e × lacks self.old path.now sources.Blocks self.new) };
 
     /// What counts over the runs that read these files. No clause speaks of it.
-    fn gauge(&self) -> Gauge {
-        Gauge::none()
+    fn counters(&self) -> Counters {
+        Counters::none()
     }
 }
 

@@ -31,9 +31,9 @@ fn shells_files<R: AllocGlobal + Threads + Wait + Sync, F: InputFiles, W: OutByt
     let factors = Factors::read(alloc, options.factors)?;
     let blocks = files.open_blocks(options.blocks)?;
     let prec = files.open_prec(options.prec)?;
-    let gauge = files.gauge();
-    let mut blocks = FileReader::watched(blocks, gauge.share());
-    let mut prec = FileReader::watched(prec, gauge);
+    let counters = files.counters();
+    let mut blocks = FileReader::watched(blocks, counters.share());
+    let mut prec = FileReader::watched(prec, counters);
     run_shells(
         rt,
         alloc,

@@ -27,7 +27,7 @@ fn replay_files<F: InputFiles, W: OutBytes>(
 {
     let mine = open_mine(files, &options.mine)?;
     let journal = files.open_journal(options.journal)?;
-    let mut mine = readers_of(mine, &files.gauge());
+    let mut mine = readers_of(mine, &files.counters());
     let mut journal = FileReader::new(journal);
     run_replay(alloc, &mut mine, &mut journal, out)
 }

@@ -47,7 +47,7 @@ fn solve_files<R: AllocGlobal + Threads + Wait + Sync, F: OutputFiles, W: OutByt
         certificate,
         out,
     };
-    let mut mine = readers_of(mine, &files.gauge());
+    let mut mine = readers_of(mine, &files.counters());
     let (outcome, outputs) = run_recorded(rt, rt.alloc(), &mut mine, outputs, options.asked);
     let SolveOutputs {
         journal,

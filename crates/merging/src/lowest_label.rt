@@ -323,7 +323,7 @@ impl LowestLabel {
         if !tree.try_merge(arc) {
             return Turn::Last;
         }
-        tree.instance().gauge().merged();
+        tree.instance().counters().merged();
         self.wait_along(tree);
         Turn::Merged(arc)
     }
@@ -347,7 +347,7 @@ impl LowestLabel {
         match self.look(tree, root, label) {
             Some(arc) => self.merge(tree, arc),
             None => {
-                tree.instance().gauge().relabelled(self.found as u64);
+                tree.instance().counters().relabelled(self.found as u64);
                 self.raise(tree.instance().graph(), root, label);
                 Turn::Raised
             }

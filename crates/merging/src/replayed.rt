@@ -36,7 +36,7 @@ fn redo(tree: &mut NormTree, made: u64, entry: Entry) -> u64
     match entry.verdict {
         Verdict::Applied => {
             tree.try_merge(entry.arc);
-            tree.instance().gauge().merged();
+            tree.instance().counters().merged();
             made + 1
         }
         Verdict::Stale | Verdict::Spent => made,

@@ -63,8 +63,8 @@ impl Rest {
         let part = fixed.rest(mine.graph())?;
         part.graph.law();
         let values = values_of(alloc, mine, &part.blocks)?;
-        let gauge = mine.gauge().share();
-        let rest = Instance::watched(Arc::new(alloc, part.graph)?, values, gauge);
+        let counters = mine.counters().share();
+        let rest = Instance::watched(Arc::new(alloc, part.graph)?, values, counters);
         Ok(Rest {
             blocks: part.blocks,
             mine: rest,

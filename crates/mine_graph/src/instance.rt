@@ -8,7 +8,7 @@ ghost use Rattle.mine_graph.specs.Raised.{raised_at};
 
 use crate::graph::Graph;
 use crate::values::Values;
-use gauge::Gauge;
+use counters::Counters;
 use std::alloc::{AllocError, Global};
 use std::marker::Model;
 use std::sync::Arc;
@@ -18,7 +18,7 @@ use std::sync::Arc;
 pub struct Instance {
     graph: Arc<Graph>,
     values: Values,
-    gauge: Gauge,
+    counters: Counters,
 }
 
 impl Model for Instance {
@@ -42,11 +42,11 @@ impl Instance {
         ensures pairs { result.pairs ≡ graph.value.pairs }
         ensures values { result.values ≡ values.items }
     {
-        Instance::watched(graph, values, Gauge::none())
+        Instance::watched(graph, values, Counters::none())
     }
 
-    /// The same as `new` gives, over which this gauge counts.
-    pub fn watched(graph: Arc<Graph>, values: Vec<i128>, gauge: Gauge) -> Instance
+    /// The same as `new` gives, over which this counters counts.
+    pub fn watched(graph: Arc<Graph>, values: Vec<i128>, counters: Counters) -> Instance
         requires count { length values.items ≡ graph.value.blocks }
         requires low { (u : ℕ) → u < graph.value.blocks → neg_ℤ (pos (10 ^ 23)) ≤ℤ get_or values.items u (pos 0) }
         requires high { (u : ℕ) → u < graph.value.blocks → get_or values.items u (pos 0) ≤ℤ pos (10 ^ 23) }
@@ -58,23 +58,23 @@ impl Instance {
         Instance {
             graph,
             values,
-            gauge,
+            counters,
         }
     }
 
     /// What counts over the instance. No clause speaks of it.
-    pub fn gauge(&self) -> &Gauge {
-        &self.gauge
+    pub fn counters(&self) -> &Counters {
+        &self.counters
     }
 
-    /// The same instance once more. The graph and the gauge are shared.
+    /// The same instance once more. The graph and the counters are shared.
     pub fn share(&self, alloc: Global) -> Result<Instance, AllocError>
         ensures { IfOk result (λ other. other ≡ self.now) }
     {
         self.over(alloc, Arc::try_clone(&self.graph)?)
     }
 
-    /// The instance of other pairs of the same blocks, with the same values. The gauge is shared.
+    /// The instance of other pairs of the same blocks, with the same values. The counters is shared.
     pub fn over(&self, alloc: Global, graph: Arc<Graph>) -> Result<Instance, AllocError>
         requires { graph.value.blocks ≡ self.now.blocks }
         ensures blocks { IfOk result (λ other. other.blocks ≡ self.now.blocks) }
@@ -84,7 +84,7 @@ impl Instance {
         Ok(Instance {
             graph,
             values: self.values.copy(alloc)?,
-            gauge: self.gauge.share(),
+            counters: self.counters.share(),
         })
     }
 

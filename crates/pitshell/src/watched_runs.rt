@@ -7,9 +7,9 @@ use crate::output::Output;
 use crate::stats::{end_stats, make_stats, shells_inputs, solve_inputs};
 use crate::system_files::SystemFiles;
 use crate::watch::{Times, watch};
+use counters::{Counters, Phase};
 use faults::Fault;
 use file_runs::{check_call, replay_call, shells_call, solve_call};
-use gauge::{Gauge, Phase};
 use minelib_reader::StreamWriter;
 use std::alloc::AllocGlobal;
 use std::sync::Wait;
@@ -44,8 +44,8 @@ fn timed_call<R: AllocGlobal + Threads + Wait + Clock + Eprint + Sync>(
     every: Option<Duration>,
     files: &mut SystemFiles<'_>,
 ) -> (u8, Times) {
-    let gauge = files.gauge.share();
-    let watched = &gauge;
+    let counters = files.counters.share();
+    let watched = &counters;
     thread::scope(thread::scope_env(), threads, |scope| {
         let watcher = scope.spawn(move || watch(threads, watched, every));
         let status = call(rt, threads, options, files);
@@ -79,13 +79,17 @@ fn watched<R: AllocGlobal + Threads + Wait + Clock + Eprint + Sync>(
 ) -> Result<u8, Fault> {
     let mut files = SystemFiles {
         rt,
-        gauge: Gauge::new(rt.alloc())?,
+        counters: Counters::new(rt.alloc())?,
         stats: stats_of(rt, options, asked.stats)?,
     };
     let every = asked.every.map(Duration::from_secs);
     let (status, times) = timed_call(rt, threads, options, every, &mut files);
-    let SystemFiles { gauge, stats, .. } = files;
-    if let (Some(output), Some(counted)) = (stats, gauge.counted()) {
+    let SystemFiles {
+        counters,
+        stats,
+        ..
+    } = files;
+    if let (Some(output), Some(counted)) = (stats, counters.stats()) {
         let is_kept = status == 0 || status == 3;
         end_stats(rt, output, is_kept, &times, &counted)?;
     }
@@ -103,7 +107,7 @@ pub fn watched_call<R: AllocGlobal + Threads + Wait + Clock + Eprint + Sync>(
     if asked.is_nothing() {
         let mut files = SystemFiles {
             rt,
-            gauge: Gauge::none(),
+            counters: Counters::none(),
             stats: None,
         };
         return Ok(call(rt, threads, options, &mut files));

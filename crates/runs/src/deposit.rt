@@ -3,8 +3,8 @@ ghost use Rattle.std.specs.Prelude.{◌≡◌, ◌<◌, ◌≤◌, ◌^◌, leng
 ghost use Rattle.runs.specs.Solve.{reading};
 ghost use Rattle.runs.specs.Deposit.{HoldsDeposit, RefusesDeposit};
 
+use counters::Phase;
 use faults::Fault;
-use gauge::Phase;
 use mine_graph::Graph;
 use minelib_reader::{InBytes, read_blocks, read_prec};
 use shells::Columns;
@@ -41,14 +41,14 @@ pub fn read_deposit<B: InBytes, P: InBytes>(
         (reading (P.progress prec.old) (P.progress prec.new) (P.IsAtEnd prec.new))
         revenue cost) }
 {
-    blocks.gauge().enter(Phase::Reading);
+    blocks.counters().enter(Phase::Reading);
     let table = read_blocks(alloc, blocks)?;
     let n = table.len();
     let pairs = read_prec(alloc, prec, n)?;
     let graph = Graph::new(alloc, n, pairs)?;
-    let gauge = blocks.gauge();
-    gauge.enter(Phase::Solving);
-    let columns = Columns::watched(alloc, &table, revenue, cost, gauge)?;
+    let counters = blocks.counters();
+    counters.enter(Phase::Solving);
+    let columns = Columns::watched(alloc, &table, revenue, cost, counters)?;
     let shared = Arc::new(alloc, graph)?;
     Ok(Deposit {
         columns,

@@ -5,8 +5,8 @@ ghost use Rattle.mine_graph.specs.FixedBlocks.{IsFixedOf, lists_of};
 ghost use Rattle.minelib_reader.specs.Fixed.{fixed_lists};
 ghost use Rattle.runs.specs.Solve.{choice, files_of, task_of, GaveFixed, HoldsMine, MayRead, MayReadIfAny, RefusesFixedText, RefusesMine};
 
+use counters::Phase;
 use faults::Fault;
-use gauge::Phase;
 use mine_graph::{Fixed, Graph, Instance};
 use minelib_reader::{InBytes, read_fixed, read_prec, read_upit};
 use std::alloc::Global;
@@ -55,14 +55,14 @@ pub fn read_mine<M: InBytes, P: InBytes, F: InBytes>(
     ensures fixed { IfOk result (λ t. IsFixedOf (graph_of_mine t.mine) t.fixed) }
     ensures refused { IfErr result (λ e. RefusesMine e.refusal e (files_of M.progress M.IsAtEnd P.progress P.IsAtEnd F.progress F.IsAtEnd files.old files.new)) }
 {
-    files.model.gauge().enter(Phase::Reading);
+    files.model.counters().enter(Phase::Reading);
     let model = read_upit(alloc, &mut files.model)?;
     let pairs = read_prec(alloc, &mut files.prec, model.n)?;
     let (forced, barred) = read_lists(alloc, &mut files.fixed, model.n)?;
     let graph = Graph::new(alloc, model.n, pairs)?;
-    let gauge = files.model.gauge();
-    gauge.enter(Phase::Solving);
-    let mine = Instance::watched(Arc::new(alloc, graph)?, model.values, gauge);
+    let counters = files.model.counters();
+    counters.enter(Phase::Solving);
+    let mine = Instance::watched(Arc::new(alloc, graph)?, model.values, counters);
     mine.law();
     let fixed = Fixed::new(alloc, mine.graph(), forced, barred)?;
     Ok(Task { mine, fixed })

@@ -7,8 +7,8 @@ ghost use Rattle.runs.specs.ShellsRun.{HoldsOfDeposit, IsShellsDone, RefusesShel
 use crate::asked::Asked;
 use crate::deposit::read_deposit;
 use crate::status::Status;
+use counters::Phase;
 use faults::Fault;
-use gauge::Phase;
 use minelib_reader::{InBytes, OutBytes};
 use report::write_shells;
 use shells::{Factors, shells};
@@ -63,7 +63,7 @@ pub fn run_shells<R: Threads + Wait + Sync, B: InBytes, P: InBytes, W: OutBytes>
         &OpenGate,
         asked.pit,
     )?;
-    blocks.gauge().enter(Phase::Writing);
+    blocks.counters().enter(Phase::Writing);
     write_shells(out, &list)?;
     Ok(Status::Done)
 }

@@ -18,8 +18,8 @@ use crate::asked::Asked;
 use crate::mine::{MineFiles, Task, read_mine};
 use crate::status::Status;
 use certificate::{Certificate, write};
+use counters::Phase;
 use faults::Fault;
-use gauge::Phase;
 use merging::Outcome;
 use minelib_reader::{InBytes, OutBytes};
 use report::{write_journal, write_pit};
@@ -230,7 +230,7 @@ pub fn run_solve<
     let task = read_mine(alloc, files)?;
     let n = task.mine.graph().n();
     let pit = solve_mine(rt, alloc, task, &asked, outputs)?;
-    files.model.gauge().enter(Phase::Writing);
+    files.model.counters().enter(Phase::Writing);
     write_pit(&mut outputs.out, n, &pit.blocks, pit.worth)?;
     Ok(Status::Done)
 }

@@ -52,8 +52,8 @@ pub(crate) fn turned(alloc: Global, mine: &Instance) -> Result<Instance, Fault>
     let values = negated(alloc, mine)?;
     let reversed = graph.reversed()?;
     reversed.law();
-    let gauge = mine.gauge().share();
-    Ok(Instance::watched(Arc::new(alloc, reversed)?, values, gauge))
+    let counters = mine.counters().share();
+    Ok(Instance::watched(Arc::new(alloc, reversed)?, values, counters))
 }
 
 /// The blocks without a mark, rising.

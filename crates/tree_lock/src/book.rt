@@ -116,12 +116,12 @@ impl<V: ListId> Book<V> {
         lawful_verdict(self.tree(), self.budget, self.applied, arc)
     }
 
-    /// Tells the gauge of the instance of a decision.
+    /// Tells the counters of the instance of a decision.
     fn count(&self, verdict: Verdict) {
-        let gauge = self.tree().instance().gauge();
-        gauge.decided(verdict == Verdict::Stale);
+        let counters = self.tree().instance().counters();
+        counters.decided(verdict == Verdict::Stale);
         if verdict == Verdict::Applied {
-            gauge.merged();
+            counters.merged();
         }
     }
 

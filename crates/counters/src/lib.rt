@@ -1,10 +1,10 @@
 //! What a run has done up to now, counted for whoever watches it.
 #![tactic(auto)]
 
-mod counted;
-mod gauge;
+mod counters;
 mod phase;
+mod stats;
 
-pub use counted::Counted;
-pub use gauge::Gauge;
+pub use counters::Counters;
 pub use phase::Phase;
+pub use stats::Stats;

@@ -2,7 +2,7 @@
 
 /// What a run had done when it was looked at.
 #[derive(Clone, Copy, PartialEq, Eq, Debug)]
-pub struct Counted {
+pub struct Stats {
     /// Bytes of the inputs, and the blocks and pairs that they spell.
     pub bytes: u64,
     pub blocks: u64,

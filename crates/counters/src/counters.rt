@@ -1,15 +1,15 @@
-//! A gauge counts for whoever watches a run. It goes where the mine goes, and no answer depends on it: no clause can say what
+//! A counters counts for whoever watches a run. It goes where the mine goes, and no answer depends on it: no clause can say what
 //! an atomic word holds, and none here tries to.
 
-use crate::counted::Counted;
 use crate::phase::Phase;
+use crate::stats::Stats;
 use std::alloc::{AllocError, Global};
 use std::sync::atomic::AtomicU64;
 use std::sync::atomic::Ordering::{Relaxed, SeqCst};
 use std::sync::{Arc, Wait};
 use std::time::Duration;
 
-/// The words under a gauge.
+/// The words under a counters.
 #[derive(Drop)]
 struct Words {
     phase: AtomicU64,
@@ -29,7 +29,7 @@ struct Words {
 
 /// Counts what a run does; one of none counts nothing.
 #[derive(Drop)]
-pub struct Gauge {
+pub struct Counters {
     words: Option<Arc<Words>>,
 }
 
@@ -54,8 +54,8 @@ impl Words {
     }
 
     /// What is counted now.
-    fn counted(&self) -> Counted {
-        Counted {
+    fn counted(&self) -> Stats {
+        Stats {
             bytes: self.bytes.load(Relaxed),
             blocks: self.blocks.load(Relaxed),
             pairs: self.pairs.load(Relaxed),
@@ -72,24 +72,24 @@ impl Words {
     }
 }
 
-impl Gauge {
+impl Counters {
     /// Counts nothing.
-    pub fn none() -> Gauge {
-        Gauge { words: None }
+    pub fn none() -> Counters {
+        Counters { words: None }
     }
 
     /// Counts from 0.
-    pub fn new(alloc: Global) -> Result<Gauge, AllocError> {
-        Ok(Gauge {
+    pub fn new(alloc: Global) -> Result<Counters, AllocError> {
+        Ok(Counters {
             words: Some(Arc::new(alloc, Words::new())?),
         })
     }
 
-    /// The same gauge once more; one of none where it can have no further owner.
-    pub fn share(&self) -> Gauge {
+    /// The same counters once more; one of none where it can have no further owner.
+    pub fn share(&self) -> Counters {
         match &self.words {
-            None => Gauge::none(),
-            Some(words) => Gauge {
+            None => Counters::none(),
+            Some(words) => Counters {
                 words: Arc::try_clone(words).ok(),
             },
         }
@@ -174,7 +174,7 @@ impl Gauge {
         }
     }
 
-    /// The phase that the run is at; of a gauge of none that it has ended.
+    /// The phase that the run is at; of a counters of none that it has ended.
     pub fn phase(&self) -> Phase {
         let Some(words) = &self.words else {
             return Phase::Ended;
@@ -186,8 +186,8 @@ impl Gauge {
             .unwrap_or(Phase::Ended)
     }
 
-    /// What is counted now; None of a gauge of none.
-    pub fn counted(&self) -> Option<Counted> {
+    /// What is counted now; None of a counters of none.
+    pub fn stats(&self) -> Option<Stats> {
         self.words.as_ref().map(|words| words.counted())
     }
 
