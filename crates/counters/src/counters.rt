@@ -1,4 +1,4 @@
-//! A counters counts for whoever watches a run. It goes where the mine goes, and no answer depends on it: no clause can say what
+//! Counters for whoever watches a run. They go where the mine goes, and no answer depends on them: no clause can say what
 //! an atomic word holds, and none here tries to.
 
 use crate::phase::Phase;
@@ -9,7 +9,7 @@ use std::sync::atomic::Ordering::{Relaxed, SeqCst};
 use std::sync::{Arc, Wait};
 use std::time::Duration;
 
-/// The words under a counters.
+/// The words under counters.
 #[derive(Drop)]
 struct Words {
     phase: AtomicU64,
@@ -27,7 +27,7 @@ struct Words {
     factors: AtomicU64,
 }
 
-/// Counts what a run does; one of none counts nothing.
+/// They count what a run does; `none` count nothing.
 #[derive(Drop)]
 pub struct Counters {
     words: Option<Arc<Words>>,
@@ -174,7 +174,7 @@ impl Counters {
         }
     }
 
-    /// The phase that the run is at; of a counters of none that it has ended.
+    /// The phase that the run is at; of `none` that it has ended.
     pub fn phase(&self) -> Phase {
         let Some(words) = &self.words else {
             return Phase::Ended;
@@ -186,7 +186,7 @@ impl Counters {
             .unwrap_or(Phase::Ended)
     }
 
-    /// What is counted now; None of a counters of none.
+    /// What is counted now; None of `none`.
     pub fn stats(&self) -> Option<Stats> {
         self.words.as_ref().map(|words| words.counted())
     }

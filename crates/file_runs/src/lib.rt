@@ -5,7 +5,7 @@
 mod check;
 mod ending;
 mod inputs;
-mod made;
+mod make_outputs;
 mod mine;
 mod nested;
 mod options;

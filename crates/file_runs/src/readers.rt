@@ -22,7 +22,7 @@ fn reader_of<X: InputStream + Drop>(fixed: Option<X>, counters: &Counters) -> Op
     }
 }
 
-/// What reads the files of a mine, over which a counters counts.
+/// What reads the files of a mine, over which counters count.
 pub(crate) fn readers_of<M: InputStream + Drop, P: InputStream + Drop, X: InputStream + Drop>(
     mine: MineFiles<M, P, X>,
     counters: &Counters,

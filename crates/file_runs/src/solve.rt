@@ -5,7 +5,7 @@ ghost use Rattle.file_runs.specs.Place.{state};
 ghost use Rattle.file_runs.specs.Solved.{EndsSolve};
 
 use crate::ending::report_fault;
-use crate::made::{Outputs, end_outputs, make_outputs};
+use crate::make_outputs::{Outputs, end_outputs, make_outputs};
 use crate::mine::open_mine;
 use crate::options::SolveOptions;
 use crate::outputs::OutputFiles;

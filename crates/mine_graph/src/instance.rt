@@ -45,7 +45,7 @@ impl Instance {
         Instance::watched(graph, values, Counters::none())
     }
 
-    /// The same as `new` gives, over which this counters counts.
+    /// The same as `new` gives, over which these counters count.
     pub fn watched(graph: Arc<Graph>, values: Vec<i128>, counters: Counters) -> Instance
         requires count { length values.items ≡ graph.value.blocks }
         requires low { (u : ℕ) → u < graph.value.blocks → neg_ℤ (pos (10 ^ 23)) ≤ℤ get_or values.items u (pos 0) }
@@ -74,7 +74,7 @@ impl Instance {
         self.over(alloc, Arc::try_clone(&self.graph)?)
     }
 
-    /// The instance of other pairs of the same blocks, with the same values. The counters is shared.
+    /// The instance of other pairs of the same blocks, with the same values. The counters are shared.
     pub fn over(&self, alloc: Global, graph: Arc<Graph>) -> Result<Instance, AllocError>
         requires { graph.value.blocks ≡ self.now.blocks }
         ensures blocks { IfOk result (λ other. other.blocks ≡ self.now.blocks) }

@@ -209,7 +209,7 @@ pub fn parse_blocks(alloc: Global, text: &[u8]) -> Result<BlockTable, Fault>
     parse_watched(alloc, text, &Counters::none())
 }
 
-/// The same as `parse_blocks` gives. A counters is told of each block.
+/// The same as `parse_blocks` gives. Counters are told of each block.
 fn parse_watched(alloc: Global, text: &[u8], counters: &Counters) -> Result<BlockTable, Fault>
     requires { length text.now ≤ 2 ^ 40 }
     ensures exact { Gives (λ t. t) result (table_of text.now) }

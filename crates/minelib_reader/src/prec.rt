@@ -276,7 +276,7 @@ pub fn parse_prec(alloc: Global, text: &[u8], n: u32) -> Result<Vec<(u32, u32)>,
     parse_watched(alloc, text, n, &Counters::none())
 }
 
-/// The same as `parse_prec` gives. A counters is told of the pairs of each line.
+/// The same as `parse_prec` gives. Counters are told of the pairs of each line.
 fn parse_watched(
     alloc: Global,
     text: &[u8],

@@ -196,7 +196,7 @@ pub fn parse_upit(alloc: Global, text: &[u8]) -> Result<Model, Fault>
     parse_watched(alloc, text, &Counters::none())
 }
 
-/// The same as `parse_upit` gives. A counters is told of each block.
+/// The same as `parse_upit` gives. Counters are told of each block.
 fn parse_watched(alloc: Global, text: &[u8], counters: &Counters) -> Result<Model, Fault>
     requires { length text.now ≤ 2 ^ 40 }
     ensures exact { Gives (λ m. upit m.n m.values.items) result (upit_of text.now) }

@@ -78,7 +78,7 @@ impl Columns {
         }
     }
 
-    /// The same as `of` gives, over whose instances this counters counts.
+    /// The same as `of` gives, over whose instances these counters count.
     pub fn watched(
         alloc: Global,
         table: &BlockTable,

@@ -12,7 +12,7 @@ ghost use Rattle.solver.specs.Modes.{EndsWithin, LacksRoom, RefusesSolve};
 ghost use Rattle.solver.specs.Searched.{EndsGreatest, OfSearched, RefusesSearch};
 
 use crate::by_mode::find_pit;
-use crate::given_up::find_fixed_pit;
+use crate::consuming::find_fixed_pit;
 use crate::mode::Mode;
 use crate::search::Search;
 use crew::Gate;

@@ -1,7 +1,7 @@
 -- Where the certificate is refused, the journal that was made before it was ended, and is not kept.
 use Rattle.std.proofs.Common.{sym}
 use Rattle.file_runs.specs.Made.{no_certificate}
-use Rattle.file_runs.proofs.made.make_outputs.Goals as goal
+use Rattle.file_runs.proofs.make_outputs.make_outputs.Goals as goal
 
 pub returns-in-Err-clause-spared : goal.returns-in-Err-clause-spared
 returns-in-Err-clause-spared g c =

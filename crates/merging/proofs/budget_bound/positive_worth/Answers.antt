@@ -8,7 +8,7 @@ use Rattle.pit_model.specs.Graph.{Graph}
 use Rattle.pit_model.specs.Mine.{value}
 use Rattle.pit_model.specs.Rank.{positive_part}
 use Rattle.pit_model.specs.Sum.{total}
-use Rattle.merging.proofs.enough.positive_worth.Goals as goal
+use Rattle.merging.proofs.budget_bound.positive_worth.Goals as goal
 
 pub loop-block-preserved : goal.loop-block-preserved
 loop-block-preserved c =

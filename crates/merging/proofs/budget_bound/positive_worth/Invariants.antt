@@ -4,7 +4,7 @@ use Rattle.std.specs.Prelude.{pos, ◌≤ℤ◌}
 use Rattle.pit_model.specs.Mine.{value}
 use Rattle.pit_model.specs.Rank.{positive_part}
 use Rattle.pit_model.specs.Sum.{total}
-use Rattle.merging.proofs.enough.positive_worth.Given as goal
+use Rattle.merging.proofs.budget_bound.positive_worth.Given as goal
 
 abbrev pub invariant-loop-block : goal.invariant-loop-block
 invariant-loop-block l = record {

@@ -1,7 +1,7 @@
 -- Where the mine turned round is not solved, no greatest pit is found.
 use Rattle.std.proofs.lemmas.Result.{err_from_is_err_and}
 use Rattle.solver.proofs.Searching.{turned_refused}
-use Rattle.solver.proofs.given_up.pit_and_values.Goals as goal
+use Rattle.solver.proofs.consuming.pit_and_values.Goals as goal
 
 pub returns-in_err-pit-in-Greatest-clause-refused :
     goal.returns-in_err-pit-in-Greatest-clause-refused

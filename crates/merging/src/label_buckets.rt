@@ -9,7 +9,7 @@ use std::marker::Model;
 
 /// To a contract it is the number of blocks; the labels are below that number plus 2.
 #[derive(Drop)]
-pub struct Waiting {
+pub struct LabelBuckets {
     /// For each label the roots that came first and last, and for each block the root that came after it.
     first: Vec<Option<u32>>,
     last: Vec<Option<u32>>,
@@ -18,7 +18,7 @@ pub struct Waiting {
     lowest: u32,
 }
 
-impl Model for Waiting {
+impl Model for LabelBuckets {
     ghost use Rattle.std.specs.Prelude.{ℕ, length};
     ghost use Rattle.merging.specs.Order.{AreWaiting};
 
@@ -84,15 +84,15 @@ fn lowest_from(first: &[Option<u32>], from: u32) -> Option<u32>
     None
 }
 
-impl Waiting {
+impl LabelBuckets {
     /// No root waits yet. Refused for want of memory alone.
-    pub fn new(alloc: Global, blocks: u32) -> Result<Waiting, Fault>
+    pub fn new(alloc: Global, blocks: u32) -> Result<LabelBuckets, Fault>
         requires { blocks ≤ 2 ^ 22 }
         ensures blocks { IfOk result (λ w. w ≡ blocks) }
         ensures no_memory { IfErr result (λ e. e ≡ no_memory) }
     {
         let labels = blocks as usize + 2;
-        Ok(Waiting {
+        Ok(LabelBuckets {
             first: vec![in alloc; None; labels]?,
             last: vec![in alloc; None; labels]?,
             next: vec![in alloc; None; blocks as usize]?,

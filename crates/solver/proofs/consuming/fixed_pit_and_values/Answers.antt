@@ -13,7 +13,7 @@ use Rattle.merging.specs.Rest.{ListsJoined}
 use Rattle.solver.specs.Modes.{EndsWithin}
 use Rattle.solver.specs.Searched.{OfSearched, RefusesSearch}
 use Rattle.solver.proofs.Searching.{found_inside, is_rest_of, joined_pit, plain_refused, plain_search, rest_refused, searched_of_rest}
-use Rattle.solver.proofs.given_up.fixed_pit_and_values.Goals as goal
+use Rattle.solver.proofs.consuming.fixed_pit_and_values.Goals as goal
 
 pub returns-then-is_empty-clause-within : goal.returns-then-is_empty-clause-within
 returns-then-is_empty-clause-within g c =

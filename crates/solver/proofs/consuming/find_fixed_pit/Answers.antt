@@ -8,7 +8,7 @@ use mir.Val.{SFits}
 use Rattle.pit_model.specs.Size.{most_blocks}
 use Rattle.pit_model.specs.Sum.{total, when}
 use Rattle.solver.proofs.Searching.{listed_below, listed_few}
-use Rattle.solver.proofs.given_up.find_fixed_pit.Goals as goal
+use Rattle.solver.proofs.consuming.find_fixed_pit.Goals as goal
 
 pub worth-worth-requires-clause-few : goal.worth-worth-requires-clause-few
 worth-worth-requires-clause-few g c =
