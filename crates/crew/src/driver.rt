@@ -1,11 +1,10 @@
 //! What the driver does between sweeps and at the end: it decides the first merger arc, and answers by the tree that is left.
-ghost use Rattle.std.specs.Prelude.{◌≡◌, Some, IfOk, IfErr, MatchBool};
-ghost use Rattle.pit_model.specs.declared.journal.Verdict.TheVariants.{Applied};
+ghost use Rattle.std.specs.Prelude.{◌≡◌, IfOk, IfErr};
 ghost use Rattle.faults.specs.Refused.{no_memory};
 ghost use Rattle.pit_model.specs.Mine.{arcs};
 ghost use Rattle.pit_model.specs.Tree.{is_merger};
 ghost use Rattle.pit_model.specs.FirstRun.{IsFirstMerger};
-ghost use Rattle.crew.specs.Solved.{EndsBy, DecidesFirst, IsEnded, IsSolvedTogether};
+ghost use Rattle.crew.specs.Solved.{EndsBy, DecidesFirst, IsEnded, IsSolvedTogether, RoundEnds};
 
 use certificate::of_tree;
 use faults::Fault;
@@ -52,7 +51,7 @@ pub fn is_ended<S: LockId, R: Threads + Wait + Sync>(
     rt: &R,
     holder: &mut Holder<S>,
 ) -> Result<bool, Fault>
-    ensures ended { IfOk result (λ is_ended. MatchBool is_ended (IsEnded holder.new) (DecidesFirst holder.old holder.new (Some Applied))) }
+    ensures ended { IfOk result (RoundEnds holder.old holder.new) }
     ensures refused { IfErr result (λ e. e ≡ no_memory) }
 {
     match decide_first(rt, holder)? {

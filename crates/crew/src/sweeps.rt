@@ -1,10 +1,11 @@
 //! The sweeps of mode shared: in each, the workers go over a route, each in a thread of its own; between two of them the
 //! driver has the tree alone, and decides the first merger arc that they left.
-ghost use Rattle.std.specs.Prelude.{◌≡◌, true, IfOk, IfErr};
+ghost use Rattle.std.specs.Prelude.{◌≡◌, IfOk, IfErr};
 ghost use Rattle.faults.specs.Refused.{no_memory, no_seat, IsNoRoom};
 ghost use Rattle.pit_model.specs.Mine.{arcs};
 ghost use Rattle.std.specs.List.{All};
-ghost use Rattle.crew.specs.Solved.{HasMet, IsEnded};
+ghost use Rattle.tree_lock.specs.Held.{Held};
+ghost use Rattle.crew.specs.Solved.{HasMet, IsEnded, RoundEnds};
 
 use crate::driver::is_ended;
 use crate::gate::Gate;
@@ -149,7 +150,7 @@ impl<'a, S: LockId + Send + Sync, G: Gate + Sync> Crew<'a, S, G> {
         alloc: Global,
         holder: &mut Holder<S>,
     ) -> Result<bool, Fault>
-        ensures ended { IfOk result (λ is_ended. is_ended ≡ true → IsEnded holder.new) }
+        ensures ended { IfOk result (RoundEnds holder.old holder.new) }
         ensures met { All (λ worker. HasMet holder.old.journal worker.asks worker.looks) self.new.workers.items }
         ensures refused { IfErr result IsNoRoom }
     {
@@ -162,8 +163,8 @@ impl<'a, S: LockId + Send + Sync, G: Gate + Sync> Crew<'a, S, G> {
         Ok(false)
     }
 
-    /// A sweep under the lock, and the driver's decision after it, when it has the holder for itself. It answers the holder, and
-    /// whether the solve has ended. Where it was refused the holder is given up.
+    /// A sweep under the lock; then each worker meets the holder, and the driver decides, which has it for itself. It answers the
+    /// holder, and whether the solve has ended. Where it was refused the holder is given up.
     fn round<R: Threads + Wait + Sync>(
         &mut self,
         rt: &R,
@@ -171,7 +172,7 @@ impl<'a, S: LockId + Send + Sync, G: Gate + Sync> Crew<'a, S, G> {
         holder: Holder<S>,
     ) -> Result<(Holder<S>, bool), Fault>
         requires { S.arcs ≡ arcs S.mine }
-        ensures ended { IfOk result (λ r. r.1 ≡ true → IsEnded r.0) }
+        ensures ended { IfOk result (λ r. (met : Held) × RoundEnds met r.0 r.1 × All (λ worker. HasMet met.journal worker.asks worker.looks) self.new.workers.items) }
         ensures refused { IfErr result IsNoRoom }
     {
         let shared = SharedTree::of_holder(holder);

@@ -2,7 +2,7 @@
 //! it sees there, serves the board under the lock where nobody else did, and collects its reply.
 ghost use Rattle.std.specs.Prelude.{◌≡◌, ◌<◌, ◌≤◌, suc, None, IfSome, IsTrue};
 ghost use Rattle.pit_model.specs.Mine.{arcs};
-ghost use Rattle.crew.specs.Solved.{HasMet};
+ghost use Rattle.crew.specs.Solved.{HasMet, LooksFor};
 
 use crate::gate::Gate;
 use crate::route::Route;
@@ -89,7 +89,8 @@ impl<S: LockId> Worker<S> {
     /// Whether the version that is published now shows the arc as a merger arc; no where there is no version. It is left before
     /// an ask, so that whoever publishes waits for one test at most.
     fn sees_merger(&mut self, arc: u32) -> bool
-        ensures { IsTrue result → arc < arcs S.mine }
+        ensures shown { LooksFor S.mine arc self.old.looks self.new.looks result }
+        ensures inside { IsTrue result → arc < arcs S.mine }
     {
         let Some(seat) = self.looks.take() else {
             return false;
