@@ -42,7 +42,7 @@ impl InputFiles for SystemFiles<'_> {
 
     type Blocks = File;
 
-    ghost opens = { λ _ _ _ _. Unit {0} };
+    ghost opens = { λ _ _ _ _ _. Unit {0} };
 
     ghost lacks = { λ _ _ _ _. Unit {0} };
 

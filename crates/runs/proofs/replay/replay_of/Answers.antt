@@ -75,4 +75,5 @@ returns g c =
     record {
       replayed = open_replayed (task_of c.args.task.now) rest.mine journal c.in_ok-end.end (is_rest_of c.args.task.now.mine fixed rest some c.in_ok-rest.ensures.rest) c.in_default.not-Pit c.in_ok-end.ensures.replayed;
       refused = tt;
+      kept = c.replay_on-2.ensures.kept;
     }
