@@ -20,9 +20,9 @@ try:
 build:
 	tools/build.py
 
-# Proves what C and Python call, side by side, and links build/libpitshell.so and build/libpitshell.a for include/pitshell.h.
+# Proves what C and Python call, side by side as well, and links build/libpitshell.so and build/libpitshell.a for include/pitshell.h.
 library:
-	tools/build.py --library
+	tools/build.py pitshell_c
 
 # What others install, in build/dist: a Debian package, an archive, and wheels of the library and of the planner's layer.
 dist: build library

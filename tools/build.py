@@ -1,13 +1,13 @@
 #!/usr/bin/env python3
-"""Proves a program and each crate below it, side by side, with a line for each, and copies it to build/.
+"""Proves a program or the library and each crate below it, side by side, with a line for each, and leaves what was built in build/.
 
-    tools/build.py [pitshell]       proves nothing where build/pitshell is that of these sources, by this toolchain
-    tools/build.py refused_memory   the same of a small program for the tests
-    tools/build.py --library        proves what C calls and each crate below it, one after the other, and links build/libpitshell.so
-                                    and build/libpitshell.a
+    tools/build.py [pitshell]       the program
+    tools/build.py refused_memory   a small program for the tests
+    tools/build.py pitshell_c       what C and Python call: libpitshell.so and libpitshell.a
 
-The output of a crate that is not proved is printed whole. Beside a program, build/NAME.version says what was built: the program's
-own line, the commit, the SHA-256 of the program and of its sources, and the toolchain that proved it.
+Nothing is proved where what stands in build/ was built of these sources by this toolchain. The output of a crate that is not proved is
+printed whole. Beside it, build/NAME.version says what was built: the program's own line, the commit, the SHA-256 of the first file
+and of the sources, and the toolchain that proved it.
 """
 import argparse
 import hashlib
@@ -21,9 +21,9 @@ import time
 import clone
 from crates import TOP, crates, in_order
 
-PROGRAM = "pitshell"
-PROGRAMS = (PROGRAM, "refused_memory")
-LIBRARY = "pitshell_c"
+PROGRAM, LIBRARY = "pitshell", "pitshell_c"
+# What is built of each crate: the first file's SHA-256 stands in its .version.
+FILES = {PROGRAM: ["pitshell"], "refused_memory": ["refused_memory"], LIBRARY: ["libpitshell.so", "libpitshell.a"]}
 BUILD = TOP / "build"
 
 
@@ -61,37 +61,41 @@ class Told:
         self.lines.clear()
 
 
-def prove_program(program: str) -> bool:
-    names = in_order(program)
+def prove(crate: str) -> bool:
+    names = in_order(crate)
     told = Told(names)
     print(f"{len(names)} crates are proved and linked, {', '.join(longest_chain(told.left))} one behind the other", flush=True)
     with clone.clone(only=names) as copy:
         if clone.prove(copy, told):
             print("".join(told.lines))
             return False
-        copy_program(copy, program)
+        take(copy, crate)
     return True
 
 
-def sources(program: str) -> str:
-    """The SHA-256 over all that a program is made of."""
+def sources(crate: str) -> str:
+    """The SHA-256 over all that a crate's files are made of."""
     digest = hashlib.sha256()
-    files = [file for crate in in_order(program) for part in ("src", "specs", "proofs") for file in (TOP / "crates" / crate / part).rglob("*")]
+    files = [file for name in in_order(crate) for part in ("src", "specs", "proofs") for file in (TOP / "crates" / name / part).rglob("*")]
     for file in sorted(it for it in [*files, TOP / "crates.txt", TOP / "HANDLES"] if it.is_file()):
         digest.update(f"{file.relative_to(TOP)} {hashlib.sha256(file.read_bytes()).hexdigest()}\n".encode())
     return digest.hexdigest()
 
 
-def of_program(program: str) -> str:
-    """What build/NAME.version says of a program, its sources and the toolchain."""
-    sha256 = hashlib.sha256((BUILD / program).read_bytes()).hexdigest()
+def version_file(crate: str) -> pathlib.Path:
+    return BUILD / f"{FILES[crate][0]}.version"
+
+
+def state(crate: str) -> str:
+    """What the .version of a crate says of the file, its sources and the toolchain."""
+    sha256 = hashlib.sha256((BUILD / FILES[crate][0]).read_bytes()).hexdigest()
     toolchain = subprocess.run(["rt", "version"], capture_output=True, text=True, check=True).stdout
-    return f"sha256 {sha256}\nsources {sources(program)}\nproved with {toolchain}"
+    return f"sha256 {sha256}\nsources {sources(crate)}\nproved with {toolchain}"
 
 
-def is_built(program: str) -> bool:
-    told = BUILD / f"{program}.version"
-    return (BUILD / program).is_file() and told.is_file() and told.read_text().endswith(of_program(program))
+def is_built(crate: str) -> bool:
+    told = version_file(crate)
+    return all((BUILD / it).is_file() for it in FILES[crate]) and told.is_file() and told.read_text().endswith(state(crate))
 
 
 def commit() -> str:
@@ -100,63 +104,59 @@ def commit() -> str:
     return ran.stdout.strip() if ran.returncode == 0 else "unknown"
 
 
-def copy_program(copy: pathlib.Path, program: str) -> None:
-    """Takes a program that was proved and linked in a copy of the repository."""
+def take(copy: pathlib.Path, crate: str) -> None:
+    """Takes what was proved in a copy of the repository into build/."""
     BUILD.mkdir(exist_ok=True)
-    shutil.copy(copy / "crates" / program / "out" / program, BUILD / program)
-    words = [BUILD / program, "--version"]
-    said = subprocess.run(words, capture_output=True, text=True, check=True).stdout if program == PROGRAM else ""
-    (BUILD / f"{program}.version").write_text(f"{said}commit {commit()}\n{of_program(program)}")
+    if crate == LIBRARY:
+        link_library(archive(copy))
+    else:
+        shutil.copy(copy / "crates" / crate / "out" / crate, BUILD / crate)
+    said = subprocess.run([BUILD / crate, "--version"], capture_output=True, text=True, check=True).stdout if crate == PROGRAM else ""
+    version_file(crate).write_text(f"{said}commit {commit()}\n{state(crate)}")
 
 
-def heap() -> pathlib.Path:
-    """The toolchain's calls of malloc, realloc and free, which a library takes along."""
+def kit() -> pathlib.Path:
     said = subprocess.run(["rt", "doc"], capture_output=True, text=True, check=True).stdout.strip()
-    return pathlib.Path(said).parent / "c" / "liblibc_c.a"
+    return pathlib.Path(said).parent
 
 
-def prove_library() -> bool:
-    """Crate by crate in their own folders, where the archive is left behind."""
-    order = in_order(LIBRARY)
-    for place, crate in enumerate(order, 1):
-        started = time.monotonic()
-        print(f"[{place}/{len(order)}] {crate} ...", end=" ", flush=True)
-        ran = subprocess.run(["rt", "lib"], cwd=TOP / "crates" / crate, capture_output=True, text=True, errors="replace")
-        if ran.returncode:
-            print(f"not proved\n{ran.stdout}{ran.stderr}")
-            return False
-        print(f"{functions(ran.stdout + ran.stderr)}, {time.monotonic() - started:.0f} s, {len(order) - place} left", flush=True)
-    return True
+def archive(copy: pathlib.Path) -> pathlib.Path:
+    """The compiled library, over the crates that were proved in the copy; its own crate is proved once more."""
+    folder, tools = copy / "crates" / LIBRARY, kit()
+    made = folder / "out" / f"lib{LIBRARY}.a"
+    made.parent.mkdir(exist_ok=True)
+    folders = [copy / "crates" / name / "out" / "rlib" for name in in_order(LIBRARY) if name != LIBRARY]
+    words = [tools / "bin" / "rattle", "build", "--crate-name", LIBRARY, "src/lib.rt", "--crate-type", "staticlib"]
+    words += ["--extern", f"std={tools}/rlibs/std.rlib", "-L", f"dependency={tools}/rlibs"]
+    words += [word for name in crates()[LIBRARY] for word in ("--extern", f"{name}={copy}/crates/{name}/out/rlib/{name}.rlib")]
+    words += [word for it in folders for word in ("-L", f"dependency={it}")]
+    words += ["--antt-project", tools / "rattle" / "logic" / "antt-project.json", "--logic-built", tools / "logic_built"]
+    words += ["--toolchain", tools / "toolchain", "--backend", "llvm", "-o", made]
+    subprocess.run(words, cwd=folder, check=True, stdout=subprocess.DEVNULL)
+    return made
 
 
-def link_library() -> None:
-    """One file that needs the C library alone, and that shows no other name than those of include/pitshell.h."""
-    BUILD.mkdir(exist_ok=True)
-    proved = TOP / "crates" / LIBRARY / "out" / f"lib{LIBRARY}.a"
-    names = BUILD / "libpitshell.names"
+def link_library(proved: pathlib.Path) -> None:
+    """One file that needs the C library alone, and that shows no other name than those of include/pitshell.h. The toolchain's calls
+    of malloc, realloc and free are taken along."""
+    heap, names = kit() / "c" / "liblibc_c.a", BUILD / "libpitshell.names"
     names.write_text("{ global: pitshell_*; local: *; };\n")
     flags = ["-Wl,-soname,libpitshell.so", "-Wl,-z,now", "-Wl,-z,noexecstack", f"-Wl,--version-script={names}"]
-    archives = ["-Wl,--whole-archive", proved, "-Wl,--no-whole-archive", heap()]
+    archives = ["-Wl,--whole-archive", proved, "-Wl,--no-whole-archive", heap]
     subprocess.run(["cc", "-shared", "-o", BUILD / "libpitshell.so", *flags, *archives], check=True)
     names.unlink()
-    both = f"CREATE {BUILD}/libpitshell.a\nADDLIB {proved}\nADDLIB {heap()}\nSAVE\nEND\n"
+    both = f"CREATE {BUILD}/libpitshell.a\nADDLIB {proved}\nADDLIB {heap}\nSAVE\nEND\n"
     subprocess.run(["ar", "-M"], input=both, text=True, check=True)
 
 
 def main() -> int:
     parser = argparse.ArgumentParser(description=__doc__, formatter_class=argparse.RawDescriptionHelpFormatter)
-    parser.add_argument("program", nargs="?", choices=PROGRAMS, default=PROGRAM)
-    parser.add_argument("--library", action="store_true", help="the library for C and Python in place of a program")
-    given = parser.parse_args()
-    if given.library:
-        if not prove_library():
-            return 1
-        link_library()
-    elif is_built(given.program):
-        print(f"build/{given.program} is that of these sources")
-    elif not prove_program(given.program):
-        return 1
-    return 0
+    parser.add_argument("crate", nargs="?", choices=FILES, default=PROGRAM)
+    crate = parser.parse_args().crate
+    if is_built(crate):
+        print(f"build/{FILES[crate][0]} is that of these sources")
+        return 0
+    return 0 if prove(crate) else 1
 
 
 if __name__ == "__main__":

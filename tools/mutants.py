@@ -2,7 +2,7 @@
 """Plants mutants, wrong bodies and definitions, in a copy of the repository, where the gate's proofs must refuse each of them.
 
     tools/mutants.py --changed     for the gate: those of each crate that is not as it was when the table was written, and those of one
-                                   crate more, another each day; the programs that the proofs leave are copied to build/
+                                   crate more, another each day; the programs and the library are taken into build/
     tools/mutants.py [CRATE..]     those of these crates, or all, for an hour or two; the table is renewed
     tools/mutants.py --read        none: looks whether each can be planted and stands in the table
 
@@ -128,8 +128,8 @@ def tried(chosen: list[str], table: Table) -> tuple[int, list[str]]:
     with clone.clone(mutant for _, mutant in mutants) as copy:
         status = clone.prove(copy, tell)
         if status == 0:
-            for program in build.PROGRAMS:
-                build.copy_program(copy, program)
+            for crate in build.FILES:
+                build.take(copy, crate)
     wrong = []
     for crate, mutant in mutants:
         said = told.get((crate, mutant.stem), "nothing was told")

@@ -64,12 +64,12 @@ fn pairs_allow(graph: &Graph, fixed: &Fixed, flow: &[i128], inside: &[bool]) -> 
 
 /// Whether a block that must be dug is inside, one that must be left outside, and an open one is reached and has no deficit
 /// where it is inside, and has nothing to send where it is outside.
-fn block_allows(is_dug: bool, is_left: bool, inside: bool, reached: bool, excess: i128) -> bool
-    ensures { IsTrue result ↔ BlockAllows is_dug is_left inside reached excess }
+fn block_allows(must_dig: bool, must_leave: bool, inside: bool, reached: bool, excess: i128) -> bool
+    ensures { IsTrue result ↔ BlockAllows must_dig must_leave inside reached excess }
 {
-    if is_dug {
-        inside && !is_left
-    } else if is_left {
+    if must_dig {
+        inside && !must_leave
+    } else if must_leave {
         !inside
     } else if inside {
         reached && excess >= 0
@@ -88,8 +88,8 @@ fn blocks_allow(fixed: &Fixed, excesses: &[i128], inside: &[bool], reached: &[bo
     for u in 0..inside.len() {
         let block = u as u32;
         if !block_allows(
-            fixed.is_dug(block),
-            fixed.is_left(block),
+            fixed.must_dig(block),
+            fixed.must_leave(block),
             inside[u],
             reached[u],
             excesses[u],

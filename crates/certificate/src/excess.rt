@@ -48,15 +48,6 @@ fn add_flow(mine: &Instance, flow: &[i128], excesses: &mut [i128])
     }
 }
 
-/// The value of each block.
-fn values_of(alloc: Global, mine: &Instance) -> Result<Vec<i128>, AllocError>
-    ensures count { IfOk result (λ v. length v.items ≡ mine.now.blocks) }
-    ensures values { IfOk result (λ v. AreValues mine.now v.items) }
-{
-    let n = mine.graph().n();
-    (0..n).map(|u| mine.value(u)).collect(alloc)
-}
-
 /// The excess of each block: its value, and what arrives less what leaves.
 pub fn excesses_of(alloc: Global, mine: &Instance, flow: &[i128]) -> Result<Vec<i128>, AllocError>
     requires counted { length flow.now ≡ arcs mine.now }
@@ -64,7 +55,8 @@ pub fn excesses_of(alloc: Global, mine: &Instance, flow: &[i128]) -> Result<Vec<
     ensures count { IfOk result (λ v. length v.items ≡ mine.now.blocks) }
     ensures excesses { IfOk result (λ v. AreExcesses mine.now flow.now v.items) }
 {
-    let mut excesses = values_of(alloc, mine)?;
+    mine.law();
+    let mut excesses = mine.values(alloc)?;
     add_flow(mine, flow, &mut excesses);
     Ok(excesses)
 }

@@ -36,7 +36,7 @@ fn list_of(fixed: &Fixed, kind: Kind) -> &[u32]
 pub fn fixes_nothing(fixed: &Fixed) -> bool
     ensures { result ≡ fixes_nothing fixed.now.lists }
 {
-    fixed.is_none()
+    fixed.is_empty()
 }
 
 /// Whether the title is that of format 2, which names the fixed blocks. Refused is that of format 1 where a block is fixed.

@@ -1,13 +1,16 @@
 -- What a solve by workers at one tree gives.
-use Rattle.std.specs.Prelude.{◌≡◌, ◌⊎◌, ℕ, List, Option, Some, None, IsTrue, IfSome}
+use Rattle.std.specs.Prelude.{◌≡◌, ◌⊎◌, ℕ, Bool, true, false, List, Option, Some, None, IsTrue, IfSome}
+use mathlib.Core.List.{IsPrefix}
 use Rattle.pit_model.specs.declared.journal.Entry.{Entry}
 use Rattle.pit_model.specs.declared.journal.Verdict.{Verdict}
+use Rattle.pit_model.specs.declared.journal.Verdict.TheVariants.{Applied}
 use Rattle.pit_model.specs.Mine.{Instance}
+use Rattle.pit_model.specs.Tree.{is_merger}
 use Rattle.pit_model.specs.Journal.{is_used_up, applied_count, IsLawful, AreSeated, replay}
 use Rattle.pit_model.specs.FirstRun.{HasMerger, HasNoMerger, IsFirstMerger}
 use Rattle.certificate.specs.Certificate.{IsCertificateOf}
-use Rattle.pit_model.specs.Version.{applied_arcs}
-use Rattle.proposals.specs.declared.knows.Desk.{Desk}
+use Rattle.pit_model.specs.Version.{applied_arcs, version_tree}
+use Rattle.proposals.specs.declared.knows.WorkerLedger.{WorkerLedger}
 use Rattle.tree_lock.specs.Held.{Held, Decides}
 use Rattle.tree_lock.specs.Served.{MeetsJournal}
 use Rattle.merging.specs.declared.outcome.Outcome.{Outcome}
@@ -35,5 +38,17 @@ DecidesFirst old new (Some verdict) = (arc : ℕ) × IsFirstMerger old.mine old.
 
 -- a worker's seats have met the holder's: what it asked and collected agrees with the entries under its seat, and its seat to look
 -- from, which is None only while it is lent, is told of all mergers
-abbrev pub HasMet : List Entry → Desk → Option (List ℕ) → Type 0
+abbrev pub HasMet : List Entry → WorkerLedger → Option (List ℕ) → Type 0
 HasMet journal asks looks = MeetsJournal asks journal × IfSome looks (λ list. list ≡ applied_arcs journal)
+
+-- a round's end: nothing more is to be done; or, after the workers had met the holder, the first merger arc was merged over
+abbrev pub RoundEnds : Held → Held → Bool → Type 0
+RoundEnds met after true = IsEnded after
+RoundEnds met after false = DecidesFirst met after (Some Applied)
+
+-- how a worker's look for an arc ends: it saw a version, with all that its seat knew before, and answers whether that shows the arc as
+-- a merger arc; or there was none to be had, its seat knows what it knew, and the answer is no
+pub data LooksFor (mine : Instance) (arc : ℕ) (before after : Option (List ℕ)) (answer : Bool) : Type 0 where
+  seen : (old new : List ℕ) → before ≡ Some old → after ≡ Some new → IsPrefix old new → answer ≡ is_merger mine (version_tree mine new) arc
+      → LooksFor mine arc before after answer
+  unseen : after ≡ before → answer ≡ false → LooksFor mine arc before after answer

@@ -1,11 +1,10 @@
 //! What the driver does between sweeps and at the end: it decides the first merger arc, and answers by the tree that is left.
-ghost use Rattle.std.specs.Prelude.{◌≡◌, Some, IfOk, IfErr, MatchBool};
-ghost use Rattle.pit_model.specs.declared.journal.Verdict.TheVariants.{Applied};
+ghost use Rattle.std.specs.Prelude.{◌≡◌, IfOk, IfErr};
 ghost use Rattle.faults.specs.Refused.{no_memory};
 ghost use Rattle.pit_model.specs.Mine.{arcs};
 ghost use Rattle.pit_model.specs.Tree.{is_merger};
 ghost use Rattle.pit_model.specs.FirstRun.{IsFirstMerger};
-ghost use Rattle.crew.specs.Solved.{EndsBy, DecidesFirst, IsEnded, IsSolvedTogether};
+ghost use Rattle.crew.specs.Solved.{EndsBy, DecidesFirst, IsEnded, IsSolvedTogether, RoundEnds};
 
 use certificate::of_tree;
 use faults::Fault;
@@ -14,7 +13,7 @@ use norm_tree::NormTree;
 use rayon::prelude::*;
 use std::sync::Wait;
 use std::thread::Threads;
-use tree_lock::{Entry, Holder, Site, Verdict};
+use tree_lock::{Entry, Holder, LockId, Verdict};
 
 /// The merger arc with the least number, over as many threads as there are processors; None where there is none.
 fn first_merger<R: Threads + Sync>(rt: &R, tree: &NormTree) -> Option<u32>
@@ -32,7 +31,7 @@ fn first_merger<R: Threads + Sync>(rt: &R, tree: &NormTree) -> Option<u32>
 
 /// Decides the merger arc with the least number, with an entry under the driver's seat; None where none is left.
 /// Refused for want of memory alone, and then nothing changed.
-pub fn decide_first<S: Site, R: Threads + Wait + Sync>(
+pub fn decide_first<S: LockId, R: Threads + Wait + Sync>(
     rt: &R,
     holder: &mut Holder<S>,
 ) -> Result<Option<Verdict>, Fault>
@@ -48,11 +47,11 @@ pub fn decide_first<S: Site, R: Threads + Wait + Sync>(
 
 /// Decides the first merger arc, and answers whether the solve has ended: none was left, or the budget is used up. Else its
 /// merger was made. Refused for want of memory alone.
-pub fn is_ended<S: Site, R: Threads + Wait + Sync>(
+pub fn is_ended<S: LockId, R: Threads + Wait + Sync>(
     rt: &R,
     holder: &mut Holder<S>,
 ) -> Result<bool, Fault>
-    ensures ended { IfOk result (λ is_ended. MatchBool is_ended (IsEnded holder.new) (DecidesFirst holder.old holder.new (Some Applied))) }
+    ensures ended { IfOk result (RoundEnds holder.old holder.new) }
     ensures refused { IfErr result (λ e. e ≡ no_memory) }
 {
     match decide_first(rt, holder)? {
@@ -62,7 +61,7 @@ pub fn is_ended<S: Site, R: Threads + Wait + Sync>(
 }
 
 /// The certificate of the holder's tree, or that the budget is used up.
-fn outcome_of<S: Site>(holder: &Holder<S>) -> Result<Outcome, Fault>
+fn outcome_of<S: LockId>(holder: &Holder<S>) -> Result<Outcome, Fault>
     requires { IsEnded holder.now }
     ensures ends { IfOk result (EndsBy holder.now.mine holder.now.budget holder.now.journal) }
     ensures refused { IfErr result (λ e. e ≡ no_memory) }
@@ -78,7 +77,7 @@ fn outcome_of<S: Site>(holder: &Holder<S>) -> Result<Outcome, Fault>
 }
 
 /// The outcome of the holder's tree, and its journal. Refused for want of memory alone.
-pub fn end_of<S: Site, R: Wait>(rt: &R, holder: Holder<S>) -> Result<(Outcome, Vec<Entry>), Fault>
+pub fn end_of<S: LockId, R: Wait>(rt: &R, holder: Holder<S>) -> Result<(Outcome, Vec<Entry>), Fault>
     requires ended { IsEnded holder }
     requires known { S.arcs ≡ arcs S.mine }
     ensures solved { IfOk result (λ r. IsSolvedTogether S.mine S.workers S.budget r.0 r.1.items) }

@@ -21,7 +21,7 @@ use std::alloc::Global;
 use std::marker::Brand;
 use std::sync::Wait;
 use std::thread::Threads;
-use tree_lock::{Entry, SharedTree, Site, UnnamedList};
+use tree_lock::{Entry, Holder, LockId, SharedTree, UnnamedList};
 
 /// So many workers have a seat; the driver's is seat 0.
 const MOST_WORKERS: u32 = 64;
@@ -35,7 +35,7 @@ struct Beginning {
 }
 
 /// A worker for each seat at the board, with a seat to look from.
-fn workers_of<S: Site>(
+fn workers_of<S: LockId>(
     alloc: Global,
     shared: &SharedTree<S>,
     seats: Vec<WorkerSeat<S>>,
@@ -51,7 +51,42 @@ fn workers_of<S: Site>(
     Ok(workers)
 }
 
-fn solve_at<S: Site + Send + Sync, G: Gate + Sync, R: Threads + Wait + Sync>(
+/// The workers, and the tree for the holder alone, which is given up where a seat was refused.
+fn with_workers<S: LockId, R: Wait>(
+    rt: &R,
+    alloc: Global,
+    shared: SharedTree<S>,
+    seats: Vec<WorkerSeat<S>>,
+) -> Result<(Vec<Worker<S>>, Holder<S>), Fault>
+    ensures { IfErr result IsNoRoom }
+{
+    let workers = workers_of(alloc, &shared, seats);
+    let holder = shared.into_holder();
+    match workers {
+        Ok(workers) => Ok((workers, holder)),
+        Err(fault) => {
+            holder.into_parts(rt);
+            Err(fault)
+        }
+    }
+}
+
+/// Runs the crew to its end, and answers by the tree that is left.
+fn run_crew<'a, S: LockId + Send + Sync, G: Gate + Sync, R: Threads + Wait + Sync>(
+    rt: &R,
+    alloc: Global,
+    crew: Crew<'a, S, G>,
+    holder: Holder<S>,
+) -> Result<(Outcome, Vec<Entry>), Fault>
+    requires { S.arcs ≡ arcs S.mine }
+    ensures solved { IfOk result (λ r. IsSolvedTogether S.mine S.workers S.budget r.0 r.1.items) }
+    ensures refused { IfErr result IsNoRoom }
+{
+    let mut crew = crew;
+    end_of(rt, crew.run(rt, alloc, holder)?)
+}
+
+fn solve_at<S: LockId + Send + Sync, G: Gate + Sync, R: Threads + Wait + Sync>(
     rt: &R,
     alloc: Global,
     begun: Beginning,
@@ -78,24 +113,15 @@ fn solve_at<S: Site + Send + Sync, G: Gate + Sync, R: Threads + Wait + Sync>(
     let arcs = tree.instance().graph().arcs();
     let (board, seats, holder_seat) = Board::<S>::new(alloc, unnamed, arcs)?;
     let shared = SharedTree::<S>::new(alloc, list, tree, budget, &board, holder_seat)?;
-    let workers = workers_of(alloc, &shared, seats);
-    let holder = shared.into_holder();
-    match workers {
-        Ok(workers) => {
-            let mut crew = Crew {
-                board: &board,
-                workers,
-                route,
-                chunk,
-                gate,
-            };
-            end_of(rt, crew.run(rt, alloc, holder)?)
-        }
-        Err(fault) => {
-            holder.into_parts(rt);
-            Err(fault)
-        }
-    }
+    let (workers, holder) = with_workers(rt, alloc, shared, seats)?;
+    let crew = Crew {
+        board: &board,
+        workers,
+        route,
+        chunk,
+        gate,
+    };
+    run_crew(rt, alloc, crew, holder)
 }
 
 /// Solves with so many workers, 1 to 64, at one tree, each of which draws so many arcs at once, and gives the journal of what

@@ -1,10 +1,11 @@
 //! The sweeps of mode shared: in each, the workers go over a route, each in a thread of its own; between two of them the
 //! driver has the tree alone, and decides the first merger arc that they left.
-ghost use Rattle.std.specs.Prelude.{◌≡◌, true, IfOk, IfErr};
+ghost use Rattle.std.specs.Prelude.{◌≡◌, IfOk, IfErr};
 ghost use Rattle.faults.specs.Refused.{no_memory, no_seat, IsNoRoom};
 ghost use Rattle.pit_model.specs.Mine.{arcs};
 ghost use Rattle.std.specs.List.{All};
-ghost use Rattle.crew.specs.Solved.{HasMet, IsEnded};
+ghost use Rattle.tree_lock.specs.Held.{Held};
+ghost use Rattle.crew.specs.Solved.{HasMet, IsEnded, RoundEnds};
 
 use crate::driver::is_ended;
 use crate::gate::Gate;
@@ -12,17 +13,17 @@ use crate::route::Route;
 use crate::worker::{Sweep, Worker};
 use faults::Fault;
 use norm_tree::NormTree;
-use proposals::{Board, DrawSeat, Draws, Lot, UnnamedDraws};
+use proposals::{Board, CounterId, DrawSeat, Draws, UnnamedDraws};
 use std::alloc::Global;
 use std::marker::Brand;
 use std::sync::Wait;
 use std::thread;
 use std::thread::Threads;
-use tree_lock::{Holder, SharedTree, Site};
+use tree_lock::{Holder, LockId, SharedTree};
 
 /// The workers with what they share beside the tree.
 #[derive(Drop)]
-pub struct Crew<'a, S: Site, G: Gate> {
+pub struct Crew<'a, S: LockId, G: Gate> {
     pub board: &'a Board<S>,
     pub workers: Vec<Worker<S>>,
     /// What the next sweep goes over.
@@ -34,9 +35,9 @@ pub struct Crew<'a, S: Site, G: Gate> {
 
 /// The workers, each in a thread of its own with its seats. All have ended afterwards.
 fn run_workers<
-    S: Site + Send + Sync,
+    S: LockId + Send + Sync,
     G: Gate + Sync,
-    L: Lot + Send + Sync,
+    L: CounterId + Send + Sync,
     R: Threads + Wait + Sync,
 >(
     rt: &R,
@@ -72,7 +73,7 @@ fn as_count(length: usize) -> u32 {
 }
 
 /// The seats of each meet the holder's.
-fn meet_all<S: Site>(board: &Board<S>, workers: &mut [Worker<S>], holder: &mut Holder<S>)
+fn meet_all<S: LockId>(board: &Board<S>, workers: &mut [Worker<S>], holder: &mut Holder<S>)
     ensures same { holder.new ≡ holder.old }
     ensures met { All (λ worker. HasMet holder.old.journal worker.asks worker.looks) workers.new }
 {
@@ -81,9 +82,9 @@ fn meet_all<S: Site>(board: &Board<S>, workers: &mut [Worker<S>], holder: &mut H
     }
 }
 
-impl<'a, S: Site + Send + Sync, G: Gate + Sync> Crew<'a, S, G> {
+impl<'a, S: LockId + Send + Sync, G: Gate + Sync> Crew<'a, S, G> {
     /// One sweep, by this counter.
-    fn sweep_by<L: Lot + Send + Sync, R: Threads + Wait + Sync>(
+    fn sweep_by<L: CounterId + Send + Sync, R: Threads + Wait + Sync>(
         &mut self,
         rt: &R,
         alloc: Global,
@@ -135,14 +136,35 @@ impl<'a, S: Site + Send + Sync, G: Gate + Sync> Crew<'a, S, G> {
 
     /// Makes the route of the next sweep over the tree.
     fn renew(&mut self, alloc: Global, tree: &NormTree) -> Result<(), Fault>
-        ensures { IfErr result (λ e. e ≡ no_memory) }
+        ensures workers { self.new.workers ≡ self.old.workers }
+        ensures refused { IfErr result (λ e. e ≡ no_memory) }
     {
         self.route = Route::over_mergers(alloc, tree, self.chunk)?;
         Ok(())
     }
 
-    /// A sweep under the lock, and the driver's decision after it, when it has the holder for itself. It answers the holder, and
-    /// whether the solve has ended. Where it was refused the holder is given up.
+    /// The driver's decision after a sweep: it answers whether the solve has ended, and else makes the route of the next sweep.
+    fn decide<R: Threads + Wait + Sync>(
+        &mut self,
+        rt: &R,
+        alloc: Global,
+        holder: &mut Holder<S>,
+    ) -> Result<bool, Fault>
+        ensures ended { IfOk result (RoundEnds holder.old holder.new) }
+        ensures met { All (λ worker. HasMet holder.old.journal worker.asks worker.looks) self.new.workers.items }
+        ensures refused { IfErr result IsNoRoom }
+    {
+        self.meet(holder);
+        holder.tree().instance().counters().swept();
+        if is_ended(rt, holder)? {
+            return Ok(true);
+        }
+        self.renew(alloc, holder.tree())?;
+        Ok(false)
+    }
+
+    /// A sweep under the lock; then each worker meets the holder, and the driver decides, which has it for itself. It answers the
+    /// holder, and whether the solve has ended. Where it was refused the holder is given up.
     fn round<R: Threads + Wait + Sync>(
         &mut self,
         rt: &R,
@@ -150,7 +172,7 @@ impl<'a, S: Site + Send + Sync, G: Gate + Sync> Crew<'a, S, G> {
         holder: Holder<S>,
     ) -> Result<(Holder<S>, bool), Fault>
         requires { S.arcs ≡ arcs S.mine }
-        ensures ended { IfOk result (λ r. r.1 ≡ true → IsEnded r.0) }
+        ensures ended { IfOk result (λ r. (met : Held) × RoundEnds met r.0 r.1 × All (λ worker. HasMet met.journal worker.asks worker.looks) self.new.workers.items) }
         ensures refused { IfErr result IsNoRoom }
     {
         let shared = SharedTree::of_holder(holder);
@@ -160,15 +182,8 @@ impl<'a, S: Site + Send + Sync, G: Gate + Sync> Crew<'a, S, G> {
             holder.into_parts(rt);
             return Err(fault);
         }
-        self.meet(&mut holder);
-        holder.tree().instance().gauge().swept();
-        let renewed = match is_ended(rt, &mut holder) {
-            Ok(true) => return Ok((holder, true)),
-            Ok(false) => self.renew(alloc, holder.tree()),
-            Err(fault) => Err(fault),
-        };
-        match renewed {
-            Ok(()) => Ok((holder, false)),
+        match self.decide(rt, alloc, &mut holder) {
+            Ok(is_ended) => Ok((holder, is_ended)),
             Err(fault) => {
                 holder.into_parts(rt);
                 Err(fault)

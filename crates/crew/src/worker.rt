@@ -2,13 +2,13 @@
 //! it sees there, serves the board under the lock where nobody else did, and collects its reply.
 ghost use Rattle.std.specs.Prelude.{◌≡◌, ◌<◌, ◌≤◌, suc, None, IfSome, IsTrue};
 ghost use Rattle.pit_model.specs.Mine.{arcs};
-ghost use Rattle.crew.specs.Solved.{HasMet};
+ghost use Rattle.crew.specs.Solved.{HasMet, LooksFor};
 
 use crate::gate::Gate;
 use crate::route::Route;
-use proposals::{Board, DrawSeat, Draws, Lot, WorkerSeat};
+use proposals::{Board, CounterId, DrawSeat, Draws, WorkerSeat};
 use std::sync::{MutexGuard, Wait};
-use tree_lock::{Holder, LookSeat, SharedTree, Site, Verdict};
+use tree_lock::{Holder, LockId, LookSeat, SharedTree, Verdict};
 
 /// So many asks of its own a worker serves before it lets go of the lock. Two that hand the lock over at each ask sleep and wake
 /// one another each time, which takes longer than what is done with it.
@@ -20,32 +20,32 @@ const LOOKS_BEFORE_WAITING: u32 = 1_000;
 
 /// The lock, while a worker has it, and how many asks more it may serve with it. It is not `Drop`: it ends by `end`, or by `left`
 /// after the last ask.
-struct Turn<'a, S: Site> {
+struct HeldLock<'a, S: LockId> {
     holder: MutexGuard<'a, Holder<S>>,
     asks: u32,
 }
 
-impl<'a, S: Site> Turn<'a, S> {
-    fn begin(holder: MutexGuard<'a, Holder<S>>) -> Turn<'a, S>
+impl<'a, S: LockId> HeldLock<'a, S> {
+    fn begin(holder: MutexGuard<'a, Holder<S>>) -> HeldLock<'a, S>
         ensures { result.asks ≡ 64 }
     {
-        Turn {
+        HeldLock {
             holder,
             asks: ASKS_IN_TURN,
         }
     }
 
     /// The same after an ask; None after the last, and then the lock is free.
-    fn left(self) -> Option<Turn<'a, S>>
+    fn left(self) -> Option<HeldLock<'a, S>>
         ensures ends { self.entry.asks ≤ 1 → result ≡ None }
-        ensures fewer { IfSome result (λ turn. suc turn.asks ≡ self.entry.asks) }
+        ensures fewer { IfSome result (λ held. suc held.asks ≡ self.entry.asks) }
     {
-        let Turn { holder, asks } = self;
+        let HeldLock { holder, asks } = self;
         if asks <= 1 {
             MutexGuard::unlock(holder);
             return None;
         }
-        Some(Turn {
+        Some(HeldLock {
             holder,
             asks: asks - 1,
         })
@@ -53,14 +53,14 @@ impl<'a, S: Site> Turn<'a, S> {
 
     /// Frees the lock.
     fn end(self) {
-        let Turn { holder, asks: _ } = self;
+        let HeldLock { holder, asks: _ } = self;
         MutexGuard::unlock(holder);
     }
 }
 
 /// A worker's number, from 1, and its seats. The seat to look from is None while it is lent, and never between calls.
 #[derive(Drop)]
-pub struct Worker<S: Site> {
+pub struct Worker<S: LockId> {
     number: u32,
     asks: WorkerSeat<S>,
     looks: Option<LookSeat<S>>,
@@ -68,7 +68,7 @@ pub struct Worker<S: Site> {
 
 /// What all workers have in common in a sweep.
 #[derive(Drop)]
-pub struct Sweep<'a, S: Site, G: Gate, L: Lot> {
+pub struct Sweep<'a, S: LockId, G: Gate, L: CounterId> {
     pub board: &'a Board<S>,
     pub shared: &'a SharedTree<S>,
     pub draws: &'a Draws<L>,
@@ -77,7 +77,7 @@ pub struct Sweep<'a, S: Site, G: Gate, L: Lot> {
     ghost known: { S.arcs ≡ arcs S.mine },
 }
 
-impl<S: Site> Worker<S> {
+impl<S: LockId> Worker<S> {
     pub fn new(number: u32, asks: WorkerSeat<S>, looks: LookSeat<S>) -> Worker<S> {
         Worker {
             number,
@@ -89,7 +89,8 @@ impl<S: Site> Worker<S> {
     /// Whether the version that is published now shows the arc as a merger arc; no where there is no version. It is left before
     /// an ask, so that whoever publishes waits for one test at most.
     fn sees_merger(&mut self, arc: u32) -> bool
-        ensures { IsTrue result → arc < arcs S.mine }
+        ensures shown { LooksFor S.mine arc self.old.looks self.new.looks result }
+        ensures inside { IsTrue result → arc < arcs S.mine }
     {
         let Some(seat) = self.looks.take() else {
             return false;
@@ -109,7 +110,7 @@ impl<S: Site> Worker<S> {
 
     /// Collects the reply to its ask, and answers whether the worker is to go on: not where the budget is used up. None where
     /// there is no reply.
-    fn collect<G: Gate, L: Lot>(&mut self, sweep: &Sweep<S, G, L>) -> Option<bool> {
+    fn collect<G: Gate, L: CounterId>(&mut self, sweep: &Sweep<S, G, L>) -> Option<bool> {
         let reply = sweep.board.collect(&mut self.asks)?;
         sweep.gate.served(self.number);
         Some(reply.verdict != Verdict::Spent)
@@ -117,31 +118,31 @@ impl<S: Site> Worker<S> {
 
     /// Serves the board with the lock, and collects the reply to its ask. It answers whether the worker is to go on, and the lock
     /// where it keeps it. It is not to go on where memory was refused; an ask that was not answered then stays open.
-    fn serve<'a, G: Gate, L: Lot, R: Wait>(
+    fn serve<'a, G: Gate, L: CounterId, R: Wait>(
         &mut self,
         rt: &R,
         sweep: &Sweep<'a, S, G, L>,
-        turn: Turn<'a, S>,
-    ) -> (bool, Option<Turn<'a, S>>) {
-        let mut turn = turn;
-        let served = turn.holder.serve(rt, sweep.board);
+        held: HeldLock<'a, S>,
+    ) -> (bool, Option<HeldLock<'a, S>>) {
+        let mut held = held;
+        let served = held.holder.serve(rt, sweep.board);
         let goes_on = match self.collect(sweep) {
             Some(goes_on) => served.is_ok() && goes_on,
             None => false,
         };
-        (goes_on, turn.left())
+        (goes_on, held.left())
     }
 
     /// Collects the reply of whoever has the lock, or serves once the lock is free. It waits for the lock only where it found it
     /// taken so often.
-    fn meet_holder<'a, G: Gate, L: Lot, R: Wait>(
+    fn meet_holder<'a, G: Gate, L: CounterId, R: Wait>(
         &mut self,
         rt: &R,
         sweep: &Sweep<'a, S, G, L>,
-    ) -> (bool, Option<Turn<'a, S>>) {
+    ) -> (bool, Option<HeldLock<'a, S>>) {
         for _look in 0..LOOKS_BEFORE_WAITING {
             match sweep.shared.try_lock() {
-                Some(holder) => return self.serve(rt, sweep, Turn::begin(holder)),
+                Some(holder) => return self.serve(rt, sweep, HeldLock::begin(holder)),
                 None => {}
             }
             match self.collect(sweep) {
@@ -149,52 +150,52 @@ impl<S: Site> Worker<S> {
                 None => {}
             }
         }
-        self.serve(rt, sweep, Turn::begin(sweep.shared.lock(rt)))
+        self.serve(rt, sweep, HeldLock::begin(sweep.shared.lock(rt)))
     }
 
     /// Asks for the arc, serves where nobody answered yet, and collects. It answers whether the worker is to go on, and the lock
     /// where it keeps it. It is not to go on where the budget is used up, or memory was refused.
-    fn propose<'a, G: Gate, L: Lot, R: Wait>(
+    fn propose<'a, G: Gate, L: CounterId, R: Wait>(
         &mut self,
         rt: &R,
         sweep: &Sweep<'a, S, G, L>,
-        turn: Option<Turn<'a, S>>,
+        held: Option<HeldLock<'a, S>>,
         arc: u32,
-    ) -> (bool, Option<Turn<'a, S>>)
+    ) -> (bool, Option<HeldLock<'a, S>>)
         requires { arc < S.arcs }
     {
         sweep.board.ask(&mut self.asks, arc);
         sweep.gate.asked(self.number);
-        match (self.collect(sweep), turn) {
-            (Some(goes_on), turn) => (goes_on, turn),
-            (None, Some(turn)) => self.serve(rt, sweep, turn),
+        match (self.collect(sweep), held) {
+            (Some(goes_on), held) => (goes_on, held),
+            (None, Some(held)) => self.serve(rt, sweep, held),
             (None, None) => self.meet_holder(rt, sweep),
         }
     }
 
     /// Goes over the arcs of a chunk, and frees the lock. It answers whether the worker is to go on.
-    fn go_over<'a, G: Gate, L: Lot, R: Wait>(
+    fn go_over<'a, G: Gate, L: CounterId, R: Wait>(
         &mut self,
         rt: &R,
         sweep: &Sweep<'a, S, G, L>,
         arcs: &[u32],
     ) -> bool {
-        let mut turn = None;
+        let mut held = None;
         let mut goes_on = true;
         for &arc in arcs {
             if goes_on && self.sees_merger(arc) {
-                (goes_on, turn) = self.propose(rt, sweep, turn, arc);
+                (goes_on, held) = self.propose(rt, sweep, held, arc);
             }
         }
-        match turn {
-            Some(turn) => turn.end(),
+        match held {
+            Some(held) => held.end(),
             None => {}
         }
         goes_on
     }
 
     /// The worker's part of a sweep, until no chunk is left.
-    pub fn sweep<G: Gate, L: Lot, R: Wait>(
+    pub fn sweep<G: Gate, L: CounterId, R: Wait>(
         &mut self,
         rt: &R,
         sweep: &Sweep<S, G, L>,

@@ -1,9 +1,10 @@
 -- The call of `shells`: the factors are read first, and then the files are opened.
-use Rattle.std.specs.Prelude.{◌≡◌, ◌^◌, ℕ, List, Result, Ok, Err}
+use Rattle.std.specs.Prelude.{◌≡◌, ℕ, List, Option, Result, Ok, Err}
+use Rattle.std.specs.Io.KnownBytes.{Keeps}
 use Rattle.faults.specs.declared.fault.Fault.{Fault}
 use Rattle.faults.specs.declared.source.Source.TheVariants as sources
 use Rattle.minelib_reader.specs.Answer.{FailsAt}
-use Rattle.minelib_reader.specs.Device.{Progress, unread}
+use Rattle.minelib_reader.specs.Device.{Progress}
 use Rattle.minelib_reader.specs.declared.input.FileReader.{FileReader}
 use Rattle.shells.specs.FactorList.{numbers_of, IsFirstItemFault, SpellsFactors}
 use Rattle.shells.specs.Grown.{EachEndsWithin}
@@ -12,6 +13,7 @@ use Rattle.runs.specs.Solve.{Reading}
 use Rattle.runs.specs.declared.status.Status.{Status}
 use Rattle.file_runs.specs.declared.options.ShellsOptions.{ShellsOptions}
 use Rattle.file_runs.specs.Faults.{IsUnopened}
+use Rattle.file_runs.specs.Opened.{IsFromFront}
 use Rattle.file_runs.specs.Place.{InputPlace, IsNotRun, State, given_by}
 
 -- what went through the readers and the writer of a run of `shells`
@@ -38,12 +40,13 @@ module _ {F Model Prec Fixed Certificate Journal Blocks : Type 0} where
     no_blocks : (fault : Fault) (factors : List ℕ) → SpellsFactors options.factors.now factors
         → IsUnopened sources.Blocks fault → place.files.lacks old.files options.blocks.now sources.Blocks new.files
         → IsNotRun fault old new result → EndsShells place options old new result
-    no_prec : (fault : Fault) (factors : List ℕ) (f : F) → SpellsFactors options.factors.now factors
-        → place.files.opens old.files options.blocks.now sources.Blocks f
+    no_prec : (fault : Fault) (factors : List ℕ) (text : Option (List ℕ)) (f : F) → SpellsFactors options.factors.now factors
+        → place.files.opens old.files options.blocks.now sources.Blocks text f
         → IsUnopened sources.Precedence fault → place.files.lacks f options.prec.now sources.Precedence new.files
         → IsNotRun fault old new result → EndsShells place options old new result
-    grew : (factors : List ℕ) (f : F) (b b' : FileReader Blocks) (p p' : FileReader Prec) → SpellsFactors options.factors.now factors
-        → place.files.opens old.files options.blocks.now sources.Blocks f → place.files.opens f options.prec.now sources.Precedence new.files
-        → place.blocks.progress b ≡ unread (2 ^ 40) → place.prec.progress p ≡ unread (2 ^ 40)
+    grew : (factors : List ℕ) (table pairs : Option (List ℕ)) (f : F) (b b' : FileReader Blocks) (p p' : FileReader Prec) → SpellsFactors options.factors.now factors
+        → place.files.opens old.files options.blocks.now sources.Blocks table f → place.files.opens f options.prec.now sources.Precedence pairs new.files
+        → IsFromFront place.blocks.progress place.blocks.known_text table b → IsFromFront place.prec.progress place.prec.known_text pairs p
+        → Keeps (place.blocks.known_text b) (place.blocks.known_text b') → Keeps (place.prec.known_text p) (place.prec.known_text p')
         → RunsShells options factors (record { blocks = given_by place.blocks b b'; prec = given_by place.prec p p'; before = old.out; after = new.out }) result
         → EndsShells place options old new result

@@ -1,12 +1,14 @@
 -- The calls over the files of a mine and one more: `check` over a certificate, and `replay` over a journal.
-use Rattle.std.specs.Prelude.{◌≡◌, ◌^◌, ℕ, List, Result, Ok, Err}
+use Rattle.std.specs.Prelude.{ℕ, List, Option, Result, Ok, Err}
+use Rattle.std.specs.Io.KnownBytes.{Keeps}
 use Rattle.faults.specs.declared.fault.Fault.{Fault}
 use Rattle.faults.specs.declared.source.Source.{Source}
 use Rattle.faults.specs.declared.source.Source.TheVariants as sources
-use Rattle.minelib_reader.specs.Device.{Progress, unread}
+use Rattle.minelib_reader.specs.Device.{Progress}
 use Rattle.minelib_reader.specs.declared.device.InBytes.{Ghosts as Reader}
 use Rattle.minelib_reader.specs.declared.input.FileReader.{FileReader}
 use Rattle.runs.specs.Check.{IsChecked, RefusesCheck}
+use Rattle.runs.specs.Kept.{KeepsTexts}
 use Rattle.runs.specs.Replay.{IsToldReplay, RefusesReplay}
 use Rattle.runs.specs.Solve.{Files, Reading}
 use Rattle.runs.specs.declared.mine.MineFiles.{MineFiles}
@@ -15,7 +17,7 @@ use Rattle.file_runs.specs.declared.options.CheckOptions.{CheckOptions}
 use Rattle.file_runs.specs.declared.options.MineNames.{MineNames}
 use Rattle.file_runs.specs.declared.options.ReplayOptions.{ReplayOptions}
 use Rattle.file_runs.specs.Faults.{IsUnopened}
-use Rattle.file_runs.specs.Opened.{AreUnread, LacksMine, OpensMine}
+use Rattle.file_runs.specs.Opened.{AreFromFront, IsFromFront, LacksMine, MineTexts, OpensMine}
 use Rattle.file_runs.specs.Place.{InputPlace, IsNotRun, State, given, given_by}
 
 -- how a run of `check` ends
@@ -41,11 +43,12 @@ module _ {F Model Prec Fixed Certificate Journal Blocks : Type 0} where
   -- the run was over the readers of these, from their fronts
   pub data EndsOver {S : Type 0} (place : InputPlace F Model Prec Fixed Certificate Journal Blocks) (call : Over S) (old new : State F) (result : Result Status Fault) : Type 0 where
     no_mine : (fault : Fault) → LacksMine place.files call.mine fault old.files new.files → IsNotRun fault old new result → EndsOver place call old new result
-    no_last : (fault : Fault) (f : F) → OpensMine place.files call.mine old.files f → IsUnopened call.source fault → place.files.lacks f call.last call.source new.files
+    no_last : (fault : Fault) (texts : MineTexts) (f : F) → OpensMine place.files call.mine texts old.files f → IsUnopened call.source fault → place.files.lacks f call.last call.source new.files
         → IsNotRun fault old new result → EndsOver place call old new result
-    ran : (f : F) (mine read : MineFiles (FileReader Model) (FileReader Prec) (FileReader Fixed)) (s t : S)
-        → OpensMine place.files call.mine old.files f → place.files.opens f call.last call.source new.files
-        → AreUnread place call.mine mine → call.reader.progress s ≡ unread (2 ^ 40)
+    ran : (f : F) (texts : MineTexts) (text : Option (List ℕ)) (mine read : MineFiles (FileReader Model) (FileReader Prec) (FileReader Fixed)) (s t : S)
+        → OpensMine place.files call.mine texts old.files f → place.files.opens f call.last call.source text new.files
+        → AreFromFront place call.mine texts mine → IsFromFront call.reader.progress call.reader.known_text text s
+        → KeepsTexts place.model.known_text place.prec.known_text place.fixed.known_text mine read → Keeps (call.reader.known_text s) (call.reader.known_text t)
         → call.Runs (given place mine read) (given_by call.reader s t) old.out new.out result
         → EndsOver place call old new result
 

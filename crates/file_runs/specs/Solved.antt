@@ -12,6 +12,7 @@ use Rattle.solver.specs.declared.mode.Mode.{Mode}
 use Rattle.runs.specs.Certified.{IsCertified}
 use Rattle.runs.specs.Chosen.{Chosen, chosen, OfWriterIfAny}
 use Rattle.runs.specs.Journaled.{IsJournaled}
+use Rattle.runs.specs.Kept.{KeepsTexts}
 use Rattle.runs.specs.Run.{HoldsOfSearched, RefusesRun}
 use Rattle.runs.specs.Solve.{Files, IsDone}
 use Rattle.runs.specs.declared.asked.Asked.{Asked}
@@ -19,7 +20,7 @@ use Rattle.runs.specs.declared.mine.MineFiles.{MineFiles}
 use Rattle.runs.specs.declared.status.Status.{Status}
 use Rattle.file_runs.specs.declared.options.SolveOptions.{SolveOptions}
 use Rattle.file_runs.specs.Faults.{IsUnmade}
-use Rattle.file_runs.specs.Opened.{AreUnread, LacksMine, OpensMine}
+use Rattle.file_runs.specs.Opened.{AreFromFront, LacksMine, MineTexts, OpensMine}
 use Rattle.file_runs.specs.Place.{IsNotRun, OutputPlace, State, Writers, given}
 use Rattle.file_runs.specs.Made.{EndsOutputs, MakesOutputs, SparesOutputs, finished, wanted_by}
 
@@ -75,12 +76,13 @@ module _ {F JournalOut CertificateOut Model Prec Fixed Certificate Journal Block
   -- from their fronts and the new outputs, and then these were ended
   pub data EndsSolve (place : OutputPlace F JournalOut CertificateOut Model Prec Fixed Certificate Journal Blocks) (options : SolveOptions) (old new : State F) (result : Result Status Fault) : Type 0 where
     unopened : (fault : Fault) → LacksMine place.inputs.files options.mine fault old.files new.files → IsNotRun fault old new result → EndsSolve place options old new result
-    unmade : (fault : Fault) (f : F) → OpensMine place.inputs.files options.mine old.files f
+    unmade : (fault : Fault) (texts : MineTexts) (f : F) → OpensMine place.inputs.files options.mine texts old.files f
         → IsUnmade fault → SparesOutputs place.files (wanted_by options) f new.files → IsNotRun fault old new result → EndsSolve place options old new result
-    solved : (outcome : Result Status Fault) (f g : F) (mine read : MineFiles (FileReader Model) (FileReader Prec) (FileReader Fixed))
-        → OpensMine place.inputs.files options.mine old.files f
+    solved : (outcome : Result Status Fault) (texts : MineTexts) (f g : F) (mine read : MineFiles (FileReader Model) (FileReader Prec) (FileReader Fixed))
+        → OpensMine place.inputs.files options.mine texts old.files f
         → MakesOutputs place.files (wanted_by options) f g
-        → AreUnread place.inputs options.mine mine
+        → AreFromFront place.inputs options.mine texts mine
+        → KeepsTexts place.inputs.model.known_text place.inputs.prec.known_text place.inputs.fixed.known_text mine read
         → RanRecorded place.writers (record { asked = options.asked; files = given place.inputs mine read; before = old.out; after = new.out })
         (is_some (wanted_by options).journal) (is_some (wanted_by options).certificate) outcome
         → EndsOutputs place.files (finished outcome (is_some (wanted_by options).journal) (is_some (wanted_by options).certificate)) result g new.files

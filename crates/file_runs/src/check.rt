@@ -4,7 +4,7 @@ ghost use Rattle.file_runs.specs.Ended.{Ended};
 ghost use Rattle.file_runs.specs.Over.{EndsCheck};
 ghost use Rattle.file_runs.specs.Place.{state};
 
-use crate::ending::told;
+use crate::ending::report_fault;
 use crate::inputs::InputFiles;
 use crate::mine::open_mine;
 use crate::options::CheckOptions;
@@ -27,7 +27,7 @@ fn check_files<F: InputFiles, W: OutBytes>(
 {
     let mine = open_mine(files, &options.mine)?;
     let certificate = files.open_certificate(options.certificate)?;
-    let mut mine = readers_of(mine, &files.gauge());
+    let mut mine = readers_of(mine, &files.counters());
     let mut certificate = FileReader::new(certificate);
     run_check(alloc, &mut mine, &mut certificate, out)
 }
@@ -47,5 +47,5 @@ pub fn check_call<F: InputFiles, W: OutBytes, E: OutBytes>(
         (state files.old (W.progress out.old)) (state files.new (W.progress out.new))) }
 {
     let outcome = check_files(alloc, files, options, out);
-    told(err, &outcome)
+    report_fault(err, &outcome)
 }

@@ -9,7 +9,7 @@ use report::write_fault;
 use runs::{Status, exit_code};
 
 /// Tells a fault, where there is one, and answers the exit status.
-pub fn told<E: OutBytes>(err: &mut E, outcome: &Result<Status, Fault>) -> u8
+pub fn report_fault<E: OutBytes>(err: &mut E, outcome: &Result<Status, Fault>) -> u8
     requires countable { (E.progress err.old).failures < 2 ^ 63 }
     ensures status { result ≡ status_of outcome.now }
     ensures tells { Tells outcome.now (E.progress err.old) (E.progress err.new) }

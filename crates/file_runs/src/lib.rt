@@ -5,7 +5,7 @@
 mod check;
 mod ending;
 mod inputs;
-mod made;
+mod make_outputs;
 mod mine;
 mod nested;
 mod options;
@@ -17,7 +17,7 @@ mod replay;
 mod solve;
 
 pub use check::check_call;
-pub use ending::told;
+pub use ending::report_fault;
 pub use inputs::InputFiles;
 pub use nested::shells_call;
 pub use options::{CheckOptions, MineNames, ReplayOptions, ShellsOptions, SolveOptions};

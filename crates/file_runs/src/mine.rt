@@ -1,18 +1,19 @@
 //! The files of a mine, opened in the order in which they are read.
 ghost use Rattle.std.specs.Prelude.{◌≡◌, IfOk, IfErr, is_some, option_copied};
-ghost use Rattle.file_runs.specs.Opened.{LacksFixed, LacksMine, OpensFixed, OpensMine};
+ghost use Rattle.file_runs.specs.Opened.{left_if_any, texts_of, LacksFixed, LacksMine, OpensFixed, OpensMine};
 
 use crate::inputs::{InputFiles, MineStreams};
 use crate::options::MineNames;
 use faults::Fault;
 use runs::MineFiles;
+use std::io::Read;
 
 /// Opens the file of fixed blocks, where there is one.
 fn open_fixed_if_any<F: InputFiles>(
     files: &mut F,
     path: Option<&str>,
 ) -> Result<Option<F::Fixed>, Fault>
-    ensures opened { IfOk result (λ _. OpensFixed F.InputFiles (option_copied path.entry) files.old files.new) }
+    ensures opened { IfOk result (λ r. OpensFixed F.InputFiles (option_copied path.entry) (left_if_any (⟦<F::Fixed as Read>⟧.remaining) r) files.old files.new) }
     ensures named { IfOk result (λ r. is_some r ≡ is_some (option_copied path.entry)) }
     ensures lacked { IfErr result (λ e. LacksFixed F.InputFiles (option_copied path.entry) e files.old files.new) }
 {
@@ -27,7 +28,7 @@ pub(crate) fn open_mine<F: InputFiles>(
     files: &mut F,
     names: &MineNames<'_>,
 ) -> Result<MineStreams<F>, Fault>
-    ensures opened { IfOk result (λ _. OpensMine F.InputFiles names.now files.old files.new) }
+    ensures opened { IfOk result (λ r. OpensMine F.InputFiles names.now (texts_of (⟦<F::Model as Read>⟧.remaining) (⟦<F::Prec as Read>⟧.remaining) (⟦<F::Fixed as Read>⟧.remaining) r) files.old files.new) }
     ensures named { IfOk result (λ r. is_some r.fixed ≡ is_some (option_copied names.now.fixed)) }
     ensures lacked { IfErr result (λ e. LacksMine F.InputFiles names.now e files.old files.new) }
 {

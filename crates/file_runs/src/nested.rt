@@ -4,7 +4,7 @@ ghost use Rattle.file_runs.specs.Ended.{Ended};
 ghost use Rattle.file_runs.specs.Nested.{EndsShells};
 ghost use Rattle.file_runs.specs.Place.{state};
 
-use crate::ending::told;
+use crate::ending::report_fault;
 use crate::inputs::InputFiles;
 use crate::options::ShellsOptions;
 use crate::place::Readable;
@@ -31,9 +31,9 @@ fn shells_files<R: AllocGlobal + Threads + Wait + Sync, F: InputFiles, W: OutByt
     let factors = Factors::read(alloc, options.factors)?;
     let blocks = files.open_blocks(options.blocks)?;
     let prec = files.open_prec(options.prec)?;
-    let gauge = files.gauge();
-    let mut blocks = FileReader::watched(blocks, gauge.share());
-    let mut prec = FileReader::watched(prec, gauge);
+    let counters = files.counters();
+    let mut blocks = FileReader::watched(blocks, counters.share());
+    let mut prec = FileReader::watched(prec, counters);
     run_shells(
         rt,
         alloc,
@@ -62,5 +62,5 @@ pub fn shells_call<R: AllocGlobal + Threads + Wait + Sync, F: InputFiles, W: Out
         (state files.old (W.progress out.old)) (state files.new (W.progress out.new))) }
 {
     let outcome = shells_files(rt, files, options, out);
-    told(err, &outcome)
+    report_fault(err, &outcome)
 }

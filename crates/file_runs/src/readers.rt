@@ -1,10 +1,9 @@
 //! What reads the files of a mine, each from its front.
-ghost use Rattle.std.specs.Prelude.{◌≡◌, ◌^◌, is_some};
-ghost use Rattle.minelib_reader.specs.Device.{unread};
+ghost use Rattle.std.specs.Prelude.{◌≡◌, is_some};
 ghost use Rattle.runs.specs.Solve.{MayRead};
-ghost use Rattle.file_runs.specs.Opened.{IsUnreadIfAny};
+ghost use Rattle.file_runs.specs.Opened.{left_if_any, IsFromFront, IsFromFrontIfAny};
 
-use gauge::Gauge;
+use counters::Counters;
 use minelib_reader::{FileReader, InBytes, InputStream};
 use runs::MineFiles;
 
@@ -12,31 +11,31 @@ use runs::MineFiles;
 pub(crate) type MineReaders<M, P, X> = MineFiles<FileReader<M>, FileReader<P>, FileReader<X>>;
 
 /// What reads the file of fixed blocks, where there is one.
-fn reader_of<X: InputStream + Drop>(fixed: Option<X>, gauge: &Gauge) -> Option<FileReader<X>>
-    ensures unread { IsUnreadIfAny (⟦<FileReader<X> as InBytes>⟧.progress) result }
+fn reader_of<X: InputStream + Drop>(fixed: Option<X>, counters: &Counters) -> Option<FileReader<X>>
+    ensures front { IsFromFrontIfAny (⟦<FileReader<X> as InBytes>⟧.progress) (⟦<FileReader<X> as InBytes>⟧.known_text) (left_if_any X.remaining fixed) result }
     ensures named { is_some result ≡ is_some fixed }
 {
     match fixed {
         None => None,
-        Some(stream) => Some(FileReader::watched(stream, gauge.share())),
+        Some(stream) => Some(FileReader::watched(stream, counters.share())),
     }
 }
 
-/// What reads the files of a mine, over which a gauge counts.
+/// What reads the files of a mine, over which counters count.
 pub(crate) fn readers_of<M: InputStream + Drop, P: InputStream + Drop, X: InputStream + Drop>(
     mine: MineFiles<M, P, X>,
-    gauge: &Gauge,
+    counters: &Counters,
 ) -> MineReaders<M, P, X>
-    ensures model { ⟦<FileReader<M> as InBytes>⟧.progress result.model ≡ unread (2 ^ 40) }
-    ensures prec { ⟦<FileReader<P> as InBytes>⟧.progress result.prec ≡ unread (2 ^ 40) }
-    ensures fixed { IsUnreadIfAny (⟦<FileReader<X> as InBytes>⟧.progress) result.fixed }
+    ensures model { IsFromFront (⟦<FileReader<M> as InBytes>⟧.progress) (⟦<FileReader<M> as InBytes>⟧.known_text) (M.remaining mine.model) result.model }
+    ensures prec { IsFromFront (⟦<FileReader<P> as InBytes>⟧.progress) (⟦<FileReader<P> as InBytes>⟧.known_text) (P.remaining mine.prec) result.prec }
+    ensures fixed { IsFromFrontIfAny (⟦<FileReader<X> as InBytes>⟧.progress) (⟦<FileReader<X> as InBytes>⟧.known_text) (left_if_any X.remaining mine.fixed) result.fixed }
     ensures named { is_some result.fixed ≡ is_some mine.fixed }
     ensures may_read { MayRead (⟦<FileReader<M> as InBytes>⟧.progress) (⟦<FileReader<P> as InBytes>⟧.progress) (⟦<FileReader<X> as InBytes>⟧.progress) result }
 {
     let MineFiles { model, prec, fixed } = mine;
     MineFiles {
-        model: FileReader::watched(model, gauge.share()),
-        prec: FileReader::watched(prec, gauge.share()),
-        fixed: reader_of(fixed, gauge),
+        model: FileReader::watched(model, counters.share()),
+        prec: FileReader::watched(prec, counters.share()),
+        fixed: reader_of(fixed, counters),
     }
 }

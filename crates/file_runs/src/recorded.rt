@@ -3,6 +3,7 @@ ghost use Rattle.std.specs.Prelude.{◌≡◌, ◌⊎◌, ◌<◌, ◌^◌, None
 ghost use Rattle.pit_model.specs.declared.direction.Direction.TheVariants.{Least};
 ghost use Rattle.runs.specs.Chosen.{progress_of, IsCountable};
 ghost use Rattle.runs.specs.Journaled.{MayJournal};
+ghost use Rattle.runs.specs.Kept.{KeepsTexts};
 ghost use Rattle.runs.specs.Solve.{files_of, MayRead};
 ghost use Rattle.file_runs.specs.Solved.{MayHaveJournal, MayHaveRecords, RanCertified, RanRecorded};
 
@@ -44,6 +45,7 @@ fn run_certified<
         })
         outputs.journal (is_some outputs.certificate) result.0 }
     ensures left { is_some result.1 ≡ is_some outputs.certificate }
+    ensures files_kept { KeepsTexts M.known_text P.known_text X.known_text mine.old mine.new }
 {
     let SolveOutputs {
         journal,
@@ -112,6 +114,7 @@ pub(crate) fn run_recorded<
         (is_some outputs.journal) (is_some outputs.certificate) result.0 }
     ensures journal_left { is_some result.1.journal ≡ is_some outputs.journal }
     ensures certificate_left { is_some result.1.certificate ≡ is_some outputs.certificate }
+    ensures files_kept { KeepsTexts M.known_text P.known_text X.known_text mine.old mine.new }
 {
     let SolveOutputs {
         journal,

@@ -4,7 +4,7 @@ ghost use Rattle.file_runs.specs.Ended.{Ended};
 ghost use Rattle.file_runs.specs.Over.{EndsReplay};
 ghost use Rattle.file_runs.specs.Place.{state};
 
-use crate::ending::told;
+use crate::ending::report_fault;
 use crate::inputs::InputFiles;
 use crate::mine::open_mine;
 use crate::options::ReplayOptions;
@@ -27,7 +27,7 @@ fn replay_files<F: InputFiles, W: OutBytes>(
 {
     let mine = open_mine(files, &options.mine)?;
     let journal = files.open_journal(options.journal)?;
-    let mut mine = readers_of(mine, &files.gauge());
+    let mut mine = readers_of(mine, &files.counters());
     let mut journal = FileReader::new(journal);
     run_replay(alloc, &mut mine, &mut journal, out)
 }
@@ -47,5 +47,5 @@ pub fn replay_call<F: InputFiles, W: OutBytes, E: OutBytes>(
         (state files.old (W.progress out.old)) (state files.new (W.progress out.new))) }
 {
     let outcome = replay_files(alloc, files, options, out);
-    told(err, &outcome)
+    report_fault(err, &outcome)
 }

@@ -4,8 +4,8 @@ ghost use Rattle.file_runs.specs.Ended.{Ended};
 ghost use Rattle.file_runs.specs.Place.{state};
 ghost use Rattle.file_runs.specs.Solved.{EndsSolve};
 
-use crate::ending::told;
-use crate::made::{Outputs, end_outputs, make_outputs};
+use crate::ending::report_fault;
+use crate::make_outputs::{Outputs, end_outputs, make_outputs};
 use crate::mine::open_mine;
 use crate::options::SolveOptions;
 use crate::outputs::OutputFiles;
@@ -47,7 +47,7 @@ fn solve_files<R: AllocGlobal + Threads + Wait + Sync, F: OutputFiles, W: OutByt
         certificate,
         out,
     };
-    let mut mine = readers_of(mine, &files.gauge());
+    let mut mine = readers_of(mine, &files.counters());
     let (outcome, outputs) = run_recorded(rt, rt.alloc(), &mut mine, outputs, options.asked);
     let SolveOutputs {
         journal,
@@ -75,5 +75,5 @@ pub fn solve_call<
         (state files.old (W.progress out)) (state files.new (W.progress result.1))) }
 {
     let (outcome, out) = solve_files(rt, files, options, out);
-    (told(err, &outcome), out)
+    (report_fault(err, &outcome), out)
 }

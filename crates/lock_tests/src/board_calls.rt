@@ -1,15 +1,15 @@
 //! A worker's ask, and what the holder does with it, in one call.
 ghost use Rattle.std.specs.Prelude.{◌≡◌, ◌<◌, ◌≤◌, length};
 
-use proposals::{Board, HolderSeat, Room, Verdict, WorkerSeat};
+use proposals::{Board, BoardId, HolderSeat, Verdict, WorkerSeat};
 
 /// Asks for an arc, where there are so many: whether it was asked for.
-pub fn ask_for<B: Room>(board: &Board<B>, seat: &mut WorkerSeat<B>, arc: u32) -> bool {
+pub fn ask_for<B: BoardId>(board: &Board<B>, seat: &mut WorkerSeat<B>, arc: u32) -> bool {
     arc < board.arcs() && board.ask(seat, arc)
 }
 
 /// Claims the ask of a worker and answers it; its arc, if one stands there.
-pub fn answer_one<B: Room>(
+pub fn answer_one<B: BoardId>(
     board: &Board<B>,
     holder: &mut HolderSeat<B>,
     worker: u32,

@@ -5,13 +5,13 @@ ghost use Rattle.std.specs.Prelude.{◌≡◌};
 use crate::board_calls::{answer_one, ask_for};
 use crate::failures::first_failure;
 use faults::Fault;
-use proposals::{Board, Room, UnnamedBoard, Verdict};
+use proposals::{Board, BoardId, UnnamedBoard, Verdict};
 use std::alloc::Global;
 use std::marker::Brand;
 use std::test::Fail;
 
 /// An ask is withdrawn, and another claimed and given back: then nothing is asked, answered or collected.
-fn asks_go_back<B: Room>(
+fn asks_go_back<B: BoardId>(
     alloc: Global,
     unnamed: UnnamedBoard,
 ) -> Result<Option<&'static str>, Fault>

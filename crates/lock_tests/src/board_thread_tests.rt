@@ -4,7 +4,7 @@ ghost use Rattle.std.specs.Prelude.{◌≡◌};
 use crate::board_calls::{answer_one, ask_for};
 use crate::failures::first_failure;
 use faults::Fault;
-use proposals::{Board, HolderSeat, Reply, Room, UnnamedBoard, Verdict, WorkerSeat};
+use proposals::{Board, BoardId, HolderSeat, Reply, UnnamedBoard, Verdict, WorkerSeat};
 use std::alloc::Global;
 use std::marker::Brand;
 use std::sync::Wait;
@@ -14,7 +14,7 @@ use std::thread;
 use std::thread::Threads;
 
 /// The reply to an ask that was claimed.
-fn wait_for_reply<B: Room, R: Wait>(
+fn wait_for_reply<B: BoardId, R: Wait>(
     rt: &R,
     board: &Board<B>,
     seat: &mut WorkerSeat<B>,
@@ -38,7 +38,7 @@ struct Signs {
 }
 
 /// An ask that is not withdrawn is answered, and one that is asked for while the holder rests is withdrawn: what fails of that.
-fn meet<B: Room, R: Wait>(
+fn meet<B: BoardId, R: Wait>(
     rt: &R,
     board: &Board<B>,
     seat: &mut WorkerSeat<B>,
@@ -62,7 +62,7 @@ fn meet<B: Room, R: Wait>(
 }
 
 /// Asks for each arc, and withdraws it or collects what it was answered: what fails of that.
-fn ask_for_all<B: Room, R: Wait>(
+fn ask_for_all<B: BoardId, R: Wait>(
     rt: &R,
     board: &Board<B>,
     seat: &mut WorkerSeat<B>,
@@ -96,7 +96,7 @@ fn ask_for_all<B: Room, R: Wait>(
 }
 
 /// Answers each ask that it claims, where it is not to rest, until the worker is done.
-fn answer_until<B: Room, R: Wait>(
+fn answer_until<B: BoardId, R: Wait>(
     rt: &R,
     board: &Board<B>,
     holder: &mut HolderSeat<B>,
@@ -114,7 +114,7 @@ fn answer_until<B: Room, R: Wait>(
     }
 }
 
-fn two_threads<B: Room + Send + Sync, R: Threads + Wait + Sync>(
+fn two_threads<B: BoardId + Send + Sync, R: Threads + Wait + Sync>(
     rt: &R,
     alloc: Global,
     unnamed: UnnamedBoard,

@@ -3,13 +3,13 @@ ghost use Rattle.std.specs.Prelude.{◌≡◌};
 
 use crate::failures::first_failure;
 use faults::Fault;
-use proposals::{Draws, Lot, UnnamedDraws};
+use proposals::{CounterId, Draws, UnnamedDraws};
 use std::alloc::Global;
 use std::marker::Brand;
 use std::test::Fail;
 
 /// Two seats draw two chunks. The second None of a seat is no step, so the counter then stands at 4.
-fn two_seats_draw<L: Lot>(
+fn two_seats_draw<L: CounterId>(
     alloc: Global,
     unnamed: UnnamedDraws,
 ) -> Result<Option<&'static str>, Fault>

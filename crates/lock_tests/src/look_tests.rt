@@ -8,11 +8,11 @@ use faults::Fault;
 use proposals::{Board, WorkerSeat};
 use std::sync::Wait;
 use std::test::Fail;
-use tree_lock::{Entry, Holder, LookSeat, SharedTree, Site, Verdict};
+use tree_lock::{Entry, Holder, LockId, LookSeat, SharedTree, Verdict};
 
 /// The verdict that the worker's ask is answered by, after a pass over the board under the lock; None where no ask was served,
 /// or another one.
-fn answer<S: Site, R: Wait>(
+fn answer<S: LockId, R: Wait>(
     rt: &R,
     board: &Board<S>,
     shared: &SharedTree<S>,
@@ -33,7 +33,7 @@ struct AskThenLook;
 impl Trial for AskThenLook {
     type Seen = Option<&'static str>;
 
-    fn at<S: Site, R: Wait>(
+    fn at<S: LockId, R: Wait>(
         &self,
         rt: &R,
         board: &Board<S>,
@@ -89,7 +89,7 @@ fn a_look_shows_what_was_answered(rt: HostRuntime) -> Result<(), Fail> {
 }
 
 /// Applies the arcs in turn and tells the seat: whether each was a merger arc, and the seat was told of all.
-fn all_applied<S: Site, R: Wait>(
+fn all_applied<S: LockId, R: Wait>(
     rt: &R,
     holder: &mut Holder<S>,
     arcs: &[u32],
@@ -111,7 +111,7 @@ struct LooksBesideMergers;
 impl Trial for LooksBesideMergers {
     type Seen = Option<&'static str>;
 
-    fn at<S: Site, R: Wait>(
+    fn at<S: LockId, R: Wait>(
         &self,
         rt: &R,
         _board: &Board<S>,

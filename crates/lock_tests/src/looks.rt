@@ -1,5 +1,5 @@
 //! What looks at the versions of `cut_once` show, worked out by hand.
-use versions::{LookSeat, Origin, Version};
+use versions::{ListId, LookSeat, Version};
 
 /// Which of the four blocks are strong, and which of the three arcs are merger arcs.
 pub struct Shown {
@@ -26,7 +26,7 @@ pub const LAST: Shown = Shown {
 };
 
 /// Whether the version shows this, and no merger arc where there is no arc.
-fn is_shown<V: Origin>(version: &Version<V>, expected: &Shown) -> bool {
+fn is_shown<V: ListId>(version: &Version<V>, expected: &Shown) -> bool {
     if version.instance().graph().n() != 4 {
         return false;
     }
@@ -36,7 +36,7 @@ fn is_shown<V: Origin>(version: &Version<V>, expected: &Shown) -> bool {
 }
 
 /// Looks: whether there was a version, which showed this. The seat comes back.
-pub fn look_shows<V: Origin>(seat: LookSeat<V>, expected: &Shown) -> (LookSeat<V>, bool) {
+pub fn look_shows<V: ListId>(seat: LookSeat<V>, expected: &Shown) -> (LookSeat<V>, bool) {
     match seat.look() {
         Ok(version) => {
             let is_shown = is_shown(&version, expected);

@@ -38,6 +38,16 @@ pub fn eight_over_one(alloc: Global) -> Result<Instance, Fault> {
     )
 }
 
+/// Two blocks of ore, 1 and 4, need block 0, which each pays for alone: arcs 0 and 2, of which either is a merger arc until the
+/// other was merged over. Behind each stands a pair of blocks that is a merger by itself: arcs 1 and 3.
+pub fn one_waste_for_two(alloc: Global) -> Result<Instance, Fault> {
+    spelled(
+        alloc,
+        "NAME: t\nTYPE: UPIT\nNBLOCKS: 7\nOBJECTIVE_FUNCTION:\n0 -1\n1 5\n2 -3\n3 5\n4 5\n5 -3\n6 5\n",
+        "1 1 0\n3 1 2\n4 1 0\n6 1 5\n",
+    )
+}
+
 /// So many copies of a mine of two blocks, at most 1,000, numbered two at a time: the second block needs the first, and pays
 /// for it. Each copy is one merger.
 pub fn pairs_of_blocks(alloc: Global, copies: u32) -> Result<Instance, Fail> {

@@ -8,7 +8,7 @@ use proposals::{Board, WorkerSeat};
 use std::alloc::Global;
 use std::sync::Wait;
 use std::test::Fail;
-use tree_lock::{Entry, Holder, SharedTree, Site, Verdict};
+use tree_lock::{Entry, Holder, LockId, SharedTree, Verdict};
 
 /// What three workers ask for at once, and what each is answered.
 #[derive(Clone, Copy)]
@@ -18,7 +18,7 @@ struct Round {
 }
 
 /// Each worker asks for its arc, the holder serves all of them in one pass, and each collects: what fails of that.
-fn failure_in_round<S: Site, R: Wait>(
+fn failure_in_round<S: LockId, R: Wait>(
     rt: &R,
     holder: &mut Holder<S>,
     board: &Board<S>,
@@ -59,7 +59,7 @@ struct Rounds {
 impl Trial for Rounds {
     type Seen = Option<&'static str>;
 
-    fn at<S: Site, R: Wait>(
+    fn at<S: LockId, R: Wait>(
         &self,
         rt: &R,
         board: &Board<S>,

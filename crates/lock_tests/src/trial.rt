@@ -10,13 +10,13 @@ use proposals::{Board, UnnamedBoard, WorkerSeat};
 use std::alloc::Global;
 use std::marker::Brand;
 use std::sync::Wait;
-use tree_lock::{Entry, SharedTree, Site, UnnamedList};
+use tree_lock::{Entry, LockId, SharedTree, UnnamedList};
 
 /// What is tried at a tree, and what it tells of that.
 pub trait Trial {
     type Seen: Drop;
 
-    fn at<S: Site, R: Wait>(
+    fn at<S: LockId, R: Wait>(
         &self,
         rt: &R,
         board: &Board<S>,
@@ -41,7 +41,7 @@ struct Beginning {
     budget: Option<u64>,
 }
 
-fn try_at<S: Site, T: Trial, R: Wait>(
+fn try_at<S: LockId, T: Trial, R: Wait>(
     rt: &R,
     alloc: Global,
     begun: Beginning,

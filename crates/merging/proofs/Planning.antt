@@ -1,10 +1,7 @@
 -- Some pairs of a graph, rising by their numbers: each stands once, and they have no cycle.
 use Rattle.std.proofs.Common.{◌≡◌, ℕ, ◌<◌, ◌∙◌, List, length, get_or, ap, sym, subst, arith, ⊎_elim}
-use Rattle.std.specs.Prelude.{Bool, ◌≤◌, pos, map}
-use Rattle.std.specs.List.{range_with_len}
-use Rattle.std.proofs.lemmas.List.{ext_get_or}
-use Rattle.std.proofs.lemmas.List.FromFn.{get_or-map-range_with_len, length-map-range_with_len}
-use Rattle.pit_model.specs.Mine.{Instance, members, value}
+use Rattle.std.specs.Prelude.{Bool, ◌≤◌}
+use Rattle.pit_model.specs.Mine.{members}
 use Rattle.pit_model.proofs.Members.{members_each, members_few, members_rise}
 use Rattle.pit_model.specs.Graph.{AreApart, AreInRange, IsAcyclic, IsGraph}
 use Rattle.pit_model.specs.Cycle.{AcyclicHasNoNeedy}
@@ -59,12 +56,6 @@ only_memory law pairs n (Cycle list) fault acyclic is =
     let walked = is.0.walked in
     absurd (law pairs n is.0.set acyclic is.0.largest.needy (get_or is.0.walk 0 0) walked.first.member)
 only_memory law pairs n refusal fault acyclic is = absurd is
-
--- values read one by one are the list of values
-pub values_again : (mine : Instance) → length mine.values ≡ mine.blocks → map (value mine) (range_with_len 0 mine.blocks) ≡ mine.values
-values_again mine count =
-    let long = length-map-range_with_len (value mine) 0 mine.blocks in
-    ext_get_or (pos 0) (map (value mine) (range_with_len 0 mine.blocks)) mine.values (omega arith) (λ u l. get_or-map-range_with_len (value mine) 0 mine.blocks u u (pos 0) (omega arith) (omega arith))
 
 -- a list of the numbers that pass a test is rising, of numbers below the bound
 module _ (numbers : List ℕ) (n bound : ℕ) (test : ℕ → Bool) (are : numbers ≡ members n test) (same : bound ≡ n) where

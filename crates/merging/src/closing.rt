@@ -14,7 +14,7 @@ fn merge_all(tree: &mut NormTree)
 {
     'mergers: while let Some(arc) = tree.find_merger() {
         tree.try_merge(arc);
-        tree.instance().gauge().closed();
+        tree.instance().counters().closed();
         tree.law();
     }
 }

@@ -17,7 +17,7 @@ pub fn make_first_mergers(tree: &mut NormTree, budget: u64)
             None => return,
             Some(arc) => {
                 tree.try_merge(arc);
-                tree.instance().gauge().merged();
+                tree.instance().counters().merged();
             }
         }
     }

@@ -2,11 +2,12 @@
 //! and gives the certificate of the tree, or the pit alone, or says that the budget of mergers is used up.
 #![tactic(auto)]
 
+mod budget_bound;
 mod closing;
 mod distances;
-mod enough;
 mod first_mergers;
 mod joined;
+mod label_buckets;
 mod lowest_label;
 mod one_part;
 mod outcome;
@@ -17,7 +18,6 @@ mod rest;
 mod rising;
 mod single;
 mod solved_part;
-mod waiting;
 
 pub use lowest_label::merge_by_lowest_label;
 pub use outcome::Outcome;

@@ -11,7 +11,7 @@ ghost use Rattle.forest.specs.Forest.{size};
 ghost use Rattle.merging.specs.Order.{AreBelow};
 
 use crate::distances::Distances;
-use crate::waiting::Waiting;
+use crate::label_buckets::LabelBuckets;
 use faults::Fault;
 use forest::Forest;
 use mine_graph::Graph;
@@ -38,7 +38,7 @@ pub struct LowestLabel {
     /// The blocks of one label in the branch that a turn looks through, and how many they are.
     branch: Vec<u32>,
     found: usize,
-    waiting: Waiting,
+    waiting: LabelBuckets,
 }
 
 impl Model for LowestLabel {
@@ -142,7 +142,7 @@ impl LowestLabel {
             labels: distances.of_blocks,
             branch: distances.queue,
             found: 0,
-            waiting: Waiting::new(alloc, graph.n())?,
+            waiting: LabelBuckets::new(alloc, graph.n())?,
         })
     }
 
@@ -323,7 +323,7 @@ impl LowestLabel {
         if !tree.try_merge(arc) {
             return Turn::Last;
         }
-        tree.instance().gauge().merged();
+        tree.instance().counters().merged();
         self.wait_along(tree);
         Turn::Merged(arc)
     }
@@ -347,7 +347,7 @@ impl LowestLabel {
         match self.look(tree, root, label) {
             Some(arc) => self.merge(tree, arc),
             None => {
-                tree.instance().gauge().relabelled(self.found as u64);
+                tree.instance().counters().relabelled(self.found as u64);
                 self.raise(tree.instance().graph(), root, label);
                 Turn::Raised
             }

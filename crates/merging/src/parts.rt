@@ -46,8 +46,8 @@ fn solve_part(alloc: Global, instance: &Instance, part: Part) -> Result<SolvedPa
 {
     instance.law();
     let values = values_of(alloc, instance, &part.blocks)?;
-    let gauge = instance.gauge().share();
-    let mine = Instance::watched(Arc::new(alloc, part.graph)?, values, gauge);
+    let counters = instance.counters().share();
+    let mine = Instance::watched(Arc::new(alloc, part.graph)?, values, counters);
     mine.law();
     let certificate = certificate_of(alloc, &mine)?;
     Ok(SolvedPart {

@@ -4,10 +4,9 @@
 //! change nothing in another.
 //!
 //! A plan is a hint and proves nothing: what is asked for is decided at the shared tree.
-ghost use Rattle.std.specs.Prelude.{◌≡◌, ◌<◌, ◌≤◌, ℕ, length, get_or, map, IfOk, IfErr};
-ghost use Rattle.std.specs.List.{range_with_len};
+ghost use Rattle.std.specs.Prelude.{◌≡◌, ◌<◌, ◌≤◌, ℕ, length, get_or, IfOk, IfErr};
 ghost use Rattle.faults.specs.Refused.{no_memory};
-ghost use Rattle.pit_model.specs.Mine.{arcs, value};
+ghost use Rattle.pit_model.specs.Mine.{arcs};
 
 use crate::joined::marked;
 use crate::lowest_label::{merge_by_lowest_label, mergers_by_lowest_label};
@@ -104,25 +103,6 @@ fn links_of(alloc: Global, tree: &BareTree) -> Result<Links, Fault>
     })
 }
 
-/// The instance of other pairs of the same blocks, with the same values.
-fn with_pairs_of(alloc: Global, instance: &Instance, graph: &Arc<Graph>) -> Result<Instance, Fault>
-    requires { graph.now.value.blocks ≡ instance.now.blocks }
-    ensures { IfErr result (λ e. e ≡ no_memory) }
-{
-    instance.law();
-    let values = values_of(alloc, instance)?;
-    let gauge = instance.gauge().share();
-    Ok(Instance::watched(Arc::try_clone(graph)?, values, gauge))
-}
-
-/// The value of each block.
-fn values_of(alloc: Global, instance: &Instance) -> Result<Vec<i128>, AllocError>
-    ensures { IfOk result (λ v. v.items ≡ map (value instance.now) (range_with_len 0 instance.now.blocks)) }
-{
-    let n = instance.graph().n();
-    Ok((0..n).map(|u| instance.value(u)).collect(alloc)?)
-}
-
 /// The merger over a link, by the numbers of the whole; None where no link has that number.
 fn merger_over(graph: &Graph, links: &Links, link: u32) -> Option<Planned> {
     let &arc = links.arcs.get(link as usize)?;
@@ -134,30 +114,43 @@ fn merger_over(graph: &Graph, links: &Links, link: u32) -> Option<Planned> {
 }
 
 /// The mergers over the arcs of these links.
-fn plan_of(alloc: Global, graph: &Graph, links: &Links, order: &[u32]) -> Result<Plan, Fault>
-    ensures { IfErr result (λ e. e ≡ no_memory) }
-{
-    let mut mergers = Vec::with_capacity(alloc, order.len())?;
-    for &link in order {
-        if let Some(merger) = merger_over(graph, links, link) {
-            mergers.push(merger)?;
-        }
-    }
+fn plan_of(alloc: Global, graph: &Graph, links: &Links, order: &[u32]) -> Result<Plan, AllocError> {
+    let mergers = order
+        .iter()
+        .filter_map(|&link| merger_over(graph, links, link))
+        .collect(alloc)?;
     Ok(Plan {
         mergers,
         branches: links.count,
     })
 }
 
+/// The links of a solved tree of the instance.
+fn solved_links(alloc: Global, instance: &Instance) -> Result<Links, Fault>
+    ensures blocks { IfOk result (λ l. l.graph.value.blocks ≡ instance.now.blocks) }
+    ensures refused { IfErr result (λ e. e ≡ no_memory) }
+{
+    let mut tree = BareTree::start(alloc, instance)?;
+    merge_by_lowest_label(alloc, &mut tree)?;
+    links_of(alloc, &tree)
+}
+
+/// The links over which the instance is solved once more, by these alone, in the order of its mergers.
+fn merged_links(alloc: Global, instance: &Instance, links: &Links) -> Result<Vec<u32>, Fault>
+    requires { links.now.graph.value.blocks ≡ instance.now.blocks }
+    ensures { IfErr result (λ e. e ≡ no_memory) }
+{
+    let linked = instance.over(alloc, Arc::try_clone(&links.graph)?)?;
+    let mut tree = BareTree::start(alloc, &linked)?;
+    let order = mergers_by_lowest_label(alloc, &mut tree)?;
+    Ok(order)
+}
+
 /// Few mergers, in their order, that lead from the opening tree to a solved one. Refused for want of memory alone.
 pub fn plan_mergers(alloc: Global, instance: &Instance) -> Result<Plan, Fault>
     ensures { IfErr result (λ e. e ≡ no_memory) }
 {
-    let mut solved = BareTree::start(alloc, instance)?;
-    merge_by_lowest_label(alloc, &mut solved)?;
-    let links = links_of(alloc, &solved)?;
-    let linked = with_pairs_of(alloc, instance, &links.graph)?;
-    let mut again = BareTree::start(alloc, &linked)?;
-    let order = mergers_by_lowest_label(alloc, &mut again)?;
-    plan_of(alloc, instance.graph(), &links, &order)
+    let links = solved_links(alloc, instance)?;
+    let order = merged_links(alloc, instance, &links)?;
+    Ok(plan_of(alloc, instance.graph(), &links, &order)?)
 }

@@ -1,8 +1,8 @@
 //! One thread's replay of a journal: each entry is decided again, in its order, and is to have the verdict that it has.
-ghost use Rattle.std.specs.Prelude.{◌≡◌, ◌<◌, ◌+◌, ◌^◌, IfOk, IfErr, IfSome, IsSome, IsNone};
+ghost use Rattle.std.specs.Prelude.{◌≡◌, ◌<◌, ◌+◌, ◌^◌, IsTrue, IfOk, IfErr, IfSome, IsSome, IsNone};
 ghost use Rattle.faults.specs.Refused.{no_memory};
-ghost use Rattle.pit_model.specs.Tree.{opening};
-ghost use Rattle.pit_model.specs.Journal.{applied_count, count_after, lawful_verdict, replay, tree_after, IsLawful};
+ghost use Rattle.pit_model.specs.Tree.{is_merger, opening};
+ghost use Rattle.pit_model.specs.Journal.{applied_count, count_after, is_applied, lawful_verdict, replay, tree_after, IsLawful};
 ghost use Rattle.pit_model.specs.Replay.{DiffersAt};
 ghost use Rattle.merging.specs.Replayed.{EndsReplay};
 
@@ -25,6 +25,24 @@ pub enum Replayed {
     Open(u64),
 }
 
+/// Does again what an entry with its lawful verdict did, after so many mergers; gives how many they are then.
+fn redo(tree: &mut NormTree, made: u64, entry: Entry) -> u64
+    requires few { made + 1 < 2 ^ 64 }
+    requires merger { IsTrue (is_applied entry.verdict) → IsTrue (is_merger tree.old.mine tree.old.tree entry.arc) }
+    ensures mine { tree.new.mine ≡ tree.old.mine }
+    ensures after { tree.new.tree ≡ tree_after tree.old.mine tree.old.tree entry }
+    ensures counted { result ≡ count_after made entry }
+{
+    match entry.verdict {
+        Verdict::Applied => {
+            tree.try_merge(entry.arc);
+            tree.instance().counters().merged();
+            made + 1
+        }
+        Verdict::Stale | Verdict::Spent => made,
+    }
+}
+
 /// Decides an entry again, after so many mergers: how many they are then, where the entry has its lawful verdict, else None.
 fn decide_again(tree: &mut NormTree, budget: Option<u64>, made: u64, entry: Entry) -> Option<u64>
     requires { made + 1 < 2 ^ 64 }
@@ -37,14 +55,7 @@ fn decide_again(tree: &mut NormTree, budget: Option<u64>, made: u64, entry: Entr
     if entry.verdict != lawful_verdict(tree, budget, made, entry.arc) {
         return None;
     }
-    match entry.verdict {
-        Verdict::Applied => {
-            tree.try_merge(entry.arc);
-            tree.instance().gauge().merged();
-            Some(made + 1)
-        }
-        Verdict::Stale | Verdict::Spent => Some(made),
-    }
+    Some(redo(tree, made, entry))
 }
 
 /// Decides the entries again, as long as each has its lawful verdict: how many mergers were made, or the number of the first

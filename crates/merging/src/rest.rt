@@ -29,7 +29,7 @@ fn dug_marks(alloc: Global, fixed: &Fixed, n: u32) -> Result<Vec<bool>, AllocErr
     ensures count { IfOk result (λ v. length v.items ≡ n) }
     ensures marks { IfOk result (λ v. (u : ℕ) → u < n → has v.items u ≡ dug_in fixed.now u) }
 {
-    (0..n).map(|u| fixed.is_dug(u)).collect(alloc)
+    (0..n).map(|u| fixed.must_dig(u)).collect(alloc)
 }
 
 /// The blocks that must be dug with those that were found among the open ones, by the numbers of the whole, rising. Refused for
@@ -63,8 +63,8 @@ impl Rest {
         let part = fixed.rest(mine.graph())?;
         part.graph.law();
         let values = values_of(alloc, mine, &part.blocks)?;
-        let gauge = mine.gauge().share();
-        let rest = Instance::watched(Arc::new(alloc, part.graph)?, values, gauge);
+        let counters = mine.counters().share();
+        let rest = Instance::watched(Arc::new(alloc, part.graph)?, values, counters);
         Ok(Rest {
             blocks: part.blocks,
             mine: rest,

@@ -6,8 +6,8 @@ ghost use Rattle.certificate.specs.Certificate.{IsCertificateOf};
 ghost use Rattle.certificate.specs.Check.{ShowsPit};
 ghost use Rattle.merging.specs.Solved.{IsSolvedAlone};
 
+use crate::budget_bound::is_enough;
 use crate::closing::merge_rest;
-use crate::enough::is_enough;
 use crate::first_mergers::make_first_mergers;
 use crate::lowest_label::merge_by_lowest_label;
 use crate::outcome::Outcome;

@@ -65,7 +65,7 @@ fn settled_marks(alloc: Global, n: u32, fixed: &Fixed) -> Result<Vec<bool>, Allo
     ensures marks { IfOk result (λ v. (u : ℕ) → u < n → mark_of v.items u ≡ (dug_in fixed.now u || left_in fixed.now u)) }
 {
     (0..n)
-        .map(|u| fixed.is_dug(u) || fixed.is_left(u))
+        .map(|u| fixed.must_dig(u) || fixed.must_leave(u))
         .collect(alloc)
 }
 
@@ -108,7 +108,7 @@ impl Fixed {
     }
 
     /// Whether both lists are empty.
-    pub fn is_none(&self) -> bool
+    pub fn is_empty(&self) -> bool
         ensures { IsTrue result ↔ (self.now.lists ≡ no_lists) }
     {
         match &self.settled {
@@ -138,7 +138,7 @@ impl Fixed {
     }
 
     /// Whether a block must be dug: it is forced in, or a block that is needs it, directly or through others.
-    pub fn is_dug(&self, u: u32) -> bool
+    pub fn must_dig(&self, u: u32) -> bool
         ensures { result ≡ dug_in self.now u }
     {
         match &self.settled {
@@ -148,7 +148,7 @@ impl Fixed {
     }
 
     /// Whether a block must be left: it is barred, or needs a block that is, directly or through others.
-    pub fn is_left(&self, u: u32) -> bool
+    pub fn must_leave(&self, u: u32) -> bool
         ensures { result ≡ left_in self.now u }
     {
         match &self.settled {
@@ -161,7 +161,7 @@ impl Fixed {
     pub fn is_open(&self, u: u32) -> bool
         ensures { result ≡ is_open (dug_in self.now) (left_in self.now) u }
     {
-        !self.is_dug(u) && !self.is_left(u)
+        !self.must_dig(u) && !self.must_leave(u)
     }
 
     /// The rest: the open blocks with the pairs among them. Refused for want of memory alone.

@@ -8,7 +8,7 @@ ghost use Rattle.mine_graph.specs.Raised.{raised_at};
 
 use crate::graph::Graph;
 use crate::values::Values;
-use gauge::Gauge;
+use counters::Counters;
 use std::alloc::{AllocError, Global};
 use std::marker::Model;
 use std::sync::Arc;
@@ -18,7 +18,7 @@ use std::sync::Arc;
 pub struct Instance {
     graph: Arc<Graph>,
     values: Values,
-    gauge: Gauge,
+    counters: Counters,
 }
 
 impl Model for Instance {
@@ -42,11 +42,11 @@ impl Instance {
         ensures pairs { result.pairs ≡ graph.value.pairs }
         ensures values { result.values ≡ values.items }
     {
-        Instance::watched(graph, values, Gauge::none())
+        Instance::watched(graph, values, Counters::none())
     }
 
-    /// The same as `new` gives, over which this gauge counts.
-    pub fn watched(graph: Arc<Graph>, values: Vec<i128>, gauge: Gauge) -> Instance
+    /// The same as `new` gives, over which these counters count.
+    pub fn watched(graph: Arc<Graph>, values: Vec<i128>, counters: Counters) -> Instance
         requires count { length values.items ≡ graph.value.blocks }
         requires low { (u : ℕ) → u < graph.value.blocks → neg_ℤ (pos (10 ^ 23)) ≤ℤ get_or values.items u (pos 0) }
         requires high { (u : ℕ) → u < graph.value.blocks → get_or values.items u (pos 0) ≤ℤ pos (10 ^ 23) }
@@ -58,26 +58,41 @@ impl Instance {
         Instance {
             graph,
             values,
-            gauge,
+            counters,
         }
     }
 
     /// What counts over the instance. No clause speaks of it.
-    pub fn gauge(&self) -> &Gauge {
-        &self.gauge
+    pub fn counters(&self) -> &Counters {
+        &self.counters
     }
 
-    /// The same instance once more. The graph and the gauge are shared.
+    /// The same instance once more. The graph and the counters are shared.
     pub fn share(&self, alloc: Global) -> Result<Instance, AllocError>
         ensures { IfOk result (λ other. other ≡ self.now) }
     {
-        let graph = Arc::try_clone(&self.graph)?;
-        let values = self.values.copy(alloc)?;
+        self.over(alloc, Arc::try_clone(&self.graph)?)
+    }
+
+    /// The instance of other pairs of the same blocks, with the same values. The counters are shared.
+    pub fn over(&self, alloc: Global, graph: Arc<Graph>) -> Result<Instance, AllocError>
+        requires { graph.value.blocks ≡ self.now.blocks }
+        ensures blocks { IfOk result (λ other. other.blocks ≡ self.now.blocks) }
+        ensures values { IfOk result (λ other. other.values ≡ self.now.values) }
+        ensures pairs { IfOk result (λ other. other.pairs ≡ graph.value.pairs) }
+    {
         Ok(Instance {
             graph,
-            values,
-            gauge: self.gauge.share(),
+            values: self.values.copy(alloc)?,
+            counters: self.counters.share(),
         })
+    }
+
+    /// The value of each block, in a list of its own.
+    pub fn values(&self, alloc: Global) -> Result<Vec<i128>, AllocError>
+        ensures { IfOk result (λ v. v.items ≡ self.now.values) }
+    {
+        self.values.to_vec(alloc)
     }
 
     /// What is true of each instance.

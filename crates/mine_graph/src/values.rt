@@ -46,8 +46,16 @@ impl Values {
     pub(crate) fn copy(&self, alloc: Global) -> Result<Values, AllocError>
         ensures { IfOk result (λ other. other ≡ self.now) }
     {
-        let amounts = Vec::from_slice(alloc, &self.amounts)?;
+        self.law();
+        let amounts = self.to_vec(alloc)?;
         Ok(Values { amounts })
+    }
+
+    /// The values in a list of their own.
+    pub(crate) fn to_vec(&self, alloc: Global) -> Result<Vec<i128>, AllocError>
+        ensures { IfOk result (λ v. v.items ≡ self.now) }
+    {
+        Vec::from_slice(alloc, &self.amounts)
     }
 
     /// The value of a block.

@@ -23,8 +23,8 @@ use crate::lines::{count_fields, first_four, next_field};
 use crate::number::{decimal, signed, whole_number};
 use crate::rows::{Row, Rows};
 use crate::table::BlockTable;
+use counters::Counters;
 use faults::{Fault, Refusal, Source};
-use gauge::Gauge;
 use std::alloc::Global;
 
 const MOST_COLUMNS: usize = 64;
@@ -160,7 +160,12 @@ fn read_block(
 }
 
 /// The table of all lines.
-fn read_lines(alloc: Global, width: u32, text: &[u8], gauge: &Gauge) -> Result<BlockTable, Fault>
+fn read_lines(
+    alloc: Global,
+    width: u32,
+    text: &[u8],
+    counters: &Counters,
+) -> Result<BlockTable, Fault>
     requires bounded { length text.now ≤ 2 ^ 40 }
     requires narrow { width ≤ 64 }
     ensures { Gives (λ t. t) result (as_table width (blocks_from width 0 (rows_of text.now))) }
@@ -171,18 +176,18 @@ fn read_lines(alloc: Global, width: u32, text: &[u8], gauge: &Gauge) -> Result<B
     while let Some(row) = rows.next_row() {
         let place = read_block(width, places.len() as u64, row, &mut attributes)?;
         places.push(place)?;
-        gauge.blocks_read(places.len() as u64);
+        counters.blocks_read(places.len() as u64);
     }
     Ok(BlockTable::of_blocks(width, places, attributes))
 }
 
 #[tactic(auto, unfolding(crate::specs::Blocks::table_of_rows))]
-fn parse_lines(alloc: Global, text: &[u8], gauge: &Gauge) -> Result<BlockTable, Fault>
+fn parse_lines(alloc: Global, text: &[u8], counters: &Counters) -> Result<BlockTable, Fault>
     requires { length text.now ≤ 2 ^ 40 }
     ensures { Gives (λ t. t) result (table_of text.now) }
 {
     let width = read_width(text)?;
-    read_lines(alloc, width, text, gauge)
+    read_lines(alloc, width, text, counters)
 }
 
 /// Each text spells one table or has one first fault, and not both: what is read of it says which.
@@ -201,18 +206,18 @@ pub fn parse_blocks(alloc: Global, text: &[u8]) -> Result<BlockTable, Fault>
     ensures read { (t : Table) → SpellsTable text.now t → Gives (λ t. t) result (Ok t) }
     ensures first_fault { IfErr result (λ e. FailsAt e.refusal e (IsFirstTableFault text.now)) }
 {
-    parse_watched(alloc, text, &Gauge::none())
+    parse_watched(alloc, text, &Counters::none())
 }
 
-/// The same as `parse_blocks` gives. A gauge is told of each block.
-fn parse_watched(alloc: Global, text: &[u8], gauge: &Gauge) -> Result<BlockTable, Fault>
+/// The same as `parse_blocks` gives. Counters are told of each block.
+fn parse_watched(alloc: Global, text: &[u8], counters: &Counters) -> Result<BlockTable, Fault>
     requires { length text.now ≤ 2 ^ 40 }
     ensures exact { Gives (λ t. t) result (table_of text.now) }
     ensures spelled { IfOk result (λ t. SpellsTable text.now t) }
     ensures read { (t : Table) → SpellsTable text.now t → Gives (λ t. t) result (Ok t) }
     ensures first_fault { IfErr result (λ e. FailsAt e.refusal e (IsFirstTableFault text.now)) }
 {
-    parse_lines(alloc, text, gauge)
+    parse_lines(alloc, text, counters)
 }
 
 /// The table that all spells which the reader has left, else the first fault of that text. Refused by `ReadFailed` exactly
@@ -227,5 +232,5 @@ pub fn read_blocks<R: InBytes>(alloc: Global, reader: &mut R) -> Result<BlockTab
     ensures exact { Answers (λ t. t) table_of sources.Blocks (R.progress reader.old) (R.progress reader.new) (R.IsAtEnd reader.new) result }
 {
     let text = read_all(alloc, reader, Source::Blocks)?;
-    parse_watched(alloc, &text, &reader.gauge())
+    parse_watched(alloc, &text, &reader.counters())
 }

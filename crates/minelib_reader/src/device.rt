@@ -4,7 +4,7 @@ ghost use Rattle.std.specs.Prelude.{◌≡◌, ◌<◌, ◌^◌, ℕ, List, leng
 ghost use Rattle.std.specs.Io.KnownBytes.{Keeps, WriteAppends};
 ghost use Rattle.minelib_reader.specs.Device.{Progress, ReadGives, WriteTakes};
 
-use gauge::Gauge;
+use counters::Counters;
 
 /// A call of the device failed, and was counted.
 #[derive(Clone, Copy, Debug, PartialEq, Eq)]
@@ -39,8 +39,8 @@ pub trait InBytes {
     }
 
     /// What counts over the run that reads from here. No clause speaks of it.
-    fn gauge(&self) -> Gauge {
-        Gauge::none()
+    fn counters(&self) -> Counters {
+        Counters::none()
     }
 }
 

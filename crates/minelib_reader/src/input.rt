@@ -9,8 +9,8 @@ ghost use Rattle.minelib_reader.specs.Answer.{IsRead, Refuses};
 use crate::device::{DeviceFailed, InBytes};
 use crate::stream::{InputStream, MOST_TRIES, is_interrupted};
 use crate::tally::Tally;
+use counters::Counters;
 use faults::{Fault, Refusal, Source};
-use gauge::Gauge;
 use std::alloc::Global;
 use std::io;
 
@@ -60,7 +60,7 @@ pub struct FileReader<S> {
     tally: Tally,
     ended: bool,
     size: u64,
-    gauge: Gauge,
+    counters: Counters,
 }
 
 impl<S: InputStream + Drop> FileReader<S> {
@@ -70,11 +70,11 @@ impl<S: InputStream + Drop> FileReader<S> {
         ensures known { ⟦<FileReader<S> as InBytes>⟧.known_text result ≡ prepend_known [] (S.remaining stream) }
         ensures sound { S.IsSound stream → ⟦<FileReader<S> as InBytes>⟧.IsSound result }
     {
-        FileReader::watched(stream, Gauge::none())
+        FileReader::watched(stream, Counters::none())
     }
 
-    /// The same as `new` gives. This gauge is told how many bytes are read.
-    pub fn watched(stream: S, gauge: Gauge) -> FileReader<S>
+    /// The same as `new` gives. These counters are told how many bytes are read.
+    pub fn watched(stream: S, counters: Counters) -> FileReader<S>
         ensures start { ⟦<FileReader<S> as InBytes>⟧.progress result ≡ unread (2 ^ 40) }
         ensures known { ⟦<FileReader<S> as InBytes>⟧.known_text result ≡ prepend_known [] (S.remaining stream) }
         ensures sound { S.IsSound stream → ⟦<FileReader<S> as InBytes>⟧.IsSound result }
@@ -85,7 +85,7 @@ impl<S: InputStream + Drop> FileReader<S> {
             tally: Tally::new(MOST_BYTES),
             ended: false,
             size,
-            gauge,
+            counters,
         }
     }
 }
@@ -124,7 +124,7 @@ impl<S: InputStream + Drop> InBytes for FileReader<S> {
             Ok(n) => {
                 self.ended = n == 0;
                 self.tally.gave(&buf[..n]);
-                self.gauge.read(n as u64);
+                self.counters.read(n as u64);
                 Ok(n)
             }
             Err(_) => {
@@ -138,8 +138,8 @@ impl<S: InputStream + Drop> InBytes for FileReader<S> {
         self.size
     }
 
-    fn gauge(&self) -> Gauge {
-        self.gauge.share()
+    fn counters(&self) -> Counters {
+        self.counters.share()
     }
 }
 

@@ -20,8 +20,8 @@ use crate::device::InBytes;
 use crate::input::read_all;
 use crate::lines::{count_fields, has_fields, next_whole, plain_whole};
 use crate::rows::{Row, Rows};
+use counters::Counters;
 use faults::{Fault, Refusal, Source};
-use gauge::Gauge;
 use std::alloc::Global;
 
 const MOST_PAIRS: u64 = 67_108_864;
@@ -235,7 +235,12 @@ fn read_line(
 }
 
 /// The pairs of all lines.
-fn parse_lines(alloc: Global, text: &[u8], n: u32, gauge: &Gauge) -> Result<Vec<(u32, u32)>, Fault>
+fn parse_lines(
+    alloc: Global,
+    text: &[u8],
+    n: u32,
+    counters: &Counters,
+) -> Result<Vec<(u32, u32)>, Fault>
     requires { length text.now ≤ 2 ^ 40 }
     ensures { Gives (λ v. v.items) result (prec_of n text.now) }
 {
@@ -245,7 +250,7 @@ fn parse_lines(alloc: Global, text: &[u8], n: u32, gauge: &Gauge) -> Result<Vec<
     let mut before = Before { from: 0, total: 0 };
     while let Some(row) = rows.next_row() {
         before = read_line(n, before, &mut marks, row, &mut pairs)?;
-        gauge.pairs_read(before.total);
+        counters.pairs_read(before.total);
     }
     Ok(pairs)
 }
@@ -268,15 +273,15 @@ pub fn parse_prec(alloc: Global, text: &[u8], n: u32) -> Result<Vec<(u32, u32)>,
     ensures first_fault { IfErr result (λ e. FailsAt e.refusal e (IsFirstPrecFault n text.now)) }
     ensures lawful { IfOk result (λ v. ArePrecedences n v.items) }
 {
-    parse_watched(alloc, text, n, &Gauge::none())
+    parse_watched(alloc, text, n, &Counters::none())
 }
 
-/// The same as `parse_prec` gives. A gauge is told of the pairs of each line.
+/// The same as `parse_prec` gives. Counters are told of the pairs of each line.
 fn parse_watched(
     alloc: Global,
     text: &[u8],
     n: u32,
-    gauge: &Gauge,
+    counters: &Counters,
 ) -> Result<Vec<(u32, u32)>, Fault>
     requires { length text.now ≤ 2 ^ 40 }
     ensures exact { Gives (λ v. v.items) result (prec_of n text.now) }
@@ -285,7 +290,7 @@ fn parse_watched(
     ensures first_fault { IfErr result (λ e. FailsAt e.refusal e (IsFirstPrecFault n text.now)) }
     ensures lawful { IfOk result (λ v. ArePrecedences n v.items) }
 {
-    parse_lines(alloc, text, n, gauge)
+    parse_lines(alloc, text, n, counters)
 }
 
 /// The pairs (u, p) of "u needs p" for n blocks, in order of line and place, that all spells which the reader has left,
@@ -306,5 +311,5 @@ pub fn read_prec<R: InBytes>(
     ensures exact { Answers (λ v. v.items) (prec_of n) sources.Precedence (R.progress reader.old) (R.progress reader.new) (R.IsAtEnd reader.new) result }
 {
     let text = read_all(alloc, reader, Source::Precedence)?;
-    parse_watched(alloc, &text, n, &reader.gauge())
+    parse_watched(alloc, &text, n, &reader.counters())
 }

@@ -19,8 +19,8 @@ use crate::limits::MOST_BLOCKS;
 use crate::lines::{next_field, two_fields};
 use crate::number::{Decimal, decimal, whole_number};
 use crate::rows::{Row, Rows};
+use counters::Counters;
 use faults::{Fault, Refusal, Source};
-use gauge::Gauge;
 use std::alloc::Global;
 
 /// An optimisation model: a number of blocks, and the value of each, in millionths.
@@ -121,7 +121,12 @@ fn next_due<'a>(rows: &mut Rows<'a>) -> Result<Row<'a>, Fault>
     }
 }
 
-fn read_values(alloc: Global, n: u32, rows: &mut Rows, gauge: &Gauge) -> Result<Vec<Decimal>, Fault>
+fn read_values(
+    alloc: Global,
+    n: u32,
+    rows: &mut Rows,
+    counters: &Counters,
+) -> Result<Vec<Decimal>, Fault>
     ensures gives { Gives (λ v. (v.items, rows_at rows.new.number rows.new.rest.now)) result
         (values_from (lines_at rows.old.number rows.old.rest.now) 0 n (rows_at rows.old.number rows.old.rest.now)) }
     ensures count { IfOk result (λ v. length v.items ≡ n) }
@@ -132,7 +137,7 @@ fn read_values(alloc: Global, n: u32, rows: &mut Rows, gauge: &Gauge) -> Result<
         let row = next_due(rows)?;
         let value = read_value(id, row)?;
         values.push(value)?;
-        gauge.blocks_read(u64::from(id) + 1);
+        counters.blocks_read(u64::from(id) + 1);
     }
     Ok(values)
 }
@@ -165,14 +170,14 @@ fn check_ended(rows: &mut Rows) -> Result<(), Fault>
 }
 
 #[tactic(auto, unfolding(crate::specs::Upit::upit_of_rows))]
-fn parse_lines(alloc: Global, text: &[u8], gauge: &Gauge) -> Result<Model, Fault>
+fn parse_lines(alloc: Global, text: &[u8], counters: &Counters) -> Result<Model, Fault>
     requires { length text.now ≤ 2 ^ 40 }
     ensures exact { Gives (λ m. upit m.n m.values.items) result (upit_of text.now) }
     ensures small { IfOk result (λ m. IsSmallModel m.n m.values.items) }
 {
     let mut rows = Rows::new(text);
     let n = read_header(&mut rows)?;
-    let values = read_values(alloc, n, &mut rows, gauge)?;
+    let values = read_values(alloc, n, &mut rows, counters)?;
     check_ended(&mut rows)?;
     Ok(Model { n, values })
 }
@@ -188,11 +193,11 @@ pub fn parse_upit(alloc: Global, text: &[u8]) -> Result<Model, Fault>
     ensures first_fault { IfErr result (λ e. FailsAt e.refusal e (IsFirstUpitFault text.now)) }
     ensures small { IfOk result (λ m. IsSmallModel m.n m.values.items) }
 {
-    parse_watched(alloc, text, &Gauge::none())
+    parse_watched(alloc, text, &Counters::none())
 }
 
-/// The same as `parse_upit` gives. A gauge is told of each block.
-fn parse_watched(alloc: Global, text: &[u8], gauge: &Gauge) -> Result<Model, Fault>
+/// The same as `parse_upit` gives. Counters are told of each block.
+fn parse_watched(alloc: Global, text: &[u8], counters: &Counters) -> Result<Model, Fault>
     requires { length text.now ≤ 2 ^ 40 }
     ensures exact { Gives (λ m. upit m.n m.values.items) result (upit_of text.now) }
     ensures spelled { IfOk result (λ m. SpellsUpit text.now (upit m.n m.values.items)) }
@@ -200,7 +205,7 @@ fn parse_watched(alloc: Global, text: &[u8], gauge: &Gauge) -> Result<Model, Fau
     ensures first_fault { IfErr result (λ e. FailsAt e.refusal e (IsFirstUpitFault text.now)) }
     ensures small { IfOk result (λ m. IsSmallModel m.n m.values.items) }
 {
-    parse_lines(alloc, text, gauge)
+    parse_lines(alloc, text, counters)
 }
 
 /// Each text spells one model or has one first fault, and not both: what is read of it says which.
@@ -222,5 +227,5 @@ pub fn read_upit<R: InBytes>(alloc: Global, reader: &mut R) -> Result<Model, Fau
     ensures exact { Answers (λ m. upit m.n m.values.items) upit_of sources.Model (R.progress reader.old) (R.progress reader.new) (R.IsAtEnd reader.new) result }
 {
     let text = read_all(alloc, reader, Source::Model)?;
-    parse_watched(alloc, &text, &reader.gauge())
+    parse_watched(alloc, &text, &reader.counters())
 }

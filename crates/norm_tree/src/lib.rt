@@ -12,7 +12,6 @@ mod pit;
 mod raise;
 mod rank;
 mod renew;
-mod start;
 mod tree;
 mod verdict;
 mod walk;

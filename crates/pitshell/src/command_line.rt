@@ -10,14 +10,18 @@ const STATUSES: &str = "Exit status:\n  \
 3  the budget is used up\n  \
 4  the answer is no";
 
-/// An option that must be given and takes the name of a file.
-fn file<'a>(alloc: Global, name: &'a str, help: &'a str) -> Arg<'a> {
+/// An option that takes one value, which help calls by this name.
+fn option<'a>(alloc: Global, name: &'a str, value: &'a str, help: &'a str) -> Arg<'a> {
     Arg::new(alloc, name)
         .long(name)
-        .value_name("FILE")
+        .value_name(value)
         .help(help)
-        .required(true)
         .action(ArgAction::Set)
+}
+
+/// An option that must be given and takes the name of a file.
+fn file<'a>(alloc: Global, name: &'a str, help: &'a str) -> Arg<'a> {
+    option(alloc, name, "FILE", help).required(true)
 }
 
 /// The model of a mine.
@@ -40,12 +44,12 @@ fn prec_file<'a>(alloc: Global) -> Arg<'a> {
 
 /// The fixed blocks of a mine, where some are.
 fn fixed_file<'a>(alloc: Global) -> Arg<'a> {
-    file(
+    option(
         alloc,
         "fixed",
+        "FILE",
         "Fixed blocks (.fixed): those that must be dug and those that may not be",
     )
-    .required(false)
 }
 
 /// The files of a mine, in the order in which they are read. Help shows them first.
@@ -82,33 +86,37 @@ fn replay_command<'a>(alloc: Global) -> Result<Command<'a>, AllocError> {
 
 /// An option that must be given and takes the number of an attribute column.
 fn attribute<'a>(alloc: Global, name: &'a str, help: &'a str) -> Arg<'a> {
-    Arg::new(alloc, name)
-        .long(name)
-        .value_name("COLUMN")
-        .help(help)
+    option(alloc, name, "COLUMN", help)
         .value_parser(value_parser!(u64).range(0..=63))
         .required(true)
-        .action(ArgAction::Set)
 }
 
-/// `shells` with its files, columns and factors, and how to solve.
-fn shells_command<'a>(alloc: Global) -> Result<Command<'a>, AllocError> {
-    let factors = Arg::new(alloc, "factors")
-        .long("factors")
-        .value_name("LIST")
-        .help("Price factors in per mille, rising, with commas between: 500,1000")
-        .required(true)
-        .allow_negative_numbers(true)
-        .action(ArgAction::Set);
-    let shells = Command::new(alloc, "shells")
-        .about("Writes the nested pits: the ultimate pit at each price factor")
-        .after_help(STATUSES)
+/// The price factors of a table of shells.
+fn factors_list<'a>(alloc: Global) -> Arg<'a> {
+    option(
+        alloc,
+        "factors",
+        "LIST",
+        "Price factors in per mille, rising, with commas between: 500,1000",
+    )
+    .required(true)
+    .allow_negative_numbers(true)
+}
+
+/// The model of a mine at each price, and its pairs.
+fn with_blocks<'a>(alloc: Global, command: Command<'a>) -> Result<Command<'a>, AllocError> {
+    command
         .arg(file(
             alloc,
             "blocks",
             "Block model (.blocks): the place and the attributes of each block",
         ))?
-        .arg(prec_file(alloc))?
+        .arg(prec_file(alloc))
+}
+
+/// The attribute columns of the money.
+fn with_columns<'a>(alloc: Global, command: Command<'a>) -> Result<Command<'a>, AllocError> {
+    command
         .arg(attribute(
             alloc,
             "revenue",
@@ -118,9 +126,61 @@ fn shells_command<'a>(alloc: Global) -> Result<Command<'a>, AllocError> {
             alloc,
             "cost",
             "Attribute column of the cost, the first being 0",
-        ))?
-        .arg(factors)?;
-    with_told(alloc, with_asked(alloc, shells, 5)?)
+        ))
+}
+
+/// `shells` with its files, columns and factors, and how to solve.
+fn shells_command<'a>(alloc: Global) -> Result<Command<'a>, AllocError> {
+    let shells = Command::new(alloc, "shells")
+        .about("Writes the nested pits: the ultimate pit at each price factor")
+        .after_help(STATUSES);
+    let shells = with_columns(alloc, with_blocks(alloc, shells)?)?.arg(factors_list(alloc))?;
+    with_watch(alloc, with_asked(alloc, shells, 5)?)
+}
+
+/// The word of the mode.
+fn mode_word<'a>(alloc: Global) -> Arg<'a> {
+    option(
+        alloc,
+        "mode",
+        "MODE",
+        "single, parts or shared; the answer is the same in each",
+    )
+    .default_value("single")
+}
+
+/// How many workers there are.
+fn workers_number<'a>(alloc: Global) -> Arg<'a> {
+    option(
+        alloc,
+        "workers",
+        "NUMBER",
+        "Workers in mode shared, 1 to 64",
+    )
+    .value_parser(value_parser!(u64).range(1..=64))
+    .default_value("4")
+}
+
+/// The budget of mergers.
+fn budget_number<'a>(alloc: Global) -> Arg<'a> {
+    option(
+        alloc,
+        "budget",
+        "MERGERS",
+        "The most mergers that may be made; not in mode parts",
+    )
+    .value_parser(value_parser!(u64))
+}
+
+/// The word of the pit.
+fn pit_word<'a>(alloc: Global) -> Arg<'a> {
+    option(
+        alloc,
+        "pit",
+        "PIT",
+        "least or greatest: which of the pits of equal worth",
+    )
+    .default_value("least")
 }
 
 /// What is asked for: the word of the mode and that of the pit, which `runs` checks, the number of workers and the budget of
@@ -130,53 +190,51 @@ fn with_asked<'a>(
     command: Command<'a>,
     place: usize,
 ) -> Result<Command<'a>, AllocError> {
-    let mode = Arg::new(alloc, "mode")
-        .long("mode")
-        .value_name("MODE")
-        .help("single, parts or shared; the answer is the same in each")
-        .default_value("single")
-        .display_order(place)
-        .action(ArgAction::Set);
-    let workers = Arg::new(alloc, "workers")
-        .long("workers")
-        .value_name("NUMBER")
-        .help("Workers in mode shared, 1 to 64")
-        .value_parser(value_parser!(u64).range(1..=64))
-        .default_value("4")
-        .display_order(place.saturating_add(1))
-        .action(ArgAction::Set);
-    let budget = Arg::new(alloc, "budget")
-        .long("budget")
-        .value_name("MERGERS")
-        .help("The most mergers that may be made; not in mode parts")
-        .value_parser(value_parser!(u64))
-        .display_order(place.saturating_add(2))
-        .action(ArgAction::Set);
-    let pit = Arg::new(alloc, "pit")
-        .long("pit")
-        .value_name("PIT")
-        .help("least or greatest: which of the pits of equal worth")
-        .default_value("least")
-        .display_order(place.saturating_add(3))
-        .action(ArgAction::Set);
-    command.arg(mode)?.arg(workers)?.arg(budget)?.arg(pit)
+    command
+        .arg(mode_word(alloc).display_order(place))?
+        .arg(workers_number(alloc).display_order(place.saturating_add(1)))?
+        .arg(budget_number(alloc).display_order(place.saturating_add(2)))?
+        .arg(pit_word(alloc).display_order(place.saturating_add(3)))
+}
+
+/// After how many seconds a line tells what the run is at.
+fn progress_seconds<'a>(alloc: Global) -> Arg<'a> {
+    option(
+        alloc,
+        "progress",
+        "SECONDS",
+        "After so many seconds a line on standard error, each time, 1 to 86400",
+    )
+    .value_parser(value_parser!(u64).range(1..=86_400))
+}
+
+/// An option that may be given and takes the name of a file that is written.
+fn output<'a>(alloc: Global, name: &'a str, help: &'a str) -> Arg<'a> {
+    option(alloc, name, "FILE", help)
 }
 
 /// What is told of a run beside its answer. Help shows it last.
-fn with_told<'a>(alloc: Global, command: Command<'a>) -> Result<Command<'a>, AllocError> {
-    let progress = Arg::new(alloc, "progress")
-        .long("progress")
-        .value_name("SECONDS")
-        .help("After so many seconds a line on standard error, each time, 1 to 86400")
-        .value_parser(value_parser!(u64).range(1..=86_400))
-        .action(ArgAction::Set);
-    let stats = file(
+fn with_watch<'a>(alloc: Global, command: Command<'a>) -> Result<Command<'a>, AllocError> {
+    command.arg(progress_seconds(alloc))?.arg(output(
         alloc,
         "stats",
         "Where to write what the run did and how long it took",
-    )
-    .required(false);
-    command.arg(progress)?.arg(stats)
+    ))
+}
+
+/// What a solve writes beside the pit.
+fn with_outputs<'a>(alloc: Global, command: Command<'a>) -> Result<Command<'a>, AllocError> {
+    command
+        .arg(output(
+            alloc,
+            "certificate",
+            "Where to write the certificate that shows the pit",
+        ))?
+        .arg(output(
+            alloc,
+            "journal",
+            "Where to write what the workers decided; in mode shared alone",
+        ))
 }
 
 /// `solve` with its files and what is asked for. The model's option is added behind that of the mode: of two names that are as
@@ -185,20 +243,8 @@ fn solve_command<'a>(alloc: Global) -> Result<Command<'a>, AllocError> {
     let solve = Command::new(alloc, "solve")
         .about("Writes the smallest closed set of greatest worth: the ultimate pit")
         .after_help(STATUSES);
-    let solve = with_mine(alloc, with_asked(alloc, solve, 3)?)?
-        .arg(file(
-            alloc,
-            "certificate",
-            "Where to write the certificate that shows the pit",
-        )
-        .required(false))?
-        .arg(file(
-            alloc,
-            "journal",
-            "Where to write what the workers decided; in mode shared alone",
-        )
-        .required(false))?;
-    with_told(alloc, solve)
+    let solve = with_mine(alloc, with_asked(alloc, solve, 3)?)?;
+    with_watch(alloc, with_outputs(alloc, solve)?)
 }
 
 /// `pitshell` with its subcommands. Its version is the release.

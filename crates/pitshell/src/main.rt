@@ -8,15 +8,15 @@ mod output;
 mod stats;
 mod streams;
 mod system_files;
-mod told_runs;
 mod watch;
+mod watched_runs;
 
 use clap::error::ErrorKind;
 use command_line::command;
 use faults::Fault;
-use file_runs::told;
+use file_runs::report_fault;
 use minelib_reader::StreamWriter;
-use options::{Options, Told};
+use options::{Options, WatchOptions};
 use runs::Status;
 use std::alloc::{AllocError, AllocGlobal};
 use std::process::ExitCode;
@@ -25,11 +25,11 @@ use std::thread::Threads;
 use std::time::Clock;
 use std::{env, io};
 use streams::StandIns;
-use told_runs::told_call;
+use watched_runs::watched_call;
 
 /// Tells how a run ended: a fault goes to standard error, and the exit status is answered.
 fn ended(rt: &HostRuntime, outcome: Result<Status, Fault>) -> ExitCode {
-    ExitCode::from(told(&mut StreamWriter::new(io::writer(&rt.stderr())), &outcome))
+    ExitCode::from(report_fault(&mut StreamWriter::new(io::writer(&rt.stderr())), &outcome))
 }
 
 /// Tells what `clap` has to say: help, the version, or what is wrong with the command line. Want of memory is a fault here too.
@@ -75,8 +75,8 @@ fn run<R: AllocGlobal + Threads + Wait + Clock + Eprint + Sync>(
             None => Ok(ExitCode::from(2)),
             Some(Err(line)) => Ok(not_understood(rt, line)),
             Some(Ok(options)) => {
-                let asked = Told::of(&matches);
-                Ok(ExitCode::from(told_call(rt, threads, &options, &asked)?))
+                let asked = WatchOptions::of(&matches);
+                Ok(ExitCode::from(watched_call(rt, threads, &options, &asked)?))
             }
         },
     }

@@ -16,22 +16,22 @@ pub enum Options<'a> {
 
 /// What is to be told of a run beside its answer.
 #[derive(Clone, Copy)]
-pub struct Told<'a> {
+pub struct WatchOptions<'a> {
     /// After so many seconds a line, each time.
     pub every: Option<u64>,
     /// The file of what the run did.
     pub stats: Option<&'a str>,
 }
 
-impl<'a> Told<'a> {
+impl<'a> WatchOptions<'a> {
     /// What the command line asks for: of `solve` and of `shells` alone.
-    pub fn of(matches: &ArgMatches<'a>) -> Told<'a> {
+    pub fn of(matches: &ArgMatches<'a>) -> WatchOptions<'a> {
         match matches.subcommand() {
-            Some(("solve" | "shells", found)) => Told {
+            Some(("solve" | "shells", found)) => WatchOptions {
                 every: found.get_one::<u64>("progress"),
                 stats: found.get_str("stats"),
             },
-            _ => Told {
+            _ => WatchOptions {
                 every: None,
                 stats: None,
             },

@@ -3,9 +3,9 @@
 
 use crate::output::Output;
 use crate::watch::Times;
+use counters::Stats;
 use faults::Fault;
 use file_runs::{MineNames, ShellsOptions, SolveOptions};
-use gauge::Counted;
 use std::alloc::AllocError;
 use std::fs;
 use std::fs::Metadata;
@@ -64,7 +64,7 @@ fn peak(rt: &HostRuntime) -> u64 {
 }
 
 /// The text of the file. Times are in seconds with three decimals.
-fn text_of(rt: &HostRuntime, times: &Times, counted: &Counted) -> Result<String, AllocError> {
+fn text_of(rt: &HostRuntime, times: &Times, counted: &Stats) -> Result<String, AllocError> {
     let mut text = String::from_str(rt.alloc(), "PITSTATS 1\n")?;
     for (name, time) in [
         ("OPENING", times.opening),
@@ -103,7 +103,7 @@ fn write_stats(
     rt: &HostRuntime,
     output: &mut Output,
     times: &Times,
-    counted: &Counted,
+    counted: &Stats,
 ) -> Result<(), Fault> {
     let text = text_of(rt, times, counted)?;
     match output.write_all(text.as_bytes()) {
@@ -118,7 +118,7 @@ pub fn end_stats(
     output: Output,
     is_kept: bool,
     times: &Times,
-    counted: &Counted,
+    counted: &Stats,
 ) -> Result<(), Fault> {
     let mut output = output;
     let written = if is_kept {

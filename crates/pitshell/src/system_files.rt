@@ -5,9 +5,9 @@ ghost use Rattle.std.specs.Prelude.{IfErr};
 ghost use Rattle.file_runs.specs.Faults.{IsUnopened};
 
 use crate::output::Output;
+use counters::Counters;
 use faults::{Fault, Refusal, Source};
 use file_runs::{InputFiles, OutputFiles};
-use gauge::Gauge;
 use runs::MineFiles;
 use std::fs::File;
 
@@ -15,7 +15,7 @@ use std::fs::File;
 #[derive(Drop)]
 pub struct SystemFiles<'a> {
     pub rt: &'a HostRuntime,
-    pub gauge: Gauge,
+    pub counters: Counters,
     pub stats: Option<Output>,
 }
 
@@ -42,7 +42,7 @@ impl InputFiles for SystemFiles<'_> {
 
     type Blocks = File;
 
-    ghost opens = { λ _ _ _ _. Unit {0} };
+    ghost opens = { λ _ _ _ _ _. Unit {0} };
 
     ghost lacks = { λ _ _ _ _. Unit {0} };
 
@@ -70,8 +70,8 @@ impl InputFiles for SystemFiles<'_> {
         open_as(self.rt, path, Source::Blocks)
     }
 
-    fn gauge(&self) -> Gauge {
-        self.gauge.share()
+    fn counters(&self) -> Counters {
+        self.counters.share()
     }
 }
 

@@ -1,7 +1,7 @@
-//! Tells of a run while it goes on: a thread of its own sleeps on the gauge of the run, wakes at each change of phase, which it
+//! Tells of a run while it goes on: a thread of its own sleeps on the counters of the run, wakes at each change of phase, which it
 //! times, and writes a line to standard error as often as is asked for.
 
-use gauge::{Counted, Gauge, Phase};
+use counters::{Counters, Phase, Stats};
 use std::alloc::{AllocError, AllocGlobal, Global};
 use std::sync::Wait;
 use std::time::{Clock, Duration};
@@ -90,8 +90,8 @@ impl Watcher {
 }
 
 /// The line on a run that is at this phase.
-fn line_of(alloc: Global, phase: Phase, counted: &Counted) -> Result<String, AllocError> {
-    let Counted {
+fn line_of(alloc: Global, phase: Phase, counted: &Stats) -> Result<String, AllocError> {
+    let Stats {
         factor,
         factors,
         ..
@@ -113,7 +113,7 @@ fn line_of(alloc: Global, phase: Phase, counted: &Counted) -> Result<String, All
 }
 
 /// Writes a line at once. Where memory or standard error refuses it, it is left out.
-fn tell<R: AllocGlobal + Eprint>(rt: &R, phase: Phase, counted: &Counted) {
+fn tell<R: AllocGlobal + Eprint>(rt: &R, phase: Phase, counted: &Stats) {
     if let Ok(line) = line_of(rt.alloc(), phase, counted) {
         let _ = rt.eprint(line);
     }
@@ -122,18 +122,18 @@ fn tell<R: AllocGlobal + Eprint>(rt: &R, phase: Phase, counted: &Counted) {
 /// Watches a run until it has ended, and answers how long it was at each phase.
 pub fn watch<R: AllocGlobal + Wait + Clock + Eprint>(
     rt: &R,
-    gauge: &Gauge,
+    counters: &Counters,
     every: Option<Duration>,
 ) -> Times {
     let mut watcher = Watcher::begin(rt, every);
     for _look in rt.forever() {
-        let phase = gauge.phase();
+        let phase = counters.phase();
         if phase == Phase::Ended {
             break;
         }
-        gauge.wait_at(rt, phase, watcher.rest());
+        counters.wait_at(rt, phase, watcher.rest());
         if watcher.look(rt, phase) {
-            if let Some(counted) = gauge.counted() {
+            if let Some(counted) = counters.stats() {
                 tell(rt, phase, &counted);
             }
         }

@@ -4,11 +4,11 @@ use mathlib.Core.Option.{some, some-injective, some-ne-none}
 use lib.ListN.{get_elem?}
 use Rattle.atomic_table.specs.Table.{Splits, Joins, Enters, opening}
 use Rattle.atomic_table.proofs.Lists.{at_set, set_else}
-use Rattle.proposals.specs.declared.knows.Desk.{Desk}
+use Rattle.proposals.specs.declared.knows.WorkerLedger.{WorkerLedger}
 use Rattle.proposals.specs.declared.knows.Served.{Served}
-use Rattle.proposals.specs.declared.knows.Rack.{Rack}
+use Rattle.proposals.specs.declared.knows.HolderLedger.{HolderLedger}
 use Rattle.proposals.specs.declared.knows.Knows.{Knows}
-use Rattle.proposals.specs.Ledger.{Row, SmallAt, word_of, served_of, fresh, DeskFits, RackFits, Boarded, desk, rack, nothing, opener, nobody, one_more, newcomer, dealing, dealt_to, meeting, worker_part, holder_part}
+use Rattle.proposals.specs.Ledger.{Row, SmallAt, word_of, served_of, fresh, WorkerFits, HolderFits, Boarded, worker_ledger, holder_ledger, nothing, opener, nobody, one_more, newcomer, dealing, dealt_to, meeting, worker_part, holder_part}
 use Rattle.proposals.proofs.Turns.{St}
 
 -- an element of a list with one more at its end
@@ -24,8 +24,8 @@ some_none x e = absurd (cc)
 -- the same words and rows, under other seats
 reseat : (n : ℕ) (s : St) (h : Boarded n s) (owner : ℕ → ℕ) (holder dealt : ℕ) (views : List Knows)
     → ((i : ℕ) (r : Row) → dealt ≤ i → get_elem? h.rows i ≡ some r → r ≡ fresh)
-    → ((j : ℕ) (v : Knows) (d : Desk) → get_elem? views j ≡ some v → v.worker ≡ Some d → DeskFits h.rows owner dealt j d)
-    → ((j : ℕ) (v : Knows) (r : Rack) → get_elem? views j ≡ some v → v.holder ≡ Some r → RackFits h.rows holder dealt j r)
+    → ((j : ℕ) (v : Knows) (d : WorkerLedger) → get_elem? views j ≡ some v → v.worker ≡ Some d → WorkerFits h.rows owner dealt j d)
+    → ((j : ℕ) (v : Knows) (r : HolderLedger) → get_elem? views j ≡ some v → v.holder ≡ Some r → HolderFits h.rows holder dealt j r)
     → Boarded n record { words = s.words; homes = s.homes; views = views }
 reseat n s h owner holder dealt views new workers holders =
     record { rows = h.rows; owner = owner; holder = holder; dealt = dealt; words = h.words; wide = h.wide; small = h.small; new = new; workers = workers; holders = holders }
@@ -41,7 +41,7 @@ may_sit n slots i s h _ _ = (
 )
 
 -- the holder's seat gives the next worker its seat
-pub may_deal : (n id : ℕ) (v : Knows) (q : Rack) → v.holder ≡ Some q → q.dealt < n → Splits (Boarded n) id v (dealing v) (dealt_to v)
+pub may_deal : (n id : ℕ) (v : Knows) (q : HolderLedger) → v.holder ≡ Some q → q.dealt < n → Splits (Boarded n) id v (dealing v) (dealt_to v)
 may_deal n id v q is less s h at = reseat n s h owner h.holder (h.dealt + 1) views (λ i r le e. h.new i r (omega arith) e) workers holders
   where
     front : List Knows
@@ -50,13 +50,13 @@ may_deal n id v q is less s h at = reseat n s h owner h.holder (h.dealt + 1) vie
     views : List Knows
     views = front ++ dealt_to v ∷ []
 
-    f : RackFits h.rows h.holder h.dealt id q
+    f : HolderFits h.rows h.holder h.dealt id q
     f = h.holders id v q at is
 
     owner : ℕ → ℕ
     owner x = cond (eqb x h.dealt) (length front) (h.owner x)
 
-    raised : (j : ℕ) (d : Desk) → DeskFits h.rows h.owner h.dealt j d → DeskFits h.rows owner (h.dealt + 1) j d
+    raised : (j : ℕ) (d : WorkerLedger) → WorkerFits h.rows h.owner h.dealt j d → WorkerFits h.rows owner (h.dealt + 1) j d
     raised j d g = record {
       own = ap (λ (b : Bool). cond b (length front) (h.owner d.cell)) (ne_eqb d.cell h.dealt (λ e. let w = g.within in omega arith)) ∙ g.own;
       within = let w = g.within in omega arith;
@@ -71,7 +71,7 @@ may_deal n id v q is less s h at = reseat n s h owner h.holder (h.dealt + 1) vie
     there (x ∷ xs) zero lt = (x, refl)
     there (x ∷ xs) (suc j) lt = there xs j (omega arith)
 
-    first : DeskFits h.rows owner (h.dealt + 1) (length front) (desk q.dealt [] [])
+    first : WorkerFits h.rows owner (h.dealt + 1) (length front) (worker_ledger q.dealt [] [])
     first =
         let c : q.dealt ≡ h.dealt = f.count in
         let r = there h.rows q.dealt (omega (arith, h.wide)) in
@@ -84,27 +84,27 @@ may_deal n id v q is less s h at = reseat n s h owner h.holder (h.dealt + 1) vie
           takes = refl;
         }
 
-    workers : (j : ℕ) (u : Knows) (d : Desk) → get_elem? views j ≡ some u → u.worker ≡ Some d → DeskFits h.rows owner (h.dealt + 1) j d
+    workers : (j : ℕ) (u : Knows) (d : WorkerLedger) → get_elem? views j ≡ some u → u.worker ≡ Some d → WorkerFits h.rows owner (h.dealt + 1) j d
     workers j u d e has = ⊎_elim
         (λ (t : get_elem? front j ≡ some u). raised j d (⊎_elim
-        (λ (x : (j ≡ id) × (dealing v ≡ u)). subst (λ (z : ℕ). DeskFits h.rows h.owner h.dealt z d) (sym x.0) (h.workers id v d at (ap (λ (y : Knows). y.worker) x.1 ∙ has)))
+        (λ (x : (j ≡ id) × (dealing v ≡ u)). subst (λ (z : ℕ). WorkerFits h.rows h.owner h.dealt z d) (sym x.0) (h.workers id v d at (ap (λ (y : Knows). y.worker) x.1 ∙ has)))
         (λ (x : (j ≢ id) × (get_elem? s.views j ≡ some u)). h.workers j u d x.1 has)
         (at_set s.views id j (dealing v) u t)))
         (λ (t : (j ≡ length front) × (dealt_to v ≡ u)).
         let k : newcomer v.holder ≡ Some d = ap (λ (y : Knows). y.worker) t.1 ∙ has in
-        let k' : Some (desk q.dealt [] []) ≡ Some d = sym (ap newcomer is) ∙ k in
-        let k'' : desk q.dealt [] [] ≡ d = cc in
-        subst (λ (z : ℕ × Desk). DeskFits h.rows owner (h.dealt + 1) z.0 z.1) (λ i. (sym t.0 i, k'' i)) first)
+        let k' : Some (worker_ledger q.dealt [] []) ≡ Some d = sym (ap newcomer is) ∙ k in
+        let k'' : worker_ledger q.dealt [] [] ≡ d = cc in
+        subst (λ (z : ℕ × WorkerLedger). WorkerFits h.rows owner (h.dealt + 1) z.0 z.1) (λ i. (sym t.0 i, k'' i)) first)
         (at_end front (dealt_to v) u j e)
 
-    holders : (j : ℕ) (u : Knows) (y : Rack) → get_elem? views j ≡ some u → u.holder ≡ Some y → RackFits h.rows h.holder (h.dealt + 1) j y
+    holders : (j : ℕ) (u : Knows) (y : HolderLedger) → get_elem? views j ≡ some u → u.holder ≡ Some y → HolderFits h.rows h.holder (h.dealt + 1) j y
     holders j u y e has = ⊎_elim
         (λ (t : get_elem? front j ≡ some u). ⊎_elim
         (λ (x : (j ≡ id) × (dealing v ≡ u)).
         let k : one_more v.holder ≡ Some y = ap (λ (w : Knows). w.holder) x.1 ∙ has in
-        let k' : Some (rack (q.dealt + 1) q.served) ≡ Some y = sym (ap one_more is) ∙ k in
-        let k'' : rack (q.dealt + 1) q.served ≡ y = cc in
-        subst (λ (z : ℕ × Rack). RackFits h.rows h.holder (h.dealt + 1) z.0 z.1) (λ i. (sym x.0 i, k'' i)) record { own = f.own; count = let c = f.count in omega arith; serves = f.serves })
+        let k' : Some (holder_ledger (q.dealt + 1) q.served) ≡ Some y = sym (ap one_more is) ∙ k in
+        let k'' : holder_ledger (q.dealt + 1) q.served ≡ y = cc in
+        subst (λ (z : ℕ × HolderLedger). HolderFits h.rows h.holder (h.dealt + 1) z.0 z.1) (λ i. (sym x.0 i, k'' i)) record { own = f.own; count = let c = f.count in omega arith; serves = f.serves })
         (λ (x : (j ≢ id) × (get_elem? s.views j ≡ some u)). absurd (x.0 (sym (h.holders j u y x.1 has).own ∙ f.own)))
         (at_set s.views id j (dealing v) u t))
         (λ (t : (j ≡ length front) × (dealt_to v ≡ u)). some_none y (ap (λ (w : Knows). w.holder) t.1 ∙ has))
@@ -120,16 +120,16 @@ may_meet n id other v w s h at apart there = by w.holder refl
     was : get_elem? s.views other ≡ some w
     was = sym (set_else s.views id other (meeting v w) apart) ∙ there
 
-    workers : (j : ℕ) (u : Knows) (d : Desk) → get_elem? views j ≡ some u → u.worker ≡ Some d → DeskFits h.rows h.owner h.dealt j d
+    workers : (j : ℕ) (u : Knows) (d : WorkerLedger) → get_elem? views j ≡ some u → u.worker ≡ Some d → WorkerFits h.rows h.owner h.dealt j d
     workers j u d e has = ⊎_elim
         (λ (t : (j ≡ other) × (nobody ≡ u)). some_none d (ap (λ (x : Knows). x.worker) t.1 ∙ has))
         (λ (t : (j ≢ other) × (get_elem? (set s.views id (meeting v w)) j ≡ some u)). ⊎_elim
-        (λ (x : (j ≡ id) × (meeting v w ≡ u)). subst (λ (z : ℕ). DeskFits h.rows h.owner h.dealt z d) (sym x.0) (h.workers id v d at (ap (λ (y : Knows). y.worker) x.1 ∙ has)))
+        (λ (x : (j ≡ id) × (meeting v w ≡ u)). subst (λ (z : ℕ). WorkerFits h.rows h.owner h.dealt z d) (sym x.0) (h.workers id v d at (ap (λ (y : Knows). y.worker) x.1 ∙ has)))
         (λ (x : (j ≢ id) × (get_elem? s.views j ≡ some u)). h.workers j u d x.1 has)
         (at_set s.views id j (meeting v w) u t.1))
         (at_set (set s.views id (meeting v w)) other j nobody u e)
 
-    by : (o : Option Rack) → w.holder ≡ o → Boarded n record { words = s.words; homes = s.homes; views = views }
+    by : (o : Option HolderLedger) → w.holder ≡ o → Boarded n record { words = s.words; homes = s.homes; views = views }
     by None is = reseat n s h h.owner h.holder h.dealt views h.new workers
         (λ j u y e has. ⊎_elim
         (λ (t : (j ≡ other) × (nobody ≡ u)). some_none y (ap (λ (x : Knows). x.holder) t.1 ∙ has))
@@ -157,16 +157,16 @@ may_part n id v s h at = by v.holder refl
     views : List Knows
     views = front ++ holder_part v ∷ []
 
-    workers : (j : ℕ) (u : Knows) (d : Desk) → get_elem? views j ≡ some u → u.worker ≡ Some d → DeskFits h.rows h.owner h.dealt j d
+    workers : (j : ℕ) (u : Knows) (d : WorkerLedger) → get_elem? views j ≡ some u → u.worker ≡ Some d → WorkerFits h.rows h.owner h.dealt j d
     workers j u d e has = ⊎_elim
         (λ (t : get_elem? front j ≡ some u). ⊎_elim
-        (λ (x : (j ≡ id) × (worker_part v ≡ u)). subst (λ (z : ℕ). DeskFits h.rows h.owner h.dealt z d) (sym x.0) (h.workers id v d at (ap (λ (y : Knows). y.worker) x.1 ∙ has)))
+        (λ (x : (j ≡ id) × (worker_part v ≡ u)). subst (λ (z : ℕ). WorkerFits h.rows h.owner h.dealt z d) (sym x.0) (h.workers id v d at (ap (λ (y : Knows). y.worker) x.1 ∙ has)))
         (λ (x : (j ≢ id) × (get_elem? s.views j ≡ some u)). h.workers j u d x.1 has)
         (at_set s.views id j (worker_part v) u t))
         (λ (t : (j ≡ length front) × (holder_part v ≡ u)). some_none d (ap (λ (x : Knows). x.worker) t.1 ∙ has))
         (at_end front (holder_part v) u j e)
 
-    by : (o : Option Rack) → v.holder ≡ o → Boarded n record { words = s.words; homes = s.homes; views = views }
+    by : (o : Option HolderLedger) → v.holder ≡ o → Boarded n record { words = s.words; homes = s.homes; views = views }
     by None is = reseat n s h h.owner h.holder h.dealt views h.new workers
         (λ j u y e has. ⊎_elim
         (λ (t : get_elem? front j ≡ some u). ⊎_elim
@@ -212,17 +212,17 @@ may_open n = record {
     wide zero = refl
     wide (suc m) = let w = wide m in omega arith
 
-    racks : (m : ℕ) → replicate m nothing ≡ map served_of (replicate m fresh)
-    racks zero = refl
-    racks (suc m) = ap (λ (l : List Served). nothing ∷ l) (racks m)
+    holder_ledgers : (m : ℕ) → replicate m nothing ≡ map served_of (replicate m fresh)
+    holder_ledgers zero = refl
+    holder_ledgers (suc m) = ap (λ (l : List Served). nothing ∷ l) (holder_ledgers m)
 
-    workers : (j : ℕ) (v : Knows) (d : Desk) → get_elem? (opener n ∷ []) j ≡ some v → v.worker ≡ Some d → DeskFits (replicate n fresh) (λ _. 0) 0 j d
+    workers : (j : ℕ) (v : Knows) (d : WorkerLedger) → get_elem? (opener n ∷ []) j ≡ some v → v.worker ≡ Some d → WorkerFits (replicate n fresh) (λ _. 0) 0 j d
     workers zero v d e is = some_none d (ap (λ (x : Knows). x.worker) (some-injective (opener n) v e) ∙ is)
     workers (suc j) v d e is = absurd (some-ne-none v (sym e))
 
-    holders : (j : ℕ) (v : Knows) (q : Rack) → get_elem? (opener n ∷ []) j ≡ some v → v.holder ≡ Some q → RackFits (replicate n fresh) 0 0 j q
+    holders : (j : ℕ) (v : Knows) (q : HolderLedger) → get_elem? (opener n ∷ []) j ≡ some v → v.holder ≡ Some q → HolderFits (replicate n fresh) 0 0 j q
     holders zero v q e is =
-        let k : Some (rack 0 (replicate n nothing)) ≡ Some q = ap (λ (x : Knows). x.holder) (some-injective (opener n) v e) ∙ is in
-        let k' : rack 0 (replicate n nothing) ≡ q = cc in
-        subst (λ (z : Rack). RackFits (replicate n fresh) 0 0 0 z) k' record { own = refl; count = refl; serves = racks n }
+        let k : Some (holder_ledger 0 (replicate n nothing)) ≡ Some q = ap (λ (x : Knows). x.holder) (some-injective (opener n) v e) ∙ is in
+        let k' : holder_ledger 0 (replicate n nothing) ≡ q = cc in
+        subst (λ (z : HolderLedger). HolderFits (replicate n fresh) 0 0 0 z) k' record { own = refl; count = refl; serves = holder_ledgers n }
     holders (suc j) v q e is = absurd (some-ne-none v (sym e))

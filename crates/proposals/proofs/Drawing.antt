@@ -8,21 +8,21 @@ use Rattle.atomic_table.specs.Table.{State, Me, Act, Valid, step, keeps, stepped
 use Rattle.atomic_table.specs.Seated.{TableId}
 use Rattle.atomic_table.specs.declared.shared.Seat.{Seat}
 use Rattle.atomic_table.proofs.Lists.{at_set, set_else}
-use Rattle.proposals.specs.declared.hand.Hand.{Hand}
-use Rattle.proposals.specs.declared.hand.Batch.{Batch}
+use Rattle.proposals.specs.declared.draw_ledger.DrawLedger.{DrawLedger}
+use Rattle.proposals.specs.declared.draw_ledger.Batch.{Batch}
 use Rattle.proposals.specs.Drawn.{one_if, times, past, total, hand, Fits, Given, batch, whole, drawing, all_drawn, IsEachBelowOnce, Drew, nobody, cut, one_seat, gathered}
 use Rattle.proposals.specs.DrawSeats.{IsDrawer}
 use Rattle.proposals.proofs.Dealing.{at_end}
 
 abbrev pub St : Type 0
-St = State (Unit {0}) Hand
+St = State (Unit {0}) DrawLedger
 
-pub total_set : (f : Hand → ℕ) (l : List Hand) (i : ℕ) (v w : Hand) → get_elem? l i ≡ some v → total f (set l i w) + f v ≡ total f l + f w
+pub total_set : (f : DrawLedger → ℕ) (l : List DrawLedger) (i : ℕ) (v w : DrawLedger) → get_elem? l i ≡ some v → total f (set l i w) + f v ≡ total f l + f w
 total_set f [] i v w e = absurd (some-ne-none v (sym e))
 total_set f (x ∷ xs) zero v w e = let s : f x ≡ f v = ap f (some-injective x v e) in omega arith
 total_set f (x ∷ xs) (suc i) v w e = let h = total_set f xs i v w e in omega arith
 
-total_snoc : (f : Hand → ℕ) (l : List Hand) (v : Hand) → total f (l ++ v ∷ []) ≡ total f l + f v
+total_snoc : (f : DrawLedger → ℕ) (l : List DrawLedger) (v : DrawLedger) → total f (l ++ v ∷ []) ≡ total f l + f v
 total_snoc f [] v = omega arith
 total_snoc f (x ∷ xs) v = let h = total_snoc f xs v in omega arith
 
@@ -34,23 +34,23 @@ pub past_append : (c : ℕ) (l m : List ℕ) → past c (l ++ m) ≡ past c l + 
 past_append c [] m = omega arith
 past_append c (y ∷ ys) m = let h = past_append c ys m in omega arith
 
-abbrev Each : Batch → List Hand → Type 0
-Each k l = (j : ℕ) (v : Hand) → get_elem? l j ≡ some v → Fits k v
+abbrev Each : Batch → List DrawLedger → Type 0
+Each k l = (j : ℕ) (v : DrawLedger) → get_elem? l j ≡ some v → Fits k v
 
-total_below : (k : Batch) (l : List Hand) → Each k l → total (λ v. past k.chunks v.drawn) l ≤ total (λ v. v.seats) l
+total_below : (k : Batch) (l : List DrawLedger) → Each k l → total (λ v. past k.chunks v.drawn) l ≤ total (λ v. v.seats) l
 total_below k [] h = omega arith
 total_below k (x ∷ xs) h = let a = (h 0 x refl).once_past in let b = total_below k xs (λ j v e. h (suc j) v e) in omega arith
 
-each_set : (k : Batch) (l : List Hand) (i : ℕ) (w : Hand) → Each k l → Fits k w → Each k (set l i w)
+each_set : (k : Batch) (l : List DrawLedger) (i : ℕ) (w : DrawLedger) → Each k l → Fits k w → Each k (set l i w)
 each_set k l i w h mine j v e = ⊎_elim
-    (λ (t : (j ≡ i) × (w ≡ v)). subst (λ (x : Hand). Fits k x) t.1 mine)
+    (λ (t : (j ≡ i) × (w ≡ v)). subst (λ (x : DrawLedger). Fits k x) t.1 mine)
     (λ (t : (j ≢ i) × (get_elem? l j ≡ some v)). h j v t.1)
     (at_set l i j w v e)
 
-each_snoc : (k : Batch) (l : List Hand) (w : Hand) → Each k l → Fits k w → Each k (l ++ w ∷ [])
+each_snoc : (k : Batch) (l : List DrawLedger) (w : DrawLedger) → Each k l → Fits k w → Each k (l ++ w ∷ [])
 each_snoc k l w h mine j v e = ⊎_elim
     (λ (t : get_elem? l j ≡ some v). h j v t)
-    (λ (t : (j ≡ length l) × (w ≡ v)). subst (λ (x : Hand). Fits k x) t.1 mine)
+    (λ (t : (j ≡ length l) × (w ≡ v)). subst (λ (x : DrawLedger). Fits k x) t.1 mine)
     (at_end l w v j e)
 
 once_next : (x n : ℕ) → one_if (ltb x (n + 1)) ≡ one_if (ltb x n) + one_if (eqb x n)
@@ -67,19 +67,19 @@ next_bound : (n c d : ℕ) → n ≤ c + d → n + 1 ≤ c + (d + cond (ltb n c)
 next_bound n c d le = grind (arith, nat_tests)
 
 -- a seat that is not done has room: were it done, the seats that are done would still be no more than the seats
-slack : (k : Batch) (s : St) (h : Given k s) (id : ℕ) (v : Hand) → get_elem? s.views id ≡ some v → v.seats ≡ 1 → past k.chunks v.drawn ≡ 0 → total (λ x. past k.chunks x.drawn) s.views + 1 ≤ k.seats
+slack : (k : Batch) (s : St) (h : Given k s) (id : ℕ) (v : DrawLedger) → get_elem? s.views id ≡ some v → v.seats ≡ 1 → past k.chunks v.drawn ≡ 0 → total (λ x. past k.chunks x.drawn) s.views + 1 ≤ k.seats
 slack k s h id v at one going =
-    let w : Hand = hand v.chunks 1 (k.chunks ∷ []) in
+    let w : DrawLedger = hand v.chunks 1 (k.chunks ∷ []) in
     let p : past k.chunks w.drawn ≡ 1 = let u = is_past k.chunks in omega arith in
     let fits : Fits k w = record { same = λ _. (h.each id v at).same (omega arith); once_past = omega (arith, p); empty = λ e. absurd (omega arith) } in
-    let a = total_set (λ (x : Hand). past k.chunks x.drawn) s.views id v w at in
-    let b = total_set (λ (x : Hand). x.seats) s.views id v w at in
+    let a = total_set (λ (x : DrawLedger). past k.chunks x.drawn) s.views id v w at in
+    let b = total_set (λ (x : DrawLedger). x.seats) s.views id v w at in
     let c = total_below k (set s.views id w) (each_set k s.views id w h.each fits) in
     let q = h.seats in
     omega arith
 
 -- a draw
-pub may_draw : (k : Batch) (slots id : ℕ) (me : Me (Unit {0}) Hand) → me.0.seats ≡ 1 → past me.0.chunks me.0.drawn ≡ 0 → Allows (Given k) slots id me 0 (λ n. (n + 1) % 18446744073709551616) (Drew (step slots 0 1 0 none) me)
+pub may_draw : (k : Batch) (slots id : ℕ) (me : Me (Unit {0}) DrawLedger) → me.0.seats ≡ 1 → past me.0.chunks me.0.drawn ≡ 0 → Allows (Given k) slots id me 0 (λ n. (n + 1) % 18446744073709551616) (Drew (step slots 0 1 0 none) me)
 may_draw k slots id me one going s h _ at _ = subst Goal (sym found) (w, keeps, tt, given, (let b = h.bound in let c = h.small in omega (arith, room), refl))
   where
     n : ℕ
@@ -89,9 +89,9 @@ may_draw k slots id me one going s h _ at _ = subst Goal (sym found) (w, keeps, 
     found = ap (λ (l : List ℕ). get_or l 0 0) h.words
 
     Goal : ℕ → Type 0
-    Goal z = (x : Hand) × (a : Act (Unit {0})) × Valid s.homes me.1 a × Given k (stepped s 0 ((z + 1) % 18446744073709551616) id me.1 x a) × Drew (step slots 0 1 0 none) me z (x, carried_after me.1 a)
+    Goal z = (x : DrawLedger) × (a : Act (Unit {0})) × Valid s.homes me.1 a × Given k (stepped s 0 ((z + 1) % 18446744073709551616) id me.1 x a) × Drew (step slots 0 1 0 none) me z (x, carried_after me.1 a)
 
-    w : Hand
+    w : DrawLedger
     w = drawing me.0 n
 
     same : me.0.chunks ≡ k.chunks
@@ -113,14 +113,14 @@ may_draw k slots id me one going s h _ at _ = subst Goal (sym found) (w, keeps, 
     fits = record { same = λ _. same; once_past = let u = one_past n k.chunks in omega (arith, now_past, one); empty = λ e. absurd (omega (arith, one)) }
 
     pasts : total (λ x. past k.chunks x.drawn) (set s.views id w) ≡ total (λ x. past k.chunks x.drawn) s.views + cond (ltb n k.chunks) 0 1
-    pasts = let t = total_set (λ (x : Hand). past k.chunks x.drawn) s.views id me.0 w at in omega (arith, t, none_past, now_past)
+    pasts = let t = total_set (λ (x : DrawLedger). past k.chunks x.drawn) s.views id me.0 w at in omega (arith, t, none_past, now_past)
 
     given : Given k (stepped s 0 ((n + 1) % 18446744073709551616) id me.1 w keeps)
     given = record {
       counter = n + 1;
       words = ap (λ (l : List ℕ). set l 0 ((n + 1) % 18446744073709551616)) h.words ∙ ap (λ (z : ℕ). z ∷ []) next;
-      once = λ x. let t = total_set (λ (v : Hand). times x v.drawn) s.views id me.0 w at in let u = times_append x me.0.drawn (n ∷ []) in let o = once_next x n in let p = h.once x in omega arith;
-      seats = let t = total_set (λ (v : Hand). v.seats) s.views id me.0 w at in let p = h.seats in omega arith;
+      once = λ x. let t = total_set (λ (v : DrawLedger). times x v.drawn) s.views id me.0 w at in let u = times_append x me.0.drawn (n ∷ []) in let o = once_next x n in let p = h.once x in omega arith;
+      seats = let t = total_set (λ (v : DrawLedger). v.seats) s.views id me.0 w at in let p = h.seats in omega arith;
       bound = subst (λ (y : ℕ). n + 1 ≤ k.chunks + y) (sym pasts) (next_bound n k.chunks (total (λ x. past k.chunks x.drawn) s.views) h.bound);
       each = each_set k s.views id w h.each fits;
       small = h.small;
@@ -133,9 +133,9 @@ may_enter k slots i s h _ _ = (
   record {
     counter = h.counter;
     words = h.words;
-    once = λ x. let t = total_snoc (λ (v : Hand). times x v.drawn) s.views nobody in let p = h.once x in omega arith;
-    seats = let t = total_snoc (λ (v : Hand). v.seats) s.views nobody in let p = h.seats in omega arith;
-    bound = let t = total_snoc (λ (v : Hand). past k.chunks v.drawn) s.views nobody in let p = h.bound in omega arith;
+    once = λ x. let t = total_snoc (λ (v : DrawLedger). times x v.drawn) s.views nobody in let p = h.once x in omega arith;
+    seats = let t = total_snoc (λ (v : DrawLedger). v.seats) s.views nobody in let p = h.seats in omega arith;
+    bound = let t = total_snoc (λ (v : DrawLedger). past k.chunks v.drawn) s.views nobody in let p = h.bound in omega arith;
     each = each_snoc k s.views nobody h.each record { same = λ lt. absurd (omega arith); once_past = omega arith; empty = λ _. refl };
     small = h.small;
   },
@@ -143,30 +143,30 @@ may_enter k slots i s h _ _ = (
 )
 
 -- the first seat gives a seat away
-pub may_cut : (k : Batch) (id : ℕ) (v : Hand) → 0 < v.seats → v.drawn ≡ [] → Splits (Given k) id v (cut v) (one_seat v)
+pub may_cut : (k : Batch) (id : ℕ) (v : DrawLedger) → 0 < v.seats → v.drawn ≡ [] → Splits (Given k) id v (cut v) (one_seat v)
 may_cut k id v some_left clean s h at = record {
   counter = h.counter;
   words = h.words;
-  once = λ x. let t = total_set (λ (u : Hand). times x u.drawn) s.views id v (cut v) at in let u = total_snoc (λ (u : Hand). times x u.drawn) front (one_seat v) in let p = h.once x in omega arith;
-  seats = let t = total_set (λ (u : Hand). u.seats) s.views id v (cut v) at in let u = total_snoc (λ (u : Hand). u.seats) front (one_seat v) in let p = h.seats in omega (arith, t, u, p, some_left);
-  bound = let t = total_set (λ (u : Hand). past k.chunks u.drawn) s.views id v (cut v) at in let u = total_snoc (λ (u : Hand). past k.chunks u.drawn) front (one_seat v) in let p = h.bound in omega arith;
+  once = λ x. let t = total_set (λ (u : DrawLedger). times x u.drawn) s.views id v (cut v) at in let u = total_snoc (λ (u : DrawLedger). times x u.drawn) front (one_seat v) in let p = h.once x in omega arith;
+  seats = let t = total_set (λ (u : DrawLedger). u.seats) s.views id v (cut v) at in let u = total_snoc (λ (u : DrawLedger). u.seats) front (one_seat v) in let p = h.seats in omega (arith, t, u, p, some_left);
+  bound = let t = total_set (λ (u : DrawLedger). past k.chunks u.drawn) s.views id v (cut v) at in let u = total_snoc (λ (u : DrawLedger). past k.chunks u.drawn) front (one_seat v) in let p = h.bound in omega arith;
   each = each_snoc k front (one_seat v)
       (each_set k s.views id (cut v) h.each record { same = λ _. (h.each id v at).same some_left; once_past = let e : past k.chunks v.drawn ≡ 0 = ap (past k.chunks) clean in omega (arith, e); empty = λ _. clean })
       record { same = λ _. (h.each id v at).same some_left; once_past = omega arith; empty = λ _. refl };
   small = h.small;
 }
   where
-    front : List Hand
+    front : List DrawLedger
     front = set s.views id (cut v)
 
 -- one seat takes another in
-pub may_gather : (k : Batch) (id other : ℕ) (v w : Hand) → 0 < w.seats → Joins (Given k) id v other w (gathered v w) nobody
+pub may_gather : (k : Batch) (id other : ℕ) (v w : DrawLedger) → 0 < w.seats → Joins (Given k) id v other w (gathered v w) nobody
 may_gather k id other v w full s h at apart there = record {
   counter = h.counter;
   words = h.words;
-  once = λ x. let t = total_set (λ (u : Hand). times x u.drawn) s.views id v both at in let u = total_set (λ (u : Hand). times x u.drawn) mid other w nobody there in let a = times_append x v.drawn w.drawn in let p = h.once x in omega arith;
-  seats = let t = total_set (λ (u : Hand). u.seats) s.views id v both at in let u = total_set (λ (u : Hand). u.seats) mid other w nobody there in let p = h.seats in omega arith;
-  bound = let t = total_set (λ (u : Hand). past k.chunks u.drawn) s.views id v both at in let u = total_set (λ (u : Hand). past k.chunks u.drawn) mid other w nobody there in let a = past_append k.chunks v.drawn w.drawn in let p = h.bound in omega arith;
+  once = λ x. let t = total_set (λ (u : DrawLedger). times x u.drawn) s.views id v both at in let u = total_set (λ (u : DrawLedger). times x u.drawn) mid other w nobody there in let a = times_append x v.drawn w.drawn in let p = h.once x in omega arith;
+  seats = let t = total_set (λ (u : DrawLedger). u.seats) s.views id v both at in let u = total_set (λ (u : DrawLedger). u.seats) mid other w nobody there in let p = h.seats in omega arith;
+  bound = let t = total_set (λ (u : DrawLedger). past k.chunks u.drawn) s.views id v both at in let u = total_set (λ (u : DrawLedger). past k.chunks u.drawn) mid other w nobody there in let a = past_append k.chunks v.drawn w.drawn in let p = h.bound in omega arith;
   each = each_set k mid other nobody
       (each_set k s.views id both h.each record {
         same = λ _. theirs.same full;
@@ -177,17 +177,17 @@ may_gather k id other v w full s h at apart there = record {
   small = h.small;
 }
   where
-    both : Hand
+    both : DrawLedger
     both = gathered v w
 
-    mid : List Hand
+    mid : List DrawLedger
     mid = set s.views id both
 
     theirs : Fits k w
     theirs = h.each other w (sym (set_else s.views id other both apart) ∙ there)
 
 -- seats that stand for none have drawn nothing
-all_zero : (x : ℕ) (l : List Hand) → ((j : ℕ) (v : Hand) → get_elem? l j ≡ some v → v.seats ≡ 0 → v.drawn ≡ []) → total (λ v. v.seats) l ≡ 0 → total (λ v. times x v.drawn) l ≡ 0
+all_zero : (x : ℕ) (l : List DrawLedger) → ((j : ℕ) (v : DrawLedger) → get_elem? l j ≡ some v → v.seats ≡ 0 → v.drawn ≡ []) → total (λ v. v.seats) l ≡ 0 → total (λ v. times x v.drawn) l ≡ 0
 all_zero x [] h e = refl
 all_zero x (v ∷ vs) h e =
     let clean : times x v.drawn ≡ 0 = ap (times x) (h 0 v refl (omega (arith, e))) in
@@ -195,8 +195,8 @@ all_zero x (v ∷ vs) h e =
     omega (arith, clean, more)
 
 -- the last state of a counter, seen by a seat that stands for all: the others stand for none, so it has drawn all that was drawn
-pub all_seen : (k : Batch) (id : ℕ) (m : Hand) (ws : List ℕ) (xs : List (Unit {0})) (c : ℕ) → Final (Seen (Given k) id m) ws xs → m.seats ≡ k.seats → get_elem? ws 0 ≡ some c → IsEachBelowOnce c m.drawn
-all_seen k id m ws xs c f full at x = subst (λ (z : ℕ). times x m.drawn ≡ one_if (ltb x z)) stands (let a = none_else in let t = total_set (λ (v : Hand). times x v.drawn) s.views id m nobody seat in let p = h.once x in omega arith)
+pub all_seen : (k : Batch) (id : ℕ) (m : DrawLedger) (ws : List ℕ) (xs : List (Unit {0})) (c : ℕ) → Final (Seen (Given k) id m) ws xs → m.seats ≡ k.seats → get_elem? ws 0 ≡ some c → IsEachBelowOnce c m.drawn
+all_seen k id m ws xs c f full at x = subst (λ (z : ℕ). times x m.drawn ≡ one_if (ltb x z)) stands (let a = none_else in let t = total_set (λ (v : DrawLedger). times x v.drawn) s.views id m nobody seat in let p = h.once x in omega arith)
   where
     s : St
     s = f.0
@@ -210,13 +210,13 @@ all_seen k id m ws xs c f full at x = subst (λ (z : ℕ). times x m.drawn ≡ o
     stands : h.counter ≡ c
     stands = some-injective h.counter c (ap (λ (l : List ℕ). get_elem? l 0) (sym h.words ∙ f.2) ∙ at)
 
-    rest : List Hand
+    rest : List DrawLedger
     rest = set s.views id nobody
 
     none_else : total (λ v. times x v.drawn) rest ≡ 0
     none_else = all_zero x rest
         (λ j v e z. (each_set k s.views id nobody h.each record { same = λ lt. absurd (omega arith); once_past = omega arith; empty = λ _. refl } j v e).empty z)
-        (let t = total_set (λ (v : Hand). v.seats) s.views id m nobody seat in let q = h.seats in omega (arith, t, q, full))
+        (let t = total_set (λ (v : DrawLedger). v.seats) s.views id m nobody seat in let q = h.seats in omega (arith, t, q, full))
 
 -- the counter at the start
 pub may_begin : (c n : ℕ) → c < 4294967296 → n < 4294967296 → Given (batch c n) (opening (0 ∷ []) [] (whole (batch c n)))
@@ -231,11 +231,11 @@ may_begin c n low few = record {
 }
   where
     first : Each (batch c n) (whole (batch c n) ∷ [])
-    first zero v e = subst (λ (x : Hand). Fits (batch c n) x) (some-injective (whole (batch c n)) v e) record { same = λ _. refl; once_past = omega arith; empty = λ _. refl }
+    first zero v e = subst (λ (x : DrawLedger). Fits (batch c n) x) (some-injective (whole (batch c n)) v e) record { same = λ _. refl; once_past = omega arith; empty = λ _. refl }
     first (suc j) v e = absurd (some-ne-none v (sym e))
 
 -- one seat fewer to gather
-pub times_last : (x : ℕ) (l : List Hand) (v : Hand) → times x (all_drawn (l ++ v ∷ [])) ≡ times x (all_drawn l) + times x v.drawn
+pub times_last : (x : ℕ) (l : List DrawLedger) (v : DrawLedger) → times x (all_drawn (l ++ v ∷ [])) ≡ times x (all_drawn l) + times x v.drawn
 times_last x [] v = times_append x v.drawn [] ∙ (omega arith)
 times_last x (u ∷ us) v =
     let a = times_append x u.drawn (all_drawn (us ++ v ∷ [])) in
@@ -244,7 +244,7 @@ times_last x (u ∷ us) v =
     omega arith
 
 -- a seat that was not done, after one number more
-pub drawer_after : (z : TableId) (chunks n : ℕ) (ended : Bool) (s t : Seat (Unit {0}) Hand) → IsDrawer z chunks false s → t.table_id ≡ s.table_id → t.me ≡ (drawing s.me.0 n, s.me.1) → cond (ltb n chunks) 0 1 ≡ one_if ended → IsDrawer z chunks ended t
+pub drawer_after : (z : TableId) (chunks n : ℕ) (ended : Bool) (s t : Seat (Unit {0}) DrawLedger) → IsDrawer z chunks false s → t.table_id ≡ s.table_id → t.me ≡ (drawing s.me.0 n, s.me.1) → cond (ltb n chunks) 0 1 ≡ one_if ended → IsDrawer z chunks ended t
 drawer_after z chunks n ended s t i same me now = record {
   table = same ∙ i.table;
   empty = ap (λ m. m.1) me ∙ i.empty;
@@ -262,6 +262,6 @@ below n c lt = grind (arith, nat_tests)
 pub not_below : (n c : ℕ) → c ≤ n → ◌≡◌ {A = ℕ} (cond (ltb n c) 0 1) 1
 not_below n c le = grind (arith, nat_tests)
 
-pub no_seats : (l : List Hand) → length l ≡ 0 → l ≡ []
+pub no_seats : (l : List DrawLedger) → length l ≡ 0 → l ≡ []
 no_seats [] e = refl
 no_seats (v ∷ vs) e = absurd (omega arith)

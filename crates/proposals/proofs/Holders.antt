@@ -10,12 +10,12 @@ use Rattle.atomic_table.proofs.Lists.{at_map}
 use Rattle.pit_model.specs.declared.journal.Verdict.{Verdict}
 use Rattle.pit_model.specs.declared.journal.Verdict.TheVariants.{Applied, Stale, Spent}
 use Rattle.proposals.specs.declared.verdict.Reply.{Reply}
-use Rattle.proposals.specs.declared.knows.Desk.{Desk}
+use Rattle.proposals.specs.declared.knows.WorkerLedger.{WorkerLedger}
 use Rattle.proposals.specs.declared.knows.Served.{Served}
-use Rattle.proposals.specs.declared.knows.Rack.{Rack}
+use Rattle.proposals.specs.declared.knows.HolderLedger.{HolderLedger}
 use Rattle.proposals.specs.declared.knows.Knows.{Knows}
-use Rattle.proposals.specs.Ledger.{code, reply, arcs, Phase, idle, asks, claims, gave, took, Row, row, SmallAt, fresh, served_of, word_of, asked_at, collected_at, word_at, DeskFits, RackFits, Boarded, knows, nothing, rack, served, answered_to, claimed_from, claiming, answering, unclaiming, Claimed, Reads, Answered, Unclaimed, Meets, Agreed}
-use Rattle.proposals.proofs.Turns.{KeepsDesk, desk_kept, arcs_snoc, turn, word_is, still, racks_set, St}
+use Rattle.proposals.specs.Ledger.{code, reply, arcs, Phase, idle, asks, claims, gave, took, Row, row, SmallAt, fresh, served_of, word_of, asked_at, collected_at, word_at, WorkerFits, HolderFits, Boarded, knows, nothing, holder_ledger, served, answered_to, claimed_from, claiming, answering, unclaiming, Claimed, Reads, Answered, Unclaimed, Meets, Agreed}
+use Rattle.proposals.proofs.Turns.{KeepsWorkerLedger, worker_ledger_kept, arcs_snoc, turn, word_is, still, holder_ledgers_set, St}
 use Rattle.proposals.proofs.Workers.{low}
 
 abbrev Sat : Type 0
@@ -38,22 +38,22 @@ or_at (y ∷ ys) zero x a e = some-injective y a e
 or_at (y ∷ ys) (suc i) x a e = or_at ys i x a e
 
 -- what the holder knows of the worker i is what its row says
-pub row_of : (n : ℕ) (s : St) (h : Boarded n s) (id i : ℕ) (v : Knows) (q : Rack) (r : Row) → get_elem? s.views id ≡ some v → v.holder ≡ Some q → get_elem? h.rows i ≡ some r → get_or q.served i nothing ≡ served_of r
+pub row_of : (n : ℕ) (s : St) (h : Boarded n s) (id i : ℕ) (v : Knows) (q : HolderLedger) (r : Row) → get_elem? s.views id ≡ some v → v.holder ≡ Some q → get_elem? h.rows i ≡ some r → get_or q.served i nothing ≡ served_of r
 row_of n s h id i v q r seat is at = ap (λ (l : List Served). get_or l i nothing) (h.holders id v q seat is).serves ∙ or_at (map served_of h.rows) i nothing (served_of r) (at_map served_of h.rows i r at)
 
 -- a step of the holder, in a row that is not fresh
-serves : (n : ℕ) (s : St) (h : Boarded n s) (id i k : ℕ) (c : List (ℕ × Unit {0})) (v : Knows) (q : Rack) (x : Served) (r r' : Row) → get_elem? s.views id ≡ some v → v.holder ≡ Some q → get_elem? h.rows i ≡ some r
-    → k ≡ word_of r' → SmallAt r'.phase → r ≢ fresh → KeepsDesk r r' → served_of r' ≡ x
-    → Boarded n (stepped s i k id c (knows v.worker (Some (rack q.dealt (set q.served i x)))) keeps)
+serves : (n : ℕ) (s : St) (h : Boarded n s) (id i k : ℕ) (c : List (ℕ × Unit {0})) (v : Knows) (q : HolderLedger) (x : Served) (r r' : Row) → get_elem? s.views id ≡ some v → v.holder ≡ Some q → get_elem? h.rows i ≡ some r
+    → k ≡ word_of r' → SmallAt r'.phase → r ≢ fresh → KeepsWorkerLedger r r' → served_of r' ≡ x
+    → Boarded n (stepped s i k id c (knows v.worker (Some (holder_ledger q.dealt (set q.served i x)))) keeps)
 serves n s h id i k c v q x r r' seat is at word small old keep new =
     let f = h.holders id v q seat is in
     let in_use : i < h.dealt = ⊎_elim (λ (lt : i < h.dealt). lt) (λ (le : h.dealt ≤ i). absurd (old (h.new i r le at))) (below i h.dealt) in
-    turn n s h id i k c r r' (knows v.worker (Some (rack q.dealt (set q.served i x)))) at word small in_use (inl keep) (inr f.own)
+    turn n s h id i k c r r' (knows v.worker (Some (holder_ledger q.dealt (set q.served i x)))) at word small in_use (inl keep) (inr f.own)
     (λ d e. mine d e)
-    (λ y e. let same : rack q.dealt (set q.served i x) ≡ y = cc in subst (λ (z : Rack). RackFits (set h.rows i r') h.holder h.dealt id z) same record {
+    (λ y e. let same : holder_ledger q.dealt (set q.served i x) ≡ y = cc in subst (λ (z : HolderLedger). HolderFits (set h.rows i r') h.holder h.dealt id z) same record {
       own = f.own;
       count = f.count;
-      serves = ap (λ (l : List Served). set l i x) f.serves ∙ sym (racks_set h.rows i r r' at x new);
+      serves = ap (λ (l : List Served). set l i x) f.serves ∙ sym (holder_ledgers_set h.rows i r r' at x new);
     })
   where
     below : (a b : ℕ) → (a < b) ⊎ (b ≤ a)
@@ -61,8 +61,8 @@ serves n s h id i k c v q x r r' seat is at word small old keep new =
     below zero (suc b) = inl (omega arith)
     below (suc a) (suc b) = ⊎_elim (λ (x : a < b). inl (omega arith)) (λ (y : b ≤ a). inr (omega arith)) (below a b)
 
-    mine : (d : Desk) → v.worker ≡ Some d → DeskFits (set h.rows i r') h.owner h.dealt id d
-    mine d e = desk_kept h.rows i r r' at h.owner h.dealt id d keep (h.workers id v d seat e)
+    mine : (d : WorkerLedger) → v.worker ≡ Some d → WorkerFits (set h.rows i r') h.owner h.dealt id d
+    mine d e = worker_ledger_kept h.rows i r r' at h.owner h.dealt id d keep (h.workers id v d seat e)
 
 asks_not_fresh : (d : List Reply) (b : ℕ) → row d (asks b) ≢ fresh
 asks_not_fresh d b e = let f : asks b ≡ idle = ap (λ (r : Row). r.phase) e in cc
@@ -70,7 +70,7 @@ asks_not_fresh d b e = let f : asks b ≡ idle = ap (λ (r : Row). r.phase) e in
 claims_not_fresh : (d : List Reply) (b : ℕ) → row d (claims b) ≢ fresh
 claims_not_fresh d b e = let f : claims b ≡ idle = ap (λ (r : Row). r.phase) e in cc
 
-module _ (n slots id i : ℕ) (me : Sat) (q : Rack) (is : me.0.holder ≡ Some q) (inside : i < n) where
+module _ (n slots id i : ℕ) (me : Sat) (q : HolderLedger) (is : me.0.holder ≡ Some q) (inside : i < n) where
   row_there : (s : St) (h : Boarded n s) → (r : Row) × (get_elem? h.rows i ≡ some r)
   row_there s h = there h.rows i (omega (arith, h.wide))
     where
@@ -105,13 +105,13 @@ module _ (n slots id i : ℕ) (me : Sat) (q : Rack) (is : me.0.holder ≡ Some q
         let hit : get_or s.words i 0 ≡ 4294967296 + a = word_is n s h i (row done (asks b)) at ∙ ap (λ (x : ℕ). 4294967296 + x) same in
         let knew : get_or q.served i nothing ≡ served done None = row_of n s h id i me.0 q (row done (asks b)) seat is at in
         let x : Served = served (answered_to q.served i) (Some a) in (
-          knows me.0.worker (Some (rack q.dealt (set q.served i x))),
+          knows me.0.worker (Some (holder_ledger q.dealt (set q.served i x))),
           keeps,
           tt,
-          subst (λ y. Boarded n (stepped s i (either y (8589934592 + a) (get_or s.words i 0)) id me.1 (knows me.0.worker (Some (rack q.dealt (set q.served i x)))) keeps)) (sym (eq-eqb _ _ hit))
+          subst (λ y. Boarded n (stepped s i (either y (8589934592 + a) (get_or s.words i 0)) id me.1 (knows me.0.worker (Some (holder_ledger q.dealt (set q.served i x)))) keeps)) (sym (eq-eqb _ _ hit))
               (serves n s h id i (8589934592 + a) me.1 me.0 q x (row done (asks b)) (row done (claims a)) seat is at refl small (asks_not_fresh done b) (ap (λ (y : ℕ). arcs done ++ y ∷ []) (sym same), refl)
               (λ k. served (sym (ap (λ (z : Served). z.answered) knew) k) (Some a))),
-          λ y c e f. ((λ _. let g : a ≡ c = omega arith in let m : q ≡ y = cc in (ap (λ (z : Rack). claimed_from z.served i) (sym m) ∙ ap (λ (z : Served). z.claimed) knew, λ k. (knows me.0.worker (Some (rack (m k).dealt (claiming (m k).served i (g k)))), me.1))), (λ miss. absurd (miss hit))),
+          λ y c e f. ((λ _. let g : a ≡ c = omega arith in let m : q ≡ y = cc in (ap (λ (z : HolderLedger). claimed_from z.served i) (sym m) ∙ ap (λ (z : Served). z.claimed) knew, λ k. (knows me.0.worker (Some (holder_ledger (m k).dealt (claiming (m k).served i (g k)))), me.1))), (λ miss. absurd (miss hit))),
         ))
         (λ ne. claims_not s h (row done (asks b)) seat at (λ e. ne (omega arith)))
 
@@ -143,36 +143,36 @@ module _ (n slots id i : ℕ) (me : Sat) (q : Rack) (is : me.0.holder ≡ Some q
           keeps,
           tt,
           still n s h id i me.1 me.0 (row r.0 (claims a)) seat r.1,
-          (refl, λ y b e f. let g : q ≡ y = cc in let k : a ≡ b = let m : Some a ≡ Some b = sym has ∙ (ap (λ (z : Rack). claimed_from z.served i) g ∙ f) in cc in (w ∙ ap (λ (z : ℕ). 8589934592 + z) k, subst (λ (z : ℕ). z < 4294967296) k r.2)),
+          (refl, λ y b e f. let g : q ≡ y = cc in let k : a ≡ b = let m : Some a ≡ Some b = sym has ∙ (ap (λ (z : HolderLedger). claimed_from z.served i) g ∙ f) in cc in (w ∙ ap (λ (z : ℕ). 8589934592 + z) k, subst (λ (z : ℕ). z < 4294967296) k r.2)),
         )
 
     pub may_answer : (v : Verdict) → Allows (Boarded n) slots id me i (λ _. code v) (λ _. Answered (step slots i (code v) 0 none) me (code v))
     may_answer v s h _ seat _ =
         let r = row_claimed s h seat in
         let x : Served = served (answered_to q.served i ++ reply a v ∷ []) None in (
-          knows me.0.worker (Some (rack q.dealt (set q.served i x))),
+          knows me.0.worker (Some (holder_ledger q.dealt (set q.served i x))),
           keeps,
           tt,
           serves n s h id i (code v) me.1 me.0 q x (row r.0 (claims a)) (row r.0 (gave (reply a v))) seat is r.1 refl tt (claims_not_fresh r.0 a) (arcs_snoc r.0 (reply a v), refl)
               (λ k. served (sym r.3 k ++ reply a v ∷ []) None),
-          λ y b u e f c. let g : q ≡ y = cc in let k : a ≡ b = let m : Some a ≡ Some b = sym has ∙ (ap (λ (z : Rack). claimed_from z.served i) g ∙ f) in cc in
+          λ y b u e f c. let g : q ≡ y = cc in let k : a ≡ b = let m : Some a ≡ Some b = sym has ∙ (ap (λ (z : HolderLedger). claimed_from z.served i) g ∙ f) in cc in
               let same : v ≡ u = same_code v u c in
-              λ j. (knows me.0.worker (Some (rack (g j).dealt (answering (g j).served i (reply (k j) (same j))))), me.1),
+              λ j. (knows me.0.worker (Some (holder_ledger (g j).dealt (answering (g j).served i (reply (k j) (same j))))), me.1),
         )
 
     pub may_unclaim : Allows (Boarded n) slots id me i (λ _. 4294967296 + a) (λ _. Unclaimed (step slots i (4294967296 + a) 0 none) me (4294967296 + a))
     may_unclaim s h _ seat _ =
         let r = row_claimed s h seat in
         let x : Served = served (answered_to q.served i) None in (
-          knows me.0.worker (Some (rack q.dealt (set q.served i x))),
+          knows me.0.worker (Some (holder_ledger q.dealt (set q.served i x))),
           keeps,
           tt,
           serves n s h id i (4294967296 + a) me.1 me.0 q x (row r.0 (claims a)) (row r.0 (asks a)) seat is r.1 refl r.2 (claims_not_fresh r.0 a) (refl, refl) (λ k. served (sym r.3 k) None),
-          λ y e. let g : q ≡ y = cc in λ j. (knows me.0.worker (Some (rack (g j).dealt (unclaiming (g j).served i))), me.1),
+          λ y e. let g : q ≡ y = cc in λ j. (knows me.0.worker (Some (holder_ledger (g j).dealt (unclaiming (g j).served i))), me.1),
         )
 
 -- the two seats as one: what the ledger says of both
-pub may_agree : (n slots id : ℕ) (me : Sat) (d : Desk) (q : Rack) → me.0.worker ≡ Some d → me.0.holder ≡ Some q → Allows (Boarded n) slots id me d.cell (λ x. x) (Agreed (step slots d.cell 0 0 none) me)
+pub may_agree : (n slots id : ℕ) (me : Sat) (d : WorkerLedger) (q : HolderLedger) → me.0.worker ≡ Some d → me.0.holder ≡ Some q → Allows (Boarded n) slots id me d.cell (λ x. x) (Agreed (step slots d.cell 0 0 none) me)
 may_agree n slots id me d q is has s h _ seat _ =
     let f = h.workers id me.0 d seat is in
     let knew = row_of n s h id d.cell me.0 q f.at seat has f.is in (
@@ -183,11 +183,11 @@ may_agree n slots id me d q is has s h _ seat _ =
       (
         refl,
         λ x y e g. let same : d ≡ x = cc in let same' : q ≡ y = cc in
-            subst (λ (z : Desk × Rack). Meets z.0 (get_or z.1.served z.0.cell nothing)) (λ k. (same k, same' k)) (subst (λ (z : Served). Meets d z) (sym knew) (meets d f.at.done f.at.phase f.asks f.takes)),
+            subst (λ (z : WorkerLedger × HolderLedger). Meets z.0 (get_or z.1.served z.0.cell nothing)) (λ k. (same k, same' k)) (subst (λ (z : Served). Meets d z) (sym knew) (meets d f.at.done f.at.phase f.asks f.takes)),
       ),
     )
   where
-    meets : (d : Desk) (done : List Reply) (p : Phase) → d.asked ≡ asked_at done p → d.collected ≡ collected_at done p → Meets d (served_of (row done p))
+    meets : (d : WorkerLedger) (done : List Reply) (p : Phase) → d.asked ≡ asked_at done p → d.collected ≡ collected_at done p → Meets d (served_of (row done p))
     meets d done idle a b = inl (a, inl b)
     meets d done (asks x) a b = inr (x, a, b)
     meets d done (claims x) a b = inr (x, a, b)

@@ -9,11 +9,11 @@ use lib.Seq.{map-set}
 use Rattle.atomic_table.specs.Table.{State, keeps, stepped}
 use Rattle.atomic_table.proofs.Lists.{at_set, set_here, set_else, set_again, at_map}
 use Rattle.proposals.specs.declared.verdict.Reply.{Reply}
-use Rattle.proposals.specs.declared.knows.Desk.{Desk}
+use Rattle.proposals.specs.declared.knows.WorkerLedger.{WorkerLedger}
 use Rattle.proposals.specs.declared.knows.Served.{Served}
-use Rattle.proposals.specs.declared.knows.Rack.{Rack}
+use Rattle.proposals.specs.declared.knows.HolderLedger.{HolderLedger}
 use Rattle.proposals.specs.declared.knows.Knows.{Knows}
-use Rattle.proposals.specs.Ledger.{arcs, Row, SmallAt, word_of, asked, collected, served_of, DeskFits, RackFits, Boarded, knows}
+use Rattle.proposals.specs.Ledger.{arcs, Row, SmallAt, word_of, asked, collected, served_of, WorkerFits, HolderFits, Boarded, knows}
 
 pub index_at : (l : List ℕ) (i a : ℕ) → get_elem? l i ≡ some a → get_or l i 0 ≡ a
 index_at [] i a e = absurd (some-ne-none a (sym e))
@@ -35,12 +35,12 @@ longer l a e = omega (arith, length-append l (a ∷ []), ap length e)
 pub arcs_snoc : (l : List Reply) (r : Reply) → arcs (l ++ r ∷ []) ≡ arcs l ++ r.arc ∷ []
 arcs_snoc l r = map-append (λ (x : Reply). x.arc) l (r ∷ [])
 
-abbrev pub KeepsDesk : Row → Row → Type 0
-KeepsDesk r r' = (asked r' ≡ asked r) × (collected r' ≡ collected r)
+abbrev pub KeepsWorkerLedger : Row → Row → Type 0
+KeepsWorkerLedger r r' = (asked r' ≡ asked r) × (collected r' ≡ collected r)
 
 module _ (rows : List Row) (i : ℕ) (r r' : Row) (at : get_elem? rows i ≡ some r) where
-  pub desk_kept : (owner : ℕ → ℕ) (most j : ℕ) (d : Desk) → KeepsDesk r r' → DeskFits rows owner most j d → DeskFits (set rows i r') owner most j d
-  desk_kept owner most j d k f = dite (ℕ_discrete d.cell i)
+  pub worker_ledger_kept : (owner : ℕ → ℕ) (most j : ℕ) (d : WorkerLedger) → KeepsWorkerLedger r r' → WorkerFits rows owner most j d → WorkerFits (set rows i r') owner most j d
+  worker_ledger_kept owner most j d k f = dite (ℕ_discrete d.cell i)
       (λ e. let same : f.at ≡ r = some-injective f.at r (sym f.is ∙ (ap (get_elem? rows) e ∙ at)) in record {
         own = f.own;
         within = f.within;
@@ -51,23 +51,23 @@ module _ (rows : List Row) (i : ℕ) (r r' : Row) (at : get_elem? rows i ≡ som
       })
       (λ ne. record { own = f.own; within = f.within; at = f.at; is = set_else rows i d.cell r' ne ∙ f.is; asks = f.asks; takes = f.takes })
 
-  pub desk_else : (owner : ℕ → ℕ) (most id j : ℕ) (d : Desk) → KeepsDesk r r' ⊎ (owner i ≡ id) → j ≢ id → DeskFits rows owner most j d → DeskFits (set rows i r') owner most j d
-  desk_else owner most id j d keep apart f = ⊎_elim
-      (λ (k : KeepsDesk r r'). desk_kept owner most j d k f)
+  pub worker_ledger_else : (owner : ℕ → ℕ) (most id j : ℕ) (d : WorkerLedger) → KeepsWorkerLedger r r' ⊎ (owner i ≡ id) → j ≢ id → WorkerFits rows owner most j d → WorkerFits (set rows i r') owner most j d
+  worker_ledger_else owner most id j d keep apart f = ⊎_elim
+      (λ (k : KeepsWorkerLedger r r'). worker_ledger_kept owner most j d k f)
       (λ (o : owner i ≡ id). dite (ℕ_discrete d.cell i) (λ e. absurd (apart (sym f.own ∙ (ap owner e ∙ o))))
       (λ ne. record { own = f.own; within = f.within; at = f.at; is = set_else rows i d.cell r' ne ∙ f.is; asks = f.asks; takes = f.takes }))
       keep
 
-  pub racks_set : (w : Served) → served_of r' ≡ w → map served_of (set rows i r') ≡ set (map served_of rows) i w
-  racks_set w e = map-set served_of rows i r' ∙ ap (set (map served_of rows) i) e
+  pub holder_ledgers_set : (w : Served) → served_of r' ≡ w → map served_of (set rows i r') ≡ set (map served_of rows) i w
+  holder_ledgers_set w e = map-set served_of rows i r' ∙ ap (set (map served_of rows) i) e
 
-  pub racks_same : served_of r' ≡ served_of r → map served_of (set rows i r') ≡ map served_of rows
-  racks_same e = racks_set (served_of r) e ∙ set_again (map served_of rows) i (served_of r) (at_map served_of rows i r at)
+  pub holder_ledgers_same : served_of r' ≡ served_of r → map served_of (set rows i r') ≡ map served_of rows
+  holder_ledgers_same e = holder_ledgers_set (served_of r) e ∙ set_again (map served_of rows) i (served_of r) (at_map served_of rows i r at)
 
-  pub rack_else : (holder most id j : ℕ) (q : Rack) → (served_of r' ≡ served_of r) ⊎ (holder ≡ id) → j ≢ id → RackFits rows holder most j q → RackFits (set rows i r') holder most j q
-  rack_else holder most id j q keep apart f =
+  pub holder_ledger_else : (holder most id j : ℕ) (q : HolderLedger) → (served_of r' ≡ served_of r) ⊎ (holder ≡ id) → j ≢ id → HolderFits rows holder most j q → HolderFits (set rows i r') holder most j q
+  holder_ledger_else holder most id j q keep apart f =
       ⊎_elim
-      (λ (e : served_of r' ≡ served_of r). record { own = f.own; count = f.count; serves = f.serves ∙ sym (racks_same e) })
+      (λ (e : served_of r' ≡ served_of r). record { own = f.own; count = f.count; serves = f.serves ∙ sym (holder_ledgers_same e) })
       (λ (o : holder ≡ id). absurd (apart (sym f.own ∙ o)))
       keep
 
@@ -76,11 +76,11 @@ St = State (Unit {0}) Knows
 
 -- a step of the seat id on the word i, whose row goes from r to r'
 pub turn : (n : ℕ) (s : St) (h : Boarded n s) (id i k : ℕ) (c : List (ℕ × Unit {0})) (r r' : Row) (w : Knows) → get_elem? h.rows i ≡ some r → k ≡ word_of r' → SmallAt r'.phase → i < h.dealt
-    → KeepsDesk r r' ⊎ (h.owner i ≡ id) → (served_of r' ≡ served_of r) ⊎ (h.holder ≡ id)
-    → ((d : Desk) → w.worker ≡ Some d → DeskFits (set h.rows i r') h.owner h.dealt id d)
-    → ((q : Rack) → w.holder ≡ Some q → RackFits (set h.rows i r') h.holder h.dealt id q)
+    → KeepsWorkerLedger r r' ⊎ (h.owner i ≡ id) → (served_of r' ≡ served_of r) ⊎ (h.holder ≡ id)
+    → ((d : WorkerLedger) → w.worker ≡ Some d → WorkerFits (set h.rows i r') h.owner h.dealt id d)
+    → ((q : HolderLedger) → w.holder ≡ Some q → HolderFits (set h.rows i r') h.holder h.dealt id q)
     → Boarded n (stepped s i k id c w keeps)
-turn n s h id i k c r r' w at word small old desks racks mine holds = record {
+turn n s h id i k c r r' w at word small old worker_ledgers holder_ledgers mine holds = record {
   rows = set h.rows i r';
   owner = h.owner;
   holder = h.holder;
@@ -90,12 +90,12 @@ turn n s h id i k c r r' w at word small old desks racks mine holds = record {
   small = λ j x e. ⊎_elim (λ (t : (j ≡ i) × (r' ≡ x)). subst (λ (y : Row). SmallAt y.phase) t.1 small) (λ (t : (j ≢ i) × (get_elem? h.rows j ≡ some x)). h.small j x t.1) (at_set h.rows i j r' x e);
   new = λ j x le e. ⊎_elim (λ (t : (j ≡ i) × (r' ≡ x)). absurd (let f = t.0 in omega arith)) (λ (t : (j ≢ i) × (get_elem? h.rows j ≡ some x)). h.new j x le t.1) (at_set h.rows i j r' x e);
   workers = λ j v d e is. ⊎_elim
-      (λ (t : (j ≡ id) × (w ≡ v)). subst (λ (z : ℕ). DeskFits (set h.rows i r') h.owner h.dealt z d) (sym t.0) (mine d (ap (λ (x : Knows). x.worker) t.1 ∙ is)))
-      (λ (t : (j ≢ id) × (get_elem? s.views j ≡ some v)). desk_else h.rows i r r' at h.owner h.dealt id j d desks t.0 (h.workers j v d t.1 is))
+      (λ (t : (j ≡ id) × (w ≡ v)). subst (λ (z : ℕ). WorkerFits (set h.rows i r') h.owner h.dealt z d) (sym t.0) (mine d (ap (λ (x : Knows). x.worker) t.1 ∙ is)))
+      (λ (t : (j ≢ id) × (get_elem? s.views j ≡ some v)). worker_ledger_else h.rows i r r' at h.owner h.dealt id j d worker_ledgers t.0 (h.workers j v d t.1 is))
       (at_set s.views id j w v e);
   holders = λ j v q e is. ⊎_elim
-      (λ (t : (j ≡ id) × (w ≡ v)). subst (λ (z : ℕ). RackFits (set h.rows i r') h.holder h.dealt z q) (sym t.0) (holds q (ap (λ (x : Knows). x.holder) t.1 ∙ is)))
-      (λ (t : (j ≢ id) × (get_elem? s.views j ≡ some v)). rack_else h.rows i r r' at h.holder h.dealt id j q racks t.0 (h.holders j v q t.1 is))
+      (λ (t : (j ≡ id) × (w ≡ v)). subst (λ (z : ℕ). HolderFits (set h.rows i r') h.holder h.dealt z q) (sym t.0) (holds q (ap (λ (x : Knows). x.holder) t.1 ∙ is)))
+      (λ (t : (j ≢ id) × (get_elem? s.views j ≡ some v)). holder_ledger_else h.rows i r r' at h.holder h.dealt id j q holder_ledgers t.0 (h.holders j v q t.1 is))
       (at_set s.views id j w v e);
 }
 
@@ -104,13 +104,13 @@ pub word_is : (n : ℕ) (s : St) (h : Boarded n s) (i : ℕ) (r : Row) → get_e
 word_is n s h i r at = ap (λ (l : List ℕ). get_or l i 0) h.words ∙ index_at (map word_of h.rows) i (word_of r) (at_map word_of h.rows i r at)
 
 -- a step of a worker
-pub works : (n : ℕ) (s : St) (h : Boarded n s) (id k : ℕ) (c : List (ℕ × Unit {0})) (v : Knows) (d d' : Desk) (r r' : Row) → get_elem? s.views id ≡ some v → v.worker ≡ Some d → get_elem? h.rows d.cell ≡ some r
+pub works : (n : ℕ) (s : St) (h : Boarded n s) (id k : ℕ) (c : List (ℕ × Unit {0})) (v : Knows) (d d' : WorkerLedger) (r r' : Row) → get_elem? s.views id ≡ some v → v.worker ≡ Some d → get_elem? h.rows d.cell ≡ some r
     → k ≡ word_of r' → SmallAt r'.phase → served_of r' ≡ served_of r → d'.cell ≡ d.cell → d'.asked ≡ asked r' → d'.collected ≡ collected r'
     → Boarded n (stepped s d.cell k id c (knows (Some d') v.holder) keeps)
 works n s h id k c v d d' r r' seat is at word small served cell asked' collected' =
     let f = h.workers id v d seat is in
     turn n s h id d.cell k c r r' (knows (Some d') v.holder) at word small f.within (inr f.own) (inl served)
-    (λ x e. let same : d' ≡ x = cc in subst (λ (y : Desk). DeskFits (set h.rows d.cell r') h.owner h.dealt id y) same record {
+    (λ x e. let same : d' ≡ x = cc in subst (λ (y : WorkerLedger). WorkerFits (set h.rows d.cell r') h.owner h.dealt id y) same record {
       own = ap h.owner cell ∙ f.own;
       within = subst (λ (y : ℕ). y < h.dealt) (sym cell) f.within;
       at = r';
@@ -118,7 +118,7 @@ works n s h id k c v d d' r r' seat is at word small served cell asked' collecte
       asks = asked';
       takes = collected';
     })
-    (λ q e. let g = h.holders id v q seat e in record { own = g.own; count = g.count; serves = g.serves ∙ sym (racks_same h.rows d.cell r r' at served) })
+    (λ q e. let g = h.holders id v q seat e in record { own = g.own; count = g.count; serves = g.serves ∙ sym (holder_ledgers_same h.rows d.cell r r' at served) })
 
 -- a step that changes nothing
 pub still : (n : ℕ) (s : St) (h : Boarded n s) (id i : ℕ) (c : List (ℕ × Unit {0})) (v : Knows) (r : Row) → get_elem? s.views id ≡ some v → get_elem? h.rows i ≡ some r → Boarded n (stepped s i (get_or s.words i 0) id c v keeps)

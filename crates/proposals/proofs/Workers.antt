@@ -7,7 +7,7 @@ use Rattle.atomic_table.specs.Table.{Me, Act, Valid, step, keeps, stepped, Allow
 use Rattle.pit_model.specs.declared.journal.Verdict.{Verdict}
 use Rattle.pit_model.specs.declared.journal.Verdict.TheVariants.{Applied, Stale, Spent}
 use Rattle.proposals.specs.declared.verdict.Reply.{Reply}
-use Rattle.proposals.specs.declared.knows.Desk.{Desk}
+use Rattle.proposals.specs.declared.knows.WorkerLedger.{WorkerLedger}
 use Rattle.proposals.specs.declared.knows.Knows.{Knows}
 use Rattle.proposals.specs.Ledger.{code, reply, arcs, Phase, idle, asks, claims, gave, took, Row, row, asked_at, collected_at, word_at, Boarded, knows, IsIdle, IsOpen, asking, withdrawn, collecting, Asked, Withdrew, Collected}
 use Rattle.proposals.proofs.Turns.{snoc_last, longer, arcs_snoc, word_is, works, still, St}
@@ -25,11 +25,11 @@ low Stale = omega arith
 low Spent = omega arith
 
 -- `ask`, where no ask is open
-module _ (n slots id a : ℕ) (me : Sat) (d : Desk) (is : me.0.worker ≡ Some d) (small : a < 4294967296) (free : IsIdle d) where
+module _ (n slots id a : ℕ) (me : Sat) (d : WorkerLedger) (is : me.0.worker ≡ Some d) (small : a < 4294967296) (free : IsIdle d) where
   abbrev Asks : St → Type 0
   Asks s = (w : Knows) × (x : Act (Unit {0})) × Valid s.homes me.1 x × Boarded n (stepped s d.cell (4294967296 + a) id me.1 w x) × Asked (step slots d.cell (4294967296 + a) 0 none) me (4294967296 + a) (w, carried_after me.1 x)
 
-  tells : (x : Desk) (b : ℕ) → me.0.worker ≡ Some x → 4294967296 + a ≡ 4294967296 + b → ◌≡◌ {A = Sat} (knows (Some (asking d a)) me.0.holder, me.1) (knows (Some (asking x b)) me.0.holder, me.1)
+  tells : (x : WorkerLedger) (b : ℕ) → me.0.worker ≡ Some x → 4294967296 + a ≡ 4294967296 + b → ◌≡◌ {A = Sat} (knows (Some (asking d a)) me.0.holder, me.1) (knows (Some (asking x b)) me.0.holder, me.1)
   tells x b e f = let g : d ≡ x = cc in let h : a ≡ b = omega arith in λ k. (knows (Some (asking (g k) (h k))) me.0.holder, me.1)
 
   asks_at : (s : St) (h : Boarded n s) (done : List Reply) (p : Phase) → get_elem? s.views id ≡ some me.0 → get_elem? h.rows d.cell ≡ some (row done p) → d.asked ≡ asked_at done p → d.collected ≡ collected_at done p → Asks s
@@ -55,7 +55,7 @@ module _ (n slots id a : ℕ) (me : Sat) (d : Desk) (is : me.0.worker ≡ Some d
   may_ask s h _ seat _ = let f = h.workers id me.0 d seat is in asks_at s h f.at.done f.at.phase seat f.is f.asks f.takes
 
 -- `collect` and `withdraw`, where the ask for a is open
-module _ (n slots id a : ℕ) (me : Sat) (d : Desk) (is : me.0.worker ≡ Some d) (open_is : IsOpen d a) where
+module _ (n slots id a : ℕ) (me : Sat) (d : WorkerLedger) (is : me.0.worker ≡ Some d) (open_is : IsOpen d a) where
   abbrev Collects : St → Type 0
   Collects s = (w : Knows) × (x : Act (Unit {0})) × Valid s.homes me.1 x × Boarded n (stepped s d.cell (get_or s.words d.cell 0) id me.1 w x) × Collected (step slots d.cell 0 0 none) me (get_or s.words d.cell 0) (w, carried_after me.1 x)
 
@@ -75,7 +75,7 @@ module _ (n slots id a : ℕ) (me : Sat) (d : Desk) (is : me.0.worker ≡ Some d
         tt,
         works n s h id (get_or s.words d.cell 0) me.1 me.0 d (collecting d r) (row done (gave r)) (row done (took r)) seat is at w tt refl refl q (ap (λ l. l ++ r ∷ []) k),
         λ x b e o. let g : d ≡ x = cc in
-            let arc : r.arc ≡ b = snoc_last (arcs done) r.arc b (sym (arcs_snoc done r) ∙ (sym q ∙ (ap (λ (y : Desk). y.asked) g ∙ (o ∙ ap (λ l. arcs l ++ b ∷ []) (ap (λ (y : Desk). y.collected) (sym g) ∙ k))))) in
+            let arc : r.arc ≡ b = snoc_last (arcs done) r.arc b (sym (arcs_snoc done r) ∙ (sym q ∙ (ap (λ (y : WorkerLedger). y.asked) g ∙ (o ∙ ap (λ l. arcs l ++ b ∷ []) (ap (λ (y : WorkerLedger). y.collected) (sym g) ∙ k))))) in
             ((λ lt. (r.verdict, w, λ i. (knows (Some (collecting (g i) (reply (arc i) r.verdict))) me.0.holder, me.1))), (λ le. absurd (let l = low r.verdict in omega (arith, w)))),
       )
 

@@ -3,8 +3,8 @@ use Rattle.std.specs.Prelude.{◌≡◌, ℕ, ◌+◌, ◌-◌, ◌<◌, ◌≤�
 use mathlib.Core.Option.{some}
 use lib.ListN.{get_elem?}
 use Rattle.atomic_table.specs.Table.{State, Me, Step}
-use Rattle.proposals.specs.declared.hand.Hand.{Hand}
-use Rattle.proposals.specs.declared.hand.Batch.{Batch}
+use Rattle.proposals.specs.declared.draw_ledger.DrawLedger.{DrawLedger}
+use Rattle.proposals.specs.declared.draw_ledger.Batch.{Batch}
 
 abbrev pub one_if : Bool → ℕ
 one_if b = cond b 1 0
@@ -20,53 +20,53 @@ past chunks [] = 0
 past chunks (y ∷ ys) = cond (ltb y chunks) 0 1 + past chunks ys
 
 -- f of each seat, added up
-abbrev pub total : (Hand → ℕ) → List Hand → ℕ
+abbrev pub total : (DrawLedger → ℕ) → List DrawLedger → ℕ
 total f [] = 0
 total f (v ∷ vs) = f v + total f vs
 
-abbrev pub hand : ℕ → ℕ → List ℕ → Hand
+abbrev pub hand : ℕ → ℕ → List ℕ → DrawLedger
 hand c n d = record { chunks = c; seats = n; drawn = d }
 
 -- a seat that stands for none has drawn nothing, and each seat was past the chunks once at most
-pub record Fits (k : Batch) (v : Hand) : Type 0 where
+pub record Fits (k : Batch) (v : DrawLedger) : Type 0 where
   pub same : 0 < v.seats → v.chunks ≡ k.chunks
   pub once_past : past k.chunks v.drawn ≤ v.seats
   pub empty : v.seats ≡ 0 → v.drawn ≡ []
 
 -- The rule: the numbers below the counter stand each once over all seats, and no other number stands there
-pub record Given (k : Batch) (s : State (Unit {0}) Hand) : Type 0 where
+pub record Given (k : Batch) (s : State (Unit {0}) DrawLedger) : Type 0 where
   pub counter : ℕ
   pub words : s.words ≡ counter ∷ []
   pub once : (x : ℕ) → total (λ v. times x v.drawn) s.views ≡ one_if (ltb x counter)
   pub seats : total (λ v. v.seats) s.views ≡ k.seats
   pub bound : counter ≤ k.chunks + total (λ v. past k.chunks v.drawn) s.views
-  pub each : (j : ℕ) (v : Hand) → get_elem? s.views j ≡ some v → Fits k v
+  pub each : (j : ℕ) (v : DrawLedger) → get_elem? s.views j ≡ some v → Fits k v
   pub small : k.chunks + k.seats < 18446744073709551616
 
 abbrev pub batch : ℕ → ℕ → Batch
 batch c n = record { chunks = c; seats = n }
 
-abbrev pub whole : Batch → Hand
+abbrev pub whole : Batch → DrawLedger
 whole k = hand k.chunks k.seats []
 
 -- the seat has drawn one number more
-abbrev pub drawing : Hand → ℕ → Hand
+abbrev pub drawing : DrawLedger → ℕ → DrawLedger
 drawing v n = hand v.chunks v.seats (v.drawn ++ n ∷ [])
 
 -- the seat has drawn a number that is not below the number of chunks
-abbrev pub IsDone : Hand → Type 0
+abbrev pub IsDone : DrawLedger → Type 0
 IsDone v = 0 < past v.chunks v.drawn
 
 -- the seat was done before, or its next number makes it done
-abbrev pub GetsNone : Hand → Hand → Type 0
+abbrev pub GetsNone : DrawLedger → DrawLedger → Type 0
 GetsNone v w = (IsDone v × (w ≡ v)) ⊎ ((n : ℕ) × (v.chunks ≤ n) × (w ≡ drawing v n))
 
 -- the seat's next number is k, which is below the number of chunks
-abbrev pub Gets : ℕ → Hand → Hand → Type 0
+abbrev pub Gets : ℕ → DrawLedger → DrawLedger → Type 0
 Gets k v w = (k < v.chunks) × (past v.chunks v.drawn ≡ 0) × (w ≡ drawing v k)
 
 -- all that these seats have drawn
-abbrev pub all_drawn : List Hand → List ℕ
+abbrev pub all_drawn : List DrawLedger → List ℕ
 all_drawn [] = []
 all_drawn (v ∷ vs) = v.drawn ++ all_drawn vs
 
@@ -75,29 +75,29 @@ abbrev pub IsEachBelowOnce : ℕ → List ℕ → Type 0
 IsEachBelowOnce n l = (x : ℕ) → times x l ≡ cond (ltb x n) 1 0
 
 -- so many seats that have drawn nothing
-abbrev pub new_seats : ℕ → ℕ → List Hand
+abbrev pub new_seats : ℕ → ℕ → List DrawLedger
 new_seats chunks n = replicate n (hand chunks 1 [])
 
 abbrev Sat : Type 0
-Sat = Me (Unit {0}) Hand
+Sat = Me (Unit {0}) DrawLedger
 
 -- What each kind of step tells.
 abbrev pub Drew : Step (Unit {0}) → Sat → ℕ → Sat → Type 0
 Drew st m n m' = (n < 18446744073709551616) × (m' ≡ (drawing m.0 n, m.1))
 
-abbrev pub nobody : Hand
+abbrev pub nobody : DrawLedger
 nobody = hand 0 0 []
 
 abbrev pub sat : Step (Unit {0}) → Sat → ℕ → Sat → Type 0
 sat st m n m' = m'.0 ≡ nobody
 
 -- the first seat gives a seat away, before anything was drawn
-abbrev pub cut : Hand → Hand
+abbrev pub cut : DrawLedger → DrawLedger
 cut v = hand v.chunks (v.seats - 1) v.drawn
 
-abbrev pub one_seat : Hand → Hand
+abbrev pub one_seat : DrawLedger → DrawLedger
 one_seat v = hand v.chunks 1 []
 
 -- two seats as one
-abbrev pub gathered : Hand → Hand → Hand
+abbrev pub gathered : DrawLedger → DrawLedger → DrawLedger
 gathered v w = hand w.chunks (v.seats + w.seats) (v.drawn ++ w.drawn)

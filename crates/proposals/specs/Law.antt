@@ -5,8 +5,8 @@ use lib.ListN.{get_elem?}
 use Rattle.atomic_table.specs.Table.{State}
 use Rattle.pit_model.specs.declared.journal.Verdict.{Verdict}
 use Rattle.proposals.specs.declared.verdict.Reply.{Reply}
-use Rattle.proposals.specs.declared.knows.Desk.{Desk}
-use Rattle.proposals.specs.declared.knows.Rack.{Rack}
+use Rattle.proposals.specs.declared.knows.WorkerLedger.{WorkerLedger}
+use Rattle.proposals.specs.declared.knows.HolderLedger.{HolderLedger}
 use Rattle.proposals.specs.declared.knows.Knows.{Knows}
 use Rattle.proposals.specs.Ledger.{code, arcs, answered_to, claimed_from}
 
@@ -31,5 +31,5 @@ Stands word q r k c = IdleRow word q r k c ⊎ (AnsweredRow word q r k c ⊎ (As
 
 -- what a worker's seat and the holder's seat know stands to the worker's word as the table says
 abbrev pub LedgerStands : State (Unit {0}) Knows → Type 0
-LedgerStands s = (j h : ℕ) (v u : Knows) (d : Desk) (b : Rack) → get_elem? s.views j ≡ some v → v.worker ≡ Some d → get_elem? s.views h ≡ some u → u.holder ≡ Some b
+LedgerStands s = (j h : ℕ) (v u : Knows) (d : WorkerLedger) (b : HolderLedger) → get_elem? s.views j ≡ some v → v.worker ≡ Some d → get_elem? s.views h ≡ some u → u.holder ≡ Some b
     → Stands (get_or s.words d.cell 0) d.asked (answered_to b.served d.cell) d.collected (claimed_from b.served d.cell)

@@ -6,9 +6,9 @@ use Rattle.atomic_table.specs.Table.{State, Me, Step}
 use Rattle.pit_model.specs.declared.journal.Verdict.{Verdict}
 use Rattle.pit_model.specs.declared.journal.Verdict.TheVariants.{Applied, Stale, Spent}
 use Rattle.proposals.specs.declared.verdict.Reply.{Reply}
-use Rattle.proposals.specs.declared.knows.Desk.{Desk}
+use Rattle.proposals.specs.declared.knows.WorkerLedger.{WorkerLedger}
 use Rattle.proposals.specs.declared.knows.Served.{Served}
-use Rattle.proposals.specs.declared.knows.Rack.{Rack}
+use Rattle.proposals.specs.declared.knows.HolderLedger.{HolderLedger}
 use Rattle.proposals.specs.declared.knows.Knows.{Knows}
 
 abbrev pub code : Verdict → ℕ
@@ -95,7 +95,7 @@ abbrev pub fresh : Row
 fresh = row [] idle
 
 -- what the rule says of a worker's knowledge
-pub record DeskFits (rows : List Row) (owner : ℕ → ℕ) (most seat : ℕ) (d : Desk) : Type 0 where
+pub record WorkerFits (rows : List Row) (owner : ℕ → ℕ) (most seat : ℕ) (d : WorkerLedger) : Type 0 where
   pub own : owner d.cell ≡ seat
   pub within : d.cell < most
   pub at : Row
@@ -104,7 +104,7 @@ pub record DeskFits (rows : List Row) (owner : ℕ → ℕ) (most seat : ℕ) (d
   pub takes : d.collected ≡ collected at
 
 -- and of the holder's
-pub record RackFits (rows : List Row) (holder dealt seat : ℕ) (r : Rack) : Type 0 where
+pub record HolderFits (rows : List Row) (holder dealt seat : ℕ) (r : HolderLedger) : Type 0 where
   pub own : holder ≡ seat
   pub count : r.dealt ≡ dealt
   pub serves : r.served ≡ map served_of rows
@@ -119,43 +119,43 @@ pub record Boarded (n : ℕ) (s : State (Unit {0}) Knows) : Type 0 where
   pub wide : length rows ≡ n
   pub small : (i : ℕ) (r : Row) → get_elem? rows i ≡ some r → SmallAt r.phase
   pub new : (i : ℕ) (r : Row) → dealt ≤ i → get_elem? rows i ≡ some r → r ≡ fresh
-  pub workers : (j : ℕ) (v : Knows) (d : Desk) → get_elem? s.views j ≡ some v → v.worker ≡ Some d → DeskFits rows owner dealt j d
-  pub holders : (j : ℕ) (v : Knows) (r : Rack) → get_elem? s.views j ≡ some v → v.holder ≡ Some r → RackFits rows holder dealt j r
+  pub workers : (j : ℕ) (v : Knows) (d : WorkerLedger) → get_elem? s.views j ≡ some v → v.worker ≡ Some d → WorkerFits rows owner dealt j d
+  pub holders : (j : ℕ) (v : Knows) (r : HolderLedger) → get_elem? s.views j ≡ some v → v.holder ≡ Some r → HolderFits rows holder dealt j r
 
 abbrev pub nothing : Served
 nothing = record { answered = []; claimed = None }
 
-abbrev pub knows : Option Desk → Option Rack → Knows
+abbrev pub knows : Option WorkerLedger → Option HolderLedger → Knows
 knows w h = record { worker = w; holder = h }
 
-abbrev pub desk : ℕ → List ℕ → List Reply → Desk
-desk i q k = record { cell = i; asked = q; collected = k }
+abbrev pub worker_ledger : ℕ → List ℕ → List Reply → WorkerLedger
+worker_ledger i q k = record { cell = i; asked = q; collected = k }
 
-abbrev pub rack : ℕ → List Served → Rack
-rack n ss = record { dealt = n; served = ss }
+abbrev pub holder_ledger : ℕ → List Served → HolderLedger
+holder_ledger n ss = record { dealt = n; served = ss }
 
 abbrev pub opener : ℕ → Knows
-opener n = knows None (Some (rack 0 (replicate n nothing)))
+opener n = knows None (Some (holder_ledger 0 (replicate n nothing)))
 
 abbrev pub nobody : Knows
 nobody = knows None None
 
 -- no ask is open
-abbrev pub IsIdle : Desk → Type 0
+abbrev pub IsIdle : WorkerLedger → Type 0
 IsIdle d = d.asked ≡ arcs d.collected
 
 -- the ask for this arc is open
-abbrev pub IsOpen : Desk → ℕ → Type 0
+abbrev pub IsOpen : WorkerLedger → ℕ → Type 0
 IsOpen d a = d.asked ≡ arcs d.collected ++ a ∷ []
 
-abbrev pub asking : Desk → ℕ → Desk
-asking d a = desk d.cell (d.asked ++ a ∷ []) d.collected
+abbrev pub asking : WorkerLedger → ℕ → WorkerLedger
+asking d a = worker_ledger d.cell (d.asked ++ a ∷ []) d.collected
 
-abbrev pub withdrawn : Desk → Desk
-withdrawn d = desk d.cell (arcs d.collected) d.collected
+abbrev pub withdrawn : WorkerLedger → WorkerLedger
+withdrawn d = worker_ledger d.cell (arcs d.collected) d.collected
 
-abbrev pub collecting : Desk → Reply → Desk
-collecting d r = desk d.cell d.asked (d.collected ++ r ∷ [])
+abbrev pub collecting : WorkerLedger → Reply → WorkerLedger
+collecting d r = worker_ledger d.cell d.asked (d.collected ++ r ∷ [])
 
 abbrev Sat : Type 0
 Sat = Me (Unit {0}) Knows
@@ -165,13 +165,13 @@ At = Step (Unit {0})
 
 -- What each kind of step tells.
 abbrev pub Asked : At → Sat → ℕ → Sat → Type 0
-Asked st m n m' = (d : Desk) (a : ℕ) → m.0.worker ≡ Some d → n ≡ 4294967296 + a → m' ≡ (knows (Some (asking d a)) m.0.holder, m.1)
+Asked st m n m' = (d : WorkerLedger) (a : ℕ) → m.0.worker ≡ Some d → n ≡ 4294967296 + a → m' ≡ (knows (Some (asking d a)) m.0.holder, m.1)
 
 abbrev pub Withdrew : At → Sat → ℕ → Sat → Type 0
-Withdrew st m n m' = (d : Desk) → m.0.worker ≡ Some d → (n ≡ st.first → m' ≡ (knows (Some (withdrawn d)) m.0.holder, m.1)) × (n ≢ st.first → m' ≡ m)
+Withdrew st m n m' = (d : WorkerLedger) → m.0.worker ≡ Some d → (n ≡ st.first → m' ≡ (knows (Some (withdrawn d)) m.0.holder, m.1)) × (n ≢ st.first → m' ≡ m)
 
 abbrev pub Collected : At → Sat → ℕ → Sat → Type 0
-Collected st m n m' = (d : Desk) (a : ℕ) → m.0.worker ≡ Some d → IsOpen d a
+Collected st m n m' = (d : WorkerLedger) (a : ℕ) → m.0.worker ≡ Some d → IsOpen d a
     → (n < 4 → (v : Verdict) × (n ≡ code v) × (m' ≡ (knows (Some (collecting d (reply a v))) m.0.holder, m.1))) × (4 ≤ n → m' ≡ m)
 
 -- The holder's side.
@@ -196,38 +196,38 @@ abbrev pub unclaiming : List Served → ℕ → List Served
 unclaiming ss i = set ss i (served (answered_to ss i) None)
 
 abbrev pub Claimed : At → Sat → ℕ → Sat → Type 0
-Claimed st m n m' = (q : Rack) (a : ℕ) → m.0.holder ≡ Some q → st.first ≡ 4294967296 + a
-    → (n ≡ st.first → (claimed_from q.served st.word ≡ None) × (m' ≡ (knows m.0.worker (Some (rack q.dealt (claiming q.served st.word a))), m.1))) × (n ≢ st.first → m' ≡ m)
+Claimed st m n m' = (q : HolderLedger) (a : ℕ) → m.0.holder ≡ Some q → st.first ≡ 4294967296 + a
+    → (n ≡ st.first → (claimed_from q.served st.word ≡ None) × (m' ≡ (knows m.0.worker (Some (holder_ledger q.dealt (claiming q.served st.word a))), m.1))) × (n ≢ st.first → m' ≡ m)
 
 abbrev pub Reads : At → Sat → ℕ → Sat → Type 0
-Reads st m n m' = (m' ≡ m) × ((q : Rack) (a : ℕ) → m.0.holder ≡ Some q → claimed_from q.served st.word ≡ Some a → (n ≡ 8589934592 + a) × (a < 4294967296))
+Reads st m n m' = (m' ≡ m) × ((q : HolderLedger) (a : ℕ) → m.0.holder ≡ Some q → claimed_from q.served st.word ≡ Some a → (n ≡ 8589934592 + a) × (a < 4294967296))
 
 abbrev pub Answered : At → Sat → ℕ → Sat → Type 0
-Answered st m n m' = (q : Rack) (a : ℕ) (v : Verdict) → m.0.holder ≡ Some q → claimed_from q.served st.word ≡ Some a → n ≡ code v → m' ≡ (knows m.0.worker (Some (rack q.dealt (answering q.served st.word (reply a v)))), m.1)
+Answered st m n m' = (q : HolderLedger) (a : ℕ) (v : Verdict) → m.0.holder ≡ Some q → claimed_from q.served st.word ≡ Some a → n ≡ code v → m' ≡ (knows m.0.worker (Some (holder_ledger q.dealt (answering q.served st.word (reply a v)))), m.1)
 
 abbrev pub Unclaimed : At → Sat → ℕ → Sat → Type 0
-Unclaimed st m n m' = (q : Rack) → m.0.holder ≡ Some q → m' ≡ (knows m.0.worker (Some (rack q.dealt (unclaiming q.served st.word))), m.1)
+Unclaimed st m n m' = (q : HolderLedger) → m.0.holder ≡ Some q → m' ≡ (knows m.0.worker (Some (holder_ledger q.dealt (unclaiming q.served st.word))), m.1)
 
 -- Meeting: what the ledger says of a worker's seat and the holder's seat together
-abbrev pub Meets : Desk → Served → Type 0
+abbrev pub Meets : WorkerLedger → Served → Type 0
 Meets d x =
     ((d.asked ≡ arcs x.answered) × ((d.collected ≡ x.answered) ⊎ ((r : Reply) × (x.answered ≡ d.collected ++ r ∷ []))))
     ⊎ ((a : ℕ) × (d.asked ≡ arcs x.answered ++ a ∷ []) × (d.collected ≡ x.answered))
 
 abbrev pub Agreed : At → Sat → ℕ → Sat → Type 0
-Agreed st m n m' = (m' ≡ m) × ((d : Desk) (q : Rack) → m.0.worker ≡ Some d → m.0.holder ≡ Some q → Meets d (get_or q.served d.cell nothing))
+Agreed st m n m' = (m' ≡ m) × ((d : WorkerLedger) (q : HolderLedger) → m.0.worker ≡ Some d → m.0.holder ≡ Some q → Meets d (get_or q.served d.cell nothing))
 
 abbrev pub sat : At → Sat → ℕ → Sat → Type 0
 sat st m n m' = m'.0 ≡ nobody
 
 -- The holder's seat gives the next worker a seat.
-abbrev pub one_more : Option Rack → Option Rack
+abbrev pub one_more : Option HolderLedger → Option HolderLedger
 one_more None = None
-one_more (Some q) = Some (rack (q.dealt + 1) q.served)
+one_more (Some q) = Some (holder_ledger (q.dealt + 1) q.served)
 
-abbrev pub newcomer : Option Rack → Option Desk
+abbrev pub newcomer : Option HolderLedger → Option WorkerLedger
 newcomer None = None
-newcomer (Some q) = Some (desk q.dealt [] [])
+newcomer (Some q) = Some (worker_ledger q.dealt [] [])
 
 abbrev pub dealing : Knows → Knows
 dealing v = knows v.worker (one_more v.holder)
@@ -246,20 +246,20 @@ abbrev pub holder_part : Knows → Knows
 holder_part v = knows None v.holder
 
 -- What a seat is seen as.
-abbrev pub desk_or : Option Desk → Desk
-desk_or None = desk 0 [] []
-desk_or (Some d) = d
+abbrev pub worker_ledger_or : Option WorkerLedger → WorkerLedger
+worker_ledger_or None = worker_ledger 0 [] []
+worker_ledger_or (Some d) = d
 
-abbrev pub rack_or : Option Rack → Rack
-rack_or None = rack 0 []
-rack_or (Some q) = q
+abbrev pub holder_ledger_or : Option HolderLedger → HolderLedger
+holder_ledger_or None = holder_ledger 0 []
+holder_ledger_or (Some q) = q
 
 -- what a worker's seat remembers of its open ask
-abbrev pub OpenIs : Option ℕ → Desk → Type 0
+abbrev pub OpenIs : Option ℕ → WorkerLedger → Type 0
 OpenIs None d = IsIdle d
 OpenIs (Some a) d = IsOpen d a × (a < 4294967296)
 
 -- the seats of so many workers, in order
-abbrev pub desks : ℕ → List Desk
-desks zero = []
-desks (suc n) = desks n ++ desk n [] [] ∷ []
+abbrev pub worker_ledgers : ℕ → List WorkerLedger
+worker_ledgers zero = []
+worker_ledgers (suc n) = worker_ledgers n ++ worker_ledger n [] [] ∷ []

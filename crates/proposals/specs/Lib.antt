@@ -2,5 +2,5 @@ pub mod DrawSeats
 pub mod Drawn
 pub mod Law
 pub mod Ledger
-pub mod Rooms
+pub mod BoardIds
 pub mod Seats

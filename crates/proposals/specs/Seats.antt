@@ -2,27 +2,27 @@
 use Rattle.std.specs.Prelude.{◌≡◌, ℕ, ◌<◌, [], length, Option, Some}
 use Rattle.atomic_table.specs.Seated.{TableId}
 use Rattle.atomic_table.specs.declared.shared.Seat.{Seat}
-use Rattle.proposals.specs.declared.knows.Desk.{Desk}
-use Rattle.proposals.specs.declared.knows.Rack.{Rack}
+use Rattle.proposals.specs.declared.knows.WorkerLedger.{WorkerLedger}
+use Rattle.proposals.specs.declared.knows.HolderLedger.{HolderLedger}
 use Rattle.proposals.specs.declared.knows.Knows.{Knows}
-use Rattle.proposals.specs.Ledger.{desk_or, rack_or, OpenIs}
+use Rattle.proposals.specs.Ledger.{worker_ledger_or, holder_ledger_or, OpenIs}
 
-abbrev pub desk_in : Seat (Unit {0}) Knows → Desk
-desk_in s = desk_or s.me.0.worker
+abbrev pub worker_ledger_in : Seat (Unit {0}) Knows → WorkerLedger
+worker_ledger_in s = worker_ledger_or s.me.0.worker
 
-abbrev pub rack_in : Seat (Unit {0}) Knows → Rack
-rack_in s = rack_or s.me.0.holder
+abbrev pub holder_ledger_in : Seat (Unit {0}) Knows → HolderLedger
+holder_ledger_in s = holder_ledger_or s.me.0.holder
 
 pub record IsWorker (z : TableId) (cell : ℕ) (open_ask : Option ℕ) (s : Seat (Unit {0}) Knows) : Type 0 where
   pub table : s.table_id ≡ z
   pub empty : s.me.1 ≡ []
-  pub is : s.me.0.worker ≡ Some (desk_in s)
-  pub at : (desk_in s).cell ≡ cell
+  pub is : s.me.0.worker ≡ Some (worker_ledger_in s)
+  pub at : (worker_ledger_in s).cell ≡ cell
   pub inside : cell < z.words
-  pub ask : OpenIs open_ask (desk_in s)
+  pub ask : OpenIs open_ask (worker_ledger_in s)
 
 pub record IsHolder (z : TableId) (s : Seat (Unit {0}) Knows) : Type 0 where
   pub table : s.table_id ≡ z
   pub empty : s.me.1 ≡ []
-  pub is : s.me.0.holder ≡ Some (rack_in s)
-  pub wide : length (rack_in s).served ≡ z.words
+  pub is : s.me.0.holder ≡ Some (holder_ledger_in s)
+  pub wide : length (holder_ledger_in s).served ≡ z.words

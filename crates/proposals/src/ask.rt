@@ -4,12 +4,12 @@ ghost use Rattle.std.specs.Prelude.{◌≡◌, ◌<◌, ℕ, MatchBool, MatchOpt
 ghost use Rattle.proposals.specs.Ledger.{IsIdle, IsOpen, asking, withdrawn, collecting};
 
 use crate::board::{ASKED, Board};
-use crate::room::Room;
+use crate::board_id::BoardId;
 use crate::seats::WorkerSeat;
 use crate::steps::{Ask, Collect, Withdraw};
 use crate::verdict::{Reply, verdict_of};
 
-impl<B: Room> Board<B> {
+impl<B: BoardId> Board<B> {
     /// Asks for an arc. False exactly where the seat has an ask open; then no step is made.
     pub fn ask(&self, seat: &mut WorkerSeat<B>, arc: u32) -> bool
         requires { arc < B.arcs }

@@ -1,11 +1,11 @@
 //! The board: one word for each worker, and the seats that step on them.
 //! It is made without a name, and named by a type; its calls stand in `ask`, `serve` and `settle`.
 ghost use Rattle.std.specs.Prelude.{◌≡◌, ◌<◌, [], length, IfOk, IfErr, replicate};
-ghost use Rattle.proposals.specs.Ledger.{opener, nothing, desks};
+ghost use Rattle.proposals.specs.Ledger.{opener, nothing, worker_ledgers};
 ghost use Rattle.faults.specs.Refused.{no_memory, IsNoRoom};
 
+use crate::board_id::BoardId;
 use crate::knows::Knows;
-use crate::room::Room;
 use crate::seats::{HolderSeat, WorkerSeat};
 use crate::steps::{Asks, Deal};
 use atomic_table::{Seat, Table};
@@ -20,10 +20,10 @@ pub(crate) const ASKED: u64 = 1 << 32;
 
 /// The words on which workers ask and the holder answers. Workers are numbered from 1.
 #[derive(Drop)]
-pub struct Board<B: Room> {
+pub struct Board<B: BoardId> {
     pub(crate) cells: Cells,
     pub(crate) arcs: u32,
-    room: PhantomData<B>,
+    id: PhantomData<B>,
     ghost known: { arcs ≡ B.arcs },
     ghost named: { cells.shared.table_id ≡ B.board },
     ghost counted: { cells.shared.key ≡ cells.shared.table_id.words },
@@ -72,7 +72,7 @@ impl UnnamedBoard {
     }
 }
 
-impl<B: Room> Board<B> {
+impl<B: BoardId> Board<B> {
     /// The board under the name `B`, with a seat for each worker, in order, and the holder's, on which so many arcs may be
     /// asked for. Nothing was asked, answered or collected, and nothing is claimed.
     /// Errors: `NoMemory` where memory for the seats was refused.
@@ -83,7 +83,7 @@ impl<B: Room> Board<B> {
     ) -> Result<(Board<B>, Vec<WorkerSeat<B>>, HolderSeat<B>), Fault>
         requires board { unnamed ≡ B.board }
         requires arcs { arcs ≡ B.arcs }
-        ensures workers { IfOk result (λ made. made.1.items ≡ desks unnamed.words) }
+        ensures workers { IfOk result (λ made. made.1.items ≡ worker_ledgers unnamed.words) }
         ensures holder { IfOk result (λ made. made.2 ≡ replicate unnamed.words nothing) }
         ensures refused { IfErr result (λ fault. fault ≡ no_memory) }
     {
@@ -100,18 +100,18 @@ impl<B: Room> Board<B> {
                 cell,
                 ask: None,
                 seat: theirs,
-                room: PhantomData,
+                id: PhantomData,
             })?;
             cell += 1;
         }
         let board = Board {
             cells,
             arcs,
-            room: PhantomData,
+            id: PhantomData,
         };
         let holder = HolderSeat {
             seat,
-            room: PhantomData,
+            id: PhantomData,
         };
         Ok((board, seats, holder))
     }

@@ -1,12 +1,12 @@
 //! The rule of the counter, and what its one kind of step tells.
 //! The rule is defined in `specs/Drawn.antt`; `proofs/Drawing.antt` shows that each step keeps it.
-use crate::hand::{Batch, Hand};
+use crate::draw_ledger::{Batch, DrawLedger};
 use atomic_table::{Join, Play, Split, TableRule};
 
 /// The rule of a counter: over all seats, the numbers below it stand each once.
 pub struct Counts;
 
-impl TableRule<(), Hand, Batch> for Counts {
+impl TableRule<(), DrawLedger, Batch> for Counts {
     ghost use Rattle.proposals.specs.Drawn.{Given, whole};
 
     ghost holds = { Given };
@@ -16,7 +16,7 @@ impl TableRule<(), Hand, Batch> for Counts {
 
 pub(crate) struct Draw;
 
-impl Play<(), Hand> for Draw {
+impl Play<(), DrawLedger> for Draw {
     ghost use Rattle.proposals.specs.Drawn.{Drew};
 
     ghost then = { Drew };
@@ -25,7 +25,7 @@ impl Play<(), Hand> for Draw {
 /// A seat that stands for none comes in, to gather the others.
 pub(crate) struct Sit;
 
-impl Play<(), Hand> for Sit {
+impl Play<(), DrawLedger> for Sit {
     ghost use Rattle.proposals.specs.Drawn.{sat};
 
     ghost then = { sat };
@@ -34,7 +34,7 @@ impl Play<(), Hand> for Sit {
 /// The first seat gives one seat away.
 pub(crate) struct Deal;
 
-impl Split<Hand> for Deal {
+impl Split<DrawLedger> for Deal {
     ghost use Rattle.proposals.specs.Drawn.{cut, one_seat};
 
     ghost left = { cut };
@@ -44,7 +44,7 @@ impl Split<Hand> for Deal {
 
 pub(crate) struct Gather;
 
-impl Join<Hand> for Gather {
+impl Join<DrawLedger> for Gather {
     ghost use Rattle.proposals.specs.Drawn.{gathered, nobody};
 
     ghost both = { gathered };

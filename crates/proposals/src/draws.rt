@@ -4,29 +4,29 @@ ghost use Rattle.std.specs.Prelude.{◌≡◌, ◌<◌, ◌≤◌, [], length, I
 ghost use Rattle.proposals.specs.Drawn.{batch, whole, new_seats, Gets, GetsNone, all_drawn, IsEachBelowOnce};
 ghost use Rattle.faults.specs.Refused.{no_memory, no_seat};
 
-use crate::draw_seats::{DrawSeat, Lot};
+use crate::draw_ledger::{Batch, DrawLedger};
+use crate::draw_seats::{CounterId, DrawSeat};
 use crate::draw_steps::{Counts, Deal, Draw, Gather, Sit};
-use crate::hand::{Batch, Hand};
 use atomic_table::{Seat, Table};
 use faults::Fault;
 use std::alloc::Global;
 use std::marker::{Model, PhantomData};
 
-type Counter = Table<(), Hand, Batch, Counts, Global>;
+type Counter = Table<(), DrawLedger, Batch, Counts, Global>;
 
 /// A counter from which seats draw the numbers of chunks, from 0. To a contract it is the number of its seats.
 #[derive(Drop)]
-pub struct Draws<L: Lot> {
+pub struct Draws<L: CounterId> {
     counter: Counter,
     seats: u32,
-    lot: PhantomData<L>,
+    id: PhantomData<L>,
     ghost named: { counter.shared.table_id ≡ L.draws },
     ghost wide: { counter.shared.table_id.words ≡ 1 },
     ghost slotless: { counter.shared.table_id.slots ≡ 0 },
     ghost keyed: { counter.shared.key.seats ≡ seats },
 }
 
-impl<L: Lot> Model for Draws<L> {
+impl<L: CounterId> Model for Draws<L> {
     ghost use Rattle.std.specs.Prelude.{ℕ};
 
     ghost Value = { ℕ };
@@ -38,7 +38,7 @@ impl<L: Lot> Model for Draws<L> {
 #[derive(Drop)]
 pub struct UnnamedDraws {
     counter: Counter,
-    seat: Seat<(), Hand>,
+    seat: Seat<(), DrawLedger>,
     chunks: u32,
     seats: u32,
     ghost seated: { seat.table_id ≡ counter.shared.table_id },
@@ -81,7 +81,7 @@ impl UnnamedDraws {
     }
 }
 
-impl<L: Lot> Draws<L> {
+impl<L: CounterId> Draws<L> {
     /// The counter under the name `L`, with its seats, which have drawn nothing.
     /// Errors: `NoMemory` where memory for the seats was refused.
     pub fn new(alloc: Global, unnamed: UnnamedDraws) -> Result<(Draws<L>, Vec<DrawSeat<L>>), Fault>
@@ -104,14 +104,14 @@ impl<L: Lot> Draws<L> {
                 chunks,
                 ended: false,
                 seat: theirs,
-                lot: PhantomData,
+                id: PhantomData,
             })?;
             done += 1;
         }
         let draws = Draws {
             counter,
             seats,
-            lot: PhantomData,
+            id: PhantomData,
         };
         Ok((draws, dealt))
     }
@@ -141,7 +141,7 @@ impl<L: Lot> Draws<L> {
         let Draws {
             counter,
             seats: _,
-            lot: _,
+            id: _,
         } = self;
         let mut all = counter.shared.load_new_seat::<Sit>(0).1;
         while let Some(seat) = seats.pop() {

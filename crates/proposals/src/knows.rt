@@ -4,7 +4,7 @@ use crate::verdict::Reply;
 use std::collections::LinkedList;
 
 /// What a worker knows: its cell, from 0, the arcs that it asked, and the replies that it collected.
-pub struct Desk {
+pub struct WorkerLedger {
     pub cell: u64,
     pub asked: LinkedList<u32>,
     pub collected: LinkedList<Reply>,
@@ -17,13 +17,13 @@ pub struct Served {
 }
 
 /// What the holder knows: how many workers have a seat, and what it did for each.
-pub struct Rack {
+pub struct HolderLedger {
     pub dealt: u64,
     pub served: LinkedList<Served>,
 }
 
 /// What a seat knows. Each part is there or not, so that a worker's seat and the holder's can be one for a while.
 pub struct Knows {
-    pub worker: Option<Desk>,
-    pub holder: Option<Rack>,
+    pub worker: Option<WorkerLedger>,
+    pub holder: Option<HolderLedger>,
 }

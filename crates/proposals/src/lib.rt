@@ -4,13 +4,13 @@
 
 mod ask;
 mod board;
+mod board_id;
+mod draw_ledger;
 mod draw_seats;
 mod draw_steps;
 mod draws;
-mod hand;
 mod knows;
 mod law;
-mod room;
 mod seats;
 mod serve;
 mod settle;
@@ -18,14 +18,14 @@ mod steps;
 mod verdict;
 
 pub use board::{Board, UnnamedBoard};
-pub use draw_seats::{DrawSeat, Lot};
+pub use board_id::BoardId;
+pub use draw_ledger::{Batch, DrawLedger};
+pub use draw_seats::{CounterId, DrawSeat};
 pub use draw_steps::Counts;
 pub use draws::{Draws, UnnamedDraws};
-pub use hand::{Batch, Hand};
-pub use knows::{Desk, Knows, Rack, Served};
+pub use knows::{HolderLedger, Knows, Served, WorkerLedger};
 pub use law::ledger_law;
 pub use pit_model::Verdict;
-pub use room::Room;
 pub use seats::{HolderSeat, WorkerSeat};
 pub use steps::Asks;
 pub use verdict::Reply;

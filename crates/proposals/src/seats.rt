@@ -1,47 +1,47 @@
 //! The seats at a board: one for each worker, and the holder's.
 //! A seat has no lifetime and may move to another thread; `ask` and `serve` have its calls.
+use crate::board_id::BoardId;
 use crate::knows::Knows;
-use crate::room::Room;
 use atomic_table::Seat;
 use std::marker::{Model, PhantomData};
 
 /// A worker's seat. To a contract it is its cell, the arcs that it asked and the replies that it collected.
 #[derive(Drop)]
-pub struct WorkerSeat<B: Room> {
+pub struct WorkerSeat<B: BoardId> {
     pub(crate) cell: u32,
     pub(crate) ask: Option<u32>,
     pub(crate) seat: Seat<(), Knows>,
-    pub(crate) room: PhantomData<B>,
+    pub(crate) id: PhantomData<B>,
 }
 
-impl<B: Room> Model for WorkerSeat<B> {
-    ghost use Rattle.proposals.specs.declared.knows.Desk.{Desk};
+impl<B: BoardId> Model for WorkerSeat<B> {
+    ghost use Rattle.proposals.specs.declared.knows.WorkerLedger.{WorkerLedger};
 
-    ghost Value = { Desk };
+    ghost Value = { WorkerLedger };
 
-    ghost use Rattle.proposals.specs.Seats.{desk_in, IsWorker};
+    ghost use Rattle.proposals.specs.Seats.{worker_ledger_in, IsWorker};
 
-    ghost view = { λ s. desk_in s.seat };
+    ghost view = { λ s. worker_ledger_in s.seat };
 
     ghost invariant = { λ s. IsWorker B.board s.cell s.ask s.seat };
 }
 
 /// The holder's seat. To a contract it is, for each worker, what was answered to it and what is claimed from it.
 #[derive(Drop)]
-pub struct HolderSeat<B: Room> {
+pub struct HolderSeat<B: BoardId> {
     pub(crate) seat: Seat<(), Knows>,
-    pub(crate) room: PhantomData<B>,
+    pub(crate) id: PhantomData<B>,
 }
 
-impl<B: Room> Model for HolderSeat<B> {
+impl<B: BoardId> Model for HolderSeat<B> {
     ghost use Rattle.std.specs.Prelude.{List};
     ghost use Rattle.proposals.specs.declared.knows.Served.{Served};
 
     ghost Value = { List Served };
 
-    ghost use Rattle.proposals.specs.Seats.{rack_in, IsHolder};
+    ghost use Rattle.proposals.specs.Seats.{holder_ledger_in, IsHolder};
 
-    ghost view = { λ s. (rack_in s.seat).served };
+    ghost view = { λ s. (holder_ledger_in s.seat).served };
 
     ghost invariant = { λ s. IsHolder B.board s.seat };
 }

@@ -4,13 +4,13 @@ ghost use Rattle.std.specs.Prelude.{◌≡◌, ℕ, ◌-◌, ◌<◌, ◌≤◌,
 ghost use Rattle.proposals.specs.Ledger.{reply, claimed_from, claiming, answering, unclaiming};
 
 use crate::board::{ASKED, Board};
-use crate::room::Room;
+use crate::board_id::BoardId;
 use crate::seats::HolderSeat;
 use crate::steps::{Answer, Claim, Read, Unclaim};
 use crate::verdict::word_of;
 use pit_model::Verdict;
 
-impl<B: Room> Board<B> {
+impl<B: BoardId> Board<B> {
     /// Claims the ask of a worker and answers its arc, which is one that may be asked for. None where no ask stood, or where it
     /// was withdrawn between the two steps.
     pub fn claim_ask(&self, holder: &mut HolderSeat<B>, worker: u32) -> Option<u32>

@@ -4,12 +4,12 @@ ghost use Rattle.std.specs.Prelude.{◌≡◌, slice_index_or};
 ghost use Rattle.proposals.specs.Ledger.{nothing, Meets};
 
 use crate::board::Board;
-use crate::room::Room;
+use crate::board_id::BoardId;
 use crate::seats::{HolderSeat, WorkerSeat};
 use crate::steps::{Agree, Meet, Sit};
 use std::mem;
 
-impl<B: Room> Board<B> {
+impl<B: BoardId> Board<B> {
     /// Lets two seats meet. What each knows stays as it was, and the two then agree:
     /// the answered arcs are the asked ones, or those without a last one that is unanswered,
     /// and the collected replies are the answered ones, or those without a last one that is still open.

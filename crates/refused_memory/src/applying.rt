@@ -5,13 +5,13 @@ use crate::witness::Witness;
 use faults::Fault;
 use proposals::{Board, WorkerSeat};
 use std::sync::Wait;
-use tree_lock::{Holder, Site, Verdict};
+use tree_lock::{Holder, LockId, Verdict};
 
 /// Each arc is decided; where memory was refused to that nothing has changed, and the arc is decided again.
 pub struct Applying;
 
 /// Decides the arc, where there is one of this number.
-fn apply<S: Site, R: Wait>(rt: &R, holder: &mut Holder<S>, arc: u32) -> Result<Verdict, Fault> {
+fn apply<S: LockId, R: Wait>(rt: &R, holder: &mut Holder<S>, arc: u32) -> Result<Verdict, Fault> {
     if arc < holder.tree().instance().graph().arcs() {
         holder.apply(rt, arc)
     } else {
@@ -20,7 +20,7 @@ fn apply<S: Site, R: Wait>(rt: &R, holder: &mut Holder<S>, arc: u32) -> Result<V
 }
 
 /// Decides the arc that comes behind so many mergers.
-fn apply_next<S: Site, R: Wait>(
+fn apply_next<S: LockId, R: Wait>(
     rt: &R,
     holder: &mut Holder<S>,
     witness: &mut Witness<'_, S>,
@@ -41,7 +41,7 @@ fn apply_next<S: Site, R: Wait>(
 }
 
 impl Trial for Applying {
-    fn at<S: Site, R: Wait>(
+    fn at<S: LockId, R: Wait>(
         &self,
         rt: &R,
         _board: &Board<S>,

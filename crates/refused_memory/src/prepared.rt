@@ -5,7 +5,7 @@ ghost use Rattle.std.specs.Prelude.{◌≡◌, ◌<◌, length};
 use crate::trace::Trace;
 use faults::Fault;
 use proposals::{
-    Board, DrawSeat, Draws, HolderSeat, Lot, Room, UnnamedBoard, UnnamedDraws, WorkerSeat,
+    Board, BoardId, CounterId, DrawSeat, Draws, HolderSeat, UnnamedBoard, UnnamedDraws, WorkerSeat,
 };
 use std::alloc::Global;
 use std::marker::Brand;
@@ -19,7 +19,7 @@ struct Prepared {
 }
 
 /// An ask is withdrawn, and another claimed and given back: then nothing is asked, answered or collected.
-fn asks_go_back<B: Room>(
+fn asks_go_back<B: BoardId>(
     board: &Board<B>,
     seat: &mut WorkerSeat<B>,
     holder: &mut HolderSeat<B>,
@@ -47,7 +47,7 @@ fn asks_go_back<B: Room>(
 }
 
 /// Two seats draw two chunks, and then none.
-fn chunks_are_drawn<L: Lot>(
+fn chunks_are_drawn<L: CounterId>(
     draws: &Draws<L>,
     first: &mut DrawSeat<L>,
     second: &mut DrawSeat<L>,
@@ -63,7 +63,10 @@ fn chunks_are_drawn<L: Lot>(
 }
 
 /// Takes the last memory, for the seats, and then runs all. The name of the first thing that was not as it must be.
-fn run<B: Room, L: Lot>(alloc: Global, prepared: Prepared) -> Result<Option<&'static str>, Fault>
+fn run<B: BoardId, L: CounterId>(
+    alloc: Global,
+    prepared: Prepared,
+) -> Result<Option<&'static str>, Fault>
     requires board { prepared.board ≡ B.board }
     requires arcs { 4294967295 ≡ B.arcs }
     requires one { prepared.board.words ≡ 1 }

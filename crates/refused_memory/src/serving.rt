@@ -5,14 +5,14 @@ use crate::witness::Witness;
 use faults::Fault;
 use proposals::{Board, WorkerSeat};
 use std::sync::Wait;
-use tree_lock::{Holder, Site, Verdict};
+use tree_lock::{Holder, LockId, Verdict};
 
 /// One pass over the board answers all asks; where memory was refused to that, all is as after the asks that it answered, and a
 /// second pass answers the others.
 pub struct Serving;
 
 /// Each worker asks for the arc of its place: whether all did.
-fn all_ask<S: Site>(board: &Board<S>, workers: &mut [WorkerSeat<S>]) -> bool {
+fn all_ask<S: LockId>(board: &Board<S>, workers: &mut [WorkerSeat<S>]) -> bool {
     let mut asked = true;
     for (worker, arc) in workers.iter_mut().zip(ARCS.iter()) {
         asked = *arc < board.arcs() && board.ask(worker, *arc) && asked;
@@ -21,7 +21,7 @@ fn all_ask<S: Site>(board: &Board<S>, workers: &mut [WorkerSeat<S>]) -> bool {
 }
 
 /// Each worker collects its reply: whether each is that its arc was merged over.
-fn all_applied<S: Site>(board: &Board<S>, workers: &mut [WorkerSeat<S>]) -> bool {
+fn all_applied<S: LockId>(board: &Board<S>, workers: &mut [WorkerSeat<S>]) -> bool {
     let mut applied = true;
     for (worker, arc) in workers.iter_mut().zip(ARCS.iter()) {
         applied = match board.collect(worker) {
@@ -33,7 +33,7 @@ fn all_applied<S: Site>(board: &Board<S>, workers: &mut [WorkerSeat<S>]) -> bool
 }
 
 impl Trial for Serving {
-    fn at<S: Site, R: Wait>(
+    fn at<S: LockId, R: Wait>(
         &self,
         rt: &R,
         board: &Board<S>,

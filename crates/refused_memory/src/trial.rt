@@ -10,14 +10,14 @@ use proposals::{Board, UnnamedBoard, WorkerSeat};
 use std::alloc::Global;
 use std::marker::Brand;
 use std::sync::Wait;
-use tree_lock::{Holder, SharedTree, Site, UnnamedList};
+use tree_lock::{Holder, LockId, SharedTree, UnnamedList};
 
 const WORKERS: u32 = 6;
 
 /// What is tried at a tree.
 pub trait Trial {
     /// Refused for want of memory, where that is refused to the witness, or again to the call that the trial is of.
-    fn at<S: Site, R: Wait>(
+    fn at<S: LockId, R: Wait>(
         &self,
         rt: &R,
         board: &Board<S>,
@@ -34,7 +34,7 @@ struct Beginning {
     unnamed: UnnamedBoard,
 }
 
-fn try_at<S: Site, T: Trial, R: Wait>(
+fn try_at<S: LockId, T: Trial, R: Wait>(
     rt: &R,
     alloc: Global,
     mine: &Instance,

@@ -4,7 +4,7 @@ use faults::Fault;
 use mine_graph::Instance;
 use norm_tree::NormTree;
 use std::alloc::Global;
-use tree_lock::{Holder, LookSeat, Site, Verdict, Version};
+use tree_lock::{Holder, LockId, LookSeat, Verdict, Version};
 
 /// How often memory was refused to the calls that a trial is of, and the name of the first thing that was not as it must be.
 #[derive(Clone, Copy)]
@@ -15,7 +15,7 @@ pub struct Seen {
 
 /// A seat to look from, and what was seen.
 #[derive(Drop)]
-pub struct Witness<'a, S: Site> {
+pub struct Witness<'a, S: LockId> {
     alloc: Global,
     mine: &'a Instance,
     /// None while it is lent.
@@ -33,7 +33,7 @@ fn tree_after(alloc: Global, mine: &Instance, count: usize) -> Result<NormTree, 
 }
 
 /// Whether the journal has so many mergers, in the order of their arcs.
-fn is_journal<S: Site>(holder: &Holder<S>, count: usize) -> bool {
+fn is_journal<S: LockId>(holder: &Holder<S>, count: usize) -> bool {
     let journal = holder.journal();
     journal.len() == count
         && journal.iter().zip(ARCS.iter()).all(|(entry, arc)| entry.arc == *arc
@@ -41,7 +41,7 @@ fn is_journal<S: Site>(holder: &Holder<S>, count: usize) -> bool {
 }
 
 /// Whether the version shows the strong blocks of the tree and its merger arcs.
-fn shows<S: Site>(version: &Version<S>, tree: &NormTree) -> bool {
+fn shows<S: LockId>(version: &Version<S>, tree: &NormTree) -> bool {
     let blocks = version.instance().graph().n();
     if blocks != tree.instance().graph().n() {
         return false;
@@ -56,7 +56,7 @@ fn shows<S: Site>(version: &Version<S>, tree: &NormTree) -> bool {
 }
 
 /// Whether a look shows the tree. The seat comes back.
-fn look_shows<S: Site>(seat: LookSeat<S>, tree: &NormTree) -> (LookSeat<S>, bool) {
+fn look_shows<S: LockId>(seat: LookSeat<S>, tree: &NormTree) -> (LookSeat<S>, bool) {
     match seat.look() {
         Ok(version) => {
             let shown = shows(&version, tree);
@@ -66,7 +66,7 @@ fn look_shows<S: Site>(seat: LookSeat<S>, tree: &NormTree) -> (LookSeat<S>, bool
     }
 }
 
-impl<'a, S: Site> Witness<'a, S> {
+impl<'a, S: LockId> Witness<'a, S> {
     pub fn new(alloc: Global, mine: &'a Instance, seat: LookSeat<S>) -> Witness<'a, S> {
         Witness {
             alloc,

@@ -1,5 +1,6 @@
 pub mod Refusing
 pub mod Solving
+pub mod Keeping
 pub mod Certifying
 pub mod Journaling
 pub mod Checking

@@ -1,5 +1,6 @@
 pub mod Exit
 pub mod Solve
+pub mod Kept
 pub mod Check
 pub mod Replay
 pub mod Journaled

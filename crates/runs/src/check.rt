@@ -2,6 +2,8 @@
 ghost use Rattle.std.specs.Prelude.{◌≡◌, ◌<◌, ◌≤◌, ◌^◌, IfOk, IfErr};
 ghost use Rattle.mine_graph.specs.FixedBlocks.{IsFixedOf};
 ghost use Rattle.pit_model.specs.Fixed.{graph_of_mine};
+ghost use Rattle.std.specs.Io.KnownBytes.{Keeps};
+ghost use Rattle.runs.specs.Kept.{KeepsTexts};
 ghost use Rattle.runs.specs.Check.{status_of_answer, IsAnswered, IsChecked, RefusesCertificate, RefusesCheck};
 ghost use Rattle.runs.specs.Solve.{files_of, reading, task_of, MayRead};
 
@@ -14,19 +16,21 @@ use report::write_answer;
 use std::alloc::Global;
 
 /// How a run ends that has answered.
-fn told(answer: bool) -> Status
+fn status_of(answer: bool) -> Status
     ensures { result ≡ status_of_answer answer }
 {
     if answer { Status::Done } else { Status::No }
 }
 
 /// Whether the certificate that a reader gives meets the conditions for the mine.
+#[tactic(auto, using(crate::proofs::Keeping::still_kept, crate::proofs::Keeping::still_kept_if_any))]
 fn answer_of<C: InBytes>(alloc: Global, task: &Task, certificate: &mut C) -> Result<bool, Fault>
     requires countable { (C.progress certificate.old).failures < 2 ^ 63 }
     requires bounded { (C.progress certificate.old).allowance ≤ 2 ^ 40 }
     requires fixed { IsFixedOf (graph_of_mine task.now.mine) task.now.fixed }
     ensures answered { IfOk result (IsAnswered (task_of task.now) (reading (C.progress certificate.old) (C.progress certificate.new) (C.IsAtEnd certificate.new))) }
     ensures refused { IfErr result (λ e. RefusesCertificate e.refusal e (task_of task.now) (reading (C.progress certificate.old) (C.progress certificate.new) (C.IsAtEnd certificate.new))) }
+    ensures kept { Keeps (C.known_text certificate.old) (C.known_text certificate.new) }
 {
     task.mine.law();
     let shown = read(alloc, certificate, task.mine.graph(), &task.fixed)?;
@@ -39,6 +43,7 @@ fn answer_of<C: InBytes>(alloc: Global, task: &Task, certificate: &mut C) -> Res
 ///
 /// Refused by the first fault of the files (3 to 14, 17, 21), for want of memory (1), where a read failed (2), all with nothing
 /// written; and where a write failed (18), with a beginning of the answer written.
+#[tactic(auto, using(crate::proofs::Keeping::still_kept, crate::proofs::Keeping::still_kept_if_any))]
 pub fn run_check<M: InBytes, P: InBytes, F: InBytes, C: InBytes, W: OutBytes>(
     alloc: Global,
     files: &mut MineFiles<M, P, F>,
@@ -57,10 +62,12 @@ pub fn run_check<M: InBytes, P: InBytes, F: InBytes, C: InBytes, W: OutBytes>(
         (files_of M.progress M.IsAtEnd P.progress P.IsAtEnd F.progress F.IsAtEnd files.old files.new)
         (reading (C.progress certificate.old) (C.progress certificate.new) (C.IsAtEnd certificate.new))
         (W.progress out.old) (W.progress out.new)) }
+    ensures files_kept { KeepsTexts M.known_text P.known_text F.known_text files.old files.new }
+    ensures certificate_kept { Keeps (C.known_text certificate.old) (C.known_text certificate.new) }
 {
     let task = read_mine(alloc, files)?;
     task.mine.law();
     let answer = answer_of(alloc, &task, certificate)?;
     write_answer(out, answer)?;
-    Ok(told(answer))
+    Ok(status_of(answer))
 }

@@ -1,10 +1,11 @@
 //! The deposit of a run: a table of blocks and the precedence pairs, read in their order, and two of the table's columns.
 ghost use Rattle.std.specs.Prelude.{◌≡◌, ◌<◌, ◌≤◌, ◌^◌, length, IfOk, IfErr};
+ghost use Rattle.std.specs.Io.KnownBytes.{Keeps};
 ghost use Rattle.runs.specs.Solve.{reading};
 ghost use Rattle.runs.specs.Deposit.{HoldsDeposit, RefusesDeposit};
 
+use counters::Phase;
 use faults::Fault;
-use gauge::Phase;
 use mine_graph::Graph;
 use minelib_reader::{InBytes, read_blocks, read_prec};
 use shells::Columns;
@@ -20,6 +21,7 @@ pub struct Deposit {
 
 /// The deposit of a block model and a precedence file, with the columns of revenue and of cost; else the first fault: of the
 /// two files, then a cycle, then that of the columns.
+#[tactic(auto, using(crate::proofs::Keeping::still_kept, crate::proofs::Keeping::still_kept_if_any))]
 pub fn read_deposit<B: InBytes, P: InBytes>(
     alloc: Global,
     blocks: &mut B,
@@ -40,15 +42,17 @@ pub fn read_deposit<B: InBytes, P: InBytes>(
         (reading (B.progress blocks.old) (B.progress blocks.new) (B.IsAtEnd blocks.new))
         (reading (P.progress prec.old) (P.progress prec.new) (P.IsAtEnd prec.new))
         revenue cost) }
+    ensures blocks_kept { Keeps (B.known_text blocks.old) (B.known_text blocks.new) }
+    ensures prec_kept { Keeps (P.known_text prec.old) (P.known_text prec.new) }
 {
-    blocks.gauge().enter(Phase::Reading);
+    blocks.counters().enter(Phase::Reading);
     let table = read_blocks(alloc, blocks)?;
     let n = table.len();
     let pairs = read_prec(alloc, prec, n)?;
     let graph = Graph::new(alloc, n, pairs)?;
-    let gauge = blocks.gauge();
-    gauge.enter(Phase::Solving);
-    let columns = Columns::watched(alloc, &table, revenue, cost, gauge)?;
+    let counters = blocks.counters();
+    counters.enter(Phase::Solving);
+    let columns = Columns::watched(alloc, &table, revenue, cost, counters)?;
     let shared = Arc::new(alloc, graph)?;
     Ok(Deposit {
         columns,

@@ -3,10 +3,11 @@ ghost use Rattle.std.specs.Prelude.{◌<◌, ◌≤◌, ◌^◌, IfOk, IfErr};
 ghost use Rattle.pit_model.specs.Fixed.{AreFixable, graph_of_mine};
 ghost use Rattle.mine_graph.specs.FixedBlocks.{IsFixedOf, lists_of};
 ghost use Rattle.minelib_reader.specs.Fixed.{fixed_lists};
+ghost use Rattle.runs.specs.Kept.{KeepsIfAny, KeepsTexts};
 ghost use Rattle.runs.specs.Solve.{choice, files_of, task_of, GaveFixed, HoldsMine, MayRead, MayReadIfAny, RefusesFixedText, RefusesMine};
 
+use counters::Phase;
 use faults::Fault;
-use gauge::Phase;
 use mine_graph::{Fixed, Graph, Instance};
 use minelib_reader::{InBytes, read_fixed, read_prec, read_upit};
 use std::alloc::Global;
@@ -28,6 +29,7 @@ pub struct Task {
 }
 
 /// The blocks forced in and those barred that the file of fixed blocks names; none where there is no such file.
+#[tactic(auto, using(crate::proofs::Keeping::still_kept, crate::proofs::Keeping::still_kept_if_any))]
 fn read_lists<F: InBytes>(
     alloc: Global,
     fixed: &mut Option<F>,
@@ -37,6 +39,7 @@ fn read_lists<F: InBytes>(
     ensures fixable { IfOk result (λ v. AreFixable n (fixed_lists v.0.items v.1.items)) }
     ensures given { IfOk result (λ v. GaveFixed (choice F.progress F.IsAtEnd fixed.old fixed.new) n (fixed_lists v.0.items v.1.items)) }
     ensures refused { IfErr result (λ e. RefusesFixedText e.refusal e n (choice F.progress F.IsAtEnd fixed.old fixed.new)) }
+    ensures kept { KeepsIfAny F.known_text fixed.old fixed.new }
 {
     match fixed {
         None => Ok((Vec::new(alloc), Vec::new(alloc))),
@@ -46,6 +49,7 @@ fn read_lists<F: InBytes>(
 
 /// The mine of a model, a precedence file and the file of its fixed blocks, where there is one; else the first fault: of the
 /// files, then a cycle of the pairs (14), then a clash of the fixed blocks (21).
+#[tactic(auto, using(crate::proofs::Keeping::still_kept, crate::proofs::Keeping::still_kept_if_any))]
 pub fn read_mine<M: InBytes, P: InBytes, F: InBytes>(
     alloc: Global,
     files: &mut MineFiles<M, P, F>,
@@ -54,15 +58,16 @@ pub fn read_mine<M: InBytes, P: InBytes, F: InBytes>(
     ensures mine { IfOk result (λ t. HoldsMine (files_of M.progress M.IsAtEnd P.progress P.IsAtEnd F.progress F.IsAtEnd files.old files.new) (task_of t)) }
     ensures fixed { IfOk result (λ t. IsFixedOf (graph_of_mine t.mine) t.fixed) }
     ensures refused { IfErr result (λ e. RefusesMine e.refusal e (files_of M.progress M.IsAtEnd P.progress P.IsAtEnd F.progress F.IsAtEnd files.old files.new)) }
+    ensures kept { KeepsTexts M.known_text P.known_text F.known_text files.old files.new }
 {
-    files.model.gauge().enter(Phase::Reading);
+    files.model.counters().enter(Phase::Reading);
     let model = read_upit(alloc, &mut files.model)?;
     let pairs = read_prec(alloc, &mut files.prec, model.n)?;
     let (forced, barred) = read_lists(alloc, &mut files.fixed, model.n)?;
     let graph = Graph::new(alloc, model.n, pairs)?;
-    let gauge = files.model.gauge();
-    gauge.enter(Phase::Solving);
-    let mine = Instance::watched(Arc::new(alloc, graph)?, model.values, gauge);
+    let counters = files.model.counters();
+    counters.enter(Phase::Solving);
+    let mine = Instance::watched(Arc::new(alloc, graph)?, model.values, counters);
     mine.law();
     let fixed = Fixed::new(alloc, mine.graph(), forced, barred)?;
     Ok(Task { mine, fixed })

@@ -1,14 +1,15 @@
 //! `shells`: from the bytes of a block model and a precedence file to the bytes of the nested pits.
 ghost use Rattle.std.specs.Prelude.{◌<◌, ◌≤◌, ◌^◌, IfOk, IfErr};
 ghost use Rattle.shells.specs.Grown.{EachEndsWithin};
+ghost use Rattle.std.specs.Io.KnownBytes.{Keeps};
 ghost use Rattle.runs.specs.Solve.{reading};
 ghost use Rattle.runs.specs.ShellsRun.{HoldsOfDeposit, IsShellsDone, RefusesShellsRun};
 
 use crate::asked::Asked;
 use crate::deposit::read_deposit;
 use crate::status::Status;
+use counters::Phase;
 use faults::Fault;
-use gauge::Phase;
 use minelib_reader::{InBytes, OutBytes};
 use report::write_shells;
 use shells::{Factors, shells};
@@ -23,6 +24,7 @@ use std::thread::Threads;
 /// Refused by the first fault of the files (3 to 14), by that of the columns (15, 16), for want of memory (1), where a read
 /// failed (2), where the budget is used up on some factor's rest (20) and where a worker could not be started (22), all with
 /// nothing written; and where a write failed (18), with a beginning of the text written.
+#[tactic(auto, using(crate::proofs::Keeping::still_kept, crate::proofs::Keeping::still_kept_if_any))]
 pub fn run_shells<R: Threads + Wait + Sync, B: InBytes, P: InBytes, W: OutBytes>(
     rt: &R,
     alloc: Global,
@@ -51,6 +53,8 @@ pub fn run_shells<R: Threads + Wait + Sync, B: InBytes, P: InBytes, W: OutBytes>
         (reading (B.progress blocks.old) (B.progress blocks.new) (B.IsAtEnd blocks.new))
         (reading (P.progress prec.old) (P.progress prec.new) (P.IsAtEnd prec.new))
         revenue cost factors.now (W.progress out.old) (W.progress out.new)) }
+    ensures blocks_kept { Keeps (B.known_text blocks.old) (B.known_text blocks.new) }
+    ensures prec_kept { Keeps (P.known_text prec.old) (P.known_text prec.new) }
 {
     let deposit = read_deposit(alloc, blocks, prec, revenue, cost)?;
     let list = shells(
@@ -63,7 +67,7 @@ pub fn run_shells<R: Threads + Wait + Sync, B: InBytes, P: InBytes, W: OutBytes>
         &OpenGate,
         asked.pit,
     )?;
-    blocks.gauge().enter(Phase::Writing);
+    blocks.counters().enter(Phase::Writing);
     write_shells(out, &list)?;
     Ok(Status::Done)
 }

@@ -6,6 +6,8 @@ ghost use Rattle.pit_model.specs.declared.direction.Direction.{Direction as AnyD
 ghost use Rattle.pit_model.specs.Direction.{ListsPit};
 ghost use Rattle.pit_model.specs.Fixed.{fixed_of, graph_of_mine};
 ghost use Rattle.pit_model.specs.Mine.{members};
+ghost use Rattle.std.specs.Io.KnownBytes.{Keeps};
+ghost use Rattle.runs.specs.Kept.{KeepsTexts};
 ghost use Rattle.runs.specs.Replay.{IsReplayed, IsReplayedOn, IsTold, IsToldReplay, NotTold, RefusesJournal, RefusesJournalOn, RefusesReplay, ShowsEnd};
 ghost use Rattle.runs.specs.Solve.{files_of, reading, task_of, MayRead, WritesPit};
 
@@ -19,11 +21,13 @@ use report::{read_journal, write_difference, write_open, write_pit};
 use std::alloc::Global;
 
 /// How the replay of the journal ends that a reader gives of an instance.
+#[tactic(auto, using(crate::proofs::Keeping::still_kept, crate::proofs::Keeping::still_kept_if_any))]
 fn replay_on<J: InBytes>(alloc: Global, rest: &Instance, journal: &mut J) -> Result<Replayed, Fault>
     requires countable { (J.progress journal.old).failures < 2 ^ 63 }
     requires bounded { (J.progress journal.old).allowance ≤ 2 ^ 40 }
     ensures replayed { IfOk result (IsReplayedOn rest.now (reading (J.progress journal.old) (J.progress journal.new) (J.IsAtEnd journal.new))) }
     ensures refused { IfErr result (λ e. RefusesJournalOn e.refusal e rest.now (reading (J.progress journal.old) (J.progress journal.new) (J.IsAtEnd journal.new))) }
+    ensures kept { Keeps (J.known_text journal.old) (J.known_text journal.new) }
 {
     rest.law();
     let said = read_journal(alloc, journal, rest.graph())?;
@@ -31,14 +35,16 @@ fn replay_on<J: InBytes>(alloc: Global, rest: &Instance, journal: &mut J) -> Res
 }
 
 /// How the replay of the journal ends that a reader gives of the rest of a mine; a pit by the numbers of the whole.
+#[tactic(auto, using(crate::proofs::Keeping::still_kept, crate::proofs::Keeping::still_kept_if_any))]
 fn replay_of<J: InBytes>(alloc: Global, task: &Task, journal: &mut J) -> Result<Replayed, Fault>
     requires countable { (J.progress journal.old).failures < 2 ^ 63 }
     requires bounded { (J.progress journal.old).allowance ≤ 2 ^ 40 }
     requires fixed { IsFixedOf (graph_of_mine task.now.mine) task.now.fixed }
     ensures replayed { IfOk result (IsReplayed (task_of task.now) (reading (J.progress journal.old) (J.progress journal.new) (J.IsAtEnd journal.new))) }
     ensures refused { IfErr result (λ e. RefusesJournal e.refusal e (task_of task.now) (reading (J.progress journal.old) (J.progress journal.new) (J.IsAtEnd journal.new))) }
+    ensures kept { Keeps (J.known_text journal.old) (J.known_text journal.new) }
 {
-    if task.fixed.is_none() {
+    if task.fixed.is_empty() {
         return replay_on(alloc, &task.mine, journal);
     }
     let rest = Rest::of(alloc, &task.mine, &task.fixed)?;
@@ -96,6 +102,7 @@ fn put_end<W: OutBytes>(out: &mut W, task: &Task, end: &Replayed) -> Result<Stat
 /// Refused by the first fault of the files (3 to 14, 17, 21), for want of memory (1), where a read failed (2), and where the
 /// journal's budget is used up with a merger arc left (20), all with nothing written; and where a write failed (18), with a
 /// beginning of the answer written.
+#[tactic(auto, using(crate::proofs::Keeping::still_kept, crate::proofs::Keeping::still_kept_if_any))]
 pub fn run_replay<M: InBytes, P: InBytes, F: InBytes, J: InBytes, W: OutBytes>(
     alloc: Global,
     files: &mut MineFiles<M, P, F>,
@@ -114,6 +121,8 @@ pub fn run_replay<M: InBytes, P: InBytes, F: InBytes, J: InBytes, W: OutBytes>(
         (files_of M.progress M.IsAtEnd P.progress P.IsAtEnd F.progress F.IsAtEnd files.old files.new)
         (reading (J.progress journal.old) (J.progress journal.new) (J.IsAtEnd journal.new))
         (W.progress out.old) (W.progress out.new)) }
+    ensures files_kept { KeepsTexts M.known_text P.known_text F.known_text files.old files.new }
+    ensures journal_kept { Keeps (J.known_text journal.old) (J.known_text journal.new) }
 {
     let task = read_mine(alloc, files)?;
     task.mine.law();

@@ -6,6 +6,7 @@ ghost use Rattle.mine_graph.specs.FixedBlocks.{IsFixedOf};
 ghost use Rattle.pit_model.specs.declared.direction.Direction.TheVariants.{Least};
 ghost use Rattle.pit_model.specs.Fixed.{fixed_of, graph_of_mine};
 ghost use Rattle.pit_model.specs.Replay.{IsSettled};
+ghost use Rattle.runs.specs.Kept.{KeepsTexts};
 ghost use Rattle.runs.specs.Certified.{IsCertified, PutsCertificate};
 ghost use Rattle.runs.specs.Chosen.{chosen, progress_of, IsCountable, OfWriterIfAny};
 ghost use Rattle.runs.specs.Journaled.{EndOf, IsJournaled, MayJournal, MayPutEntries, PutsEntries, PutsJournal, RefusesEntries};
@@ -18,8 +19,8 @@ use crate::asked::Asked;
 use crate::mine::{MineFiles, Task, read_mine};
 use crate::status::Status;
 use certificate::{Certificate, write};
+use counters::Phase;
 use faults::Fault;
-use gauge::Phase;
 use merging::Outcome;
 use minelib_reader::{InBytes, OutBytes};
 use report::{write_journal, write_pit};
@@ -69,7 +70,7 @@ fn put_entries<J: OutBytes>(
     ensures refused { IfErr result (λ e. RefusesEntries (task_of task.now) budget entries.now e.refusal e (J.progress writer.old) (J.progress writer.new)) }
 {
     task.mine.law();
-    if task.fixed.is_none() {
+    if task.fixed.is_empty() {
         return write_journal(writer, task.mine.graph(), budget, entries);
     }
     let rest = task.fixed.rest(task.mine.graph())?;
@@ -193,6 +194,7 @@ fn solve_mine<J: OutBytes, C: OutBytes, W: OutBytes, R: Threads + Wait + Sync>(
 /// Refused by the first fault of the files (3 to 14, 21), for want of memory (1), where a read failed (2) and where a worker
 /// could not be started (22), all with nothing written; where the budget is used up (20), with the whole journal written and
 /// nothing else; and where a write failed (18), with a beginning of these texts in their order.
+#[tactic(auto, using(crate::proofs::Keeping::still_kept, crate::proofs::Keeping::still_kept_if_any))]
 pub fn run_solve<
     R: Threads + Wait + Sync,
     M: InBytes,
@@ -226,11 +228,12 @@ pub fn run_solve<
         (chosen J.progress outputs.old.journal outputs.new.journal)
         (chosen C.progress outputs.old.certificate outputs.new.certificate)
         (W.progress outputs.old.out) (W.progress outputs.new.out)) }
+    ensures files_kept { KeepsTexts M.known_text P.known_text F.known_text files.old files.new }
 {
     let task = read_mine(alloc, files)?;
     let n = task.mine.graph().n();
     let pit = solve_mine(rt, alloc, task, &asked, outputs)?;
-    files.model.gauge().enter(Phase::Writing);
+    files.model.counters().enter(Phase::Writing);
     write_pit(&mut outputs.out, n, &pit.blocks, pit.worth)?;
     Ok(Status::Done)
 }

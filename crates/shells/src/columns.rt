@@ -8,8 +8,8 @@ ghost use Rattle.shells.specs.Outermost.{amounts_of};
 ghost use Rattle.shells.specs.Prices.{price_of, AreColumns, ArePrices, RefusesColumns};
 ghost use Rattle.pit_model.specs.Size.{most_blocks};
 
+use counters::Counters;
 use faults::Fault;
-use gauge::Gauge;
 use minelib_reader::{BlockTable, column};
 use std::alloc::{AllocError, Global};
 use std::marker::Model;
@@ -19,7 +19,7 @@ use std::marker::Model;
 pub struct Columns {
     revenues: Vec<i128>,
     costs: Vec<i128>,
-    gauge: Gauge,
+    counters: Counters,
 }
 
 impl Model for Columns {
@@ -62,7 +62,7 @@ impl Columns {
         ensures columns { IfOk result (AreColumns table.now revenue cost) }
         ensures refused { IfErr result (RefusesColumns table.now revenue cost) }
     {
-        Columns::watched(alloc, table, revenue, cost, Gauge::none())
+        Columns::watched(alloc, table, revenue, cost, Counters::none())
     }
 
     /// These revenues and costs.
@@ -74,17 +74,17 @@ impl Columns {
         Columns {
             revenues,
             costs,
-            gauge: Gauge::none(),
+            counters: Counters::none(),
         }
     }
 
-    /// The same as `of` gives, over whose instances this gauge counts.
+    /// The same as `of` gives, over whose instances these counters count.
     pub fn watched(
         alloc: Global,
         table: &BlockTable,
         revenue: u32,
         cost: u32,
-        gauge: Gauge,
+        counters: Counters,
     ) -> Result<Columns, Fault>
         ensures columns { IfOk result (AreColumns table.now revenue cost) }
         ensures refused { IfErr result (RefusesColumns table.now revenue cost) }
@@ -95,13 +95,13 @@ impl Columns {
         Ok(Columns {
             revenues,
             costs,
-            gauge,
+            counters,
         })
     }
 
     /// What counts over the instances of these columns. No clause speaks of it.
-    pub(crate) fn gauge(&self) -> &Gauge {
-        &self.gauge
+    pub(crate) fn counters(&self) -> &Counters {
+        &self.counters
     }
 
     /// What is true of each pair of columns.
@@ -159,7 +159,7 @@ impl Columns {
         Ok(Columns {
             revenues,
             costs,
-            gauge: self.gauge.share(),
+            counters: self.counters.share(),
         })
     }
 

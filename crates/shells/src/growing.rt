@@ -68,7 +68,7 @@ pub fn rest_instance(
     columns.law();
     let values = columns.values(alloc, &growing.blocks, factor)?;
     let graph = Arc::try_clone(&growing.graph)?;
-    let rest = Instance::watched(graph, values, columns.gauge().share());
+    let rest = Instance::watched(graph, values, columns.counters().share());
     Ok(rest)
 }
 

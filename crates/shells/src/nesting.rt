@@ -38,7 +38,7 @@ fn each_shell<G: Gate + Sync, R: Threads + Wait + Sync>(
     let mut list = Vec::new(alloc);
     for k in 0..plan.factors.len() {
         plan.columns
-            .gauge()
+            .counters()
             .at_factor(k as u64 + 1, plan.factors.len() as u64);
         let shell = next_shell(rt, alloc, plan, k, &mut growing, gate)?;
         list.push(shell)?;

@@ -45,7 +45,7 @@ fn mine_at(
     columns.law();
     let blocks = all_blocks(alloc, graph.n())?;
     let values = columns.values(alloc, &blocks, factor)?;
-    Ok(Instance::watched(Arc::try_clone(graph)?, values, columns.gauge().share()))
+    Ok(Instance::watched(Arc::try_clone(graph)?, values, columns.counters().share()))
 }
 
 /// What a block gains from one factor to another.
@@ -164,14 +164,14 @@ pub fn rising_shells(alloc: Global, plan: &Plan<'_>) -> Result<Vec<Shell>, Fault
 {
     plan.columns.law();
     plan.factors.law();
-    let gauge = plan.columns.gauge();
+    let counters = plan.columns.counters();
     let factors = plan.factors.len();
     let mut list = Vec::new(alloc);
-    gauge.at_factor(1, factors as u64);
+    counters.at_factor(1, factors as u64);
     let (mut risen, shell) = first_shell(alloc, plan)?;
     list.push(shell)?;
     for k in 0..factors - 1 {
-        gauge.at_factor(k as u64 + 2, factors as u64);
+        counters.at_factor(k as u64 + 2, factors as u64);
         let (next, shell) = next_shell(alloc, plan, k, risen)?;
         risen = next;
         list.push(shell)?;

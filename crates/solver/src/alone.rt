@@ -62,7 +62,7 @@ fn fixed_pit_alone(
     ensures values { IfOk result (λ r. r.1 ≡ mine.values) }
     ensures refused { IfErr result (λ e. e ≡ no_memory) }
 {
-    if fixed.is_none() {
+    if fixed.is_empty() {
         return open_pit_alone(alloc, mine, direction);
     }
     let n = mine.graph().n();

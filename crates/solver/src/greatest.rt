@@ -12,7 +12,7 @@ ghost use Rattle.solver.specs.Modes.{EndsWithin, LacksRoom, RefusesSolve};
 ghost use Rattle.solver.specs.Searched.{EndsGreatest, OfSearched, RefusesSearch};
 
 use crate::by_mode::find_pit;
-use crate::given_up::find_fixed_pit;
+use crate::consuming::find_fixed_pit;
 use crate::mode::Mode;
 use crate::search::Search;
 use crew::Gate;
@@ -52,8 +52,8 @@ pub(crate) fn turned(alloc: Global, mine: &Instance) -> Result<Instance, Fault>
     let values = negated(alloc, mine)?;
     let reversed = graph.reversed()?;
     reversed.law();
-    let gauge = mine.gauge().share();
-    Ok(Instance::watched(Arc::new(alloc, reversed)?, values, gauge))
+    let counters = mine.counters().share();
+    Ok(Instance::watched(Arc::new(alloc, reversed)?, values, counters))
 }
 
 /// The blocks without a mark, rising.

@@ -3,7 +3,7 @@
 
 mod alone;
 mod by_mode;
-mod given_up;
+mod consuming;
 mod greatest;
 mod mode;
 mod search;
@@ -11,8 +11,8 @@ mod with_fixed;
 
 pub use alone::find_pit_alone;
 pub use by_mode::{find_certificate, find_pit, solve};
+pub use consuming::find_fixed_pit;
 pub use crew::{Entry, Gate, OpenGate, Verdict, solve_shared};
-pub use given_up::find_fixed_pit;
 pub use greatest::{PitOutcome, find_pit_toward, solve_greatest};
 pub use merging::{Outcome, solve_parts, solve_single};
 pub use mode::Mode;

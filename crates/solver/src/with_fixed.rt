@@ -59,7 +59,7 @@ pub fn solve_fixed<G: Gate + Sync, R: Threads + Wait + Sync>(
     ensures ended { IfOk result (λ r. EndsFixed mode.now instance.now (fixed_of fixed.now.lists) r.0 r.1.items) }
     ensures refused { IfErr result (λ e. LacksRoom mode.now e.refusal e) }
 {
-    if fixed.is_none() {
+    if fixed.is_empty() {
         return solve(rt, alloc, instance, mode, gate);
     }
     let rest = Rest::of(alloc, instance, fixed)?;

@@ -2,7 +2,7 @@
 use Rattle.std.specs.Prelude.{◌≡◌, ℕ, ◌+◌, ◌<◌, ◌≤◌, ◌==◌, Bool, true, false, if◌then◌else◌, List, [], ◌∷◌, ◌++◌, length, None}
 use Rattle.std.specs.List.{All}
 use Rattle.proposals.specs.declared.verdict.Reply.{Reply}
-use Rattle.proposals.specs.declared.knows.Desk.{Desk}
+use Rattle.proposals.specs.declared.knows.WorkerLedger.{WorkerLedger}
 use Rattle.proposals.specs.declared.knows.Served.{Served}
 use Rattle.proposals.specs.Ledger.{reply, served, answered_to, claimed_from, Meets}
 use Rattle.pit_model.specs.declared.journal.Entry.{Entry}
@@ -56,5 +56,5 @@ pub record Serves (old new : Held) (count : ℕ) : Type 0 where
 
 -- what a worker knows, and the entries under its seat, agree: its asks are the arcs of the entries, and at most the last is
 -- unanswered; it collected the entries, and at most the last is not collected
-abbrev pub MeetsJournal : Desk → List Entry → Type 0
-MeetsJournal desk journal = Meets desk (served (replies_under (desk.cell + 1) journal) None)
+abbrev pub MeetsJournal : WorkerLedger → List Entry → Type 0
+MeetsJournal worker_ledger journal = Meets worker_ledger (served (replies_under (worker_ledger.cell + 1) journal) None)

@@ -15,10 +15,10 @@ use pit_model::{Entry, Verdict};
 use std::alloc::Global;
 use std::marker::Model;
 use std::sync::Wait;
-use versions::{LookSeat, LookSeats, Origin, Publisher};
+use versions::{ListId, LookSeat, LookSeats, Publisher};
 
 /// To a contract it is its journal, its budget and the arcs of its published mergers. End it by `into_parts`.
-pub struct Book<V: Origin> {
+pub struct Book<V: ListId> {
     publisher: Publisher<V>,
     journal: Vec<Entry>,
     budget: Option<u64>,
@@ -26,7 +26,7 @@ pub struct Book<V: Origin> {
     applied: u64,
 }
 
-impl<V: Origin> Model for Book<V> {
+impl<V: ListId> Model for Book<V> {
     ghost use Rattle.tree_lock.specs.Kept.{Kept, kept, IsBook};
 
     ghost Value = { Kept };
@@ -36,7 +36,7 @@ impl<V: Origin> Model for Book<V> {
     ghost invariant = { λ b. IsBook V.mine b.publisher b.journal.items b.budget b.applied };
 }
 
-impl<V: Origin> Book<V> {
+impl<V: ListId> Book<V> {
     /// The opening tree, with nothing decided. It takes no memory.
     pub fn new(alloc: Global, publisher: Publisher<V>, budget: Option<u64>) -> Book<V>
         requires { publisher ≡ [] }
@@ -116,12 +116,12 @@ impl<V: Origin> Book<V> {
         lawful_verdict(self.tree(), self.budget, self.applied, arc)
     }
 
-    /// Tells the gauge of the instance of a decision.
+    /// Tells the counters of the instance of a decision.
     fn count(&self, verdict: Verdict) {
-        let gauge = self.tree().instance().gauge();
-        gauge.decided(verdict == Verdict::Stale);
+        let counters = self.tree().instance().counters();
+        counters.decided(verdict == Verdict::Stale);
         if verdict == Verdict::Applied {
-            gauge.merged();
+            counters.merged();
         }
     }
 
@@ -145,7 +145,7 @@ impl<V: Origin> Book<V> {
 }
 
 /// Makes and publishes the merger of an applied entry, and counts it. Where memory was refused, nothing changed.
-fn carry_out<V: Origin, R: Wait>(
+fn carry_out<V: ListId, R: Wait>(
     rt: &R,
     publisher: &mut Publisher<V>,
     applied: &mut u64,

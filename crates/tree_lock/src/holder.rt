@@ -1,4 +1,4 @@
-//! The holder of the lock: a book of the instance and the budget that the site names, and the seat that answers its board.
+//! The holder of the lock: a book of the instance and the budget that the lock's id names, and the seat that answers its board.
 //! `serve` has the pass over the board (flat combining: Hendler, Incze, Shavit and Tzafrir 2010); `shared` puts the holder
 //! under a mutex.
 ghost use Rattle.std.specs.Prelude.{◌≡◌, ℕ, ◌+◌, ◌<◌, suc, true, [], None, IfOk, IfErr, pos, ◌+ℤ◌, ◌*ℤ◌, ◌≤ℤ◌};
@@ -15,7 +15,7 @@ ghost use Rattle.tree_lock.specs.Held.{Decides, opened};
 ghost use Rattle.tree_lock.specs.Served.{replies_under, AreUnderSeats, IsFresh, MeetsJournal};
 
 use crate::book::Book;
-use crate::site::Site;
+use crate::lock_id::LockId;
 use faults::Fault;
 use norm_tree::NormTree;
 use pit_model::{Entry, Verdict};
@@ -29,14 +29,14 @@ use versions::{LookSeat, Publisher};
 const DRIVER: u32 = 0;
 
 /// To a contract it is its tree, its journal and its budget, the arcs that are published, and what was answered to each worker
-/// and is claimed from it. Tree and budget are of the site's instance and budget. It is not `Drop`, since its end waits for
+/// and is claimed from it. Tree and budget are those of the lock's id. It is not `Drop`, since its end waits for
 /// readers that have not left: end it by `into_parts`.
-pub struct Holder<S: Site> {
+pub struct Holder<S: LockId> {
     pub(crate) book: Book<S>,
     pub(crate) seat: HolderSeat<S>,
 }
 
-impl<S: Site> Model for Holder<S> {
+impl<S: LockId> Model for Holder<S> {
     ghost use Rattle.std.specs.Prelude.{◌≡◌};
     ghost use Rattle.tree_lock.specs.Held.{Held, held_by};
     ghost use Rattle.tree_lock.specs.Served.{IsServed};
@@ -48,7 +48,7 @@ impl<S: Site> Model for Holder<S> {
     ghost invariant = { λ h. IsServed S.mine h.book.journal S.workers S.arcs h.seat × (h.book.budget ≡ S.budget) };
 }
 
-impl<S: Site> Holder<S> {
+impl<S: LockId> Holder<S> {
     /// The opening tree, with nothing decided.
     pub(crate) fn new(
         alloc: Global,
@@ -67,7 +67,7 @@ impl<S: Site> Holder<S> {
         }
     }
 
-    /// What is true of each holder, the law of the lock. It is of the site's instance and budget. The journal is lawful, under
+    /// What is true of each holder, the law of the lock. It is of the instance and the budget that the lock's id names. The journal is lawful, under
     /// the seats of the workers, of arcs that may be asked for, and of the driver, of arcs of the instance; the tree is its
     /// replay by one thread, and normalised; the mergers are at most the budget's, and at most P * (n + 1) + n, P the sum of
     /// the positive values. The entries under each worker's seat are what was answered to it, and nothing is claimed. The published arcs are those
@@ -135,7 +135,7 @@ impl<S: Site> Holder<S> {
         self.book.decide(rt, DRIVER, arc)
     }
 
-    /// Tells a seat to look from of all mergers that were made: all that it saw or was told of before was a beginning of these.
+    /// Tells a seat to look from of all mergers that were made: all that it saw or was told of before was a prefix of these.
     /// True where nothing is left to be published, which is always.
     pub fn tell(&mut self, seat: &mut LookSeat<S>) -> bool
         ensures same { self.new ≡ self.old }

@@ -4,12 +4,12 @@
 
 mod book;
 mod holder;
+mod lock_id;
 mod serve;
 mod shared;
-mod site;
 
 pub use holder::Holder;
+pub use lock_id::LockId;
 pub use pit_model::{Entry, Verdict};
 pub use shared::SharedTree;
-pub use site::Site;
-pub use versions::{LookSeat, Origin, UnnamedList, Version};
+pub use versions::{ListId, LookSeat, UnnamedList, Version};

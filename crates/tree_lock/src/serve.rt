@@ -5,12 +5,12 @@ ghost use Rattle.faults.specs.Refused.{no_memory};
 ghost use Rattle.tree_lock.specs.Served.{Serves, ServesOne};
 
 use crate::holder::Holder;
-use crate::site::Site;
+use crate::lock_id::LockId;
 use faults::Fault;
 use proposals::Board;
 use std::sync::Wait;
 
-impl<S: Site> Holder<S> {
+impl<S: LockId> Holder<S> {
     /// Serves one worker, and tells whether an ask of it stood there.
     fn serve_one<R: Wait>(&mut self, rt: &R, board: &Board<S>, worker: u32) -> Result<bool, Fault>
         requires { 0 < worker }

@@ -6,7 +6,7 @@ ghost use Rattle.pit_model.specs.Tree.{opening};
 ghost use Rattle.tree_lock.specs.Served.{IsFresh};
 
 use crate::holder::Holder;
-use crate::site::Site;
+use crate::lock_id::LockId;
 use faults::Fault;
 use norm_tree::NormTree;
 use proposals::{Board, HolderSeat};
@@ -15,13 +15,13 @@ use std::sync::{Mutex, MutexGuard, Wait};
 use versions::{LookSeat, LookSeats, Publisher, UnnamedList};
 
 /// A tree that threads share. It is not `Drop`, as its holder: end it by `into_holder`.
-pub struct SharedTree<S: Site> {
+pub struct SharedTree<S: LockId> {
     lock: Mutex<Holder<S>>,
     /// None where the count of its owners was full, as in no run; then each place counts as taken.
     look_seats: Option<LookSeats<S>>,
 }
 
-impl<S: Site> SharedTree<S> {
+impl<S: LockId> SharedTree<S> {
     /// Puts the opening tree under a lock, with an empty journal and the seat that answers the board, and publishes it. There
     /// is a place to look from for each worker of the board, and one more.
     /// Errors: `NoMemory` where memory was refused, `NoSeat` where the table of places was.
@@ -87,7 +87,7 @@ impl<S: Site> SharedTree<S> {
     }
 
     /// Takes the lock and tells the seat of all mergers that were made by then: all that it saw or was told of before was a
-    /// beginning of these. True where nothing is left to be published, which is always.
+    /// prefix of these. True where nothing is left to be published, which is always.
     pub fn tell<R: Wait>(&self, rt: &R, seat: &mut LookSeat<S>) -> bool
         ensures before { IsPrefix seat.old seat.new }
         ensures all { result ≡ true }

@@ -1,4 +1,4 @@
--- Beginnings of the list, and its last link.
+-- Prefixes of the list, and its last link.
 use Rattle.std.proofs.Common.{◌≡◌, ℕ, ◌+◌, ◌*◌, ◌≤◌, ◌<◌, List, [], ◌∷◌, ◌++◌, map, length, refl, ap, sym, ◌∙◌, subst, arith, length-append, append_assoc}
 use mathlib.Core.List.{IsPrefix}
 use Rattle.versions.specs.declared.link.Link.{Link}
@@ -9,7 +9,7 @@ shorter [] ys r s e le = (ys, refl)
 shorter (x ∷ xs) [] r s e le = absurd (omega arith)
 shorter (x ∷ xs) (y ∷ ys) r s e le = let rest = shorter xs ys r s (cc e) (omega arith) in (rest.0, cc (e, rest.1))
 
--- of two beginnings of one list the shorter begins the other
+-- of two prefixes of one list the shorter begins the other
 pub begins : {A : Type 0} (xs ys zs : List A) → IsPrefix xs zs → IsPrefix ys zs → length xs ≤ length ys → IsPrefix xs ys
 begins xs ys zs p q le = shorter xs ys p.0 q.0 (p.1 ∙ sym q.1) le
 

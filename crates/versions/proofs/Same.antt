@@ -1,4 +1,4 @@
--- Two beginnings of one list are equal where they have as many arcs; with an arc behind one of them, where the last is the same too.
+-- Two prefixes of one list are equal where they have as many arcs; with an arc behind one of them, where the last is the same too.
 use Rattle.std.proofs.Common.{◌≡◌, ℕ, ◌+◌, Bool, true, false, List, [], ◌∷◌, ◌++◌, map, length, refl, sym, ◌∙◌, subst, arith}
 use Rattle.std.specs.Prelude.{◌==◌, ◌&&◌}
 use Rattle.std.proofs.lemmas.Bool.{eq-eqb, ne_eqb}
@@ -13,7 +13,7 @@ alike [] (y ∷ ys) r s e h = absurd (omega arith)
 alike (x ∷ xs) [] r s e h = absurd (omega arith)
 alike (x ∷ xs) (y ∷ ys) r s e h = let rest = alike xs ys r s (cc e) (omega arith) in cc (e, rest)
 
--- two beginnings of one list, as long as each other
+-- two prefixes of one list, as long as each other
 pub as_long : {A : Type 0} (xs ys zs : List A) → IsPrefix xs zs → IsPrefix ys zs → length xs ≡ length ys → xs ≡ ys
 as_long xs ys zs p q h = alike xs ys p.0 q.0 (p.1 ∙ sym q.1) h
 

@@ -1,3 +1,3 @@
-pub mod Origins
+pub mod ListIds
 pub mod ArcList
 pub mod Published

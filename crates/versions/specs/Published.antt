@@ -21,7 +21,7 @@ last_arc_after arc (next ∷ others) = last_arc_after next others
 abbrev pub last_arc : List ℕ → ℕ
 last_arc arcs = last_arc_after 0 arcs
 
--- as many arcs, and the same last one; of two beginnings of one list, with an arc behind one of them, this says that they are equal
+-- as many arcs, and the same last one; of two prefixes of one list, with an arc behind one of them, this says that they are equal
 abbrev pub are_same : List ℕ → List ℕ → Bool
 are_same some others = (length some == length others) && (last_arc some == last_arc others)
 

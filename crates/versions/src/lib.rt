@@ -1,18 +1,18 @@
 //! Versions of the tree: readers look at a published one without a lock, while the holder of the lock changes the other copy.
 #![tactic(auto)]
 
-mod beginning;
-mod head;
 mod link;
+mod list_id;
+mod list_word;
+mod list_writer;
 mod look;
-mod origin;
+mod prefix;
 mod publisher;
-mod scribe;
 mod steps;
 mod taken;
 mod tree_copy;
 
+pub use list_id::ListId;
+pub use list_writer::UnnamedList;
 pub use look::{LookSeat, LookSeats, Version};
-pub use origin::Origin;
 pub use publisher::Publisher;
-pub use scribe::UnnamedList;

@@ -6,8 +6,8 @@ ghost use Rattle.faults.specs.Refused.{no_seat};
 ghost use Rattle.pit_model.specs.Tree.{is_merger, is_strong};
 ghost use Rattle.pit_model.specs.Version.{version_tree, IsVersion};
 
-use crate::beginning::Beginning;
-use crate::origin::Origin;
+use crate::list_id::ListId;
+use crate::prefix::Prefix;
 use crate::tree_copy::TreeCopy;
 use crossbeam_utils::rule::Unruled;
 use faults::Fault;
@@ -17,12 +17,12 @@ use std::marker::Model;
 
 /// What gives seats to look from. Threads may share it. To a contract it is the arcs that each new seat is told of.
 #[derive(Drop)]
-pub struct LookSeats<V: Origin> {
+pub struct LookSeats<V: ListId> {
     factory: Factory<TreeCopy<V>, (), Unruled>,
-    list: Beginning<V>,
+    list: Prefix<V>,
 }
 
-impl<V: Origin> Model for LookSeats<V> {
+impl<V: ListId> Model for LookSeats<V> {
     ghost use Rattle.std.specs.Prelude.{ℕ, List};
 
     ghost Value = { List ℕ };
@@ -33,12 +33,12 @@ impl<V: Origin> Model for LookSeats<V> {
 /// A seat to look from. To a contract it is the arcs that it saw or was told of: those of its last look or of its last
 /// telling, which begin with all before.
 #[derive(Drop)]
-pub struct LookSeat<V: Origin> {
+pub struct LookSeat<V: ListId> {
     reader: Reader<TreeCopy<V>, (), Unruled>,
-    list: Beginning<V>,
+    list: Prefix<V>,
 }
 
-impl<V: Origin> Model for LookSeat<V> {
+impl<V: ListId> Model for LookSeat<V> {
     ghost use Rattle.std.specs.Prelude.{ℕ, List};
 
     ghost Value = { List ℕ };
@@ -47,12 +47,12 @@ impl<V: Origin> Model for LookSeat<V> {
 }
 
 /// A version of the tree, which stays as it is until it is left. To a contract it is the arcs that were merged over.
-pub struct Version<V: Origin> {
+pub struct Version<V: ListId> {
     reading: Reading<TreeCopy<V>, (), Unruled>,
-    list: Beginning<V>,
+    list: Prefix<V>,
 }
 
-impl<V: Origin> Model for Version<V> {
+impl<V: ListId> Model for Version<V> {
     ghost use Rattle.std.specs.Prelude.{◌≡◌, ℕ, List};
     ghost use Rattle.pit_model.specs.Version.{IsVersion};
 
@@ -63,11 +63,8 @@ impl<V: Origin> Model for Version<V> {
     ghost invariant = { λ v. IsVersion V.mine v.reading.part.value.tree v.list };
 }
 
-impl<V: Origin> LookSeats<V> {
-    pub(crate) fn new(
-        factory: Factory<TreeCopy<V>, (), Unruled>,
-        list: Beginning<V>,
-    ) -> LookSeats<V>
+impl<V: ListId> LookSeats<V> {
+    pub(crate) fn new(factory: Factory<TreeCopy<V>, (), Unruled>, list: Prefix<V>) -> LookSeats<V>
         ensures { result ≡ list }
     {
         LookSeats { factory, list }
@@ -88,16 +85,16 @@ impl<V: Origin> LookSeats<V> {
     }
 }
 
-impl<V: Origin> LookSeat<V> {
+impl<V: ListId> LookSeat<V> {
     /// What it saw or was told of.
-    pub(crate) fn list(&self) -> &Beginning<V>
+    pub(crate) fn list(&self) -> &Prefix<V>
         ensures { result.now ≡ self.now }
     {
         &self.list
     }
 
     /// It is told of this list.
-    pub(crate) fn learn(&mut self, list: Beginning<V>)
+    pub(crate) fn learn(&mut self, list: Prefix<V>)
         ensures { self.new ≡ list }
     {
         self.list = list;
@@ -128,7 +125,7 @@ impl<V: Origin> LookSeat<V> {
     }
 }
 
-impl<V: Origin> Version<V> {
+impl<V: ListId> Version<V> {
     /// What is true of each version: each arc was a merger arc at its turn.
     pub fn law(&self)
         ensures { IsVersion V.mine (version_tree V.mine self.now) self.now }

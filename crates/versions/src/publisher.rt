@@ -7,10 +7,10 @@ ghost use Rattle.pit_model.specs.Tree.{is_merger, opening};
 ghost use Rattle.pit_model.specs.Version.{version_tree, IsVersion};
 ghost use Rattle.versions.specs.Published.{taken_in, tree_over};
 
-use crate::head::MOST;
+use crate::list_id::ListId;
+use crate::list_word::MOST;
+use crate::list_writer::{ListWriter, UnnamedList};
 use crate::look::{LookSeat, LookSeats};
-use crate::origin::Origin;
-use crate::scribe::{Scribe, UnnamedList};
 use crate::taken::Addition;
 use crate::tree_copy::TreeCopy;
 use core::mem::replace_with;
@@ -27,15 +27,15 @@ type Copies<V> = Writer<TreeCopy<V>, Addition<V>, (), Unruled>;
 
 /// To a contract it is the arcs that were merged over, all of which are published. It is not `Drop`, since its end waits for
 /// readers: end it by `into_tree`.
-pub struct Publisher<V: Origin>
+pub struct Publisher<V: ListId>
 where
     TreeCopy<V>: Absorb<Addition<V>, State = TreeCopy<V>>,
 {
-    scribe: Scribe<V>,
+    list_writer: ListWriter<V>,
     copies: Copies<V>,
 }
 
-impl<V: Origin> Model for Publisher<V>
+impl<V: ListId> Model for Publisher<V>
 where
     TreeCopy<V>: Absorb<Addition<V>, State = TreeCopy<V>>,
 {
@@ -44,13 +44,13 @@ where
 
     ghost Value = { List ℕ };
 
-    ghost view = { λ p. p.scribe };
+    ghost view = { λ p. p.list_writer };
 
-    ghost invariant = { λ p. IsPublished V.mine p.copies.desk.shown.value p.scribe (drop p.copies.behind p.copies.log.items) };
+    ghost invariant = { λ p. IsPublished V.mine p.copies.desk.shown.value p.list_writer (drop p.copies.behind p.copies.log.items) };
 }
 
 /// Shows readers the copy that has taken in every arc. It waits for those that still look at that copy.
-fn shown<V: Origin, R: Wait>(copies: Copies<V>, rt: &R) -> Copies<V>
+fn shown<V: ListId, R: Wait>(copies: Copies<V>, rt: &R) -> Copies<V>
     ensures shown { result.desk.shown.value ≡ fold taken_in copies.desk.shown.value (drop copies.behind copies.log.items) }
     ensures none_left { drop result.behind result.log.items ≡ [] }
 {
@@ -59,14 +59,14 @@ fn shown<V: Origin, R: Wait>(copies: Copies<V>, rt: &R) -> Copies<V>
 }
 
 /// The same through a `&mut`.
-fn show<V: Origin, R: Wait>(copies: &mut Copies<V>, rt: &R)
+fn show<V: ListId, R: Wait>(copies: &mut Copies<V>, rt: &R)
     ensures shown { copies.new.desk.shown.value ≡ fold taken_in copies.old.desk.shown.value (drop copies.old.behind copies.old.log.items) }
     ensures none_left { drop copies.new.behind copies.new.log.items ≡ [] }
 {
     replace_with(copies, rt, |copies, rt| (shown(copies, rt), ()));
 }
 
-impl<V: Origin> Publisher<V> {
+impl<V: ListId> Publisher<V> {
     /// Publishes the opening tree, and makes a copy of it and room for so many seats.
     /// Errors: `NoMemory` where memory was refused, `NoSeat` where the table of places was.
     pub fn new(
@@ -82,13 +82,16 @@ impl<V: Origin> Publisher<V> {
         ensures made { IfOk result (λ publisher. publisher ≡ []) }
         ensures refused { IfErr result IsNoRoom }
     {
-        let scribe = Scribe::<V>::new(alloc, list)?;
-        let first_head = scribe.head()?;
-        let second_head = scribe.head()?;
-        let second = TreeCopy::new(tree.copy()?, second_head, scribe.whole());
-        let first = TreeCopy::new(tree, first_head, scribe.whole());
+        let list_writer = ListWriter::<V>::new(alloc, list)?;
+        let first_word = list_writer.list_word()?;
+        let second_word = list_writer.list_word()?;
+        let second = TreeCopy::new(tree.copy()?, second_word, list_writer.whole());
+        let first = TreeCopy::new(tree, first_word, list_writer.whole());
         match Writer::new(alloc, first, second, seats as usize) {
-            Ok(copies) => Ok(Publisher { scribe, copies }),
+            Ok(copies) => Ok(Publisher {
+                list_writer,
+                copies,
+            }),
             Err(_) => Err(Fault::no_seat()),
         }
     }
@@ -97,14 +100,14 @@ impl<V: Origin> Publisher<V> {
     pub fn law(&self)
         ensures { IsVersion V.mine (version_tree V.mine self.now) self.now }
     {
-        let _ = &self.scribe;
+        let _ = &self.list_writer;
     }
 
     /// The published tree.
     pub fn tree(&self) -> &NormTree
         ensures { result.now ≡ tree_over V.mine self.now }
     {
-        let _ = &self.scribe;
+        let _ = &self.list_writer;
         self.copies.published().tree()
     }
 
@@ -114,7 +117,7 @@ impl<V: Origin> Publisher<V> {
         ensures refused { IfErr result (λ fault. fault ≡ no_seat) }
     {
         match self.copies.factory().another() {
-            Ok(factory) => Ok(LookSeats::new(factory, self.scribe.whole())),
+            Ok(factory) => Ok(LookSeats::new(factory, self.list_writer.whole())),
             Err(_) => Err(Fault::no_seat()),
         }
     }
@@ -127,20 +130,20 @@ impl<V: Origin> Publisher<V> {
         ensures refused { IfErr result (λ fault. (fault ≡ no_memory) × (self.new ≡ self.old)) }
     {
         self.tree().law();
-        if self.scribe.count() >= MOST {
+        if self.list_writer.count() >= MOST {
             return Err(Fault::from(AllocError));
         }
-        let addition = Addition::new(self.scribe.whole(), arc);
+        let addition = Addition::new(self.list_writer.whole(), arc);
         match self.copies.append(addition) {
             Ok(()) => {}
             Err(_) => return Err(Fault::from(AllocError)),
         }
-        self.scribe.write(arc);
+        self.list_writer.write(arc);
         show(&mut self.copies, rt);
         Ok(())
     }
 
-    /// Tells the seat of all that is published: all that it saw or was told of before was a beginning of that.
+    /// Tells the seat of all that is published: all that it saw or was told of before was a prefix of that.
     /// True where nothing is pending, which is always.
     pub fn tell(&mut self, seat: &mut LookSeat<V>) -> bool
         ensures same { self.new ≡ self.old }
@@ -148,8 +151,8 @@ impl<V: Origin> Publisher<V> {
         ensures before { IsPrefix seat.old self.old }
         ensures all { result ≡ true }
     {
-        self.scribe.confirm(seat.list());
-        seat.learn(self.scribe.whole());
+        self.list_writer.confirm(seat.list());
+        seat.learn(self.list_writer.whole());
         !self.copies.has_pending_operations()
     }
 
@@ -157,7 +160,10 @@ impl<V: Origin> Publisher<V> {
     pub fn into_tree<R: Wait>(self, rt: &R) -> NormTree
         ensures { result ≡ tree_over V.mine self }
     {
-        let Publisher { scribe: _, copies } = self;
+        let Publisher {
+            list_writer: _,
+            copies,
+        } = self;
         Box::into_inner(copies.take(rt)).into_tree()
     }
 }

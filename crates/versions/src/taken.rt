@@ -3,19 +3,19 @@
 ghost use Rattle.std.specs.Prelude.{◌≡◌, [], ◌∷◌, ◌++◌, IfSome, IsTrue};
 ghost use Rattle.versions.specs.Published.{are_same};
 
-use crate::beginning::Beginning;
-use crate::head::Head;
-use crate::origin::Origin;
+use crate::list_id::ListId;
+use crate::list_word::ListWord;
+use crate::prefix::Prefix;
 use std::marker::Model;
 
 /// An arc that the copies are to take in, and the list before it. To a contract it is both.
 #[derive(Drop)]
-pub struct Addition<V: Origin> {
-    before: Beginning<V>,
+pub struct Addition<V: ListId> {
+    before: Prefix<V>,
     arc: u32,
 }
 
-impl<V: Origin> Model for Addition<V> {
+impl<V: ListId> Model for Addition<V> {
     ghost use Rattle.std.specs.Prelude.{ℕ, List};
 
     ghost Value = { List ℕ × ℕ };
@@ -23,14 +23,14 @@ impl<V: Origin> Model for Addition<V> {
     ghost view = { λ a. (a.before, a.arc) };
 }
 
-impl<V: Origin> Addition<V> {
-    pub fn new(before: Beginning<V>, arc: u32) -> Addition<V>
+impl<V: ListId> Addition<V> {
+    pub fn new(before: Prefix<V>, arc: u32) -> Addition<V>
         ensures { result ≡ (before, arc) }
     {
         Addition { before, arc }
     }
 
-    pub fn before(&self) -> &Beginning<V>
+    pub fn before(&self) -> &Prefix<V>
         ensures { result.now ≡ self.now.0 }
     {
         &self.before
@@ -45,13 +45,13 @@ impl<V: Origin> Addition<V> {
 
 /// To a contract it is the arcs.
 #[derive(Drop)]
-pub struct TakenIn<V: Origin> {
-    told: Beginning<V>,
+pub struct TakenIn<V: ListId> {
+    told: Prefix<V>,
     /// An arc behind them of which the list's word did not tell when it was taken in, as in no run. The next addition tells of it.
     last: Option<u32>,
 }
 
-impl<V: Origin> Model for TakenIn<V> {
+impl<V: ListId> Model for TakenIn<V> {
     ghost use Rattle.std.specs.Prelude.{ℕ, List};
     ghost use Rattle.versions.specs.Published.{with_last};
 
@@ -60,15 +60,15 @@ impl<V: Origin> Model for TakenIn<V> {
     ghost view = { λ t. with_last t.told t.last };
 }
 
-impl<V: Origin> TakenIn<V> {
-    pub fn new(told: Beginning<V>) -> TakenIn<V>
+impl<V: ListId> TakenIn<V> {
+    pub fn new(told: Prefix<V>) -> TakenIn<V>
         ensures { result ≡ told }
     {
         TakenIn { told, last: None }
     }
 
     /// Whether they are this list.
-    pub fn are(&self, list: &Beginning<V>) -> bool
+    pub fn are(&self, list: &Prefix<V>) -> bool
         ensures exact { result ≡ are_same self.now list.now }
         ensures same { IsTrue result → list.now ≡ self.now }
     {
@@ -79,10 +79,10 @@ impl<V: Origin> TakenIn<V> {
     }
 
     /// They are the addition's from then on.
-    pub fn grow(&mut self, head: &Head<V>, addition: &Addition<V>)
+    pub fn grow(&mut self, list_word: &ListWord<V>, addition: &Addition<V>)
         ensures { self.new ≡ addition.now.0 ++ addition.now.1 ∷ [] }
     {
-        match addition.before.followed(head, addition.arc) {
+        match addition.before.followed(list_word, addition.arc) {
             Some(told) => {
                 self.told = told;
                 self.last = None;
@@ -94,8 +94,8 @@ impl<V: Origin> TakenIn<V> {
         }
     }
 
-    /// They, as a beginning of the list, where it told of the last one, as in each run.
-    pub fn told(&self) -> Option<&Beginning<V>>
+    /// They, as a prefix of the list, where it told of the last one, as in each run.
+    pub fn told(&self) -> Option<&Prefix<V>>
         ensures { IfSome result (λ told. told.now ≡ self.now) }
     {
         match self.last {

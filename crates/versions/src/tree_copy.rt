@@ -5,9 +5,9 @@ ghost use Rattle.pit_model.specs.Tree.{opening};
 ghost use Rattle.pit_model.specs.Version.{IsVersion};
 ghost use Rattle.versions.specs.Published.{copied, taken_in};
 
-use crate::beginning::Beginning;
-use crate::head::Head;
-use crate::origin::Origin;
+use crate::list_id::ListId;
+use crate::list_word::ListWord;
+use crate::prefix::Prefix;
 use crate::taken::{Addition, TakenIn};
 use left_right::Absorb;
 use norm_tree::NormTree;
@@ -17,13 +17,13 @@ use std::sync::Arc;
 
 /// To a contract it is the instance, the tree and the arcs.
 #[derive(Drop)]
-pub struct TreeCopy<V: Origin> {
+pub struct TreeCopy<V: ListId> {
     tree: NormTree,
-    head: Arc<Head<V>, Global>,
+    list_word: Arc<ListWord<V>, Global>,
     arcs: TakenIn<V>,
 }
 
-impl<V: Origin> Model for TreeCopy<V> {
+impl<V: ListId> Model for TreeCopy<V> {
     ghost use Rattle.std.specs.Prelude.{◌≡◌};
     ghost use Rattle.pit_model.specs.Version.{IsVersion};
     ghost use Rattle.versions.specs.Published.{Copied, copied};
@@ -35,9 +35,9 @@ impl<V: Origin> Model for TreeCopy<V> {
     ghost invariant = { λ c. (c.tree.mine ≡ V.mine) × IsVersion V.mine c.tree.tree c.arcs };
 }
 
-impl<V: Origin> TreeCopy<V> {
+impl<V: ListId> TreeCopy<V> {
     /// The opening tree, before any arc.
-    pub fn new(tree: NormTree, head: Arc<Head<V>, Global>, list: Beginning<V>) -> TreeCopy<V>
+    pub fn new(tree: NormTree, list_word: Arc<ListWord<V>, Global>, list: Prefix<V>) -> TreeCopy<V>
         requires mine { tree.mine ≡ V.mine }
         requires opening { tree.tree ≡ opening tree.mine }
         requires empty { list ≡ [] }
@@ -45,7 +45,7 @@ impl<V: Origin> TreeCopy<V> {
     {
         TreeCopy {
             tree,
-            head,
+            list_word,
             arcs: TakenIn::new(list),
         }
     }
@@ -74,14 +74,14 @@ impl<V: Origin> TreeCopy<V> {
     {
         let TreeCopy {
             tree,
-            head: _,
+            list_word: _,
             arcs: _,
         } = self;
         tree
     }
 }
 
-impl<V: Origin> Absorb<Addition<V>> for TreeCopy<V> {
+impl<V: ListId> Absorb<Addition<V>> for TreeCopy<V> {
     type State = TreeCopy<V>;
 
     ghost state = { λ c. c };
@@ -96,7 +96,7 @@ impl<V: Origin> Absorb<Addition<V>> for TreeCopy<V> {
         _other: &TreeCopy<V>,
     ) -> Result<(), AllocError> {
         if self.arcs.are(operation.before()) && self.tree.try_merge(operation.arc()) {
-            self.arcs.grow(&self.head, operation);
+            self.arcs.grow(&self.list_word, operation);
         }
         Ok(())
     }

@@ -3,7 +3,7 @@ use Rattle.std.proofs.Common.{refl}
 use Rattle.std.proofs.lemmas.Result.{err_from_is_err_and}
 use Rattle.file_runs.specs.Over.{no_last, no_mine, ran}
 use Rattle.file_runs.proofs.Calling.{runs_check}
-use Rattle.file_runs.proofs.Reading.{are_unread}
+use Rattle.file_runs.proofs.Reading.{are_from_front}
 use Rattle.file_runs.proofs.check.check_files.Goals as goal
 
 pub returns-in_err-mine : goal.returns-in_err-mine
@@ -14,14 +14,15 @@ returns-in_err-mine g c =
 pub returns-in_err-certificate : goal.returns-in_err-certificate
 returns-in_err-certificate g c =
     let p = err_from_is_err_and c.from_residual-in_err-certificate.result c.from_residual-in_err-certificate.ensures.1 in
-    rw (p.1, p.2) (no_last c.in_err-certificate.field-0.0 c.open_mine.new.files c.in_ok-mine.ensures.opened c.in_err-certificate.ensures.lacked.0 c.in_err-certificate.ensures.lacked.1
+    rw (p.1, p.2) (no_last c.in_err-certificate.field-0.0 _ c.open_mine.new.files c.in_ok-mine.ensures.opened c.in_err-certificate.ensures.lacked.0 c.in_err-certificate.ensures.lacked.1
     (record { unwritten = refl; told = refl }))
 
 pub returns : goal.returns
 returns g c =
-    ran c.open_mine.new.files c.readers_of-mine.result c.run_check.new.files c.new-certificate.result c.run_check.new.certificate
+    ran c.open_mine.new.files _ _ c.readers_of-mine.result c.run_check.new.files c.new-certificate.result c.run_check.new.certificate
     c.in_ok-mine.ensures.opened c.in_ok-certificate.ensures.opened
-    (are_unread _ _ c.in_ok-mine.mine.fixed c.readers_of-mine.result c.in_ok-mine.ensures.named c.readers_of-mine.ensures.named
+    (are_from_front _ _ _ c.in_ok-mine.mine.fixed c.readers_of-mine.result c.in_ok-mine.ensures.named c.readers_of-mine.ensures.named
     c.readers_of-mine.ensures.model c.readers_of-mine.ensures.prec c.readers_of-mine.ensures.fixed)
-    c.new-certificate.ensures.start
+    (record { unread = c.new-certificate.ensures.start; known = c.new-certificate.ensures.known })
+    c.run_check.ensures.files_kept c.run_check.ensures.certificate_kept
     (runs_check _ _ _ _ c.run_check.result c.run_check.ensures.checked c.run_check.ensures.refused)

@@ -19,11 +19,14 @@ returns-in_err-blocks g c =
 pub returns-in_err-prec : goal.returns-in_err-prec
 returns-in_err-prec g c =
     let p = err_from_is_err_and c.from_residual-in_err-prec.result c.from_residual-in_err-prec.ensures.1 in
-    rw (p.1, p.2) (no_prec c.in_err-prec.field-0.0 c.in_ok-factors.factors c.open_blocks.new.self c.in_ok-factors.ensures.spelled c.in_ok-blocks.ensures.opened
+    rw (p.1, p.2) (no_prec c.in_err-prec.field-0.0 c.in_ok-factors.factors _ c.open_blocks.new.self c.in_ok-factors.ensures.spelled c.in_ok-blocks.ensures.opened
     c.in_err-prec.ensures.lacked.0 c.in_err-prec.ensures.lacked.1 (record { unwritten = refl; told = refl }))
 
 pub returns : goal.returns
 returns g c =
-    grew c.in_ok-factors.factors c.open_blocks.new.self c.watched-blocks.result c.run_shells.new.blocks c.watched-prec.result c.run_shells.new.prec
-    c.in_ok-factors.ensures.spelled c.in_ok-blocks.ensures.opened c.in_ok-prec.ensures.opened c.watched-blocks.ensures.start c.watched-prec.ensures.start
+    grew c.in_ok-factors.factors _ _ c.open_blocks.new.self c.watched-blocks.result c.run_shells.new.blocks c.watched-prec.result c.run_shells.new.prec
+    c.in_ok-factors.ensures.spelled c.in_ok-blocks.ensures.opened c.in_ok-prec.ensures.opened
+    (record { unread = c.watched-blocks.ensures.start; known = c.watched-blocks.ensures.known })
+    (record { unread = c.watched-prec.ensures.start; known = c.watched-prec.ensures.known })
+    c.run_shells.ensures.blocks_kept c.run_shells.ensures.prec_kept
     (runs_shells c.args.options.now _ _ c.run_shells.result c.run_shells.ensures.done c.run_shells.ensures.within c.run_shells.ensures.refused)

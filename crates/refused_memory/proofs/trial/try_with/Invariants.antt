@@ -2,11 +2,11 @@
 use Rattle.std.specs.Prelude.{None}
 use Rattle.refused_memory.proofs.trial.try_with.Given as goal
 
-abbrev pub ghosts-try_at-S-Room : goal.ghosts-try_at-S-Room
-ghosts-try_at-S-Room g a = record { board = a.begun.unnamed; arcs = 4294967295 }
+abbrev pub ghosts-try_at-S-BoardId : goal.ghosts-try_at-S-BoardId
+ghosts-try_at-S-BoardId g a = record { board = a.begun.unnamed; arcs = 4294967295 }
 
-abbrev pub ghosts-try_at-S-Origin : goal.ghosts-try_at-S-Origin
-ghosts-try_at-S-Origin g a = record { book = a.begun.list; mine = a.begun.tree.mine }
+abbrev pub ghosts-try_at-S-ListId : goal.ghosts-try_at-S-ListId
+ghosts-try_at-S-ListId g a = record { book = a.begun.list; mine = a.begun.tree.mine }
 
-abbrev pub ghosts-try_at-S-Site : goal.ghosts-try_at-S-Site
-ghosts-try_at-S-Site g a = record { budget = None; workers = a.begun.unnamed.words }
+abbrev pub ghosts-try_at-S-LockId : goal.ghosts-try_at-S-LockId
+ghosts-try_at-S-LockId g a = record { budget = None; workers = a.begun.unnamed.words }

@@ -25,5 +25,5 @@ pub returns-clause-checked : goal.returns-clause-checked
 returns-clause-checked g c =
     let files = files_of g.M.InBytes.progress g.M.InBytes.IsAtEnd g.P.InBytes.progress g.P.InBytes.IsAtEnd g.F.InBytes.progress g.F.InBytes.IsAtEnd c.args.files.now c.read_mine.new.files in
     let certificate = reading (g.C.InBytes.progress c.args.certificate.now) (g.C.InBytes.progress c.answer_of.new.certificate) (g.C.InBytes.IsAtEnd c.answer_of.new.certificate) in
-    checked files certificate (task_of c.in_ok-task.task) c.in_ok-answer.answer c.told.result (g.W.OutBytes.progress c.args.out.now) (g.W.OutBytes.progress c.write_answer.new.writer)
-    c.in_ok-task.ensures.mine c.law.ensures c.in_ok-answer.ensures.answered c.told.ensures c.in_ok-write_answer.ensures.text
+    checked files certificate (task_of c.in_ok-task.task) c.in_ok-answer.answer c.status_of.result (g.W.OutBytes.progress c.args.out.now) (g.W.OutBytes.progress c.write_answer.new.writer)
+    c.in_ok-task.ensures.mine c.law.ensures c.in_ok-answer.ensures.answered c.status_of.ensures c.in_ok-write_answer.ensures.text

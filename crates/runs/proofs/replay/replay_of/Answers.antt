@@ -14,15 +14,15 @@ use Rattle.runs.specs.Solve.{reading, task_of}
 use Rattle.runs.proofs.Replaying.{open_replayed, pit_replayed, plain_refused, plain_replayed, rest_refused}
 use Rattle.runs.proofs.replay.replay_of.Goals as goal
 
-pub returns-then-is_none-clause-replayed : goal.returns-then-is_none-clause-replayed
-returns-then-is_none-clause-replayed g c =
+pub returns-then-is_empty-clause-replayed : goal.returns-then-is_empty-clause-replayed
+returns-then-is_empty-clause-replayed g c =
     let journal = reading (g.J.InBytes.progress c.args.journal.now) (g.J.InBytes.progress c.replay_on.new.journal) (g.J.InBytes.IsAtEnd c.replay_on.new.journal) in
-    plain_replayed (task_of c.args.task.now) journal c.replay_on.result (c.is_none.ensures.0 c.if-is_none.true) c.replay_on.ensures.replayed
+    plain_replayed (task_of c.args.task.now) journal c.replay_on.result (c.is_empty.ensures.0 c.if-is_empty.true) c.replay_on.ensures.replayed
 
-pub returns-then-is_none-clause-refused : goal.returns-then-is_none-clause-refused
-returns-then-is_none-clause-refused g c =
+pub returns-then-is_empty-clause-refused : goal.returns-then-is_empty-clause-refused
+returns-then-is_empty-clause-refused g c =
     let journal = reading (g.J.InBytes.progress c.args.journal.now) (g.J.InBytes.progress c.replay_on.new.journal) (g.J.InBytes.IsAtEnd c.replay_on.new.journal) in
-    plain_refused (task_of c.args.task.now) journal c.replay_on.result (c.is_none.ensures.0 c.if-is_none.true) c.replay_on.ensures.refused
+    plain_refused (task_of c.args.task.now) journal c.replay_on.result (c.is_empty.ensures.0 c.if-is_empty.true) c.replay_on.ensures.refused
 
 pub returns-in_err-end-clause-refused : goal.returns-in_err-end-clause-refused
 returns-in_err-end-clause-refused g c =
@@ -32,7 +32,7 @@ returns-in_err-end-clause-refused g c =
     let fixed = c.args.task.now.fixed in
     let rest = c.in_ok-rest.rest in
     let journal = reading (g.J.InBytes.progress c.args.journal.now) (g.J.InBytes.progress c.replay_on-2.new.journal) (g.J.InBytes.IsAtEnd c.replay_on-2.new.journal) in
-    let some : fixed.lists ≡ no_lists → ⊥ = λ none. true≢false (sym (c.is_none.ensures.1 none) ∙ c.if-is_none.false) in
+    let some : fixed.lists ≡ no_lists → ⊥ = λ none. true≢false (sym (c.is_empty.ensures.1 none) ∙ c.if-is_empty.false) in
     rw (p.1, p.2) (rest_refused e.refusal e task rest.mine journal (is_rest_of task.mine fixed rest some c.in_ok-rest.ensures.rest) c.in_err-end.ensures.refused)
 
 pub join_pit-requires-clause-blocks : goal.join_pit-requires-clause-blocks
@@ -60,7 +60,7 @@ returns-in-Pit-clause-replayed g c =
     let list = c.in_ok-pit-in-Pit.pit in
     let count : c.n-n.result ≡ mine.blocks = c.n-n.ensures ∙ ap (λ (g : Graph). g.blocks) c.deref.ensures ∙ c.graph.ensures.blocks in
     let journal = reading (g.J.InBytes.progress c.args.journal.now) (g.J.InBytes.progress c.replay_on-2.new.journal) (g.J.InBytes.IsAtEnd c.replay_on-2.new.journal) in
-    let some : fixed.lists ≡ no_lists → ⊥ = λ none. true≢false (sym (c.is_none.ensures.1 none) ∙ c.if-is_none.false) in
+    let some : fixed.lists ≡ no_lists → ⊥ = λ none. true≢false (sym (c.is_empty.ensures.1 none) ∙ c.if-is_empty.false) in
     pit_replayed mine fixed rest journal c.in-Pit.found list some c.in_ok-rest.ensures.rest (subst (IsReplayedOn rest.mine journal) c.in-Pit.is c.in_ok-end.ensures.replayed)
     (λ set listed. subst (λ n. ListsJoined n fixed rest.blocks.items set list.items) count
     (subst (λ (xs : List ℕ). ListsJoined c.n-n.result fixed xs set list.items) c.deref-in-Pit.ensures.value
@@ -71,8 +71,9 @@ returns g c =
     let fixed = c.args.task.now.fixed in
     let rest = c.in_ok-rest.rest in
     let journal = reading (g.J.InBytes.progress c.args.journal.now) (g.J.InBytes.progress c.replay_on-2.new.journal) (g.J.InBytes.IsAtEnd c.replay_on-2.new.journal) in
-    let some : fixed.lists ≡ no_lists → ⊥ = λ none. true≢false (sym (c.is_none.ensures.1 none) ∙ c.if-is_none.false) in
+    let some : fixed.lists ≡ no_lists → ⊥ = λ none. true≢false (sym (c.is_empty.ensures.1 none) ∙ c.if-is_empty.false) in
     record {
       replayed = open_replayed (task_of c.args.task.now) rest.mine journal c.in_ok-end.end (is_rest_of c.args.task.now.mine fixed rest some c.in_ok-rest.ensures.rest) c.in_default.not-Pit c.in_ok-end.ensures.replayed;
       refused = tt;
+      kept = c.replay_on-2.ensures.kept;
     }

@@ -14,7 +14,7 @@ write_journal-requires-2-clause-seated g c =
     let mine = c.args.task.now.mine in
     let fixed = c.args.task.now.fixed in
     let part = c.in_ok-rest.rest in
-    let some : fixed.lists ≡ no_lists → ⊥ = λ none. true≢false (sym (c.is_none.ensures.1 none) ∙ c.if-is_none.false) in
+    let some : fixed.lists ≡ no_lists → ⊥ = λ none. true≢false (sym (c.is_empty.ensures.1 none) ∙ c.if-is_empty.false) in
     let whole : c.deref-2.result.now ≡ graph_of_mine mine = c.deref-2.ensures ∙ graph_is (arc_value c.graph-2.result.now) mine c.graph-2.ensures.blocks c.graph-2.ensures.pairs in
     let here = part_is_rest mine fixed c.deref-2.result.now part.blocks.items part.graph whole some c.in_ok-rest.ensures.rest in
     seated_there (task_of c.args.task.now) c.args.entries.now (mine_among mine part.blocks.items part.graph) c.requires.may here
@@ -24,7 +24,7 @@ returns-clause-written g c =
     let mine = c.args.task.now.mine in
     let fixed = c.args.task.now.fixed in
     let part = c.in_ok-rest.rest in
-    let some : fixed.lists ≡ no_lists → ⊥ = λ none. true≢false (sym (c.is_none.ensures.1 none) ∙ c.if-is_none.false) in
+    let some : fixed.lists ≡ no_lists → ⊥ = λ none. true≢false (sym (c.is_empty.ensures.1 none) ∙ c.if-is_empty.false) in
     let whole : c.deref-2.result.now ≡ graph_of_mine mine = c.deref-2.ensures ∙ graph_is (arc_value c.graph-2.result.now) mine c.graph-2.ensures.blocks c.graph-2.ensures.pairs in
     let here = part_is_rest mine fixed c.deref-2.result.now part.blocks.items part.graph whole some c.in_ok-rest.ensures.rest in
     (puts_entries (task_of c.args.task.now) c.args.budget c.args.entries.now (mine_among mine part.blocks.items part.graph) part.graph _
@@ -36,7 +36,7 @@ returns-clause-refused g c =
     let mine = c.args.task.now.mine in
     let fixed = c.args.task.now.fixed in
     let part = c.in_ok-rest.rest in
-    let some : fixed.lists ≡ no_lists → ⊥ = λ none. true≢false (sym (c.is_none.ensures.1 none) ∙ c.if-is_none.false) in
+    let some : fixed.lists ≡ no_lists → ⊥ = λ none. true≢false (sym (c.is_empty.ensures.1 none) ∙ c.if-is_empty.false) in
     let whole : c.deref-2.result.now ≡ graph_of_mine mine = c.deref-2.ensures ∙ graph_is (arc_value c.graph-2.result.now) mine c.graph-2.ensures.blocks c.graph-2.ensures.pairs in
     let here = part_is_rest mine fixed c.deref-2.result.now part.blocks.items part.graph whole some c.in_ok-rest.ensures.rest in
     (puts_entries (task_of c.args.task.now) c.args.budget c.args.entries.now (mine_among mine part.blocks.items part.graph) part.graph _

@@ -24,9 +24,9 @@ load-requires g c =
     let i = c.worker.invariant in
     let h = c.holder.invariant in
     let same = c.replace-theirs.ensures.value in
-    let t = subst (λ s. IsHolder g.B.Room.board s) (sym same) h in
+    let t = subst (λ s. IsHolder g.B.BoardId.board s) (sym same) h in
     let e = ap (λ t. t.words) c.args.self.now.named in
-    (c.join_seat.ensures.0 ∙ (i.table ∙ sym c.args.self.now.named), omega (arith, e, i.inside), agree_as g.B.Room.board c.args.self.now.cells.shared.key c.args.self.now.cells.shared.table_id.slots c.worker.inside.cell c.worker.inside.ask c.worker.inside.seat c.replace-theirs.result c.join_seat.new.seat i t c.join_seat.ensures.2)
+    (c.join_seat.ensures.0 ∙ (i.table ∙ sym c.args.self.now.named), omega (arith, e, i.inside), agree_as g.B.BoardId.board c.args.self.now.cells.shared.key c.args.self.now.cells.shared.table_id.slots c.worker.inside.cell c.worker.inside.ask c.worker.inside.seat c.replace-theirs.result c.join_seat.new.seat i t c.join_seat.ensures.2)
 
 pub split_seat-requires : goal.split_seat-requires
 split_seat-requires g c =

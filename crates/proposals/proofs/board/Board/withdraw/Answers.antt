@@ -7,5 +7,5 @@ use Rattle.proposals.proofs.board.Board.withdraw.Goals as goal
 pub compare_exchange-found-requires : goal.compare_exchange-found-requires
 compare_exchange-found-requires g c =
     let i = c.seat.invariant in
-    let w = subst (λ (o : Option ℕ). IsWorker g.B.Room.board c.seat.inside.cell o c.seat.inside.seat) c.in-Some.is i in
-    (i.table ∙ sym c.args.self.now.named, subst (λ z. c.seat.inside.cell < z) (ap (λ t. t.words) (sym c.args.self.now.named)) i.inside, withdraw_as g.B.Room.board _ _ c.seat.inside.cell c.seat.inside.seat c.in-Some.arc w)
+    let w = subst (λ (o : Option ℕ). IsWorker g.B.BoardId.board c.seat.inside.cell o c.seat.inside.seat) c.in-Some.is i in
+    (i.table ∙ sym c.args.self.now.named, subst (λ z. c.seat.inside.cell < z) (ap (λ t. t.words) (sym c.args.self.now.named)) i.inside, withdraw_as g.B.BoardId.board _ _ c.seat.inside.cell c.seat.inside.seat c.in-Some.arc w)

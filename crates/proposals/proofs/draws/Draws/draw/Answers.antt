@@ -13,12 +13,12 @@ fetch_add-found-requires g c =
 
 pub invariant_of-seat : goal.invariant_of-seat
 invariant_of-seat g c =
-    let i = subst (λ (b : Bool). IsDrawer g.L.Lot.draws c.seat.inside.chunks b c.seat.inside.seat) c.if-seat.false c.seat.invariant in
+    let i = subst (λ (b : Bool). IsDrawer g.L.CounterId.draws c.seat.inside.chunks b c.seat.inside.seat) c.if-seat.false c.seat.invariant in
     let e = c.fetch_add-found.ensures in
-    drawer_after g.L.Lot.draws c.seat.inside.chunks c.fetch_add-found.result c.seat.inside.ended c.seat.inside.seat c.fetch_add-found.new.seat i e.0 e.2.1 (below c.fetch_add-found.result c.seat.inside.chunks (omega (arith, c.if-found-from.true, c.from.ensures)) ∙ ap one_if (sym c.if-seat.false))
+    drawer_after g.L.CounterId.draws c.seat.inside.chunks c.fetch_add-found.result c.seat.inside.ended c.seat.inside.seat c.fetch_add-found.new.seat i e.0 e.2.1 (below c.fetch_add-found.result c.seat.inside.chunks (omega (arith, c.if-found-from.true, c.from.ensures)) ∙ ap one_if (sym c.if-seat.false))
 
 pub invariant_of-seat-2 : goal.invariant_of-seat-2
 invariant_of-seat-2 g c =
-    let i = subst (λ (b : Bool). IsDrawer g.L.Lot.draws c.seat.inside.chunks b c.seat.inside.seat) c.if-seat.false c.seat.invariant in
+    let i = subst (λ (b : Bool). IsDrawer g.L.CounterId.draws c.seat.inside.chunks b c.seat.inside.seat) c.if-seat.false c.seat.invariant in
     let e = c.fetch_add-found.ensures in
-    drawer_after g.L.Lot.draws c.seat.inside.chunks c.fetch_add-found.result true c.seat.inside.seat c.fetch_add-found.new.seat i e.0 e.2.1 (not_below c.fetch_add-found.result c.seat.inside.chunks (omega (arith, c.if-found-from.false, c.from.ensures)))
+    drawer_after g.L.CounterId.draws c.seat.inside.chunks c.fetch_add-found.result true c.seat.inside.seat c.fetch_add-found.new.seat i e.0 e.2.1 (not_below c.fetch_add-found.result c.seat.inside.chunks (omega (arith, c.if-found-from.false, c.from.ensures)))

@@ -17,7 +17,7 @@ carry_out-requires-clause-room g c =
 
 pub invariant_of-self-3 : goal.invariant_of-self-3
 invariant_of-self-3 g c =
-    let mine = g.V.Origin.mine in
+    let mine = g.V.ListId.mine in
     let book = c.self.invariant in
     let fields = c.self.inside in
     let entry : Entry = entry_of c.args.seat c.args.arc c.verdict_on-verdict.result in

@@ -8,12 +8,12 @@ pub invariant_of-self : goal.invariant_of-self
 invariant_of-self g c =
     let i = c.self.invariant in
     let did = c.decide.ensures in
-    let now = after_apply g.S.Origin.mine c.self.inside.book c.decide.new.self g.S.Site.workers g.S.Room.arcs c.self.inside.seat c.args.arc c.decide.result did.decided did.refused i.0 (subst (λ (h : Held). c.args.arc < arcs h.mine) (sym c.self.view_is) c.requires) in
+    let now = after_apply g.S.ListId.mine c.self.inside.book c.decide.new.self g.S.LockId.workers g.S.BoardId.arcs c.self.inside.seat c.args.arc c.decide.result did.decided did.refused i.0 (subst (λ (h : Held). c.args.arc < arcs h.mine) (sym c.self.view_is) c.requires) in
     (now.0, now.1 ∙ i.1)
 
 pub returns-clause-decided : goal.returns-clause-decided
 returns-clause-decided g c =
-    let mine = g.S.Origin.mine in
+    let mine = g.S.ListId.mine in
     let fields = c.self.inside in
     subst (λ (h : Held). IfOk c.decide.result (Decides c.args.arc h (held_by mine c.decide.new.self fields.seat))) c.self.view_is
     (applied mine fields.book c.decide.new.self fields.seat c.args.arc c.decide.result c.decide.ensures.decided)

@@ -24,10 +24,10 @@ pub returns-clause-replayed : goal.returns-clause-replayed
 returns-clause-replayed g c =
     let book = c.self.inside.book in
     subst (λ (h : Held). h.tree ≡ replay h.mine h.journal) c.self.view_is
-    (published_is_replay g.S.Origin.mine book.published book.journal book.budget c.law.ensures.lawful c.law.ensures.published)
+    (published_is_replay g.S.ListId.mine book.published book.journal book.budget c.law.ensures.lawful c.law.ensures.published)
 
 pub returns-clause-version : goal.returns-clause-version
 returns-clause-version g c =
     let book = c.self.inside.book in
     subst (λ (h : Held). IsVersion h.mine h.tree h.published) c.self.view_is
-    (published_is_version g.S.Origin.mine book.published book.journal book.budget c.law.ensures.lawful c.law.ensures.published)
+    (published_is_version g.S.ListId.mine book.published book.journal book.budget c.law.ensures.lawful c.law.ensures.published)

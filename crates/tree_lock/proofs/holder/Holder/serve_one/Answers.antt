@@ -10,12 +10,12 @@ invariant_of-self-in-Ok g c =
     let w = c.args.worker in
     let high : w ≤ length seat = omega (arith, c.workers.ensures, c.if-worker-workers.false) in
     let seats = seats_answered seat c.claim_ask.new.holder c.answer.new.holder w c.in-Some.arc c.in-Ok.verdict c.requires high c.in-Some.ensures.2 c.answer.ensures in
-    let now = after_answer g.S.Origin.mine c.self.inside.book c.decide.new.self g.S.Site.workers g.S.Room.arcs seat c.answer.new.holder w c.in-Some.arc c.in-Ok.verdict i.0 c.requires high c.in-Some.ensures.0 c.in-Ok.ensures.decided seats in
+    let now = after_answer g.S.ListId.mine c.self.inside.book c.decide.new.self g.S.LockId.workers g.S.BoardId.arcs seat c.answer.new.holder w c.in-Some.arc c.in-Ok.verdict i.0 c.requires high c.in-Some.ensures.0 c.in-Ok.ensures.decided seats in
     (now.0, now.1 ∙ i.1)
 
 pub returns-in-Ok-clause-served : goal.returns-in-Ok-clause-served
 returns-in-Ok-clause-served g c =
-    let mine = g.S.Origin.mine in
+    let mine = g.S.ListId.mine in
     let seat = c.self.inside.seat in
     let w = c.args.worker in
     let high : w ≤ length seat = omega (arith, c.workers.ensures, c.if-worker-workers.false) in
@@ -28,7 +28,7 @@ returns-in-Ok-clause-served g c =
 
 pub returns-in-Err-clause-refused : goal.returns-in-Err-clause-refused
 returns-in-Err-clause-refused g c =
-    let mine = g.S.Origin.mine in
+    let mine = g.S.ListId.mine in
     let seat = c.self.inside.seat in
     let w = c.args.worker in
     let high : w ≤ length seat = omega (arith, c.workers.ensures, c.if-worker-workers.false) in

@@ -11,7 +11,7 @@ use Rattle.versions.proofs.tree_copy.TreeCopyAbsorbAddition.absorb_first.Goals a
 
 pub invariant_of-self : goal.invariant_of-self
 invariant_of-self g c =
-    let mine = g.V.Origin.mine in
+    let mine = g.V.ListId.mine in
     let fields = c.self.inside in
     let i = c.self.invariant in
     let did = c.try_merge.ensures in

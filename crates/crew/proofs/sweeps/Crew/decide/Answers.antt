@@ -1,0 +1,10 @@
+-- The workers met the holder as it was handed in.
+use Rattle.std.proofs.Common.{false, subst}
+use Rattle.tree_lock.specs.Held.{Held}
+use Rattle.crew.specs.Solved.{RoundEnds}
+use Rattle.crew.proofs.sweeps.Crew.decide.Goals as goal
+
+pub returns-clause-ended : goal.returns-clause-ended
+returns-clause-ended g c =
+    subst (λ (h : Held). RoundEnds h c.is_ended.new.holder false) c.meet.ensures.same
+    (subst (RoundEnds c.meet.new.holder c.is_ended.new.holder) c.if-branch.false c.in_ok-is_ended.ensures.ended)

@@ -1,0 +1,116 @@
+//! A call over the files of the system, with what is told of it beside its answer: lines while it goes on, and the file of what
+//! it did. The answer, the other files and the exit status are those of the call without it, but where the file cannot be made
+//! or not be kept.
+
+use crate::options::{Options, WatchOptions};
+use crate::output::Output;
+use crate::stats::{end_stats, make_stats, shells_inputs, solve_inputs};
+use crate::system_files::SystemFiles;
+use crate::watch::{Times, watch};
+use counters::{Counters, Phase};
+use faults::Fault;
+use file_runs::{check_call, replay_call, shells_call, solve_call};
+use minelib_reader::StreamWriter;
+use std::alloc::AllocGlobal;
+use std::sync::Wait;
+use std::thread::Threads;
+use std::time::{Clock, Duration};
+use std::{io, thread};
+
+/// Does what is asked for over the files of the system, and answers the exit status.
+fn call<R: AllocGlobal + Threads + Wait + Sync>(
+    rt: &HostRuntime,
+    threads: &R,
+    options: &Options<'_>,
+    files: &mut SystemFiles<'_>,
+) -> u8 {
+    let alloc = rt.alloc();
+    let mut out = StreamWriter::new(io::writer(rt));
+    let stderr = rt.stderr();
+    let mut err = StreamWriter::new(io::writer(&stderr));
+    match options {
+        Options::Solve(asked) => solve_call(threads, files, asked, out, &mut err).0,
+        Options::Shells(asked) => shells_call(threads, files, asked, &mut out, &mut err),
+        Options::Check(asked) => check_call(alloc, files, asked, &mut out, &mut err),
+        Options::Replay(asked) => replay_call(alloc, files, asked, &mut out, &mut err),
+    }
+}
+
+/// The call beside a thread that watches it, and how long it was at each phase: no time where the thread could not be started.
+fn timed_call<R: AllocGlobal + Threads + Wait + Clock + Eprint + Sync>(
+    rt: &HostRuntime,
+    threads: &R,
+    options: &Options<'_>,
+    every: Option<Duration>,
+    files: &mut SystemFiles<'_>,
+) -> (u8, Times) {
+    let counters = files.counters.share();
+    let watched = &counters;
+    thread::scope(thread::scope_env(), threads, |scope| {
+        let watcher = scope.spawn(move || watch(threads, watched, every));
+        let status = call(rt, threads, options, files);
+        watched.enter(Phase::Ended);
+        match watcher {
+            Ok(watcher) => (status, watcher.join(threads)),
+            Err(_) => (status, Times::none()),
+        }
+    })
+}
+
+/// The file of what the run did, where one is wanted.
+fn stats_of(
+    rt: &HostRuntime,
+    options: &Options<'_>,
+    path: Option<&str>,
+) -> Result<Option<Output>, Fault> {
+    match options {
+        Options::Solve(asked) => make_stats(rt, path, &solve_inputs(asked)),
+        Options::Shells(asked) => make_stats(rt, path, &shells_inputs(asked)),
+        Options::Check(_) | Options::Replay(_) => Ok(None),
+    }
+}
+
+/// Does what is asked for, and tells of it as is asked for.
+fn watched<R: AllocGlobal + Threads + Wait + Clock + Eprint + Sync>(
+    rt: &HostRuntime,
+    threads: &R,
+    options: &Options<'_>,
+    asked: &WatchOptions<'_>,
+) -> Result<u8, Fault> {
+    let mut files = SystemFiles {
+        rt,
+        counters: Counters::new(rt.alloc())?,
+        stats: stats_of(rt, options, asked.stats)?,
+    };
+    let every = asked.every.map(Duration::from_secs);
+    let (status, times) = timed_call(rt, threads, options, every, &mut files);
+    let SystemFiles {
+        counters,
+        stats,
+        ..
+    } = files;
+    if let (Some(output), Some(counted)) = (stats, counters.stats()) {
+        let is_kept = status == 0 || status == 3;
+        end_stats(rt, output, is_kept, &times, &counted)?;
+    }
+    Ok(status)
+}
+
+/// Does what is asked for, tells of it as is asked for, and answers the exit status. A fault of the file of what the run did is
+/// told as one of the call.
+pub fn watched_call<R: AllocGlobal + Threads + Wait + Clock + Eprint + Sync>(
+    rt: &HostRuntime,
+    threads: &R,
+    options: &Options<'_>,
+    asked: &WatchOptions<'_>,
+) -> Result<u8, Fault> {
+    if asked.is_nothing() {
+        let mut files = SystemFiles {
+            rt,
+            counters: Counters::none(),
+            stats: None,
+        };
+        return Ok(call(rt, threads, options, &mut files));
+    }
+    watched(rt, threads, options, asked)
+}

@@ -1,0 +1,23 @@
+//! The word of the list, which all threads share: how long the list is, and its last arc.
+ghost use Rattle.std.specs.Prelude.{◌≡◌};
+ghost use Rattle.versions.specs.ArcList.{head_of};
+
+use crate::link::Link;
+use crate::list_id::ListId;
+use crate::steps::ListRule;
+use logbook::Word;
+use std::marker::PhantomData;
+
+/// Arcs are below this, and the length of the list is counted in units of this.
+pub(crate) const UNIT: u64 = 1 << 26;
+
+/// So many arcs a list takes at most: a journal of them would fill more than a terabyte.
+pub(crate) const MOST: u64 = 1 << 36;
+
+/// The word, of the id's book.
+#[derive(Drop)]
+pub struct ListWord<V: ListId> {
+    pub(crate) word: Word<Link, u64, ListRule>,
+    pub(crate) id: PhantomData<V>,
+    ghost head_is: { word ≡ head_of V.book },
+}
