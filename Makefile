@@ -43,7 +43,7 @@ install:
 	install -D -m 755 tools/pitplan $(DESTDIR)$(PREFIX)/bin/pitplan
 	install -D -m 644 LICENSE $(DOC)/LICENSE
 	test ! -e $(PROGRAM).version || install -D -m 644 $(PROGRAM).version $(DOC)/version
-	install -D -m 644 man/pitshell.1 $(DESTDIR)$(PREFIX)/share/man/man1/pitshell.1
+	install -D -m 644 -t $(DESTDIR)$(PREFIX)/share/man/man1 man/pitshell.1 man/pitplan.1
 	install -D -m 644 completions/pitshell.bash $(DESTDIR)$(PREFIX)/share/bash-completion/completions/pitshell
 	install -D -m 644 completions/_pitshell $(DESTDIR)$(PREFIX)/share/zsh/site-functions/_pitshell
 	install -D -m 644 completions/pitshell.fish $(DESTDIR)$(PREFIX)/share/fish/vendor_completions.d/pitshell.fish
@@ -91,12 +91,14 @@ storm:
 	test -x build/pitshell || $(MAKE) build
 	tools/journal_storm.py --runs 1000 --results bench/results/journal-storm.md
 
-# The program in its modes and other people's maximum flows beside it, at up to a million blocks; the
-# table goes to bench/results/. BENCH=--quick stops at 100,000 blocks. Peers whose packages are missing are left out.
+# Times the program by suites, and other people's maximum flows beside it; the table goes to bench/results/. bench/bench.py --help names
+# the suites, of which SUITE chooses one: make bench SUITE=fixed. BENCH has a suite's options: BENCH=--quick stops at 100,000 blocks.
+# Peers whose packages are missing are left out.
+SUITE = table
 bench:
 	tools/setup.sh bench || echo "going on with the peers that there are"
 	test -x $(PROGRAM) || $(MAKE) build
-	python3 bench/table.py $(BENCH)
+	/usr/bin/python3 bench/bench.py $(SUITE) $(BENCH)
 
 # Installs what the planner's layer and its tests need of Debian's packages, where anything is missing.
 setup:

@@ -1,16 +1,10 @@
-#!/usr/bin/python3
 """The library on arrays beside the program on text that numpy wrote, on the same mines, each step timed.
-
-    bench/library.py build/lib/m100k build/lib/m1m        (prefixes of mines that tools/make_mine.py made)
-    bench/library.py --rounds 5 --results bench/results/library.md PREFIX..
 
 Arrays are ready in memory when the clock starts; the pit as a bool array stops it. Memory is what a process of its own takes
 at most, before and after; for the way by text that of Python alone, without the program's.
 """
 
-import argparse
 import json
-import os
 import resource
 import subprocess
 import sys
@@ -19,21 +13,20 @@ import time
 from pathlib import Path
 
 import numpy as np
+from kit import ROOT, Mine, keep, mine_of, options
 
-TOP = Path(__file__).resolve().parents[1]
-sys.path.insert(0, str(TOP / "python"))
-PROGRAM = os.environ.get("PITSHELL", str(TOP / "build" / "pitshell"))
+sys.path.insert(0, str(ROOT / "python"))
 
 
-def arrays_of(prefix: str) -> Path:
+def arrays_of(mine: Mine) -> Path:
     """The arrays of a mine's files, kept beside them."""
-    kept = Path(prefix + ".npz")
+    kept = mine.model.with_suffix(".npz")
     if not kept.exists():
-        lines = Path(prefix + ".upit").read_text().splitlines()[4:]
+        lines = mine.model.read_text().splitlines()[4:]
         values = np.array([round(float(line.split()[1]) * 100) * 10_000 for line in lines], dtype=np.int64)
         counts = np.zeros(len(values), dtype=np.int64)
         needs = []
-        for line in Path(prefix + ".prec").read_text().splitlines():
+        for line in mine.prec.read_text().splitlines():
             fields = line.split()
             counts[int(fields[0])] = int(fields[1])
             needs.append(np.array(fields[2:], dtype=np.int32))
@@ -77,7 +70,7 @@ def by_library(mine) -> dict:
     return {**clock.taken(), "before": before, "peak": peak(), "worth": found.worth, "blocks": int(found.in_pit.sum())}
 
 
-def by_program(mine) -> dict:
+def by_program(mine, program: str) -> dict:
     from pitplan import text
     from pitplan.files import write_model
 
@@ -96,8 +89,7 @@ def by_program(mine) -> dict:
                 rows = np.arange(begin, min(n, begin + 100_000))
                 file.write(text.ragged([text.whole(rows), text.whole(counts[rows])], many[rows], -1))
         clock.step("write needs")
-        bytes_written = model.stat().st_size + prec.stat().st_size
-        ran = subprocess.run([PROGRAM, "solve", "--model", model, "--prec", prec, "--mode", "single"], stdout=subprocess.PIPE, check=True)
+        ran = subprocess.run([program, "solve", "--model", model, "--prec", prec, "--mode", "single"], stdout=subprocess.PIPE, check=True)
         clock.step("program")
         head, _, rest = ran.stdout.partition(b"WORTH: ")
         worth, _, blocks = rest.partition(b"\n")
@@ -109,53 +101,42 @@ def by_program(mine) -> dict:
         **taken,
         "before": before,
         "peak": peak(),
-        "bytes": bytes_written,
         "worth": int(worth.replace(b".", b"")),
         "blocks": int(in_pit.sum()),
     }
 
 
-def child(way: str, kept: str) -> None:
+def child(way: str, kept: str, program: str) -> None:
     with np.load(kept) as file:
         mine = {name: file[name] for name in file.files}
-    print(json.dumps((by_library if way == "library" else by_program)(mine)))
+    print(json.dumps(by_library(mine) if way == WAYS[0] else by_program(mine, program)))
 
 
-def run(way: str, kept: Path) -> dict:
-    ran = subprocess.run([sys.executable, __file__, "--child", way, kept], stdout=subprocess.PIPE, check=True, text=True)
-    return json.loads(ran.stdout)
+WAYS = ("library", "text and program")
 
 
-def main() -> None:
-    parser = argparse.ArgumentParser(description=__doc__, formatter_class=argparse.RawDescriptionHelpFormatter)
-    parser.add_argument("--rounds", type=int, default=3)
-    parser.add_argument("--results", type=Path)
-    parser.add_argument("--child")
-    parser.add_argument("prefixes", nargs="+")
-    asked = parser.parse_args()
-    if asked.child:
-        child(asked.child, asked.prefixes[0])
+def run(way: str, kept: Path, program: Path) -> dict:
+    """One way in a process of its own."""
+    words = [sys.executable, ROOT / "bench" / "bench.py", "library", "--child", way, kept, program]
+    return json.loads(subprocess.run(words, stdout=subprocess.PIPE, check=True, text=True).stdout)
+
+
+def main(words: list[str]) -> None:
+    if words[:1] == ["--child"]:
+        child(*words[1:])
         return
-    table = ["| mine | way | whole s | processor s | steps s | MB before | MB at most |", "|---|---|---|---|---|---|---|"]
-    notes: list[str] = []
-    for prefix in asked.prefixes:
-        kept = arrays_of(prefix)
-        answers = set()
-        for way in ("library", "text and program"):
-            rounds = [run(way, kept) for _ in range(asked.rounds)]
-            answers |= {(r["worth"], r["blocks"]) for r in rounds}
-            best = min(rounds, key=lambda r: sum(r["steps"].values()))
-            steps = ", ".join(f"{name} {took:.2f}" for name, took in best["steps"].items())
-            table.append(f"| {Path(prefix).name} | {way} | {sum(best['steps'].values()):.2f} | {best['processor']:.2f} | {steps} | {best['before']} | {best['peak']} |")
-        if len(answers) != 1:
-            sys.exit(f"{prefix}: the answers differ: {answers}")
-        with np.load(kept) as file:
-            sizes = f"{len(file['values'])} blocks, {len(file['indices'])} pairs, {best['bytes'] / 1e6:.0f} MB of text"
-        notes.append(f"{Path(prefix).name}: {sizes}; both ways a pit of {best['blocks']} blocks, worth {best['worth']} millionths")
-    said = "\n".join([*table, "", *notes]) + "\n"
-    print(said, end="")
-    if asked.results:
-        asked.results.write_text(said)
-
-
-main()
+    given = options("library", __doc__, [100000, 1000000], ["1:5"]).parse_args(words)
+    lines = ["| slopes | blocks | way | whole s | processor s | steps s | MB before | MB at most |", "|---" * 8 + "|"]
+    for slopes in given.slopes:
+        for blocks in given.blocks:
+            kept, answers = arrays_of(mine_of(blocks, slopes)), set()
+            for way in WAYS:
+                rounds = [run(way, kept, given.bin) for _ in range(given.runs)]
+                answers |= {(it["worth"], it["blocks"]) for it in rounds}
+                least = min(rounds, key=lambda it: sum(it["steps"].values()))
+                steps = ", ".join(f"{name} {took:.2f}" for name, took in least["steps"].items())
+                whole = sum(least["steps"].values())
+                lines.append(f"| {slopes} | {blocks:,} | {way} | {whole:.2f} | {least['processor']:.2f} | {steps} | {least['before']} | {least['peak']} |")
+            if len(answers) != 1:
+                raise SystemExit(f"the answers differ at {blocks} blocks with slopes {slopes}: {answers}")
+    keep("library", "The library on arrays beside the program on text", given.bin, lines)

@@ -1,31 +1,24 @@
-#!/usr/bin/env python3
-"""Feeds the built program texts that mean harm, and compares the seconds a megabyte with those of a lawful file.
+"""Feeds the program texts that mean harm, and compares the processor seconds a megabyte with those of a lawful file.
 
-    bench/malice.py [--bin build/pitshell] [--megabytes 10]
-
-The best of three runs each. Each text must end in the refusal that is named here, in time linear in its length. The table goes to standard output and
-to bench/results/; a row whose refusal is another, or whose ratio is above 2, is marked. Last, the texts of two blocks are cut at every byte:
-each must end in a pit or in a fault of the format.
+Each text must end in the refusal that is named here, in time linear in its length; a row whose refusal is another, or whose ratio is
+above 2, is marked.
 """
 
-import argparse
-import datetime
 import pathlib
-import re
-import subprocess
-import tempfile
-import time
+from collections.abc import Iterator
 
-ROOT = pathlib.Path(__file__).resolve().parent.parent
+from kit import WORK, keep, options
+from timing import best
+
 HEAD = "NAME: t\nTYPE: UPIT\nNBLOCKS: {}\nOBJECTIVE_FUNCTION:\n"
 
 
-def lawful_model(size):
+def lawful_model(size: int) -> str:
     blocks = size // 12
     return HEAD.format(blocks) + "".join(f"{block} -1.5\n" for block in range(blocks))
 
 
-def lawful_prec(size):
+def lawful_prec(size: int) -> tuple[str, int]:
     """Lines that name three predecessors each, and how many blocks they speak of."""
     lines, length, block = [], 0, 3
     while length < size:
@@ -36,11 +29,11 @@ def lawful_prec(size):
     return "".join(lines), block
 
 
-def small_model(blocks):
+def small_model(blocks: int) -> str:
     return HEAD.format(blocks) + "".join(f"{block} -1\n" for block in range(blocks))
 
 
-def texts(size):
+def texts(size: int) -> Iterator[tuple[str, str | bytes, str | bytes, str]]:
     """A name, the model, the precedence text and the first words of the fault (empty: a pit is written)."""
     two = small_model(2)
     many = 4_000_000
@@ -61,80 +54,26 @@ def texts(size):
     yield "many predecessors, the last twice", small_model(many), f"{many - 1} {many} {named} {many - 2}\n", "error 10: predecessor named twice in precedence line 1"
 
 
-def timed(program, folder, model, prec):
-    for name, text in (("m", model), ("p", prec)):
-        (folder / name).write_bytes(text if isinstance(text, bytes) else text.encode())
-    size = sum((folder / name).stat().st_size for name in "mp") / 1e6
-    best = float("inf")
-    for _ in range(3):
-        start = time.perf_counter()
-        done = subprocess.run([program, "solve", "--model", "m", "--prec", "p"], cwd=folder, capture_output=True, timeout=600)
-        best = min(best, time.perf_counter() - start)
-    return size, best, done.stderr.decode(errors="replace").strip()
+def files_of(model: str | bytes, prec: str | bytes) -> tuple[pathlib.Path, pathlib.Path]:
+    WORK.mkdir(exist_ok=True)
+    paths = WORK / "harm.upit", WORK / "harm.prec"
+    for path, text in zip(paths, (model, prec)):
+        path.write_bytes(text if isinstance(text, bytes) else text.encode())
+    return paths
 
 
-MODEL = HEAD.format(2) + "0 -3\n1 5\n"
-PREC = "1 1 0\n"
-# What must come where the text of the two blocks ends so; worked out by hand.
-KNOWN_CUTS = {
-    "TYPE: UPI": "error 3: wrong header in model line 2",
-    "NBLOCKS: ": "error 3: wrong header in model line 3",
-    "0 -": "error 6: not a decimal in model line 5",
-    "0 -3\n": "error 12: ends early in model line 6",
-    "\n1 ": "error 11: wrong number of fields in model line 6",
-}
-FAULT = re.compile(r"error ([3-9]|1[0-3]): [a-z ]+ in (model|precedence) line [1-9][0-9]*")
-
-
-def cut_texts(program, folder):
-    """Cuts the texts of two blocks at every byte: how many runs, and those that end neither in a pit nor in a fault of the format, or in another
-    than the one known."""
-    runs, wrong = 0, []
-    for text, other, is_model in ((MODEL, PREC, True), (PREC, MODEL, False)):
-        for size in range(len(text) + 1):
-            model, prec = (text[:size], other) if is_model else (other, text[:size])
-            (folder / "m").write_text(model)
-            (folder / "p").write_text(prec)
-            done = subprocess.run([program, "solve", "--model", "m", "--prec", "p"], cwd=folder, capture_output=True, text=True, timeout=60)
-            fault = done.stderr.strip()
-            due = next((answer for end, answer in KNOWN_CUTS.items() if is_model and model.endswith(end)), None)
-            if due is None and not is_model and prec == "1 1":
-                due = "error 11: wrong number of fields in precedence line 1"
-            lawful = done.returncode == 0 and done.stdout.startswith("PIT\n") and not fault
-            refused = done.returncode == 1 and FAULT.fullmatch(fault) and not done.stdout
-            runs += 1
-            if not (lawful or refused) or (due and fault != due):
-                wrong.append(f"{text[:size]!r}: {fault or done.stdout!r}")
-    return runs, wrong
-
-
-def main():
-    parser = argparse.ArgumentParser(description="Feeds the program texts that mean harm.")
-    parser.add_argument("--bin", default=str(ROOT / "build" / "pitshell"))
+def main(words: list[str]) -> None:
+    parser = options("malice", __doc__)
     parser.add_argument("--megabytes", type=int, default=10)
-    options = parser.parse_args()
+    given = parser.parse_args(words)
     lines = ["| text | MB | seconds | s/MB | times a lawful file | answer |", "|---|---|---|---|---|---|"]
-    print("\n".join(lines), flush=True)
-    lawful = None
-    with tempfile.TemporaryDirectory() as name:
-        for what, model, prec, due in texts(options.megabytes * 1_000_000):
-            size, seconds, fault = timed(str(pathlib.Path(options.bin).resolve()), pathlib.Path(name), model, prec)
-            pace = seconds / size
-            lawful = max(lawful or 0, pace) if what.startswith("lawful") else lawful
-            wrong = "" if fault == due else f" WRONG, due: {due}"
-            slow = " SLOW" if pace > 2 * lawful else ""
-            lines.append(f"| {what} | {size:.1f} | {seconds:.3f} | {pace:.4f} | {pace / lawful:.2f}{slow} | {fault or 'a pit'}{wrong} |")
-            print(lines[-1], flush=True)
-        runs, wrong = cut_texts(str(pathlib.Path(options.bin).resolve()), pathlib.Path(name))
-    lines.append(f"\nThe texts of two blocks cut at every byte: {runs} runs, {len(wrong)} wrong.")
-    lines += [f"- {row}" for row in wrong]
-    print("\n".join(lines[-1 - len(wrong):]))
-    results = ROOT / "bench" / "results"
-    results.mkdir(exist_ok=True)
-    now = datetime.datetime.now().strftime("%Y-%m-%d")
-    head = f"# {now}, texts that mean harm; `bench/malice.py`\n\n"
-    (results / f"{now}-malice.md").write_text(head + "\n".join(lines) + "\n")
-
-
-if __name__ == "__main__":
-    main()
+    lawful = 0.0
+    for what, model_text, prec_text, due in texts(given.megabytes * 1_000_000):
+        model, prec = files_of(model_text, prec_text)
+        size = (model.stat().st_size + prec.stat().st_size) / 1e6
+        run = best([given.bin, "solve", "--model", model, "--prec", prec], given.runs, status=1 if due else 0)
+        pace, fault = run.processor / size, run.told.strip()
+        lawful = max(lawful, pace) if what.startswith("lawful") else lawful
+        marks = (" SLOW" if pace > 2 * lawful else ""), ("" if fault == due else f" WRONG, due: {due}")
+        lines.append(f"| {what} | {size:.1f} | {run.processor:.2f} | {pace:.4f} | {pace / lawful:.2f}{marks[0]} | {fault or 'a pit'}{marks[1]} |")
+    keep("malice", "Texts that mean harm", given.bin, lines)

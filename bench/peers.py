@@ -8,7 +8,7 @@ import pathlib
 import shutil
 import subprocess
 
-from run import ROOT, WORK
+from kit import ROOT, WORK
 from timing import Run, timed
 
 # Where Debian puts the headers of libmaxflow-dev.

@@ -1,35 +1,29 @@
-#!/usr/bin/env python3
-"""Times the program in its modes, and other people's maximum flows beside it, on the same mines in one run; `make bench`.
+"""Times the program in its modes, and other people's maximum flows beside it, on the same mines in one run.
 
-    bench/table.py [--quick] [--bin build/pitshell] [--blocks N ...] [--slopes 1:5 1:9 cone] [--peers NAME ...]
-                   [--single] [--limit 20]
-
-For each mine (tools/make_mine.py, seed 1): `pitshell solve` in mode single, parts and shared (four workers), `pitshell shells`
+For each mine: `pitshell solve` in mode single, parts and shared (four workers), `pitshell shells`
 with 30 factors up to 1500 per mille, and each peer of bench/peers.py. All pits of a mine must be the same bytes, or the bench
 ends with status 1. Processor seconds, the least of three rounds in which each runs once (of two above 100,000 blocks; what takes
 more than eight seconds is run once):
 
 `whole`: from the files to the written answer. `solve`: without reading. For pitshell that is the whole run less one whose
 precedence file is refused in its last line, so it has the graph, the solve and the writing in it; a peer's has its network
-and its flow, without the writing. `clock`: seconds on the clock of the whole run. `peak`: the largest memory, at least the 13 MB of the process that starts it.
+and its flow, without the writing. `clock`: seconds on the clock of the whole run. `peak`: the largest memory, at
+least the 13 MB of the process that starts it.
 `single / this`: the whole run of mode single over this one.
 
-What needs more processor seconds than the limit, mode single aside, is left out there and at the larger sizes of those slopes. `--quick` stops at
-100,000 blocks. The table goes to bench/results/, anew after each mine, so that a run that is stopped leaves what it measured;
+What needs more processor seconds than the limit, mode single aside, is left out there and at the larger sizes of those slopes.
+`--quick` stops at 100,000 blocks. The table goes to bench/results/, anew after each mine, so that a run that is stopped leaves what it measured;
 README has rows of its first part, one line a mine with the strongest peer.
 """
 
 import argparse
 import dataclasses
-import datetime
 import multiprocessing
 import pathlib
-import sys
 from collections.abc import Callable
 
-import machine
+import kit
 import peers
-from run import ROOT, WORK, mine_files
 from timing import Run, timed
 
 SIZES = [50000, 100000, 500000, 1000000]
@@ -91,11 +85,11 @@ def pairs_of(prec: pathlib.Path) -> int:
 
 def made(blocks: int, slopes: str) -> None:
     """Makes the mine in a process of its own: what a process holds when it starts another counts for the other's peak."""
-    maker = multiprocessing.get_context("spawn").Process(target=mine_files, args=(blocks, slopes))
+    maker = multiprocessing.get_context("spawn").Process(target=kit.mine_of, args=(blocks, slopes))
     maker.start()
     maker.join()
     if maker.exitcode != 0:
-        raise SystemExit(f"the mine of {blocks} blocks with slopes {slopes} could not be made in {WORK}")
+        raise SystemExit(f"the mine of {blocks} blocks with slopes {slopes} could not be made in {kit.WORK}")
 
 
 class Bench:
@@ -111,18 +105,18 @@ class Bench:
 
     def turns(self, slopes: str, blocks: int) -> dict[str, Turn]:
         """What is timed on a mine, each by its name in the table."""
-        model, prec, _, broken = mine_files(blocks, slopes)
-        solve = [self.program, "solve", "--model", model]
-        shells = [self.program, "shells", "--revenue", "0", "--cost", "1", "--blocks", model.with_suffix(".blocks"), "--factors", FACTORS]
+        mine = kit.mine_of(blocks, slopes)
+        solve = [self.program, "solve", "--model", mine.model]
+        shells = [self.program, "shells", "--revenue", "0", "--cost", "1", "--blocks", mine.blocks, "--factors", FACTORS]
         commands = {f"pitshell, {mode}": [*solve, *words] for mode, words in MODES.items()} | {SHELLS: shells}
         if not self.modes:
             commands = {SINGLE: commands[SINGLE]}
         turns: dict[str, Turn] = {}
         for name, words in commands.items():
             limit = None if name == SINGLE else self.limit
-            turns[name] = lambda w=words, most=limit: own(w, prec, broken, most)
+            turns[name] = lambda w=words, most=limit: own(w, mine.prec, mine.broken, most)
         for peer in self.peers:
-            turns[peers.NAMES[peer]] = lambda p=peer: peers.time_peer(self.others, p, (model, prec), self.limit)
+            turns[peers.NAMES[peer]] = lambda p=peer: peers.time_peer(self.others, p, (mine.model, mine.prec), self.limit)
         return turns
 
     def measure(self, slopes: str, blocks: int) -> Mine:
@@ -144,7 +138,7 @@ class Bench:
         rows = [row_of(name, times[name]) for name in turns]
         for row in rows:
             print(f"{slopes} {blocks} {row.solver}: {f'{row.run.processor:.3f}' if row.run else f'more than {self.limit}'}", flush=True)
-        return Mine(slopes, blocks, pairs_of(mine_files(blocks, slopes)[1]), rows)
+        return Mine(slopes, blocks, pairs_of(kit.mine_of(blocks, slopes).prec), rows)
 
 
 def short(mines: list[Mine], limit: int) -> list[str]:
@@ -183,42 +177,25 @@ def long(mines: list[Mine], limit: int) -> list[str]:
     return lines
 
 
-def main() -> None:
-    options = argparse.ArgumentParser(description=__doc__, formatter_class=argparse.RawDescriptionHelpFormatter)
-    options.add_argument("--bin", type=pathlib.Path, default=ROOT / "build" / "pitshell")
-    options.add_argument("--quick", action="store_true", help="50,000 and 100,000 blocks alone")
-    options.add_argument("--blocks", type=int, nargs="+", help="the sizes, from small to large")
-    options.add_argument("--slopes", nargs="+", default=["1:5", "1:9", "cone"])
-    options.add_argument("--peers", nargs="*", help="all that there are, where it is not given")
-    options.add_argument("--single", action="store_true", help="of pitshell mode single alone")
-    options.add_argument("--limit", type=int, default=20, help="processor seconds of one run")
-    given = options.parse_args()
-    if not given.bin.exists():
-        raise SystemExit(f"there is no program at {given.bin}: run make build first, or say where it is with --bin")
-    WORK.mkdir(exist_ok=True)
-    sizes = sorted(given.blocks or (QUICK if given.quick else SIZES))
-    begun, load = datetime.datetime.now(datetime.UTC), machine.load()
-    bench = Bench(given.bin.resolve(), not given.single, given.peers, given.limit)
-    part = f"-{sizes[0]}-{sizes[-1]}" if given.blocks else "-quick" if given.quick else ""
-    part += "-single" if given.single else ""
-    target = ROOT / "bench" / "results" / f"{begun:%Y-%m-%d}-table{part}.md"
-    target.parent.mkdir(exist_ok=True)
+def name_of(given: argparse.Namespace) -> str:
+    """The table's file, by the sizes that were asked for."""
+    part = f"-{min(given.blocks)}-{max(given.blocks)}" if given.blocks != SIZES else ""
+    return f"table{'-quick' if given.quick else part}{'-single' if given.single else ''}"
+
+
+def main(words: list[str]) -> None:
+    parser = kit.options("table", __doc__, SIZES, kit.SLOPES)
+    parser.add_argument("--quick", action="store_true", help="50,000 and 100,000 blocks alone")
+    parser.add_argument("--peers", nargs="*", help="all that there are, where it is not given")
+    parser.add_argument("--single", action="store_true", help="of pitshell mode single alone")
+    parser.add_argument("--limit", type=int, default=20, help="processor seconds of one run")
+    given = parser.parse_args(words)
+    kit.WORK.mkdir(exist_ok=True)
+    bench = Bench(given.bin, not given.single, given.peers, given.limit)
     mines: list[Mine] = []
-    for blocks in sizes:
+    for blocks in QUICK if given.quick else sorted(given.blocks):
         for slopes in given.slopes:
             mines.append(bench.measure(slopes, blocks))
             mines.sort(key=lambda mine: (given.slopes.index(mine.slopes), mine.blocks))
-            head = [
-                f"# Beside other people's maximum flows, {begun:%Y-%m-%d %H:%M} to {datetime.datetime.now(datetime.UTC):%H:%M} UTC",
-                "",
-                f"`{' '.join(['bench/table.py', *sys.argv[1:]])}`. {machine.processor()}. Load (threads that wanted to run over the last "
-                f"minute) {load} before and {machine.load()} after. {machine.versions(bench.program)}. Processor seconds; a limit of "
-                f"{given.limit} each; what the columns are stands in `bench/table.py`. All pits of a mine are the same bytes.",
-            ]
-            text = "\n".join([*head, "", *short(mines, given.limit), "", *long(mines, given.limit)]) + "\n"
-            target.write_text(text)
-    print(target.read_text(), end="")
-
-
-if __name__ == "__main__":
-    main()
+            lines = [*short(mines, given.limit), "", *long(mines, given.limit)]
+            kit.keep(name_of(given), "Beside other people's maximum flows; all pits of a mine are the same bytes", given.bin, lines)

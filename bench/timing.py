@@ -8,7 +8,7 @@ import subprocess
 import time
 from collections.abc import Sequence
 
-from run import WORK
+from kit import WORK
 
 
 @dataclasses.dataclass(frozen=True)

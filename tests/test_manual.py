@@ -104,6 +104,7 @@ def test_install_puts_all_in_place(tmp_path: pathlib.Path) -> None:
         "bin/pitplan": TOP / "tools" / "pitplan",
         "share/doc/pitshell/LICENSE": TOP / "LICENSE",
         "share/man/man1/pitshell.1": MANUAL,
+        "share/man/man1/pitplan.1": TOP / "man" / "pitplan.1",
         "share/bash-completion/completions/pitshell": COMPLETIONS / "pitshell.bash",
         "share/zsh/site-functions/_pitshell": COMPLETIONS / "_pitshell",
         "share/fish/vendor_completions.d/pitshell.fish": COMPLETIONS / "pitshell.fish",

@@ -24,6 +24,7 @@ python3-setuptools    tests    make dist: wheels
 python3-wheel         tests    the same
 python3-venv          tests    the test that installs these wheels
 dpkg-dev              tests    make dist: the Debian package
+man-db                tests    the test that the manual pages are shown
 chromium              all      the test that opens the 3D page
 python3-coverage      changes  tools/planted_changes.py
 g++                   bench    other people's maximum flows, beside which the program is timed

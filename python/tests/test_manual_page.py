@@ -1,0 +1,37 @@
+"""The manual page names each subcommand and option of the command line, and no others."""
+
+import argparse
+import re
+import subprocess
+
+from conftest import ROOT
+
+from pitplan import cli
+
+PAGE = ROOT / "man" / "pitplan.1"
+# convert minelib has a command line of its own (python/minelib), with --out alone.
+OF_CONVERT = {"--out"}
+
+
+def subparsers(parser: argparse.ArgumentParser) -> dict[str, argparse.ArgumentParser]:
+    return next(action.choices for action in parser._actions if isinstance(action, argparse._SubParsersAction))
+
+
+def options(parser: argparse.ArgumentParser) -> set[str]:
+    return {word for action in parser._actions for word in action.option_strings if word.startswith("--")}
+
+
+def test_the_page_has_each_subcommand_and_option_and_no_others():
+    top = cli.parser()
+    text = PAGE.read_text().replace("\\-", "-")
+    listed = text.partition(".SH SUBCOMMANDS")[2].partition(".SH OPTIONS")[0]
+    assert set(re.findall(r'^\.BI "?(\w+)', listed, re.MULTILINE)) == set(subparsers(top))
+    known = options(top).union(*(options(sub) for sub in subparsers(top).values())) | OF_CONVERT
+    named = text.partition(".SH OPTIONS")[2].partition(".SH EXIT STATUS")[0]
+    assert set(re.findall(r"--[a-z][a-z-]*", named)) == known
+
+
+def test_the_page_is_shown_without_warnings():
+    shown = subprocess.run(["man", "--warnings", "-l", PAGE], capture_output=True, text=True, env={"MANWIDTH": "100", "PATH": "/usr/bin:/bin"})
+    assert shown.returncode == 0 and shown.stderr == ""
+    assert "pitplan init [--out FILE] TABLE" in shown.stdout
