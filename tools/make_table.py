@@ -84,6 +84,7 @@ def main():
     parser.add_argument("--folder", default="models", help="where models are written (default models)")
     options = parser.parse_args()
     size = (options.columns, options.rows, options.levels)
+    os.makedirs(os.path.dirname(options.out) or ".", exist_ok=True)
     opened = gzip.open(options.out, "wt") if options.out.endswith(".gz") else open(options.out, "w", encoding="ascii")
     with opened as file:
         file.writelines(table_of(*size, options.seed))

@@ -222,6 +222,7 @@ def write_report(project: Project, table: pd.DataFrame, record: dict[str, Any], 
     facts = {
         "chosen": record["shells"]["chosen"],
         "pictures": {name: stage / file for name, file in PICTURES.items()},
+        "summary": record["summary"],
         "notes": record["notes"],
         "verified": record["verified"],
         "files": {**record["inputs"], **record["files"]},

@@ -15,6 +15,7 @@ import pandas as pd
 
 from .errors import PlanError
 from .guesses import PRECIOUS, Columns, MetalGuess, columns_of
+from .summary import Axis, Grade, mean_of, not_used
 from .table import has_decimal_commas, read_columns
 from .table_format import NAMES, TableFormat, guessed_separator
 
@@ -214,17 +215,26 @@ def ore_per_year(model: Model) -> int:
 
 
 def summary(model: Model) -> list[str]:
-    """What a planner should see first: extents, tonnes, grades, and what looks doubtful."""
+    """What a planner should see first: extents, tonnes, grades, each with why it is taken so, and what looks doubtful."""
     columns, tonnes = model.columns, tonnes_of(model)
     said = [f"{model.file}: {len(model.frame):,} blocks, {tonnes.sum():,.0f} tonnes"]
-    for axis, guess in sorted(columns.centres.items()):
+    for name, guess in sorted(columns.centres.items()):
         values = model.frame[guess.column]
-        said.append(f"{axis}: {guess.column} from {values.min():,.10g} to {values.max():,.10g} m, {guess.why}")
+        said.append(f"{Axis(name, guess.column, values.min(), values.max(), step_along(model, name)).line}, {guess.why}")
+    grades = []
     for metal in columns.metals:
-        grade = np.nan_to_num(model.frame[metal.column].to_numpy(dtype=np.float64))
-        mean = float((grade * tonnes).sum() / max(tonnes.sum(), 1e-300))
-        said.append(f"{metal.metal}: {metal.column}, mean {mean:.4g} and at most {grade.max():.4g} {metal.unit}, {metal.why}")
-    return [*said, *doubts(model)]
+        values = np.nan_to_num(model.frame[metal.column].to_numpy(dtype=np.float64))
+        grades.append(Grade(metal.metal, metal.column, metal.unit, mean_of(values, tonnes), float(values.max())))
+        said.append(f"{grades[-1].line}, {metal.why}")
+    return [*said, *(doubt for grade in grades for doubt in grade.doubts), *doubts(model)]
+
+
+def step_along(model: Model, axis: str) -> Optional[float]:
+    """The blocks' size along an axis in metres; None where they have several."""
+    if has_several_sizes(model):
+        return None
+    size, _ = size_of(model)
+    return size["xyz".index(axis)] if size else least_gap(model, axis)
 
 
 def doubts(model: Model) -> list[str]:
@@ -240,5 +250,4 @@ def doubts(model: Model) -> list[str]:
         said.append(f"WARNING: {empty_fields(model):,} tonnes or grades are empty, and taken as 0")
     used = {guess.column for group in (columns.centres, columns.sizes, columns.named) for guess in group.values()}
     used |= {metal.column for metal in columns.metals}
-    over = [str(name) for name in model.frame.columns if str(name) not in used]
-    return [*said, f"passed over: {', '.join(over)}"] if over else said
+    return [*said, *not_used([str(name) for name in model.frame.columns if str(name) not in used])]

@@ -10,7 +10,7 @@ from typing import Any, Optional, Union
 import numpy as np
 import pandas as pd
 
-from . import absent, files, fixed as fixing, grid as grids, money, table as tables, trim, walls as laying
+from . import absent, files, fixed as fixing, grid as grids, money, summary as summaries, table as tables, trim, walls as laying
 from .errors import PlanError
 from .files import Needs, Pairs
 from .fixed import NOTHING, FixedBlocks, Settled
@@ -38,6 +38,7 @@ class Plan:
     source  the table's file, or "table" where it came from pandas
     filled  how many empty fields were taken as 0
     notes   sentences that a planner should read before trusting the plan
+    summary what the table holds: extents, tonnes, grades with units, and columns that say nothing
     fixed   blocks that must be dug, and blocks that may not be
     settled what is dug and what is left for their sake; None where the project has no `[fixed]`
     """
@@ -51,6 +52,7 @@ class Plan:
     source: str
     filled: int = 0
     notes: list[str] = field(default_factory=list)
+    summary: list[str] = field(default_factory=list)
     fixed: FixedBlocks = NOTHING
     settled: Optional[Settled] = None
 
@@ -142,6 +144,7 @@ class Plan:
             "fixed": {"forced": len(self.fixed.forced), "barred": len(self.fixed.barred)},
             "factors": list(project.schedule.factors),
             "factor_1000_added": project.schedule.reference_added,
+            "summary": self.summary,
             "notes": [*self.notes, *self.notes_of_needs(pairs)],
             "codes": codes_of(project),
             "tonnes": shown_name(project.table.tonnes),
@@ -201,13 +204,16 @@ def prepare(
         checked = tables.read(project) if table is None else tables.checked(table, project)
         frame = checked.frame
     with progress.step("laying the grid"):
-        frame, grid = absent.with_rows(frame, grids.of_table(frame, project, source), project)
+        bare = grids.of_table(frame, project, source)
+        summary = summaries.of_table(checked, bare, project)
+        frame, grid = absent.with_rows(frame, bare, project)
+    progress.lines(summary)
     with progress.step("laying the walls"):
         region = laying.regions_of(frame, grid, project.table.region)
         walls = laying.walls_of(region, grid, project.slopes)
     with progress.step("weighing the blocks"):
         plan = plan_of(project, frame, grid, walls, source)
-    plan.filled = checked.filled
+    plan.filled, plan.summary = checked.filled, summary
     plan.notes = [*checked.notes, *notes_of(plan)]
     return plan
 

@@ -5,7 +5,7 @@ from __future__ import annotations
 import sys
 import time
 from contextlib import contextmanager
-from typing import Iterator, Optional, TextIO
+from typing import Iterable, Iterator, Optional, TextIO
 
 
 class Progress:
@@ -24,6 +24,10 @@ class Progress:
             self.say("")
             raise
         self.say(f" {time.perf_counter() - began:.1f} s")
+
+    def lines(self, lines: Iterable[str]) -> None:
+        for line in lines:
+            self.say(line)
 
     def say(self, words: str, end: str = "\n") -> None:
         if self.stream is not None:

@@ -72,7 +72,7 @@ def cells_of(table: pd.DataFrame, columns: list[tuple[str, str, float, int]]) ->
 
 
 def write(path: Path, project: Project, table: pd.DataFrame, facts: dict[str, Any]) -> None:
-    """`facts`: chosen factor, pictures by name, notes, what was verified, files with their hashes, and the program's identity."""
+    """`facts`: chosen factor, pictures by name, the table's summary, notes, what was verified, files with their hashes, and the program's identity."""
     columns = columns_of(table, project)
     rows = [
         {"cells": cells, "chosen": factor == facts["chosen"], "given": factor == 1000}
@@ -88,6 +88,6 @@ def write(path: Path, project: Project, table: pd.DataFrame, facts: dict[str, An
         pictures={name: picture(place) for name, place in facts["pictures"].items()},
         rate=project.schedule.rate,
         discounting=DISCOUNTED[project.schedule.discounting],
-        **{name: facts[name] for name in ("chosen", "verified", "files", "program")},
+        **{name: facts[name] for name in ("chosen", "summary", "verified", "files", "program")},
     )
     path.write_text(page, encoding="utf-8")

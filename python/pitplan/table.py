@@ -28,12 +28,14 @@ class Table:
     source  the file, or "table" where it came from pandas
     filled  how many empty fields were taken as 0
     notes   what was told of the text by looking at it
+    unused  columns that the project does not name
     """
 
     frame: pd.DataFrame
     source: str
     filled: int
     notes: tuple[str, ...] = ()
+    unused: tuple[str, ...] = ()
 
 
 def read(project: Project) -> Table:
@@ -159,7 +161,8 @@ def checked(frame: pd.DataFrame, project: Project, source: str = "table") -> Tab
     filled = 0
     for name in names_of(project):
         if name in codes:
-            result[name] = frame[name].astype(str).str.strip().to_numpy()
+            # Over a list, since pandas' own strip takes several times as long.
+            result[name] = [code.strip() for code in frame[name].astype(str)]
             continue
         may_fill = columns.empty == "zero" and name not in (columns.x, columns.y, columns.z)
         result[name], empty = filled_numbers(frame[name], source, name, may_fill)
@@ -170,7 +173,8 @@ def checked(frame: pd.DataFrame, project: Project, source: str = "table") -> Tab
     if not result[columns.tonnes].any():
         raise PlanError(f"{source} column {columns.tonnes}: all are 0, so there is no rock")
     demand_codes(result, project, source)
-    return Table(result, source, filled)
+    unused = tuple(str(name) for name in frame.columns if name not in names_of(project))
+    return Table(result, source, filled, unused=unused)
 
 
 def filled_numbers(column: pd.Series, source: str, name: str, may_fill: bool) -> tuple[np.ndarray, int]:

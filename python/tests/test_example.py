@@ -1,6 +1,9 @@
 """The example against its expected table, and that table against sums over the example's own rows."""
 
 import csv
+import re
+import subprocess
+import sys
 import tomllib
 from collections import Counter
 from dataclasses import replace
@@ -74,3 +77,18 @@ def test_a_fixed_cutoff_digs_no_more_and_earns_no_more(solved_example):
     lost = [factor for factor in plan.project.schedule.factors if other.worth[factor] < solution.worth[factor]]
     assert all(other.worth[factor] <= solution.worth[factor] for factor in plan.project.schedule.factors)
     assert 500 in lost and 1000 not in lost and 1200 in lost
+
+
+def test_the_large_example_prepares_a_table_of_its_own_command(tmp_path):
+    """By the command that its first lines and docs/PLANNING.md name, with fewer columns, rows and levels."""
+    text = (ROOT / "examples" / "large" / "project.toml").read_text()
+    (command,) = re.findall(r"^# (tools/make_table\.py .*)$", text, re.MULTILINE)
+    assert command in (ROOT / "docs" / "PLANNING.md").read_text(encoding="utf-8")
+    script, *words = command.split()
+    smaller = {"155": "15", "130": "13", "60": "6"}
+    subprocess.run([sys.executable, ROOT / script, *(smaller.get(word, word) for word in words)], cwd=tmp_path, check=True)
+    (tmp_path / "examples" / "large").mkdir(parents=True)
+    (tmp_path / "examples" / "large" / "project.toml").write_text(text)
+    plan = pitplan.prepare(tmp_path / "examples" / "large" / "project.toml")
+    made = (tmp_path / "build" / "large" / "blocks.csv").read_text().splitlines()
+    assert len(plan.blocks) == len(made) - 1 > 900 and len(plan.project.schedule.factors) == 21

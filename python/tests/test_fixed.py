@@ -327,3 +327,21 @@ def test_scenarios_keep_to_fixed_blocks(plan_folder, tmp_path):
 def test_a_project_without_fixed_blocks_has_no_pit(plan_folder, capsys):
     assert main(["pit", str(plan_folder(rows(1, 1, 1)))]) == 1
     assert "[fixed] is missing" in capsys.readouterr().err
+
+
+def solution_of(entry, worth):
+    nodes = pd.Series([sum(at > 0 for at in entry)], index=[1])
+    return run.Solution(pd.Series([Decimal(worth)], index=[1], dtype=object), nodes, np.array(entry), b"")
+
+
+@pytest.mark.parametrize(
+    ("entry", "worth", "count"), [([1, 1, 0], 5, None), ([1, 0, 0], 5, 1), ([0, 1, 1], 5, 2), ([1, 1, 0], 6, 0)]
+)
+def test_a_shell_is_compared_with_its_pit_by_blocks_and_worth(entry, worth, count):
+    """The shells of factors 1 and 2 against the pit of factor 1, which is the first two nodes, worth 5."""
+    shells = solution_of([1, 1, 2], 5)
+    if count is None:
+        assert run.demand_same(shells, solution_of(entry, worth), 1) is None
+        return
+    with pytest.raises(PlanError, match=f"the shell of factor 1 .*: {count} nodes differ, worth 5 for {worth}; please"):
+        run.demand_same(shells, solution_of(entry, worth), 1)

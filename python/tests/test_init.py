@@ -78,9 +78,16 @@ def test_the_project_runs_as_it_stands(tmp_path, capsys):
     assert main(["init", str(tmp_path / "m.csv")]) == 0
     told = capsys.readouterr()
     assert told.out == f"{tmp_path / 'project.toml'}\n"
-    assert "256 blocks, 25,600 tonnes" in told.err and "passed over: Roche é" in told.err
-    # 8 of 256 blocks of 100 t hold 2 %.
-    assert "copper: Cu pct, mean 0.0625 and at most 2 percent" in told.err
+    lines = told.err.splitlines()
+    # 8 x 8 x 4 blocks of 10 m and 100 t, of which 8 hold 2 %: 800 t of 25,600.
+    assert lines[:6] == [
+        f"{tmp_path / 'm.csv'}: 256 blocks, 25,600 tonnes",
+        "x: from 0 to 80 m, 8 cells of 10 m, centres in Easting, by its name",
+        "y: from 0 to 80 m, 8 cells of 10 m, centres in Northing, by its name",
+        "z: from 0 to 40 m, 4 cells of 10 m, centres in RL, by its name",
+        "copper: Cu pct, mean 0.0625 and at most 2 %, priced by the tonne, unit by the column's name",
+        "columns not used: Roche é",
+    ]
     assert main(["shells", str(tmp_path / "project.toml"), "--quiet"]) == 0
     shells = pd.read_csv(tmp_path / "plan" / "shells.csv")
     assert shells["blocks"].iloc[-1] > 0
@@ -115,6 +122,7 @@ def test_sub_blocks_and_empty_grades_are_told(tmp_path):
     exported(tmp_path / "m.csv", DATAMINE, **{**more, "cu": lambda i, j, k: 2.0 if k else float("nan")})
     told = init.write(tmp_path / "m.csv", tmp_path / "project.toml")
     assert "WARNING: blocks are of several sizes, and sub-blocks are refused: reblock first" in told
+    assert "x: centres in XC from 5 to 75 m, by its name" in told
     assert "WARNING: 64 tonnes or grades are empty, and taken as 0" in told
     assert load(tmp_path / "project.toml").table.empty == "zero"
 

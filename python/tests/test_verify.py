@@ -15,7 +15,7 @@ from pitplan import PlanError, absent, commands, files, fixed, load, money, prep
 from pitplan.cli import main
 from pitplan.progress import silent
 from pitplan.project import Wall
-from pitplan.verification import demand, verify
+from pitplan.verification import answer as answers, demand, sums, verify
 from pitplan.verification.answer import read
 from pitplan.verification.money import sample
 from pitplan.verification.walls import flatness, high_walls
@@ -460,3 +460,21 @@ def test_random_plans_are_right(plan_folder, seed, cutoff, discounting, shovels)
     ]
     plan = prepare(plan_folder(table, TEXT, *changes))
     assert [rule.differences for rule in looked_at(plan)] == [()] * 9
+
+
+@pytest.mark.parametrize("amounts", [[2**62] * 5, [-(2**62)] * 3 + [1], [2**32, 2**32 - 1, -1, -(2**32)], [], [10**30, -1]])
+def test_sums_of_whole_numbers_have_no_limit(amounts):
+    is_small = all(abs(amount) < 2**63 for amount in amounts)
+    assert sums.total(np.array(amounts, dtype=np.int64 if is_small else object)) == sum(amounts)
+
+
+def test_each_rows_own_columns_alone_are_read(plan_folder, tmp_path):
+    """Of what the planner's table says itself the centres alone are taken from the answer, but where a row may stand for no row."""
+    path = plan_folder(rows(3, 3, 2))
+    blocks = rows(3, 3, 2).assign(id=range(18), factor=0)
+    blocks.to_csv(tmp_path / "written.csv", index=False)
+    few = answers.read_blocks(tmp_path / "written.csv", load(path), ("id", "factor", "free_factor"))
+    assert list(few.columns) == ["x", "y", "z", "id", "factor"]
+    path.write_text(path.read_text().replace('id = "name"', 'id = "name"\nabsent = { tonnes = 1, rock = "R", region = "1" }'))
+    whole = answers.read_blocks(tmp_path / "written.csv", load(path), ("id", "factor", "free_factor"))
+    assert list(whole.columns) == list(blocks.columns) == list(answers.read_blocks(tmp_path / "written.csv", load(path)).columns)

@@ -368,3 +368,13 @@ def test_tables_and_models_that_are_gone_are_named(copied, plan_folder):
     shutil.rmtree(path.parent / "models")
     with pytest.raises(PlanError, match="/models: cannot be read: No such file or directory"):
         verify(path.parent / "plan")
+
+
+def test_blocks_that_come_in_at_factor_1_are_dug(plan_folder):
+    """At a thousandth of eight millions the first model's metal yields 6000, and its pit costs 1600."""
+    changes = [UPRIGHT, ("price = 8000", "price = 8_000_000"), ("[500, 1000, 1500]", "[1, 2, 1000]")]
+    shared = prepared(plan_folder(pillar(), COLUMNS, *changes))
+    solved_in_turn(shared)
+    simulation.gather(shared.folder, Request(), silent)
+    assert wrong(shared.folder) == set()
+    assert pd.read_csv(shared.folder / "probability.csv")["probability_1"].tolist() == pytest.approx([1 / 3] * 3, abs=1e-6)

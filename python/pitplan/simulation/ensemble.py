@@ -16,7 +16,7 @@ from ..errors import PlanError
 from ..grid import Grid
 from ..plan import Plan, notes_of, plan_of
 from ..project import Metal, Project, Scenarios
-from ..table import HEADER_ROWS, at_row
+from ..table import HEADER_ROWS, Table, at_row
 from ..table_format import format_of
 from ..walls import Walls
 
@@ -33,11 +33,9 @@ class Model:
 class Base:
     """What all models have in common.
 
-    frame   the table's rows; where the models are columns of the table, these too
+    frame   the table's rows, and behind them those of cells without a row; where the models are columns of the table, these too
     lists   for each metal the columns of its models, where they are columns of the table
-    source  the table's file
-    filled  how many empty fields were taken as 0
-    known   how many of the first rows stand in the table; those behind are of cells without a row
+    table   the table as it was checked, without rows for cells that have none
     """
 
     project: Project
@@ -45,9 +43,7 @@ class Base:
     grid: Grid
     walls: Walls
     lists: dict[str, list[str]]
-    source: str
-    filled: int
-    known: int
+    table: Table
 
     def with_grades(self, grades: np.ndarray) -> pd.DataFrame:
         """The table's rows with the grades of a model in the columns of the project's metals."""
@@ -73,7 +69,7 @@ def read_base(project: Project) -> Base:
     frame, grid = absent.with_rows(checked.frame, grids.of_table(checked.frame, project, checked.source), project)
     region = laying.regions_of(frame, grid, project.table.region)
     walls = laying.walls_of(region, grid, project.slopes)
-    return Base(project, frame, grid, walls, lists, checked.source, checked.filled, len(checked.frame))
+    return Base(project, frame, grid, walls, lists, checked)
 
 
 def column_lists(project: Project) -> dict[str, list[str]]:
@@ -144,7 +140,7 @@ def rows_by_id(frame: pd.DataFrame, base: Base, source: str) -> np.ndarray:
     at = pd.Index(base.frame[name]).get_indexer(ids)
     if (at < 0).any():
         row = int((at < 0).argmax())
-        raise at_row(source, row, str(name), f"{ids.iloc[row]} is no block of {base.source}")
+        raise at_row(source, row, str(name), f"{ids.iloc[row]} is no block of {base.table.source}")
     return at
 
 
@@ -166,20 +162,21 @@ def rows_by_place(frame: pd.DataFrame, base: Base, source: str) -> np.ndarray:
     at = np.where(inside, table_row[np.where(inside, (level * grid.shape[1] + row) * grid.shape[2] + column, 0)], -1)
     if (at < 0).any():
         where = ", ".join((names.x, names.y, names.z))
-        raise at_row(source, int((at < 0).argmax()), where, f"no block of {base.source} lies there")
+        raise at_row(source, int((at < 0).argmax()), where, f"no block of {base.table.source} lies there")
     return at
 
 
 def demand_every_block(at: np.ndarray, base: Base, source: str) -> None:
     """Refuses a model that has a block twice, or lacks one."""
-    times = np.bincount(at, minlength=base.known)[: base.known]
+    known = len(base.table.frame)
+    times = np.bincount(at, minlength=known)[:known]
     if times.max(initial=0) > 1:
         row = int(pd.Series(at).duplicated().to_numpy().argmax())
         raise PlanError(f"{source} row {row + HEADER_ROWS}: the block stands in another row too")
     if times.min() == 0:
         row = int((times == 0).argmax()) + HEADER_ROWS
         raise PlanError(
-            f"{source}: {np.count_nonzero(times == 0):,} blocks are missing, first that of {base.source} row {row}"
+            f"{source}: {np.count_nonzero(times == 0):,} blocks are missing, first that of {base.table.source} row {row}"
         )
 
 
@@ -198,7 +195,7 @@ def envelope(base: Base, greatest: np.ndarray) -> Plan:
         return max(prices.get(metal.name, metal.price) for prices in scenarios_of(project).prices)
 
     metals = tuple(replace(metal, price=dearest(metal), selling_cost=Decimal(0)) for metal in project.metals)
-    plan = plan_of(replace(project, metals=metals), base.with_grades(greatest), base.grid, base.walls, base.source)
-    plan.filled = base.filled
+    plan = plan_of(replace(project, metals=metals), base.with_grades(greatest), base.grid, base.walls, base.table.source)
+    plan.filled = base.table.filled
     plan.notes = notes_of(plan)
     return plan

@@ -10,7 +10,7 @@ from typing import Any
 
 import numpy as np
 
-from .. import files, run
+from .. import files, run, summary as summaries
 from ..plan import Plan
 from ..progress import Progress
 from ..project import Project
@@ -23,10 +23,12 @@ BLOCKS = "blocks.csv"
 
 @dataclass(frozen=True)
 class Models:
-    """The models as they were written: name and hash of each, and the greatest grade of each block and metal."""
+    """The models as they were written: name and hash of each, the greatest grade of each block and metal, and of each metal the mean by
+    tonnes over all models."""
 
     names: list[tuple[str, str]]
     greatest: np.ndarray
+    means: np.ndarray
 
 
 def prepare(project: Project, folder: Path, progress: Progress) -> folders.Shared:
@@ -34,8 +36,10 @@ def prepare(project: Project, folder: Path, progress: Progress) -> folders.Share
     program = run.identity()
     with progress.step(f"reading {project.table.file}"):
         base = read_base(project)
+    progress.lines(summaries.of_ground(base.table, base.grid, project))
     with progress.step("reading the models"):
         read = write_models(base, folder)
+    progress.lines(summaries.of_grades(grades_of(base, read)))
     with progress.step("laying the needs that all scenarios share"):
         plan = envelope(base, read.greatest)
         with files.staged(folder, folders.RECORD) as stage:
@@ -48,10 +52,24 @@ def prepare(project: Project, folder: Path, progress: Progress) -> folders.Share
 def write_models(base: Base, folder: Path) -> Models:
     names: list[tuple[str, str]] = []
     greatest = np.zeros((len(base.frame), len(base.project.metals)))
+    tonnes, totals = base.table.frame[base.project.table.tonnes].to_numpy(), np.zeros(len(base.project.metals))
     for model in models(base):
         names.append((model.name, folders.save_grades(folder, model.grades)))
         greatest = np.maximum(greatest, model.grades)
-    return Models(names, greatest)
+        totals += [summaries.mean_of(grades, tonnes) for grades in model.grades[: len(tonnes)].T]
+    return Models(names, greatest, totals / len(names))
+
+
+def grades_of(base: Base, read: Models) -> list[summaries.Grade]:
+    """The grades of each metal, over all models."""
+    found = []
+    for number, metal in enumerate(base.project.metals):
+        first = base.lists[metal.name][0] if metal.name in base.lists else metal.column
+        is_simulated = metal.name in base.lists or not base.lists
+        column = f"{first} and so on, of {len(read.names):,} models" if is_simulated else metal.column
+        mean, most = float(read.means[number]), float(read.greatest[:, number].max())
+        found.append(summaries.Grade(metal.name, column, metal.unit, mean, most))
+    return found
 
 
 def arrays_of(base: Base) -> dict[str, np.ndarray]:

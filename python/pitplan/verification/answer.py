@@ -178,7 +178,7 @@ def read(folder: Path, project: Optional[Project] = None) -> Answer:
     try:
         record = json.loads((folder / "prepare.json").read_text(encoding="utf-8"))
         project = project or load(folder / record["project"])
-        written = read_blocks(folder / "blocks.csv", project)
+        written = read_blocks(folder / "blocks.csv", project, (*SAID, *FREE))
         return read_shells(folder, record, project, written) if "shells" in record else read_pits(folder, record, project, written)
     except OSError as error:
         raise PlanError(f"{error.filename}: cannot be read: run pitplan shells first") from error
@@ -207,9 +207,15 @@ def read_pits(folder: Path, record: dict[str, Any], project: Project, written: p
     return Answer(folder, project, rows, known, said, kept, None, record, factors, alone)
 
 
-def read_blocks(path: Path, project: Project) -> pd.DataFrame:
-    codes = {own_name(name): str for name in (project.table.id, project.table.rock, project.table.region) if name}
-    return pd.read_csv(path, dtype=codes, keep_default_na=False, na_values={}, float_precision="round_trip")
+def read_blocks(path: Path, project: Project, said: Optional[tuple[str, ...]] = None) -> pd.DataFrame:
+    """The centres and those of these columns that the file has; every column where none are named, or where rows may stand for cells that
+    the table has none of."""
+    columns = project.table
+    codes = {own_name(name): str for name in (columns.id, columns.rock, columns.region) if name}
+    wanted = {*(said or ()), *(own_name(name) for name in (columns.x, columns.y, columns.z))}
+    is_whole = said is None or isinstance(columns.absent, AbsentRock)
+    usecols = None if is_whole else wanted.__contains__
+    return pd.read_csv(path, dtype=codes, keep_default_na=False, na_values={}, float_precision="round_trip", usecols=usecols)
 
 
 def own_name(column: str) -> str:
@@ -237,11 +243,12 @@ def beside(
     more = np.setdiff1d(np.arange(len(written)), at)
     if len(more) and not isinstance(columns.absent, AbsentRock):
         raise PlanError(f"{source}: {len(more):,} of its blocks are not in the table: has the table changed since?")
+    if not len(more):
+        return table, len(table), at
     own = written.rename(columns={own_name(name): name for name in table.columns})
     own = own.loc[:, ~own.columns.duplicated(keep="last")]
     added = own.iloc[more].reindex(columns=table.columns, fill_value=0.0)
-    rows = pd.concat([table, added], ignore_index=True) if len(more) else table
-    return rows, len(table), np.concatenate([at, more])
+    return pd.concat([table, added], ignore_index=True), len(table), np.concatenate([at, more])
 
 
 def nearest_cells(centres: np.ndarray, grid: dict[str, Any]) -> np.ndarray:

@@ -8,8 +8,8 @@ import numpy as np
 
 from .answer import TOLD, Answer, Rule, rule
 
-# Up to here a float holds every whole number.
-EXACT_WHOLE = 2**53
+# Up to here a float holds every whole number, and 64 bits do.
+EXACT_WHOLE, MOST_WHOLE = 2**53, 2**63
 
 
 def verify(answer: Answer) -> Rule:
@@ -75,7 +75,7 @@ def unlike_worth(answer: Answer) -> list[str]:
         inside = within(answer, int(factor))
         pays = factor * revenue > 1000 * processing if answer.project.money.cutoff == "moving" else revenue > processing
         some = inside & np.asarray(pays, dtype=bool)
-        gain, cost = factor * int(revenue[some].sum()), 1000 * int(processing[some].sum()) + 1000 * int(mining[inside].sum())
+        gain, cost = int(factor) * total(revenue[some]), 1000 * (total(processing[some]) + total(mining[inside]))
         said = Decimal(answer.shells["worth_at_factor"][factor]).scaleb(9)
         if abs(said - (gain - cost)) > lost_digits(answer) * (gain + cost):
             differences.append(f"factor {factor}: worth_at_factor {said.scaleb(-9)} for {Decimal(gain - cost).scaleb(-9)}")
@@ -89,9 +89,21 @@ def lost_digits(answer: Answer) -> Decimal:
 
 
 def millionths(answer: Answer, name: str) -> np.ndarray:
-    """Amounts as Python's whole numbers, which have no limit of size. They have no more decimals than the project keeps."""
+    """Amounts as whole numbers; as Python's, which have no limit of size, where 64 bits could not hold them at each factor. They have no
+    more decimals than the project keeps."""
     decimals = answer.project.money.decimals
-    return np.rint(answer.said[name].to_numpy() * 10**decimals).astype(np.int64).astype(object) * 10 ** (6 - decimals)
+    whole = np.rint(answer.said[name].to_numpy() * 10**decimals).astype(np.int64)
+    factors = (*answer.factors, *map(int, answer.shells.index))
+    most = int(np.abs(whole).max(initial=0)) * 10 ** (6 - decimals) * max(1000, *factors)
+    return (whole if most < MOST_WHOLE else whole.astype(object)) * 10 ** (6 - decimals)
+
+
+def total(amounts: np.ndarray) -> int:
+    """The sum of whole numbers, however great it is."""
+    if amounts.dtype == object:
+        return int(amounts.sum())
+    # The sum of so many upper or lower halves has at most 64 bits.
+    return (int((amounts >> 32).sum()) << 32) + int((amounts & 0xFFFFFFFF).sum())
 
 
 def first_processed(answer: Answer) -> np.ndarray:

@@ -8,7 +8,6 @@ import numpy as np
 import pandas as pd
 
 from .answer import Answer, Rule, rule
-from .sums import within
 
 CENT = 0.01
 
@@ -50,10 +49,9 @@ def verify_npv(answer: Answer) -> Rule:
     differences: list[str] = []
     flows = flows_of(answer)
     for factor in answer.shells.index:
-        inside = within(answer, int(factor))
-        slack = CENT + 1e-12 * float(flows["cash"][inside].abs().sum())
-        best = flows[inside].groupby(["factor", "level"]).sum()
-        worst = flows[inside].groupby("level").sum()[["rock", "ore", "cash"]]
+        best = flows[flows.index.get_level_values("factor") <= factor]
+        worst = best.groupby("level").sum()
+        slack = CENT + 1e-12 * float(best["gross"].sum())
         expected = {"npv_best": npv(best, answer), "npv_worst": npv(worst, answer), "years": lasting(best, answer).sum()}
         for name, amount in expected.items():
             said = float(answer.shells[name][factor])
@@ -63,9 +61,11 @@ def verify_npv(answer: Answer) -> Rule:
 
 
 def flows_of(answer: Answer) -> pd.DataFrame:
-    rock = answer.tonnes
-    frame = pd.DataFrame({"rock": rock, "ore": np.where(answer.ore, rock, 0.0), "cash": answer.worths})
-    return frame.assign(factor=answer.said["factor"].to_numpy(), level=answer.cells[0])
+    """Rock, ore, cash, and cash without signs, of each shell's part of each level."""
+    rock, cash = answer.tonnes, answer.worths
+    frame = pd.DataFrame({"rock": rock, "ore": np.where(answer.ore, rock, 0.0), "cash": cash, "gross": np.abs(cash)})
+    frame = frame.assign(factor=answer.said["factor"].to_numpy(), level=answer.cells[0])
+    return frame[frame["factor"] > 0].groupby(["factor", "level"]).sum()
 
 
 def lasting(pieces: pd.DataFrame, answer: Answer) -> np.ndarray:

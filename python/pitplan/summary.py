@@ -1,0 +1,116 @@
+"""What a planner should see first of a table of blocks: extents, tonnes, grades and their units, and columns that say nothing."""
+
+from __future__ import annotations
+
+from dataclasses import dataclass
+from typing import Optional, Sequence
+
+import numpy as np
+
+from .grid import Grid, metres
+from .project import GRADE_SIGNS, GRADE_UNITS, METAL_UNITS, Metal, Project, TableColumns
+from .table import Table
+
+OPTIONAL = ("id", "rock", "region")
+
+
+@dataclass(frozen=True)
+class Axis:
+    """One axis of a model: the column of centres, the least and the greatest of them, and the blocks' size, all in metres; the size is
+    None where blocks have several."""
+
+    name: str
+    column: str
+    least: float
+    greatest: float
+    size: Optional[float]
+
+    @property
+    def line(self) -> str:
+        """The extent from edge to edge; of centres where the size is not known."""
+        if self.size is None:
+            return f"{self.name}: centres in {self.column} from {metres(self.least)} to {metres(self.greatest)} m"
+        count, half = round((self.greatest - self.least) / self.size) + 1, self.size / 2
+        extent = f"from {metres(self.least - half)} to {metres(self.greatest + half)} m"
+        return f"{self.name}: {extent}, {count:,} cells of {metres(self.size)} m, centres in {self.column}"
+
+
+@dataclass(frozen=True)
+class Grade:
+    """The grades of a metal: where they stand, their unit as a project calls it, the mean by tonnes over all blocks, and the greatest."""
+
+    metal: str
+    column: str
+    unit: str
+    mean: float
+    greatest: float
+
+    @property
+    def line(self) -> str:
+        sign, quantity = GRADE_SIGNS[self.unit], METAL_UNITS[self.unit]
+        amounts = f"mean {self.mean:.4g} and at most {self.greatest:.4g} {sign}"
+        return f"{self.metal}: {self.column}, {amounts}, priced by the {'gram' if quantity == 'g' else 'tonne'}"
+
+    @property
+    def doubts(self) -> list[str]:
+        """A warning where a block would hold more metal than it weighs."""
+        whole = {"gram_per_tonne": 1e6}.get(self.unit, 1 / float(GRADE_UNITS[self.unit]))
+        if self.greatest <= whole:
+            return []
+        return [f"WARNING: {self.metal}: {self.greatest:.4g} {GRADE_SIGNS[self.unit]} is more than the block: the unit may be another"]
+
+
+def grade_of(metal: Metal, grades: np.ndarray, tonnes: np.ndarray) -> Grade:
+    """The grades of a metal, one a block, by the tonnes of the blocks."""
+    return Grade(metal.name, metal.column, metal.unit, mean_of(grades, tonnes), float(grades.max()))
+
+
+def mean_of(grades: np.ndarray, tonnes: np.ndarray) -> float:
+    """The mean by tonnes; 0 where nothing weighs anything."""
+    total = float(tonnes.sum())
+    return float((grades * tonnes).sum()) / total if total > 0 else 0.0
+
+
+def of_table(table: Table, grid: Grid, project: Project) -> list[str]:
+    """The lines of a checked table, as it was before cells without rows were filled."""
+    tonnes = table.frame[project.table.tonnes].to_numpy()
+    grades = [grade_of(metal, table.frame[metal.column].to_numpy(), tonnes) for metal in project.metals]
+    return [*of_ground(table, grid, project), *of_grades(grades)]
+
+
+def of_ground(table: Table, grid: Grid, project: Project) -> list[str]:
+    """The lines that no grade alters: blocks, tonnes, extents, columns, and what was told by looking at the text."""
+    columns, tonnes = project.table, table.frame[project.table.tonnes].to_numpy()
+    lines = [f"{table.source}: {len(table.frame):,} blocks in {grid.count:,} cells, {tonnes.sum():,.0f} tonnes in {rock_of(columns)}"]
+    lines += [axis.line for axis in axes_of(grid, columns)]
+    lines += not_used(table.unused)
+    missing = [name for name in OPTIONAL if getattr(columns, name) is None]
+    lines += [f"the project names no column of {', '.join(missing)}"] if missing else []
+    lines += table.notes
+    return lines + ([f"WARNING: {table.filled:,} tonnes or grades are empty, and taken as 0"] if table.filled else [])
+
+
+def of_grades(grades: Sequence[Grade]) -> list[str]:
+    """A line a metal, and a warning where its unit cannot be right."""
+    return [grade.line for grade in grades] + [doubt for grade in grades for doubt in grade.doubts]
+
+
+def axes_of(grid: Grid, columns: TableColumns) -> list[Axis]:
+    """x, y and z of a grid."""
+    west, east, south, north, floor, top = grid.extent()
+    edges, size = ((west, east), (south, north), (floor, top)), grid.size
+    names = (columns.x, columns.y, columns.z)
+    return [Axis(axis, names[k], edges[k][0] + size[k] / 2, edges[k][1] - size[k] / 2, size[k]) for k, axis in enumerate("xyz")]
+
+
+def rock_of(columns: TableColumns) -> str:
+    """The column of tonnes, or those that make them, with units."""
+    if columns.density is None:
+        return columns.tonnes
+    volume = f"{columns.volume} (cubic metres)" if columns.volume else "the blocks' size"
+    return f"{columns.density} (tonnes a cubic metre) times {volume}"
+
+
+def not_used(names: Sequence[str]) -> list[str]:
+    """A line that names the table's columns of which nothing is taken; none where there are no such."""
+    return [f"columns not used: {', '.join(names)}"] if names else []

@@ -1,0 +1,106 @@
+"""The example with a plant and a surface as mined: against its expected tables, against the plain example, and against its own rows."""
+
+import csv
+import math
+import os
+import subprocess
+import sys
+
+import numpy as np
+import pandas as pd
+import pytest
+from conftest import ROOT
+from test_oracle import cotangent
+
+from pitplan import commands, prepare, run
+
+EXAMPLE = ROOT / "examples" / "fixed"
+WALLS = {"west": [(0, 45)], "east": [(0, 48), (90, 42), (180, 48), (270, 45)]}
+LEVELS = 8
+# Centre of the first block and the blocks' size, in metres.
+PLACES = (("x", 5010, 20), ("y", 2010, 20), ("z", 2707.5, 15))
+
+
+@pytest.fixture(scope="module")
+def folder(tmp_path_factory):
+    """The shells of the example and, in pit, its pit of factor 1000."""
+    place = tmp_path_factory.mktemp("fixed")
+    commands.write_shells(EXAMPLE / "project.toml", place)
+    commands.pit(EXAMPLE / "project.toml", 1000, place / "pit")
+    return place
+
+
+def table_of_rows():
+    """The rows of the table, by column from the west, row from the south and level from the floor."""
+    with open(ROOT / "examples" / "plan" / "blocks.csv", newline="") as file:
+        rows = list(csv.DictReader(file))
+    return {tuple(round((float(row[axis]) - first) / step) for axis, first, step in PLACES): row for row in rows}
+
+
+def by_hand(rows):
+    """The cut is 4 x 3 columns, two blocks deep; the plant stands on 4 x 4 columns."""
+    top = {}
+    for i, j, k in rows:
+        top[i, j] = max(top.get((i, j), 0), k)
+    forced = {(i, j, top[i, j] - down) for i in range(12, 16) for j in range(12, 15) for down in (0, 1)}
+    return forced, {(i, j, k) for i, j, k in rows if 20 <= i < 24 and 9 <= j < 13}
+
+
+def test_the_tables_are_the_expected_ones(folder):
+    for name, written in (("shells.csv", folder / "shells.csv"), ("pits.csv", folder / "pit" / "pits.csv")):
+        tables = [pd.read_csv(path, dtype={"worth_at_factor": str}) for path in (EXAMPLE / "expected" / name, written)]
+        pd.testing.assert_frame_equal(*tables, rtol=1e-9)
+
+
+def test_the_fixed_blocks_are_those_of_the_map():
+    """24 blocks of the cut; on the plant's 16 columns stand 13 x 11 + 3 x 12 = 179."""
+    rows = table_of_rows()
+    forced, barred = by_hand(rows)
+    plan = prepare(EXAMPLE / "project.toml")
+    called = plan.blocks.set_index("id")["planner_id"]
+    assert {rows[place]["id"] for place in forced} == set(called[plan.fixed.forced])
+    assert {rows[place]["id"] for place in barred} == set(called[plan.fixed.barred])
+    assert len(forced) == 24 and len(barred) == 179
+    assert "24 blocks must be dug and 179 may not be" in plan.notes
+
+
+def test_without_fixed_blocks_the_pit_is_that_of_the_plain_example(folder):
+    pits = pd.read_csv(folder / "pit" / "pits.csv").set_index("fixed_blocks")
+    plain = pd.read_csv(ROOT / "examples" / "plan" / "expected" / "shells.csv").set_index("factor").loc[1000]
+    for name in ("blocks", "tonnes", "ore_tonnes", "metal_copper", "metal_gold", "worth"):
+        assert pits[name]["free"] == pytest.approx(plain[name], rel=1e-9), name
+    cost = pits["worth"]["free"] - pits["worth"]["kept"]
+    page = (ROOT / "docs" / "PLANNING.md").read_text(encoding="utf-8")
+    assert cost > 0 and f"they cost {cost / 1e6:.1f} of {pits['worth']['free'] / 1e6:.1f} million USD" in page
+
+
+@pytest.mark.parametrize("factor", [400, 600, 800, 1000])
+def test_each_shell_keeps_to_walls_cut_and_plant(folder, factor):
+    """By the whole cone above each block that is dug, as the walls are asked for."""
+    rows = table_of_rows()
+    forced, barred = by_hand(rows)
+    blocks = pd.read_csv(folder / "blocks.csv").set_index("planner_id")["factor"]
+    pit = {place for place, row in rows.items() if 0 < blocks[row["id"]] <= factor}
+    assert forced <= pit and not barred & pit
+    cones = {region: cone(wall) for region, wall in WALLS.items()}
+    for i, j, k in pit:
+        above = {(i + east, j + north, k + up) for east, north, up in cones[rows[i, j, k]["region"]]}
+        assert above & rows.keys() <= pit, (i, j, k)
+
+
+def cone(wall):
+    """The steps east, north and up to each block that one needs, on blocks of 20 x 20 x 15 m."""
+    found = []
+    for up, north, east in np.ndindex(LEVELS, 17, 17):
+        x, y, z = 20 * (east - 8), 20 * (north - 8), 15 * (up + 1)
+        if math.hypot(x, y) <= z * cotangent(wall, math.degrees(math.atan2(x, y)) % 360) + 1e-7:
+            found.append((east - 8, north - 8, up + 1))
+    return found
+
+
+def test_others_can_check_the_pit(folder):
+    """By the program and by the short checker, which shares nothing with it."""
+    environment = {**os.environ, "PITSHELL": str(run.program()), "PYTHON": sys.executable}
+    words = ["sh", str(commands.audit(folder, 1000) / "check.sh")]
+    ran = subprocess.run(words, env=environment, capture_output=True, text=True)
+    assert ran.stdout == "hashes: yes\npitshell check: yes\ncheck_certificate.py: yes\n", ran.stderr

@@ -1,0 +1,115 @@
+"""The example of simulated models: each scenario against the tests' own maximum flow over the whole cone of each block."""
+
+import csv
+import math
+import os
+import subprocess
+import sys
+from decimal import Decimal
+
+import pandas as pd
+import pytest
+from conftest import ROOT
+from test_oracle import least_best_pit, whole
+
+from pitplan import run
+
+EXAMPLE = ROOT / "examples" / "scenarios"
+SHAPE = (10, 9, 7)  # columns, rows, levels of blocks of 20 x 20 x 15 m
+PLACES = (("x", 5010, 20), ("y", 2010, 20), ("z", 2707.5, 15))
+PRICES, FACTORS = (7400, 9000), (700, 1000)
+COPPER = {"OX": Decimal("0.62"), "POR": Decimal("0.88"), "AND": Decimal("0.86")}
+GOLD = {"OX": Decimal("0.55"), "POR": Decimal("0.7"), "AND": Decimal("0.7")}
+PROCESSING = {"OX": Decimal("9.8"), "POR": Decimal("8.6"), "AND": Decimal("8.6")}
+
+
+@pytest.fixture(scope="module")
+def folder(tmp_path_factory):
+    """What the command line writes."""
+    place = tmp_path_factory.mktemp("scenarios")
+    words = [ROOT / "tools" / "pitplan", "scenarios", EXAMPLE / "project.toml", "--out", place, "--workers", "2", "--quiet"]
+    subprocess.run([sys.executable, *words], check=True, env={**os.environ, "PITSHELL": str(run.program())})
+    return place
+
+
+def rows_of(path):
+    with open(path, newline="") as file:
+        return list(csv.DictReader(file))
+
+
+def place_of(row):
+    return tuple(round((float(row[axis]) - first) / step) for axis, first, step in PLACES)
+
+
+def cells():
+    return [(i, j, k) for k in range(SHAPE[2]) for j in range(SHAPE[1]) for i in range(SHAPE[0])]
+
+
+def needs():
+    """For each cell the cells of the four levels above it that lie in a cone of 45 degrees."""
+    inside = set(cells())
+    steps = [
+        (east, north, up)
+        for up in range(1, 5)
+        for north in range(-3, 4)
+        for east in range(-3, 4)
+        if math.hypot(20 * east, 20 * north) <= 15 * up + 1e-7
+    ]
+    return {(i, j, k): [to for a, b, c in steps if (to := (i + a, j + b, k + c)) in inside] for i, j, k in cells()}
+
+
+def value_at(row, grades, price, factor):
+    """What a block is worth once it is dug, in thousandths of whole money."""
+    rock, tonnes = row["rock"], Decimal(row["tonnes"])
+    copper = tonnes * Decimal(grades["cu_pct"]) / 100 * COPPER[rock]
+    gold = tonnes * Decimal(grades["au_gpt"]) * GOLD[rock]
+    revenue = whole(copper * price + gold * Decimal("58.5"))
+    processing = whole(tonnes * PROCESSING[rock] + copper * 420 + gold * Decimal("1.2")) if revenue else 0
+    return max(factor * revenue - 1000 * processing, 0) - 1000 * whole(tonnes * Decimal("2.4"))
+
+
+@pytest.fixture(scope="module")
+def pits():
+    """By model, price and factor the blocks of the pit, by their ids, and its worth."""
+    rows = {row["id"]: row for row in rows_of(EXAMPLE / "blocks.csv")}
+    places, leads, found = {name: place_of(row) for name, row in rows.items()}, needs(), {}
+    for path in sorted((EXAMPLE / "models").iterdir()):
+        grades = {row["id"]: row for row in rows_of(path)}
+        for price, factor in ((price, factor) for price in PRICES for factor in FACTORS):
+            values = {name: value_at(row, grades[name], price, factor) for name, row in rows.items()}
+            # Both factors are hundreds, and so are the thousandths; smaller numbers keep the flow within 32 bits.
+            flows = dict.fromkeys(cells(), 0) | {places[name]: value // 100 for name, value in values.items()}
+            pit = least_best_pit(flows, leads)
+            inside = {name for name, place in places.items() if place in pit}
+            found[path.stem, price, factor] = inside, Decimal(sum(values[name] for name in inside)) / 1000
+    return found
+
+
+def test_each_scenario_is_that_of_the_oracle(folder, pits):
+    """Eight scenarios at two factors; the third model pays at the higher price alone."""
+    table = rows_of(folder / "scenarios.csv")
+    assert len(table) == len(pits) == 16
+    for row in table:
+        inside, worth = pits[row["model"], int(row["price_copper"]), int(row["factor"])]
+        assert (int(row["blocks"]), Decimal(row["worth_at_factor"])) == (len(inside), worth)
+    counts = [len(pits["model_003", price, 1000][0]) for price in PRICES]
+    assert counts[0] == 0 < counts[1]
+
+
+@pytest.mark.parametrize("factor", FACTORS)
+def test_probabilities_are_shares_of_the_oracle(folder, pits, factor):
+    likely = pd.read_csv(folder / "probability.csv").set_index("planner_id")[f"probability_{factor}"]
+    asked = [inside for (_, _, at), (inside, _) in pits.items() if at == factor]
+    assert likely.to_dict() == {name: sum(name in inside for inside in asked) / 8 for name in likely.index}
+    assert likely.max() >= 0.75 and len(likely) == 523
+
+
+def test_quantiles_by_hand_from_the_oracle(folder, pits):
+    """Of four models, the median lies half way between the second and the third, and a tenth at 0.3 of the way from the first."""
+    table = pd.read_csv(folder / "quantiles.csv").set_index(["price_copper", "factor"])
+    for price, factor in table.index:
+        counts = sorted(len(inside) for (_, at, of), (inside, _) in pits.items() if (at, of) == (price, factor))
+        row = table.loc[(price, factor)]
+        assert (row["blocks_least"], row["blocks_greatest"], row["blocks_mean"]) == (counts[0], counts[3], sum(counts) / 4)
+        assert row["blocks_quantile_0.5"] == (counts[1] + counts[2]) / 2
+        assert row["blocks_quantile_0.1"] == pytest.approx(counts[0] + 0.3 * (counts[1] - counts[0]))

@@ -1,0 +1,156 @@
+"""The first lines of a run: extents, tonnes, grades and columns of small tables, worked by hand."""
+
+import json
+
+import pytest
+from conftest import PROJECT, rows
+
+from pitplan import load, prepare
+from pitplan.cli import main
+
+FLOOR_OF_ORE = {"cu": lambda i, j, k: 2.0 if k == 0 else 0.5, "tonnes": lambda i, j, k: 300 if k == 0 else 100}
+GOLD = '[[metals]]\nname = "gold"\ncolumn = "au"\nunit = "gram_per_tonne"\nprice = 60\nrecovery = 0.5\n[slopes]'
+SOLVES = [["shells"], ["pit", "--factor", "1000"]]
+
+
+def first_lines(err):
+    """What stands between the steps of the grid and of the walls."""
+    lines = err.splitlines()
+    ends = [k for k, line in enumerate(lines) if line.startswith(("laying the grid", "laying the walls"))]
+    return lines[ends[0] + 1 : ends[1]]
+
+
+def box(plan_folder, *changes, **more):
+    """4 x 3 x 2 blocks of 10 m: 12 of 300 t with 2 % on the floor, 12 of 100 t with 0.5 % above."""
+    return plan_folder(rows(4, 3, 2, **{**FLOOR_OF_ORE, **more}), PROJECT, *changes)
+
+
+def expected(folder):
+    """12 x 300 + 12 x 100 = 4,800 t; (3,600 x 2 + 1,200 x 0.5) / 4,800 = 1.625 %."""
+    return [
+        f"{folder / 'blocks.csv'}: 24 blocks in 24 cells, 4,800 tonnes in tonnes",
+        "x: from 0 to 40 m, 4 cells of 10 m, centres in x",
+        "y: from 0 to 30 m, 3 cells of 10 m, centres in y",
+        "z: from 0 to 20 m, 2 cells of 10 m, centres in z",
+        "copper: cu, mean 1.625 and at most 2 %, priced by the tonne",
+    ]
+
+
+def test_prepare_tells_them_first_and_keeps_them(plan_folder, tmp_path, capsys):
+    path = box(plan_folder)
+    assert main(["prepare", str(path)]) == 0
+    assert first_lines(capsys.readouterr().err) == expected(tmp_path)
+    assert json.loads((tmp_path / "plan" / "prepare.json").read_text())["summary"] == expected(tmp_path)
+
+
+def test_quiet_tells_none(plan_folder, capsys):
+    assert main(["prepare", str(box(plan_folder)), "--quiet"]) == 0
+    assert "cells of 10 m" not in capsys.readouterr().err
+
+
+@pytest.mark.parametrize("words", SOLVES)
+def test_solving_tells_them(plan_folder, tmp_path, capsys, words):
+    path = box(plan_folder)
+    path.write_text(path.read_text() + '[fixed]\nforced = "cu"\n')
+    assert main([words[0], str(path), *words[1:]]) == 0
+    assert first_lines(capsys.readouterr().err) == expected(tmp_path)
+
+
+def test_the_report_has_them(solved):
+    project, folder = solved
+    page = (folder / "report.html").read_text()
+    # 10 x 9 x 5 cells, without one level of 5 x 9.
+    assert "405 blocks in 450 cells, 40,500 tonnes in tonnes</li>" in page
+    assert "<li>x: from 0 to 100 m, 10 cells of 10 m, centres in x</li>" in page
+
+
+def test_columns_that_are_not_used_or_not_named(plan_folder, tmp_path):
+    changes = [('id = "name"\nrock = "rock"\nregion = "region"\n', "")]
+    lines = prepare(box(plan_folder, *changes, notes=lambda i, j, k: "core")).summary
+    assert lines == [
+        *expected(tmp_path)[:4],
+        "columns not used: name, rock, region, notes",
+        "the project names no column of id, rock, region",
+        *expected(tmp_path)[4:],
+    ]
+
+
+def test_gaps_between_blocks_are_cells(plan_folder):
+    """Without the upper level's west row of three blocks."""
+    table = rows(4, 3, 2, **FLOOR_OF_ORE)
+    path = plan_folder(table[(table["z"] < 10) | (table["x"] > 10)])
+    assert ": 21 blocks in 24 cells, 4,500 tonnes in tonnes" in prepare(path).summary[0]
+
+
+@pytest.mark.parametrize(
+    ("words", "said"),
+    [
+        ('density = "sg"', "60,000 tonnes in sg (tonnes a cubic metre) times the blocks' size"),
+        ('density = "sg"\nvolume = "m3"', "54,000 tonnes in sg (tonnes a cubic metre) times m3 (cubic metres)"),
+    ],
+)
+def test_tonnes_of_a_density_name_their_columns(plan_folder, words, said):
+    """24 blocks of 2.5 t a cubic metre, of 1,000 or of 900 cubic metres."""
+    more = {"sg": lambda i, j, k: 2.5, "m3": lambda i, j, k: 900}
+    path = box(plan_folder, ('id = "name"', f'id = "name"\n{words}'), **more)
+    assert prepare(path).summary[0].endswith(said)
+
+
+def test_metals_in_grams_and_grades_that_cannot_be(plan_folder):
+    """Two metals: the one weighs more than its block, the other all but as much."""
+    more = {"au": lambda i, j, k: 1e6 if k else 0, "cu": lambda i, j, k: 100.5 if i + j + k == 0 else 0}
+    lines = prepare(box(plan_folder, ("[slopes]\nlevels", GOLD + "\nlevels"), **more)).summary
+    # 1,200 of 4,800 t, and 300 of 4,800 t with 100.5 %.
+    assert "gold: au, mean 2.5e+05 and at most 1e+06 g/t, priced by the gram" in lines
+    assert "copper: cu, mean 6.281 and at most 100.5 %, priced by the tonne" in lines
+    assert [line for line in lines if "WARNING" in line] == [
+        "WARNING: copper: 100.5 % is more than the block: the unit may be another"
+    ]
+
+
+@pytest.mark.parametrize(("unit", "most", "whole"), [("fraction", 1.5, 1.0), ("gram_per_tonne", 1_000_001.0, 1_000_000.0)])
+def test_each_unit_has_its_limit(plan_folder, unit, most, whole):
+    changes = [('unit = "percent"', f'unit = "{unit}"'), ("price = 8000", "price = 1")]
+    for greatest, count in ((whole, 0), (most, 1)):
+        lines = prepare(box(plan_folder, *changes, cu=lambda i, j, k: greatest)).summary
+        assert sum("is more than the block" in line for line in lines) == count
+
+
+def test_empty_fields_and_the_text_are_told(plan_folder):
+    table = rows(4, 3, 2, cu=lambda i, j, k: None if i == 0 else 2.0)
+    path = plan_folder(table, PROJECT, ('file = "blocks.csv"', 'file = "blocks.csv"\nempty = "zero"'))
+    table.to_csv(path.parent / "blocks.csv", index=False, sep=";")
+    lines = prepare(path).summary
+    assert "the table's fields are parted by semicolons: [table] separator names another sign" in lines
+    assert "WARNING: 6 tonnes or grades are empty, and taken as 0" in lines
+
+
+def test_a_table_without_tonnes_has_a_mean_of_nothing():
+    from numpy import array
+
+    from pitplan.summary import mean_of
+
+    assert mean_of(array([2.0, 4.0]), array([0.0, 0.0])) == 0 and mean_of(array([2.0, 4.0]), array([3.0, 1.0])) == 2.5
+
+
+def test_scenarios_tell_the_grades_of_all_models(plan_folder, tmp_path, capsys):
+    """Models as columns: 300 t of 2 % and of 4 % among 4,800 t, so 0.125 and 0.25 %, with a mean of 0.1875 %."""
+    sims = {f"sim_{n}": lambda i, j, k, n=n: 2.0 * n if i + j + k == 0 else 0.0 for n in (1, 2)}
+    path = box(plan_folder, **sims)
+    path.write_text(path.read_text() + '[scenarios]\ncolumns = { copper = "sim_*" }\n')
+    assert main(["scenarios", str(path), "--on", "parallel"]) == 0
+    lines = capsys.readouterr().err.splitlines()
+    assert f"{tmp_path / 'blocks.csv'}: 24 blocks in 24 cells, 4,800 tonnes in tonnes" in lines
+    assert "y: from 0 to 30 m, 3 cells of 10 m, centres in y" in lines and "columns not used: cu" in lines
+    assert "copper: sim_1 and so on, of 2 models, mean 0.1875 and at most 4 %, priced by the tonne" in lines
+
+
+def test_scenarios_of_a_folder_tell_its_models(plan_folder, tmp_path, capsys):
+    path = box(plan_folder)
+    path.write_text(path.read_text() + '[scenarios]\nmodels = "models"\n')
+    (tmp_path / "models").mkdir()
+    for number in (1, 2, 3):
+        table = rows(4, 3, 2, cu=lambda i, j, k: 1.0 * number)[["name", "cu"]]
+        table.to_csv(tmp_path / "models" / f"m{number}.csv", index=False)
+    assert load(path).scenarios is not None and main(["scenarios", str(path), "--on", "parallel"]) == 0
+    assert "copper: cu and so on, of 3 models, mean 2 and at most 3 %, priced by the tonne" in capsys.readouterr().err
