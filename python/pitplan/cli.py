@@ -1,4 +1,4 @@
-"""The command line: `pitplan init | prepare | shells | pit | verify | view | export | audit | scenarios | convert`, and what these need."""
+"""The command line: `pitplan init | prepare | shells | pit | pushbacks | verify | view | export | audit | scenarios | convert`, and what these need."""
 
 from __future__ import annotations
 
@@ -31,6 +31,7 @@ def parser() -> argparse.ArgumentParser:
         "prepare": "write the program's files and prepare.json, which says what was rounded, dropped and clipped",
         "shells": "prepare, run the program, and write tables, pictures and the report",
         "pit": "solve the pit of one factor with the project's fixed blocks and without them, and compare the two",
+        "pushbacks": "divide the pit of one factor into phases, and write tables, pictures and the report",
         "view": "write a page that shows the shells in 3D (libjs-three)",
         "export": "write the shells for other programs",
         "audit": "write a folder by which others can check one shell",
@@ -42,7 +43,7 @@ def parser() -> argparse.ArgumentParser:
         sub.add_argument("--quiet", action="store_true", help="tell no progress on standard error")
         if name == "export":
             sub.add_argument("--to", required=True, choices=tuple(exports.WRITERS))
-        if name in ("pit", "shells"):
+        if name in ("pit", "pushbacks", "shells"):
             sub.add_argument("--no-verify", action="store_true", help="leave out the second look at every number")
         if name in ("pit", "export", "audit"):
             is_needed = name == "audit"
@@ -165,6 +166,13 @@ def run_command(options: argparse.Namespace, project: Project, folder: Path, pro
         print_table(["fixed, blocks", *(heading for _, heading, _, _ in columns)], lines)
         tell_notes(files.read_record(folder)["notes"])
         print(folder / commands.PITS)
+    elif options.command == "pushbacks":
+        folder = options.out or project.folder / "pushbacks"
+        table = commands.pushbacks(project, folder, progress, not options.no_verify)
+        columns = report.columns_of_phases(table, project)
+        print_table([heading for _, heading, _, _ in columns], report.cells_of(table, columns))
+        tell_notes(files.read_record(folder)["notes"])
+        print(folder / commands.REPORT)
     elif options.command == "view":
         print(commands.view(folder, progress))
     elif options.command == "export":

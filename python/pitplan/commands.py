@@ -3,15 +3,16 @@
 from __future__ import annotations
 
 import os
-from dataclasses import replace
+from dataclasses import dataclass, replace
 from pathlib import Path
 from typing import Any, Optional, Union
 
 import numpy as np
 import pandas as pd
 
-from . import absent, analyse, auditing, exports, files, page, pictures, report, run, simulation, verification, yearly
+from . import absent, analyse, auditing, exports, files, page, phase_pictures, phases as phasing, pictures, report, run, simulation, verification, yearly
 from .errors import PlanError
+from .phases import Phases
 from .plan import Plan, prepare as prepare_plan
 from .progress import Progress, silent
 from .project import REFERENCE_FACTOR, Project, load
@@ -29,6 +30,7 @@ PICTURES = {
     "plans": "plans.png",
     "sections": "sections.png",
 }
+PHASE_PICTURES = {"phase_plans": "phase_plans.png", "phase_sections": "phase_sections.png"}
 REPORT, VIEW = "report.html", "view.html"
 WRITTEN = {
     *PREPARED,
@@ -39,10 +41,12 @@ WRITTEN = {
     files.TABLE,
     files.SHELLS,
     files.YEARS,
+    files.PHASES,
     files.ANSWER,
     REPORT,
     VIEW,
     *PICTURES.values(),
+    *PHASE_PICTURES.values(),
 }
 WRITTEN |= {PIT_MODEL, PITS}
 
@@ -146,31 +150,84 @@ def write_shells(
     identity = run.identity()
     plan = prepare_plan(project, progress=progress)
     with files.staged(target) as stage:
-        record = write_prepared(plan, stage, progress)
+        record = write_prepared(plan, stage, progress) | {"program": identity}
         solution = run.solve(plan, stage, progress)
-        with progress.step("counting the shells"):
-            table, years = write_tables(plan, solution, stage)
-            record["notes"] += analyse.edge_notes(plan, solution)
-        chosen = analyse.chosen_factor(table, project.schedule)
-        check_fixed(plan, solution, chosen, stage, progress)
-        record["shells"] = {"factors": list(project.schedule.factors), "chosen": chosen, "program": identity}
-        note_verified(plan, record, stage, verifies, progress)
-        with progress.step("drawing"):
-            draw(plan, solution, table, chosen, stage)
-            yearly.write_years(years, project, chosen, stage / PICTURES["years"])
-        names = [*written(plan), *([PIT_MODEL] if project.fixed else []), files.ANSWER, files.TABLE, files.SHELLS, files.YEARS]
-        finish(plan, record, [*names, *PICTURES.values()], stage)
-        write_report(project, table, record, stage)
+        return write_answer(plan, solution, record, Writing(stage, progress, verifies))
+
+
+def pushbacks(
+    project: Source, folder: Optional[Place] = None, progress: Progress = silent, verifies: bool = True
+) -> pd.DataFrame:
+    """Divides the pit of one factor into phases, as `pitplan pushbacks` does.
+
+    Gives a table with a row a phase. Into the folder (by default pushbacks in the project's own) it writes this table as phases.csv, and all
+    that `write_shells` writes of the phases' shells, with each block's phase in blocks.csv.
+
+    Raises PlanError where the project has no `[pushbacks]` or the pit is empty, and where what is written is not right, unless it is not
+    verified.
+    """
+    project = phasing.ending(read(project))
+    target = project.folder / "pushbacks" if folder is None else Path(folder)
+    demand_apart(project, target)
+    identity = run.identity()
+    plan = prepare_plan(project, progress=progress)
+    with files.staged(target) as stage:
+        record = write_prepared(plan, stage, progress) | {"program": identity}
+        phases = phasing.divide(plan, stage, progress)
+        record["notes"] += phases.notes
+        write_answer(phases.plan, phases.solution, record, Writing(stage, progress, verifies), phases)
+    return phasing.table(phases)
+
+
+@dataclass(frozen=True)
+class Writing:
+    """Where an answer is written, whom it is told, and whether it is looked at a second time."""
+
+    stage: Path
+    progress: Progress
+    verifies: bool
+
+
+def write_answer(
+    plan: Plan, solution: run.Solution, record: dict[str, Any], writing: Writing, phases: Optional[Phases] = None
+) -> pd.DataFrame:
+    """Writes tables, pictures, the report and the record of shells, and of their phases where there are such; gives the shells' table."""
+    stage, progress, project = writing.stage, writing.progress, plan.project
+    with progress.step("counting the shells"):
+        table, years = write_tables(plan, solution, stage, phases)
+        record["notes"] += analyse.edge_notes(plan, solution)
+    chosen = analyse.chosen_factor(table, project.schedule)
+    check_fixed(plan, solution, chosen, stage, progress)
+    record["shells"] = {"factors": list(project.schedule.factors), "chosen": chosen, "program": record.pop("program")}
+    if phases is not None:
+        record["phases"] = len(phases.factors)
+    note_verified(plan, record, stage, writing.verifies, progress)
+    drawn = PICTURES if phases is None else PICTURES | PHASE_PICTURES
+    with progress.step("drawing"):
+        draw(plan, solution, table, chosen, stage)
+        yearly.write_years(years, project, chosen, stage / PICTURES["years"])
+        if phases is not None:
+            scene = phase_pictures.scene_of(phases)
+            phase_pictures.write_plans(scene, stage / PHASE_PICTURES["phase_plans"])
+            phase_pictures.write_sections(scene, stage / PHASE_PICTURES["phase_sections"])
+    names = [*written(plan), *([PIT_MODEL] if project.fixed else []), files.ANSWER, files.TABLE, files.SHELLS, files.YEARS]
+    finish(plan, record, [*names, *([files.PHASES] if phases else []), *drawn.values()], stage)
+    facts = facts_of(record, {name: stage / file for name, file in drawn.items()})
+    report.write(stage / REPORT, project, table, facts, None if phases is None else phasing.table(phases))
     return table
 
 
-def write_tables(plan: Plan, solution: run.Solution, stage: Path) -> tuple[pd.DataFrame, pd.DataFrame]:
-    """Writes the program's answer, blocks.csv, shells.csv and years.csv; gives the last two."""
+def write_tables(
+    plan: Plan, solution: run.Solution, stage: Path, phases: Optional[Phases] = None
+) -> tuple[pd.DataFrame, pd.DataFrame]:
+    """Writes the program's answer, blocks.csv, shells.csv, years.csv, and of phases phases.csv; gives the shells and the years."""
     table, years = analyse.shells(plan, solution), analyse.years(plan, solution)
     (stage / files.ANSWER).write_bytes(solution.answer)
-    write_table(analyse.blocks(plan, solution), stage)
+    write_table(analyse.blocks(plan, solution) if phases is None else phasing.blocks(phases), stage)
     shown(table).to_csv(stage / files.SHELLS, index=False)
     shown(years).to_csv(stage / files.YEARS, index=False)
+    if phases is not None:
+        shown(phasing.table(phases)).to_csv(stage / files.PHASES, index=False)
     return table, years
 
 
@@ -218,17 +275,17 @@ def draw(plan: Plan, solution: run.Solution, table: pd.DataFrame, chosen: int, s
     pictures.write_sections(scene, stage / PICTURES["sections"])
 
 
-def write_report(project: Project, table: pd.DataFrame, record: dict[str, Any], stage: Path) -> None:
-    facts = {
+def facts_of(record: dict[str, Any], drawn: dict[str, Path]) -> dict[str, Any]:
+    """What the report tells besides the tables; `drawn` has the pictures by name."""
+    return {
         "chosen": record["shells"]["chosen"],
-        "pictures": {name: stage / file for name, file in PICTURES.items()},
+        "pictures": drawn,
         "summary": record["summary"],
         "notes": record["notes"],
         "verified": record["verified"],
         "files": {**record["inputs"], **record["files"]},
         "program": record["shells"]["program"],
     }
-    report.write(stage / REPORT, project, table, facts)
 
 
 def view(folder: Place, progress: Progress = silent) -> Path:

@@ -25,6 +25,7 @@ from .walls import Walls
 BLOCKS, MODEL, PREC, FIXED = "mine.blocks", "mine.upit", "mine.prec", "mine.fixed"
 REST_BLOCKS, REST_PREC = "rest.blocks", "rest.prec"
 RECORD, TABLE, SHELLS, YEARS, ANSWER = "prepare.json", "blocks.csv", "shells.csv", "years.csv", "shells.txt"
+PHASES = "phases.csv"
 CHUNK = 200_000
 
 

@@ -23,7 +23,10 @@ from .walls import Walls
 MOST_PAIRS = 67_108_864
 MILLION = 1_000_000
 # The columns that blocks.csv has of its own; one of the planner's with such a name is called planner_NAME there.
-OWN_COLUMNS = ("id", "mining_cost", "revenue", "processing_cost", "factor", "process_factor", "free_factor", "free_process_factor")
+OWN_COLUMNS = (
+    *("id", "mining_cost", "revenue", "processing_cost", "factor", "process_factor", "free_factor", "free_process_factor"),
+    "phase",
+)
 
 
 @dataclass(repr=False)

@@ -10,6 +10,7 @@ from pathlib import Path
 from typing import Optional, Union
 
 from .errors import PlanError
+from .phase_rules import PhaseRules, read_phases
 from .section import Section
 
 # A price or a cost: one for every rock, or one for each rock by its code.
@@ -198,6 +199,7 @@ class Project:
     folder: Path
     scenarios: Optional[Scenarios] = None
     fixed: Optional[FixedRules] = None
+    phases: Optional[PhaseRules] = None
 
 
 def load(path: Union[str, Path], original: Optional[Path] = None) -> Project:
@@ -232,6 +234,7 @@ def of_data(data: dict, path: Path) -> Project:
         folder=path.parent / output.text("folder", "plan"),
         scenarios=read_scenarios(top.section("scenarios"), path.parent) if top.has("scenarios") else None,
         fixed=read_fixed(top.section("fixed"), path.parent) if top.has("fixed") else None,
+        phases=read_phases(top.section("pushbacks"), GREATEST_FACTOR) if top.has("pushbacks") else None,
     )
     output.finish()
     top.finish()

@@ -4,7 +4,7 @@ from __future__ import annotations
 
 import base64
 from pathlib import Path
-from typing import Any
+from typing import Any, Optional
 
 import pandas as pd
 from jinja2 import Environment, FileSystemLoader, select_autoescape
@@ -32,24 +32,42 @@ def picture(path: Path) -> str:
 
 def columns_of(table: pd.DataFrame, project: Project) -> list[tuple[str, str, float, int]]:
     """What the page's table shows: column, heading with unit, by what to divide, and decimals."""
-    tonnes, t_sign = scaled(float(table["tonnes"].max()))
     money, m_sign = scaled(float(table[["worth", "npv_best", "npv_worst"]].abs().max().max()))
     currency = f"{m_sign} {project.money.currency}".strip()
+    columns = [("factor", "factor, per mille", 1.0, 0), *columns_of_rock(table, project)]
+    for name, heading in (("worth", "worth"), ("npv_best", "NPV best"), ("npv_worst", "NPV worst")):
+        columns.append((name, f"{heading}, {currency}", money, 1))
+    return [*columns, ("years", "years", 1.0, 1)]
+
+
+def columns_of_rock(table: pd.DataFrame, project: Project) -> list[tuple[str, str, float, int]]:
+    """Blocks, tonnes, strip ratio, grades and metals."""
+    tonnes, sign = scaled(float(table["tonnes"].max()))
     columns = [
-        ("factor", "factor, per mille", 1.0, 0),
         ("blocks", "blocks", 1.0, 0),
-        ("tonnes", f"rock, {t_sign}t", tonnes, 2),
-        ("ore_tonnes", f"ore, {t_sign}t", tonnes, 2),
-        ("waste_tonnes", f"waste, {t_sign}t", tonnes, 2),
+        ("tonnes", f"rock, {sign}t", tonnes, 2),
+        ("ore_tonnes", f"ore, {sign}t", tonnes, 2),
+        ("waste_tonnes", f"waste, {sign}t", tonnes, 2),
         ("strip_ratio", "strip ratio", 1.0, 2),
     ]
     for metal in project.metals:
         size, unit = metal_unit(float(table[f"metal_{metal.name}"].max()), metal)
         columns.append((f"grade_{metal.name}", f"{metal.name}, {metal.sign}", 1.0, 3))
         columns.append((f"metal_{metal.name}", f"{metal.name}, {unit}", size, 2))
-    for name, heading in (("worth", "worth"), ("npv_best", "NPV best"), ("npv_worst", "NPV worst")):
-        columns.append((name, f"{heading}, {currency}", money, 1))
-    return [*columns, ("years", "years", 1.0, 1)]
+    return columns
+
+
+def columns_of_phases(table: pd.DataFrame, project: Project) -> list[tuple[str, str, float, int]]:
+    """What is shown of phases, as `columns_of` of shells."""
+    money, sign = scaled(float(table["worth"].abs().max()))
+    head = [("phase", "phase", 1.0, 0), ("factor", "factor, per mille", 1.0, 0)]
+    return [*head, *columns_of_rock(table, project), ("worth", f"worth, {sign} {project.money.currency}".replace(",  ", ", "), money, 1)]
+
+
+def phase_facts(table: pd.DataFrame, project: Project) -> dict[str, Any]:
+    """The headings and the rows of the page's table of phases."""
+    columns = columns_of_phases(table, project)
+    return {"headings": [heading for _, heading, _, _ in columns], "rows": cells_of(table, columns)}
 
 
 def metal_unit(most: float, metal: Metal) -> tuple[float, str]:
@@ -64,15 +82,18 @@ def cells_of(table: pd.DataFrame, columns: list[tuple[str, str, float, int]]) ->
     """The table as texts; a dash where a number is not defined."""
 
     def cell(row: pd.Series, name: str, size: float, places: int) -> str:
-        if name == "factor":
-            return str(row[name])
+        if name in ("phase", "factor"):
+            return str(int(row[name]))
         return "–" if pd.isna(row[name]) else f"{row[name] / size:,.{places}f}"
 
     return [[cell(row, name, size, places) for name, _, size, places in columns] for _, row in table.iterrows()]
 
 
-def write(path: Path, project: Project, table: pd.DataFrame, facts: dict[str, Any]) -> None:
-    """`facts`: chosen factor, pictures by name, the table's summary, notes, what was verified, files with their hashes, and the program's identity."""
+def write(path: Path, project: Project, table: pd.DataFrame, facts: dict[str, Any], phases: Optional[pd.DataFrame] = None) -> None:
+    """The page of a table of shells, and of one of phases where there are such.
+
+    `facts`: chosen factor, pictures by name, the table's summary, notes, what was verified, files with their hashes, and the program's identity.
+    """
     columns = columns_of(table, project)
     rows = [
         {"cells": cells, "chosen": factor == facts["chosen"], "given": factor == 1000}
@@ -83,6 +104,7 @@ def write(path: Path, project: Project, table: pd.DataFrame, facts: dict[str, An
         title=project.title,
         headings=[heading for _, heading, _, _ in columns],
         rows=rows,
+        phases=None if phases is None else phase_facts(phases, project),
         warnings=[note.removeprefix("WARNING: ") for note in warnings],
         notes=[note for note in facts["notes"] if note not in warnings],
         pictures={name: picture(place) for name, place in facts["pictures"].items()},

@@ -22,7 +22,7 @@ FUNCTIONS = [name for name in pitplan.__all__ if inspect.isfunction(getattr(pitp
 
 def test_no_function_hides_a_module():
     """A module of the name would take the function's place as soon as something imports it."""
-    assert {"pit", "view", "export", "audit", "scenarios", "verify"} < set(FUNCTIONS)
+    assert {"pit", "pushbacks", "view", "export", "audit", "scenarios", "verify"} < set(FUNCTIONS)
     assert [name for name in pitplan.__all__ if importlib.util.find_spec(f"pitplan.{name}")] == []
 
 
@@ -128,10 +128,11 @@ def test_lists_of_jobs_are_told_by_what_to_start(plan_folder):
 
 
 def test_the_lines_of_the_page_that_write_run(plan_folder, monkeypatch):
-    """In a folder whose project has fixed blocks, scenarios and the page's factor."""
+    """In a folder whose project has fixed blocks, phases, scenarios and the page's factor."""
     pytest.importorskip("distributed", reason="needs the Debian package python3-distributed")
     table = ores_and_fixed().assign(sim_1=lambda it: it["cu"], sim_2=lambda it: it["cu"] / 2)
-    text = with_section(FIXED_SECTION + '[scenarios]\ncolumns = { copper = "sim_*" }\n').replace("[500, 1000, 1500]", "[500, 800, 1000]")
+    more = '[pushbacks]\nfactors = [500, 1000]\n[scenarios]\ncolumns = { copper = "sim_*" }\n'
+    text = with_section(FIXED_SECTION + more).replace("[500, 1000, 1500]", "[500, 800, 1000]")
     path = plan_folder(table, text)
     monkeypatch.chdir(path.parent)
     names = {}
@@ -139,3 +140,4 @@ def test_the_lines_of_the_page_that_write_run(plan_folder, monkeypatch):
     assert names["table"]["factor"].tolist() == [500, 800, 1000] and all(rule.count == 0 for rule in names["rules"])
     assert (path.parent / "out" / "audit-800" / "check.sh").exists()
     assert names["found"].quantiles["factor"].tolist() == [500, 800, 1000]
+    assert names["phases"]["factor"].tolist() == [500, 1000]

@@ -7,6 +7,7 @@ import pytest
 from conftest import ROOT
 
 import pitplan
+from pitplan.phase_rules import PhaseRules
 
 PAGE = (ROOT / "docs" / "PLANNING.md").read_text(encoding="utf-8")
 EXAMPLE = ROOT / "examples" / "plan" / "project.toml"
@@ -68,3 +69,16 @@ def test_the_net_present_values_of_the_page_are_those_of_the_example():
     assert f"while the worst case loses {100 * (1 - worst[1000] / worst[850]):.1f} %" in PAGE
     behind = 100 * (1 - mean.iloc[-2] / mean.iloc[-1])
     assert f"{mean.index[-1]} ({mean.index[-2]} is behind it by {behind:.2f} %)" in PAGE
+
+
+def test_the_phases_of_the_page_are_those_of_the_example():
+    project = pitplan.load(EXAMPLE)
+    plan = pitplan.prepare(pitplan.phases.ending(replace(project, phases=PhaseRules(4, None, None, None))))
+    table = pitplan.phases.table(pitplan.phases.divide(plan)).set_index("phase")
+    rows = re.findall(r"^\| (\d) \| (\d+) \| (\d+) \| ([\d,.]+) \| ([\d,.]+) \| ([\d.]+) \| ([\d.]+) \| ([\d.]+) \|$", PAGE, re.MULTILINE)
+    assert [int(row[0]) for row in rows] == table.index.tolist()
+    for number, factor, blocks, rock, ore, strip, copper, worth in rows:
+        phase = table.loc[int(number)]
+        assert (phase["factor"], phase["blocks"]) == (int(factor), int(blocks))
+        assert [f"{phase[name] / 1000:,.1f}" for name in ("tonnes", "ore_tonnes")] == [rock, ore]
+        assert [f"{phase['strip_ratio']:.2f}", f"{phase['grade_copper']:.3f}", f"{phase['worth'] / 1e6:.1f}"] == [strip, copper, worth]

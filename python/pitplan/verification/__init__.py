@@ -12,7 +12,7 @@ from typing import Optional
 
 from ..errors import PlanError
 from ..project import Project
-from . import absent, answer as answers, fixed, money, scenarios, sums, walls, years
+from . import absent, answer as answers, fixed, money, phases, scenarios, sums, walls, years
 from .answer import TOLD, Answer, Rule, rule
 
 OF_PITS = (walls.verify, sums.verify, sums.verify_worth, years.verify)
@@ -25,7 +25,8 @@ def verify(folder: Path, project: Optional[Project] = None) -> list[Rule]:
     Raises PlanError where the folder has no answer, or the table has changed since.
     """
     answer = answers.read(folder, project)
-    return [*(check(answer) for check in CHECKS), *([verify_free(answer, answer.free)] if answer.free else [])]
+    more = [verify_free(answer, answer.free)] if answer.free else []
+    return [*(check(answer) for check in CHECKS), *more, *(phases.verify(answer) if answer.phases is not None else [])]
 
 
 def verify_free(kept: Answer, free: Answer) -> Rule:

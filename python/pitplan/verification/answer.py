@@ -23,6 +23,8 @@ TOLD = 10
 SAID = ("id", "mining_cost", "revenue", "processing_cost", "factor", "process_factor")
 # Those that `pitplan pit` writes besides, of the pit that keeps to no fixed blocks.
 FREE = ("free_factor", "free_process_factor")
+# The one that `pitplan pushbacks` writes besides.
+PHASE = "phase"
 
 
 @dataclass(frozen=True)
@@ -52,6 +54,7 @@ class Answer:
     factors the factors of which the folder has shells
     free    of `pitplan pit` the answer that keeps to no fixed blocks
     found   what was told of it before, by name
+    phases  of `pitplan pushbacks` phases.csv, by phase; `said` has each block's phase then
     """
 
     folder: Path
@@ -65,6 +68,7 @@ class Answer:
     factors: tuple[int, ...]
     free: Optional[Answer] = None
     found: dict[str, Any] = field(default_factory=dict)
+    phases: Optional[pd.DataFrame] = None
 
     @property
     def shape(self) -> tuple[int, int, int]:
@@ -187,12 +191,13 @@ def read(folder: Path, project: Optional[Project] = None) -> Answer:
 
 
 def read_shells(folder: Path, record: dict[str, Any], project: Project, written: pd.DataFrame) -> Answer:
-    """The answer of `pitplan shells`."""
+    """The answer of `pitplan shells`, or of `pitplan pushbacks`."""
     shells = pd.read_csv(folder / "shells.csv", dtype={"worth_at_factor": str}).set_index("factor")
     years = pd.read_csv(folder / "years.csv") if (folder / "years.csv").exists() else None
     rows, known, order = beside(tables.read(project).frame, written, project, record["grid"], "blocks.csv")
-    said = written[list(SAID)].iloc[order].reset_index(drop=True)
-    return Answer(folder, project, rows, known, said, shells, years, record, tuple(record["shells"]["factors"]))
+    phases = pd.read_csv(folder / "phases.csv").set_index("phase") if "phases" in record else None
+    said = written[[*SAID, *([PHASE] if phases is not None else [])]].iloc[order].reset_index(drop=True)
+    return Answer(folder, project, rows, known, said, shells, years, record, tuple(record["shells"]["factors"]), phases=phases)
 
 
 def read_pits(folder: Path, record: dict[str, Any], project: Project, written: pd.DataFrame) -> Answer:
@@ -220,7 +225,7 @@ def read_blocks(path: Path, project: Project, said: Optional[tuple[str, ...]] = 
 
 def own_name(column: str) -> str:
     """A column of the planner's, as blocks.csv names it."""
-    return f"planner_{column}" if column in (*SAID, *FREE) else column
+    return f"planner_{column}" if column in (*SAID, *FREE, PHASE) else column
 
 
 def beside(

@@ -1,0 +1,148 @@
+"""Plans and sections of a pit coloured by phase, by matplotlib; `pictures` says how its functions are called."""
+
+from __future__ import annotations
+
+from dataclasses import dataclass
+from pathlib import Path
+from typing import Any
+
+import matplotlib
+import numpy as np
+from matplotlib.axes import Axes
+from matplotlib.collections import LineCollection
+from matplotlib.colors import BoundaryNorm, ListedColormap
+from matplotlib.figure import Figure
+from matplotlib.ticker import FixedLocator
+
+from .grid import Grid, metres
+from .outlines import edges
+from .phases import Phases
+from .pictures import GROUND, MAP, MOST_TICKS, STYLE, busiest, finish, list_of, name_axes, panels
+
+Extent = tuple[float, float, float, float]
+LEAST_SHARE, GREATEST_SHARE = 0.18, 0.9
+
+
+@dataclass(frozen=True)
+class PhaseScene:
+    """What plans and sections of phases show; arrays are of levels (from the top), rows and columns.
+
+    phase  from 1; 0 where the cell is in none
+    solid  whether there is rock
+    count  how many phases there are
+    """
+
+    grid: Grid
+    phase: np.ndarray
+    solid: np.ndarray
+    count: int
+
+    @property
+    def dug(self) -> np.ndarray:
+        """The cells of all phases that hold rock."""
+        return (self.phase > 0) & self.solid
+
+
+def scene_of(phases: Phases) -> PhaseScene:
+    grid = phases.plan.grid
+    solid = grid.cube(phases.plan.values.tonnes > 0)
+    return PhaseScene(grid, grid.cube(phases.phase), solid, len(phases.factors))
+
+
+def write_plans(scene: PhaseScene, path: Path) -> None:
+    with matplotlib.rc_context(STYLE):
+        west, east, south, north, _, _ = scene.grid.extent()
+        figure, axes = panels(east - west, north - south)
+        plot_plans(scene, axes)
+        finish(figure, path)
+
+
+def plot_plans(scene: PhaseScene, axes: Any) -> list[Axes]:
+    """The phases where the pit breaks the ground, and on three of its levels, on four axes, which it gives."""
+    first, *others = found = list_of(axes, 4)
+    plot_surface(scene, first)
+    for ax, number in zip(others, levels_to_show(scene)):
+        plot_level(scene, number, ax)
+    return found
+
+
+def write_sections(scene: PhaseScene, path: Path) -> None:
+    west, east, south, north, bottom, top = scene.grid.extent()
+    share = min(max((top - bottom) / min(east - west, north - south), LEAST_SHARE), GREATEST_SHARE)
+    with matplotlib.rc_context(STYLE):
+        figure = Figure(figsize=(12, 5.2 * share + 1.1), constrained_layout=True)
+        plot_sections(scene, figure.subplots(1, 2))
+        finish(figure, path)
+
+
+def plot_sections(scene: PhaseScene, axes: Any) -> list[Axes]:
+    """A section from west to east and one from south to north, where most of the pit lies, on two axes, which it gives."""
+    across, along = found = list_of(axes, 2)
+    plot_from_west_to_east(scene, busiest(scene.dug, 1), across)
+    plot_from_south_to_north(scene, busiest(scene.dug, 2), along)
+    return found
+
+
+def plot_surface(scene: PhaseScene, ax: Axes) -> Axes:
+    """On the map the phase of the highest block of rock in each column; gives `ax`."""
+    west, east, south, north, _, _ = scene.grid.extent()
+    highest = scene.solid.argmax(axis=0)[None]
+    phase, solid = (np.take_along_axis(cube, highest, axis=0)[0] for cube in (scene.phase, scene.solid))
+    draw(scene, (phase, solid), (west, east, south, north), ax).set_title("Phases where the pit breaks the ground")
+    name_axes(ax, "east", "north")
+    return ax
+
+
+def plot_level(scene: PhaseScene, number: int, ax: Axes) -> Axes:
+    """The phases on a level, counted from 0 at the top; gives `ax`."""
+    west, east, south, north, _, top = scene.grid.extent()
+    height = scene.grid.size[2]
+    draw(scene, (scene.phase[number], scene.solid[number]), (west, east, south, north), ax)
+    ax.set_title(f"Phases on the level {metres(top - (number + 1) * height)} to {metres(top - number * height)} m")
+    name_axes(ax, "east", "north")
+    return ax
+
+
+def plot_from_west_to_east(scene: PhaseScene, row: int, ax: Axes) -> Axes:
+    """The phases along a row of blocks, counted from 0 in the south; gives `ax`."""
+    west, east, _, _, bottom, top = scene.grid.extent()
+    cut = (slice(None, None, -1), row)
+    draw(scene, (scene.phase[cut], scene.solid[cut]), (west, east, bottom, top), ax)
+    ax.set_title(f"Phases, west to east at north {metres(scene.grid.origin[1] + row * scene.grid.size[1])}")
+    name_axes(ax, "east", "elevation")
+    return ax
+
+
+def plot_from_south_to_north(scene: PhaseScene, column: int, ax: Axes) -> Axes:
+    """The phases along a column of blocks, counted from 0 in the west; gives `ax`."""
+    _, _, south, north, bottom, top = scene.grid.extent()
+    cut = (slice(None, None, -1), slice(None), column)
+    draw(scene, (scene.phase[cut], scene.solid[cut]), (south, north, bottom, top), ax)
+    ax.set_title(f"Phases, south to north at east {metres(scene.grid.origin[0] + column * scene.grid.size[0])}")
+    name_axes(ax, "north", "elevation")
+    return ax
+
+
+def draw(scene: PhaseScene, plane: tuple[np.ndarray, np.ndarray], extent: Extent, ax: Axes) -> Axes:
+    """Phases and rock of a plane over the ground, with a line round each phase and all before it."""
+    phase, solid = plane
+    colours = ListedColormap(matplotlib.colormaps["viridis_r"](np.linspace(0.08, 0.95, scene.count)))
+    norm = BoundaryNorm(np.arange(0.5, scene.count + 1), scene.count)
+    ax.imshow(np.where(solid, 1.0, np.nan), extent=extent, cmap=ListedColormap([GROUND]), **MAP)
+    image = ax.imshow(np.ma.masked_where((phase == 0) | ~solid, phase), extent=extent, cmap=colours, norm=norm, **MAP)
+    ax.set_aspect("equal")
+    left, right, low, high = extent
+    size = np.array([(right - left) / phase.shape[1], (high - low) / phase.shape[0]])
+    for number in range(1, scene.count + 1):
+        lines = edges((phase > 0) & (phase <= number) & solid) * size + (left, low)
+        ax.add_collection(LineCollection(lines, colors="black", linewidths=1.3 if number == scene.count else 0.6))
+    bar = ax.figure.colorbar(image, cax=ax.inset_axes((1.03, 0.0, 0.035, 1.0)), label="phase")
+    bar.ax.yaxis.set_major_locator(FixedLocator(list(range(1, scene.count + 1, -(-scene.count // MOST_TICKS)))))
+    bar.ax.minorticks_off()
+    return ax
+
+
+def levels_to_show(scene: PhaseScene) -> list[int]:
+    """Three levels of the pit: near its top, in its middle and near its floor."""
+    used = np.flatnonzero(scene.dug.any(axis=(1, 2)))
+    return [int(used[int(share * (len(used) - 1))]) for share in (0.2, 0.5, 0.8)]

@@ -1,0 +1,55 @@
+"""What `[pushbacks]` of a project says: into which phases a pit is divided."""
+
+from __future__ import annotations
+
+from dataclasses import dataclass
+from typing import Optional
+
+from .section import Section
+
+MOST_PHASES = 100
+WAYS = ("count", "tonnes", "factors")
+
+
+@dataclass(frozen=True)
+class PhaseRules:
+    """How a pit is divided into phases: by one of count, tonnes and factors; the other two are None.
+
+    count    so many phases of even tonnage
+    tonnes   even phases of about so many tonnes of rock each
+    factors  the factors of the phases' shells, per mille, rising
+    last     the factor of the last phase's shell, per mille; None: the project's chosen one, else 1000
+    """
+
+    count: Optional[int]
+    tonnes: Optional[float]
+    factors: Optional[tuple[int, ...]]
+    last: Optional[int]
+
+
+def read_phases(section: Section, most_factor: int) -> PhaseRules:
+    """The section's rules. Raises PlanError, with the key, where one is missing or wrong."""
+    given = [key for key in WAYS if section.has(key)]
+    if len(given) != 1:
+        raise section.wrong(given[1] if given else WAYS[0], f"give exactly one of {', '.join(WAYS)}")
+    if section.has("last") and given == ["factors"]:
+        raise section.wrong("last", "the last of the factors is that of the last phase: leave it out")
+    rules = PhaseRules(
+        count=section.whole("count", 1, 1, MOST_PHASES) if given == ["count"] else None,
+        tonnes=float(section.number("tonnes")) if given == ["tonnes"] else None,
+        factors=read_factors(section, most_factor) if given == ["factors"] else None,
+        last=section.whole("last", 1000, 1, most_factor) if section.has("last") else None,
+    )
+    section.finish()
+    if rules.tonnes is not None and rules.tonnes <= 0:
+        raise section.wrong("tonnes", "a phase has more than 0 tonnes")
+    return rules
+
+
+def read_factors(section: Section, most_factor: int) -> tuple[int, ...]:
+    factors = tuple(sorted(set(section.factors("factors", most_factor))))
+    if factors[0] < 1:
+        raise section.wrong("factors", "a phase's factor is 1 or more")
+    if len(factors) > MOST_PHASES:
+        raise section.wrong("factors", f"at most {MOST_PHASES} phases, and there are {len(factors):,} factors")
+    return factors

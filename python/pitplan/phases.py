@@ -1,0 +1,212 @@
+"""Phases: nested parts of a pit that are dug one after the other, chosen from its shells.
+
+Each phase is what one shell adds to the one before. For even phases the shells are sought whose tonnes come nearest to even shares of the
+last one's: since shells nest, their tonnes rise with the factor, and the neighbours of a share are found by trying factors between those
+that are known until two are left that follow each other. Factors are whole per mille. Where the tonnes between two that follow each other
+jump past a share, no factor divides that rock, which is told as a gap.
+"""
+
+from __future__ import annotations
+
+import tempfile
+from dataclasses import dataclass, replace
+from pathlib import Path
+from typing import Callable, Optional
+
+import numpy as np
+import pandas as pd
+
+from . import analyse, run
+from .errors import PlanError
+from .phase_rules import MOST_PHASES, PhaseRules
+from .plan import Plan
+from .progress import Progress, silent
+from .project import REFERENCE_FACTOR, Project
+from .run import Solution
+
+LEAST_FACTOR = 1
+# So many factors are tried at once between two that are known.
+TRIED = 8
+# A shell that misses its share by more than this part of it is told as a gap.
+FAR_OFF = 0.1
+# From factors to the tonnes of rock in their shells.
+TonnesAt = Callable[[tuple[int, ...]], dict[int, float]]
+
+
+@dataclass(frozen=True)
+class Phases:
+    """A pit in phases.
+
+    plan      the plan, with the phases' factors for its own
+    solution  the shells of these factors
+    phase     for each cell its phase, from 1; 0 where it is in none
+    notes     what a planner should know of the division
+    """
+
+    plan: Plan
+    solution: Solution
+    phase: np.ndarray
+    notes: tuple[str, ...]
+
+    @property
+    def factors(self) -> tuple[int, ...]:
+        """Of each phase the factor of the shell that ends it, per mille, rising."""
+        return self.plan.project.schedule.factors
+
+
+def rules_of(project: Project) -> PhaseRules:
+    """Raises PlanError where the project says nothing of phases."""
+    if project.phases is None:
+        raise PlanError(f"{project.path}: [pushbacks] is missing: it says by count, tonnes or factors which phases are asked for")
+    return project.phases
+
+
+def ending(project: Project) -> Project:
+    """The project with the factors up to that of its last phase, which is the chosen one."""
+    rules = rules_of(project)
+    if rules.factors is not None:
+        last = rules.factors[-1]
+    else:
+        last = rules.last or project.schedule.chosen or REFERENCE_FACTOR
+    return with_factors(project, (*(factor for factor in project.schedule.factors if factor < last), last))
+
+
+def with_factors(project: Project, factors: tuple[int, ...]) -> Project:
+    return replace(project, schedule=replace(project.schedule, factors=factors, chosen=factors[-1], reference_added=False))
+
+
+def divide(plan: Plan, folder: Optional[Path] = None, progress: Progress = silent) -> Phases:
+    """Divides the pit of the plan's last factor as the project asks; the plan's files are those in `folder`, or are written for the time
+    being.
+
+    Raises PlanError where that pit is empty, or more than a hundred phases are asked for, and ProgramError where the program refuses.
+    """
+    if folder is None:
+        with tempfile.TemporaryDirectory(prefix="pitplan-") as place:
+            plan.write(Path(place))
+            return divide(plan, Path(place), progress)
+    rules, last = rules_of(plan.project), plan.project.schedule.factors[-1]
+
+    def solved(factors: tuple[int, ...]) -> tuple[Plan, Solution]:
+        part = replace(plan, project=with_factors(plan.project, factors))
+        return part, run.solve(part, folder, progress)
+
+    def tonnes_at(factors: tuple[int, ...]) -> dict[int, float]:
+        part, solution = solved(factors)
+        return dict(zip(factors, analyse.within(part, solution.entry[: plan.grid.count], plan.values.tonnes).tolist()))
+
+    if rules.factors is not None:
+        tonnes, notes = tonnes_at(rules.factors), []
+    else:
+        tonnes, notes = even_shells(rules, last, tonnes_at, plan.project)
+    factors, more = not_empty(tonnes, plan.project)
+    part, solution = solved(factors)
+    entry = solution.entry[: plan.grid.count]
+    phase = np.where(entry > 0, np.searchsorted(factors, entry) + 1, 0).astype(np.int16)
+    return Phases(part, solution, phase, (*notes, *more))
+
+
+def not_empty(tonnes: dict[int, float], project: Project) -> tuple[tuple[int, ...], list[str]]:
+    """The factors whose shells have rock that the ones before have not. Raises PlanError where the last shell is empty."""
+    kept, notes, before = [], [], 0.0
+    for factor, rock in tonnes.items():
+        if rock > before:
+            kept.append(factor)
+        else:
+            notes.append(f"the shell of factor {factor} has no rock that the one before has not: it makes no phase")
+        before = rock
+    if not kept:
+        raise PlanError(f"{project.path}: [pushbacks] the pit of factor {max(tonnes)} is empty: there is nothing to divide")
+    return tuple(kept), notes
+
+
+def even_shells(rules: PhaseRules, last: int, tonnes_at: TonnesAt, project: Project) -> tuple[dict[int, float], list[str]]:
+    """Factors and tonnes of the shells that come nearest to even shares of the last one's tonnes, and notes of the shares that none comes
+    near to."""
+    known = tonnes_at(tuple(sorted({LEAST_FACTOR, last})))
+    count = count_of(rules, known[last], project)
+    shares = [known[last] * number / count for number in range(1, count)]
+    while more := sorted({factor for share in shares for factor in between(*neighbours(known, share))}):
+        known |= tonnes_at(tuple(more))
+    # Shells of equal tonnes are the same shell.
+    found, notes = {known[last]: last}, []
+    for share in shares:
+        low, high = neighbours(known, share)
+        nearest = min((low, high), key=lambda factor: abs(known[factor] - share))
+        if known[nearest] > 0:
+            found.setdefault(known[nearest], nearest)
+        if abs(known[nearest] - share) > FAR_OFF * known[last] / count:
+            notes.append(gap(known, low, high))
+    if len(found) < count:
+        notes.append(f"{count} phases are asked for, and the shells make {len(found)}")
+    return {factor: rock for rock, factor in sorted(found.items())}, list(dict.fromkeys(notes))
+
+
+def count_of(rules: PhaseRules, whole: float, project: Project) -> int:
+    """How many phases are asked for of a pit of so many tonnes."""
+    if rules.count is not None:
+        return rules.count
+    assert rules.tonnes is not None
+    count = max(1, round(whole / rules.tonnes))
+    if count > MOST_PHASES:
+        why = f"the pit of {whole:,.0f} t would have {count:,} phases of {rules.tonnes:,.0f} t, and there are at most {MOST_PHASES}"
+        raise PlanError(f"{project.path}: [pushbacks] tonnes: {why}")
+    return count
+
+
+def neighbours(known: dict[int, float], share: float) -> tuple[int, int]:
+    """The greatest factor that is known with no more tonnes than the share, and the least with more; where one is missing, the other."""
+    below = [factor for factor, rock in known.items() if rock <= share]
+    above = [factor for factor, rock in known.items() if rock > share]
+    low, high = max(below, default=None), min(above, default=None)
+    return (high if low is None else low), (low if high is None else high)
+
+
+def between(low: int, high: int) -> list[int]:
+    """Up to TRIED factors evenly between two; none where they follow each other."""
+    return sorted({low + (high - low) * step // (TRIED + 1) for step in range(1, TRIED + 1)} - {low, high})
+
+
+def gap(known: dict[int, float], low: int, high: int) -> str:
+    if low == high:
+        return f"the shell of factor {low} has {known[low]:,.0f} t already: no lesser factor divides it"
+    return (
+        f"between the factors {low} and {high} the shells grow by {known[high] - known[low]:,.0f} t at once, from {known[low]:,.0f} to "
+        f"{known[high]:,.0f}: no factor divides this rock"
+    )
+
+
+def blocks(phases: Phases) -> pd.DataFrame:
+    """`pitplan.blocks` of the phases' shells with `phase`, from 1 (0: in none)."""
+    frame = analyse.blocks(phases.plan, phases.solution)
+    return frame.assign(phase=phases.phase[frame["id"].to_numpy()])
+
+
+def table(phases: Phases) -> pd.DataFrame:
+    """One row a phase, of what it adds to those before, at the price as given.
+
+    phase from 1; factor, per mille, of the shell that ends it; blocks (with rock); tonnes, ore_tonnes, waste_tonnes; strip_ratio;
+    grade_NAME of the ore in its column's unit, metal_NAME recovered of it (tonnes, or grams); worth in money.
+    """
+    plan, cells = phases.plan, analyse.cells_of(phases.plan, phases.solution)
+    ore = np.where(cells.ore, phases.phase, 0)
+    tonnes, ore_tonnes = added(phases.phase, cells.tonnes, phases), added(ore, cells.tonnes, phases)
+    columns = {
+        "phase": np.arange(1, len(phases.factors) + 1),
+        "factor": np.array(phases.factors),
+        "blocks": added(phases.phase, cells.tonnes > 0, phases).astype(np.int64),
+        "tonnes": tonnes,
+        "ore_tonnes": ore_tonnes,
+        "waste_tonnes": tonnes - ore_tonnes,
+        "strip_ratio": analyse.ratio(tonnes - ore_tonnes, ore_tonnes),
+    }
+    for metal in plan.project.metals:
+        columns[f"grade_{metal.name}"] = analyse.ratio(added(ore, cells.content[metal.name], phases), ore_tonnes)
+        columns[f"metal_{metal.name}"] = added(ore, plan.values.metal[metal.name], phases)
+    columns["worth"] = added(phases.phase, cells.worth, phases)
+    return pd.DataFrame(columns)
+
+
+def added(phase: np.ndarray, values: np.ndarray, phases: Phases) -> np.ndarray:
+    """For each phase the sum of the values of its cells."""
+    return np.bincount(phase, values, minlength=len(phases.factors) + 1)[1:]

@@ -1,0 +1,97 @@
+"""The phases of a pit: closed under the walls, nested, true to fixed blocks, and added up anew from the blocks."""
+
+from __future__ import annotations
+
+from dataclasses import replace
+
+import numpy as np
+
+from . import fixed, sums, walls
+from .answer import TOLD, Answer, Rule, rule
+
+
+def verify(answer: Answer) -> list[Rule]:
+    """Four rules. Of a block that stands in one phase alone, phases up to each number are nested as they are written."""
+    as_shells = by_phase(answer)
+    return [verify_places(answer), of_phases(walls.verify(as_shells)), of_phases(fixed.verify(as_shells)), verify_sums(answer)]
+
+
+def of_phases(of_shells: Rule) -> Rule:
+    """What was found of phases as if they were shells, in words of phases."""
+    holds = of_shells.holds.replace("of any shell", "of the phases up to any").replace("in every shell", "in phase 1")
+    differences = tuple(text.replace("from factor", "from phase").replace("dug at", "in phase") for text in of_shells.differences)
+    return Rule(f"phase {of_shells.name}", holds, differences, of_shells.count)
+
+
+def by_phase(answer: Answer) -> Answer:
+    """The same answer with phases in place of factors, each as if it were the shell of its number."""
+    assert answer.phases is not None
+    said = answer.said.assign(factor=answer.said["phase"])
+    return replace(answer, said=said, factors=tuple(int(number) for number in answer.phases.index))
+
+
+def verify_places(answer: Answer) -> Rule:
+    """Phases are numbered from 1, one for each shell, and each block has the phase that ends with the first shell that holds it."""
+    assert answer.phases is not None
+    numbers, factors = answer.phases.index.tolist(), sorted(answer.factors)
+    differences = []
+    if numbers != list(range(1, len(factors) + 1)) or answer.phases["factor"].tolist() != factors:
+        differences.append(f"phases {numbers} of factors {answer.phases['factor'].tolist()} for the shells {factors}")
+    differences += unlike_rules(answer, factors)
+    first, said = answer.said["factor"].to_numpy(), answer.said["phase"].to_numpy()
+    expected = np.array([0, *range(1, len(factors) + 1)])[np.searchsorted([0, *factors], first)]
+    off = np.flatnonzero(expected != said)
+    differences += [f"{answer.called(row)}: phase {said[row]} for {expected[row]}" for row in off[:TOLD]]
+    count = len(differences) + max(0, len(off) - TOLD)
+    return rule("phase of blocks", "each block is in the phase of the first shell that holds it", differences, count)
+
+
+def unlike_rules(answer: Answer, factors: list[int]) -> list[str]:
+    """What the project asks of the phases' factors, and is not so."""
+    asked = answer.project.phases
+    if asked is None:
+        return ["the project asks for no phases"]
+    found = []
+    last = asked.last or answer.project.schedule.chosen or 1000
+    if asked.factors is not None:
+        last = max(asked.factors)
+        found += [f"factor {factor} was not asked for" for factor in factors if factor not in asked.factors]
+    if asked.count is not None and len(factors) > asked.count:
+        found.append(f"{len(factors)} phases for {asked.count}")
+    if factors[-1] > last:
+        found.append(f"the last phase is of factor {factors[-1]} for {last}")
+    return found
+
+
+def verify_sums(answer: Answer) -> Rule:
+    """Blocks, tonnes, grades, ratios, metal and worth of each phase."""
+    assert answer.phases is not None
+    differences: list[str] = []
+    phase, ore = answer.said["phase"].to_numpy(), answer.ore
+    for number, said in answer.phases.iterrows():
+        mine = phase == number
+        gross = float(np.abs(answer.worths[mine]).sum())
+        for name, amount in of_blocks(answer, mine, mine & ore).items():
+            slack = 0.6 * sums.smallest(name) + (1e-12 * gross if name == "worth" else 0.0)
+            if not np.isclose(said[name], amount, rtol=1e-9, atol=slack, equal_nan=True):
+                differences.append(f"phase {number}: {name} {said[name]:.10g} for {amount:.10g}")
+    return rule("phases", "blocks, tonnes, grades, ratios, metal and worth of each phase are the sums of its blocks", differences)
+
+
+def of_blocks(answer: Answer, mine: np.ndarray, ore: np.ndarray) -> dict[str, float]:
+    """What the blocks of a phase add up to; `ore` are those that pay for their processing."""
+    tonnes = answer.tonnes
+    of_ore, of_all = tonnes[ore].sum(), tonnes[mine].sum()
+    found = {
+        "blocks": np.count_nonzero(tonnes[mine] > 0),
+        "tonnes": of_all,
+        "ore_tonnes": of_ore,
+        "waste_tonnes": tonnes[mine & ~answer.ore].sum(),
+        "strip_ratio": (of_all - of_ore) / of_ore if of_ore else np.nan,
+        "worth": answer.worths[mine].sum(),
+    }
+    for metal in answer.project.metals:
+        grades = answer.rows[metal.column].to_numpy()
+        found[f"grade_{metal.name}"] = np.average(grades[ore], weights=tonnes[ore]) if of_ore else np.nan
+        found[f"metal_{metal.name}"] = answer.quantities[metal.name][ore].sum()
+    return {name: float(amount) for name, amount in found.items()}

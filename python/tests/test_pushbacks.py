@@ -1,0 +1,258 @@
+"""Phases against sums and cones worked by hand, and the second look at them."""
+
+import shutil
+
+import numpy as np
+import pandas as pd
+import pytest
+from conftest import PROJECT, rows
+from hypothesis import given, settings
+from hypothesis import strategies as st
+
+import pitplan
+from pitplan import PlanError, commands, files, load, phases
+from pitplan.cli import main
+from pitplan.phase_rules import PhaseRules
+from pitplan.verification import verify
+
+UPRIGHT = PROJECT.replace('pattern = "1:5"', "angle = 90").replace("levels = 3\n", "levels = 1\n")
+GRADES = [1, 0.7, 0.5]
+
+
+def pillars(**more):
+    """Three pillars of waste over ore. At a factor f the ore of grade g pays for itself and the waste, 1000 + 2 x 200, where f x 4 g is
+    more: from 351, 501 and 701 per mille on."""
+    return rows(3, 1, 2, cu=lambda i, j, k: 0 if k else GRADES[i], **more)
+
+
+def with_phases(words, text=UPRIGHT):
+    return text + f"\n[pushbacks]\n{words}\n"
+
+
+def blocks_of(folder):
+    return pd.read_csv(folder / "blocks.csv").set_index("name")
+
+
+def test_three_shells_of_like_tonnage_are_three_phases(plan_folder):
+    """The greatest factors whose shells have 200 and 400 of 600 t are 500 and 700."""
+    project = load(plan_folder(pillars(), with_phases("count = 3")))
+    table = pitplan.pushbacks(project).set_index("phase")
+    assert table.index.tolist() == [1, 2, 3] and table["factor"].tolist() == [500, 700, 1000]
+    assert table["blocks"].tolist() == [2, 2, 2] and table["tonnes"].tolist() == [200, 200, 200]
+    assert table["ore_tonnes"].tolist() == [100, 100, 100] and table["strip_ratio"].tolist() == [1, 1, 1]
+    assert table["grade_copper"].tolist() == pytest.approx(GRADES) and table["metal_copper"].tolist() == pytest.approx([0.5, 0.35, 0.25])
+    assert table["worth"].tolist() == [2600, 1400, 600]
+    folder = project.folder / "pushbacks"
+    assert blocks_of(folder)["phase"].to_dict() == {f"b{i}-0-{k}": i + 1 for i in range(3) for k in range(2)}
+    pd.testing.assert_frame_equal(pd.read_csv(folder / "phases.csv").set_index("phase"), table, check_dtype=False)
+    assert not [note for note in files.read_record(folder)["notes"] if "phases are asked" in note or "no factor" in note]
+
+
+@pytest.mark.parametrize(
+    ("words", "factors", "told"),
+    [
+        ("tonnes = 300", [500, 1000], "between the factors 500 and 501 the shells grow by 200 t at once, from 200 to 400"),
+        ("tonnes = 200", [500, 700, 1000], None),
+        ("tonnes = 1e6", [1000], None),
+        ("count = 5", [351, 501, 1000], "5 phases are asked for, and the shells make 3"),
+        ("count = 1", [1000], None),
+        ("count = 2\nlast = 600", [500, 600], None),
+        ("factors = [1500, 351, 900]", [351, 900], "the shell of factor 1500 has no rock that the one before has not"),
+        ("factors = { from = 600, to = 800, step = 100 }", [600, 800], "the shell of factor 700 has no rock"),
+    ],
+)
+def test_what_is_asked_for_by_count_tonnes_and_factors(plan_folder, words, factors, told):
+    project = load(plan_folder(pillars(), with_phases(words)))
+    assert pitplan.pushbacks(project)["factor"].tolist() == factors
+    notes = files.read_record(project.folder / "pushbacks")["notes"]
+    found = [note for note in notes if note.startswith(("between the factors", "the shell of factor")) or "phases are asked for" in note]
+    assert [told] == [note[: len(told)] for note in found if told in note] if told else found == []
+
+
+def test_a_jump_is_named_with_its_tonnes(plan_folder):
+    """Shells that begin with 900 t at a factor of 613, and have 1000 from 800 on."""
+    asked = []
+
+    def tonnes_at(factors):
+        asked.extend(factors)
+        return {factor: 0.0 if factor < 613 else 900.0 if factor < 800 else 1000.0 for factor in factors}
+
+    project = load(plan_folder(pillars(), with_phases("count = 2")))
+    found, notes = phases.even_shells(PhaseRules(2, None, None, None), 1000, tonnes_at, project)
+    assert found == {613: 900, 1000: 1000} and len(set(asked)) == len(asked) < 40
+    assert notes == ["between the factors 612 and 613 the shells grow by 900 t at once, from 0 to 900: no factor divides this rock"]
+
+
+@given(st.lists(st.integers(0, 400), min_size=1, max_size=12), st.integers(1, 9), st.integers(2, 1000))
+def test_even_shells_are_the_nearest_of_all_factors(steps, count, last):
+    """Of shells that grow by steps at factors spread from 1 on: those of every factor are looked at."""
+    grown = {factor: float(sum(step for place, step in enumerate(steps) if factor > 83 * place)) for factor in range(1, last + 1)}
+    found, notes = phases.even_shells(
+        PhaseRules(count, None, None, None), last, lambda factors: {factor: grown[factor] for factor in factors}, None
+    )
+    whole = grown[last]
+    assert max(found) == last and all(grown[factor] == rock for factor, rock in found.items())
+    assert list(found.values()) == sorted(set(found.values()))
+    for number in range(1, count):
+        share = whole * number / count
+        nearest = min(abs(rock - share) for rock in grown.values())
+        empty = {0.0} & set(grown.values())
+        assert nearest == min(abs(rock - share) for rock in empty | set(found.values()))
+        assert bool(notes) or nearest <= 0.1 * whole / count
+
+
+def test_fixed_blocks_are_in_the_first_phase_and_in_none(plan_folder):
+    """The pillar of the poorest ore must be dug, and the richest's may not be: its lower block is left with the upper."""
+    table = pillars(must=lambda i, j, k: int((i, k) == (2, 0)), never=lambda i, j, k: int((i, k) == (0, 1)))
+    text = with_phases("count = 2") + '[fixed]\nforced = "must"\nbarred = "never"\n'
+    project = load(plan_folder(table, text))
+    assert pitplan.pushbacks(project)["blocks"].tolist() == [2, 2]
+    said = blocks_of(project.folder / "pushbacks")["phase"]
+    assert said.to_dict() == {f"b{i}-0-{k}": [0, 2, 1][i] for i in range(3) for k in range(2)}
+
+
+def test_an_empty_pit_is_refused(plan_folder, capsys):
+    path = plan_folder(pillars(), with_phases("count = 2\nlast = 300"))
+    assert main(["pushbacks", str(path), "--quiet"]) == 1
+    assert "[pushbacks] the pit of factor 300 is empty: there is nothing to divide" in capsys.readouterr().err
+    assert not (path.parent / "plan" / "pushbacks" / "phases.csv").exists()
+
+
+@pytest.mark.parametrize(
+    ("words", "said"),
+    [
+        ("", "[pushbacks] count: give exactly one of count, tonnes, factors"),
+        ("count = 2\ntonnes = 3", "[pushbacks] tonnes: give exactly one of count, tonnes, factors"),
+        ("count = 0", "[pushbacks] count: must be a whole number from 1 to 100"),
+        ("tonnes = 0", "[pushbacks] tonnes: a phase has more than 0 tonnes"),
+        ("tonnes = 1", "[pushbacks] tonnes: the pit of 600 t would have 600 phases of 1 t, and there are at most 100"),
+        ("factors = [0, 500]", "[pushbacks] factors: a phase's factor is 1 or more"),
+        ("factors = [0.5]", "1000 is the price as given, and 500 is 0.5 of it"),
+        ("factors = [500]\nlast = 900", "[pushbacks] last: the last of the factors is that of the last phase"),
+        ("count = 2\nlast = 0", "[pushbacks] last: must be a whole number from 1 to 100,000"),
+        ("number = 2\ncount = 2", "[pushbacks] number: is no key here"),
+    ],
+)
+def test_what_is_refused(plan_folder, words, said):
+    with pytest.raises(PlanError) as error:
+        pitplan.pushbacks(plan_folder(pillars(), with_phases(words)))
+    assert said in str(error.value) and "project.toml" in str(error.value)
+
+
+def test_a_project_that_asks_for_no_phases_is_told_so(plan_folder):
+    with pytest.raises(PlanError, match="project.toml: .pushbacks. is missing"):
+        pitplan.pushbacks(plan_folder(pillars(), UPRIGHT))
+
+
+def random_table(seed):
+    rng = np.random.default_rng(seed)
+    table = rows(8, 7, 4)
+    table["cu"] = np.where(rng.random(len(table)) < 0.1, rng.random(len(table)).round(3) * 9, 0.0)
+    return table
+
+
+@settings(max_examples=10)
+@given(st.integers(0, 10**6))
+def test_phases_of_random_mines_are_closed_nested_and_even(tmp_path_factory, seed):
+    place = tmp_path_factory.mktemp("random")
+    random_table(seed).to_csv(place / "blocks.csv", index=False)
+    (place / "project.toml").write_text(with_phases("count = 3\nlast = 1500", PROJECT))
+    project = load(place / "project.toml")
+    try:
+        table = pitplan.pushbacks(project)
+    except PlanError as error:
+        assert "is empty" in str(error)
+        return
+    blocks = blocks_of(project.folder / "pushbacks")
+    phase = {tuple(map(int, name[1:].split("-"))): number for name, number in blocks["phase"].items()}
+    for (i, j, k), number in phase.items():
+        above = [(i + a, j + b, k + 1) for a, b in ((0, 0), (1, 0), (-1, 0), (0, 1), (0, -1))]
+        assert number == 0 or all(0 < phase[cell] <= number for cell in above if cell in phase)
+    for number, row in table.set_index("phase").iterrows():
+        mine = blocks[blocks["phase"] == number]
+        assert (row["blocks"], row["tonnes"]) == (len(mine), mine["tonnes"].sum())
+        gain = (mine["revenue"] - mine["processing_cost"]).clip(lower=0) - mine["mining_cost"]
+        assert row["worth"] == pytest.approx(gain.sum())
+
+
+@pytest.fixture(scope="module")
+def divided(tmp_path_factory):
+    place = tmp_path_factory.mktemp("divided")
+    table = rows(11, 9, 4, cu=lambda i, j, k: {(3, 4, 1): 6, (7, 4, 1): 2, (5, 2, 2): 0.9}.get((i, j, k), 0))
+    table["must"], table["never"] = (table["name"] == "b1-1-3").astype(int), (table["x"] > 100).astype(int)
+    table.to_csv(place / "blocks.csv", index=False)
+    (place / "project.toml").write_text(with_phases("count = 3", PROJECT) + '[fixed]\nforced = "must"\nbarred = "never"\n')
+    pitplan.pushbacks(place / "project.toml")
+    return place
+
+
+@pytest.fixture
+def copied(divided, tmp_path):
+    return shutil.copytree(divided, tmp_path / "mine") / "plan" / "pushbacks"
+
+
+def wrong(folder):
+    return {rule.name: rule for rule in verify(folder) if rule.differences}
+
+
+def test_what_is_right_passes(copied, capsys):
+    assert wrong(copied) == {}
+    assert main(["verify", str(copied)]) == 0
+    told = capsys.readouterr().out.splitlines()
+    assert [line.split(":")[0] for line in told][-4:] == ["phase of blocks", "phase walls", "phase fixed", "phases"]
+    page = (copied / "report.html").read_text()
+    assert "<h2>Phases</h2>" in page and page.count("data:image/png") == 6
+
+
+NUMBERS = "blocks tonnes ore_tonnes waste_tonnes strip_ratio grade_copper metal_copper worth"
+
+
+@pytest.mark.parametrize(("column", "rule"), [*((name, "phases") for name in NUMBERS.split()), ("factor", "phase of blocks")])
+def test_each_number_of_a_phase_that_is_bent_is_found(copied, column, rule):
+    table = pd.read_csv(copied / "phases.csv")
+    table[column] = table[column].astype(float)
+    table.loc[table.index[-1], column] += 1 if column in ("blocks", "factor") else 0.02
+    table.to_csv(copied / "phases.csv", index=False)
+    assert set(wrong(copied)) == {rule}
+
+
+@pytest.mark.parametrize(
+    ("where", "number", "rules"),
+    [
+        (lambda it: it["phase"] == 2, 1, {"phase of blocks", "phases"}),
+        (lambda it: (it["phase"] == 1) & (it["z"] == 35) & (it["must"] == 0), 3, {"phase of blocks", "phase walls", "phases"}),
+        (lambda it: it["must"] == 1, 2, {"phase of blocks", "phase fixed", "phases"}),
+        (lambda it: it["never"] == 1, 1, {"phase of blocks", "phase fixed", "phases"}),
+        (lambda it: (it["phase"] == 2) & (it["z"] == 35), 0, {"phase of blocks", "phase walls", "phases"}),
+    ],
+)
+def test_a_block_in_another_phase_is_found(copied, where, number, rules):
+    table = pd.read_csv(copied / "blocks.csv")
+    table.loc[table.index[where(table)][0], "phase"] = number
+    table.to_csv(copied / "blocks.csv", index=False)
+    assert rules <= set(wrong(copied))
+
+
+def test_a_phase_of_a_factor_that_was_not_asked_for_is_found(divided, copied):
+    path = copied.parent.parent / "project.toml"
+    path.write_text(path.read_text().replace("count = 3", "factors = [400, 1000]"))
+    (rule,) = wrong(copied).values()
+    assert rule.name == "phase of blocks" and "was not asked for" in rule.differences[0]
+
+
+def test_nothing_is_written_where_a_phase_is_wrong(plan_folder, monkeypatch):
+    """All blocks of the last phase in the first."""
+    whole = phases.blocks
+    monkeypatch.setattr(commands.phasing, "blocks", lambda it: whole(it).replace({"phase": {3: 1}}))
+    project = load(plan_folder(pillars(), with_phases("count = 3")))
+    with pytest.raises(PlanError, match="what was written is not right"):
+        pitplan.pushbacks(project)
+    assert not (project.folder / "pushbacks" / "phases.csv").exists()
+
+
+def test_a_column_that_is_called_phase_is_kept(plan_folder):
+    text = with_phases("count = 3").replace('rock = "rock"', 'rock = "phase"')
+    project = load(plan_folder(pillars().rename(columns={"rock": "phase"}), text))
+    pitplan.pushbacks(project)
+    blocks = blocks_of(project.folder / "pushbacks")
+    assert sorted(set(blocks["phase"])) == [1, 2, 3] and set(blocks["planner_phase"]) == {"R"}
