@@ -12,7 +12,6 @@ from matplotlib.axes import Axes
 from matplotlib.collections import LineCollection
 from matplotlib.colors import BoundaryNorm, ListedColormap
 from matplotlib.figure import Figure
-from matplotlib.ticker import FixedLocator
 
 from .grid import Grid, metres
 from .outlines import edges
@@ -21,6 +20,8 @@ from .pictures import GROUND, MAP, MOST_TICKS, STYLE, busiest, finish, list_of, 
 
 Extent = tuple[float, float, float, float]
 LEAST_SHARE, GREATEST_SHARE = 0.18, 0.9
+# So many times as wide as high a map is wide.
+WIDE = 1.5
 
 
 @dataclass(frozen=True)
@@ -70,7 +71,7 @@ def write_sections(scene: PhaseScene, path: Path) -> None:
     west, east, south, north, bottom, top = scene.grid.extent()
     share = min(max((top - bottom) / min(east - west, north - south), LEAST_SHARE), GREATEST_SHARE)
     with matplotlib.rc_context(STYLE):
-        figure = Figure(figsize=(12, 5.2 * share + 1.1), constrained_layout=True)
+        figure = Figure(figsize=(12, 5.2 * share + 1.6), constrained_layout=True)
         plot_sections(scene, figure.subplots(1, 2))
         finish(figure, path)
 
@@ -136,9 +137,11 @@ def draw(scene: PhaseScene, plane: tuple[np.ndarray, np.ndarray], extent: Extent
     for number in range(1, scene.count + 1):
         lines = edges((phase > 0) & (phase <= number) & solid) * size + (left, low)
         ax.add_collection(LineCollection(lines, colors="black", linewidths=1.3 if number == scene.count else 0.6))
-    bar = ax.figure.colorbar(image, cax=ax.inset_axes((1.03, 0.0, 0.035, 1.0)), label="phase")
-    bar.ax.yaxis.set_major_locator(FixedLocator(list(range(1, scene.count + 1, -(-scene.count // MOST_TICKS)))))
-    bar.ax.minorticks_off()
+    # Beside a map that is wide and low a bar would be higher than the map.
+    place = {"location": "bottom", "shrink": 0.6, "aspect": 30} if right - left > WIDE * (high - low) else {"shrink": 0.85}
+    bar = ax.figure.colorbar(image, ax=ax, label="phase", **place)
+    bar.set_ticks(list(range(1, scene.count + 1, -(-scene.count // MOST_TICKS))))
+    bar.minorticks_off()
     return ax
 
 

@@ -19,12 +19,16 @@ class PhaseRules:
     tonnes   even phases of about so many tonnes of rock each
     factors  the factors of the phases' shells, per mille, rising
     last     the factor of the last phase's shell, per mille; None: the project's chosen one, else 1000
+    width    metres that a phase is wide on each level at least; None: any
+    bottom   metres that the pit up to a phase is wide on each level at least, its bottom with it; None: any
     """
 
     count: Optional[int]
     tonnes: Optional[float]
     factors: Optional[tuple[int, ...]]
     last: Optional[int]
+    width: Optional[float] = None
+    bottom: Optional[float] = None
 
 
 def read_phases(section: Section, most_factor: int) -> PhaseRules:
@@ -39,11 +43,22 @@ def read_phases(section: Section, most_factor: int) -> PhaseRules:
         tonnes=float(section.number("tonnes")) if given == ["tonnes"] else None,
         factors=read_factors(section, most_factor) if given == ["factors"] else None,
         last=section.whole("last", 1000, 1, most_factor) if section.has("last") else None,
+        width=read_metres(section, "width"),
+        bottom=read_metres(section, "bottom"),
     )
     section.finish()
     if rules.tonnes is not None and rules.tonnes <= 0:
         raise section.wrong("tonnes", "a phase has more than 0 tonnes")
     return rules
+
+
+def read_metres(section: Section, key: str) -> Optional[float]:
+    if not section.has(key):
+        return None
+    metres = float(section.number(key))
+    if metres <= 0:
+        raise section.wrong(key, "a width is above 0 metres: leave it out where any will do")
+    return metres
 
 
 def read_factors(section: Section, most_factor: int) -> tuple[int, ...]:

@@ -15,8 +15,9 @@ from typing import Callable, Optional
 
 import numpy as np
 import pandas as pd
+from scipy import ndimage
 
-from . import analyse, run
+from . import analyse, run, widths
 from .errors import PlanError
 from .phase_rules import MOST_PHASES, PhaseRules
 from .plan import Plan
@@ -103,6 +104,10 @@ def divide(plan: Plan, folder: Optional[Path] = None, progress: Progress = silen
     part, solution = solved(factors)
     entry = solution.entry[: plan.grid.count]
     phase = np.where(entry > 0, np.searchsorted(factors, entry) + 1, 0).astype(np.int16)
+    if rules.width is not None or rules.bottom is not None:
+        with progress.step("making the phases wide enough"):
+            phase, told = widths.widened(phase, part, rules)
+        more = [*more, *told]
     return Phases(part, solution, phase, (*notes, *more))
 
 
@@ -186,7 +191,8 @@ def table(phases: Phases) -> pd.DataFrame:
     """One row a phase, of what it adds to those before, at the price as given.
 
     phase from 1; factor, per mille, of the shell that ends it; blocks (with rock); tonnes, ore_tonnes, waste_tonnes; strip_ratio;
-    grade_NAME of the ore in its column's unit, metal_NAME recovered of it (tonnes, or grams); worth in money.
+    grade_NAME of the ore in its column's unit, metal_NAME recovered of it (tonnes, or grams); worth in money; cost_of_width, the shell's
+    worth less that of the phases up to this one; pieces that do not touch by a side; least_width in metres.
     """
     plan, cells = phases.plan, analyse.cells_of(phases.plan, phases.solution)
     ore = np.where(cells.ore, phases.phase, 0)
@@ -204,7 +210,19 @@ def table(phases: Phases) -> pd.DataFrame:
         columns[f"grade_{metal.name}"] = analyse.ratio(added(ore, cells.content[metal.name], phases), ore_tonnes)
         columns[f"metal_{metal.name}"] = added(ore, plan.values.metal[metal.name], phases)
     columns["worth"] = added(phases.phase, cells.worth, phases)
-    return pd.DataFrame(columns)
+    columns["cost_of_width"] = analyse.within(plan, cells.factor, cells.worth) - np.cumsum(columns["worth"])
+    return pd.DataFrame(columns | shapes(phases))
+
+
+def shapes(phases: Phases) -> dict[str, list[float]]:
+    """Of each phase into how many pieces it falls, and its least width in metres."""
+    grid, free = phases.plan.grid, widths.free_of(phases.plan)
+    rock, cube = grid.cube(phases.plan.values.tonnes > 0), grid.cube(phases.phase)
+    each = [cube == number for number in range(1, len(phases.factors) + 1)]
+    return {
+        "pieces": [int(ndimage.label(phase & rock)[1]) for phase in each],
+        "least_width": [widths.least_width(phase, free, (grid.size[1], grid.size[0])) for phase in each],
+    }
 
 
 def added(phase: np.ndarray, values: np.ndarray, phases: Phases) -> np.ndarray:

@@ -60,8 +60,16 @@ def columns_of_rock(table: pd.DataFrame, project: Project) -> list[tuple[str, st
 def columns_of_phases(table: pd.DataFrame, project: Project) -> list[tuple[str, str, float, int]]:
     """What is shown of phases, as `columns_of` of shells."""
     money, sign = scaled(float(table["worth"].abs().max()))
-    head = [("phase", "phase", 1.0, 0), ("factor", "factor, per mille", 1.0, 0)]
-    return [*head, *columns_of_rock(table, project), ("worth", f"worth, {sign} {project.money.currency}".replace(",  ", ", "), money, 1)]
+    currency = f"{sign} {project.money.currency}".strip()
+    return [
+        ("phase", "phase", 1.0, 0),
+        ("factor", "factor, per mille", 1.0, 0),
+        *columns_of_rock(table, project),
+        ("worth", f"worth, {currency}", money, 1),
+        ("cost_of_width", f"cost of width, {currency}", money, 2),
+        ("pieces", "pieces", 1.0, 0),
+        ("least_width", "least width, m", 1.0, 0),
+    ]
 
 
 def phase_facts(table: pd.DataFrame, project: Project) -> dict[str, Any]:

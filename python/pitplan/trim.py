@@ -16,34 +16,42 @@ from .walls import Walls
 def used_blocks(grid: Grid, walls: Walls, paying: np.ndarray) -> np.ndarray:
     """The paying blocks and all that they need, directly or through others: a truth for each cell."""
     used = grid.cube(paying).copy()
-    list_of = grid.cube(walls.list_of)
-    present = np.unique(list_of)
     # Needs lead up alone, so a level is whole once those below it have been passed.
     for level in range(grid.shape[0] - 1, 0, -1):
-        for number in present:
-            mine = used[level] & (list_of[level] == number)
-            if not mine.any():
-                continue
-            # A step that goes unwritten is a need all the same, which others lead to.
-            for east, north, up in walls.lists[number].steps:
-                if up <= level:
-                    mark(used[level - up], mine, east, north)
+        mark_needs(used, level, grid, walls)
     return used.ravel()
+
+
+def mark_needs(used: np.ndarray, level: int, grid: Grid, walls: Walls) -> None:
+    """Marks in an array of levels, rows and columns what the true cells of a level need."""
+    list_of = grid.cube(walls.list_of)[level]
+    for number in np.unique(list_of[used[level]]):
+        mine = used[level] & (list_of == number)
+        # A step that goes unwritten is a need all the same, which others lead to.
+        for east, north, up in walls.lists[number].steps:
+            if up <= level:
+                mark(used[level - up], mine, east, north)
 
 
 def users_of(grid: Grid, walls: Walls, needed: np.ndarray) -> np.ndarray:
     """The given blocks and all that need them, directly or through others: a truth for each cell."""
     found = grid.cube(needed).copy()
-    list_of = grid.cube(walls.list_of)
-    present = np.unique(list_of)
     for level in range(1, grid.shape[0]):
-        for number in present:
-            users = np.zeros_like(found[level])
-            for east, north, up in walls.lists[number].steps:
-                if up <= level:
-                    mark(users, found[level - up], -east, -north)
-            found[level] |= users & (list_of[level] == number)
+        found[level] |= users_at(found, level, grid, walls)
     return found.ravel()
+
+
+def users_at(found: np.ndarray, level: int, grid: Grid, walls: Walls) -> np.ndarray:
+    """The cells of a level that need a true cell of the levels above it: a truth for each row and column."""
+    list_of = grid.cube(walls.list_of)[level]
+    result = np.zeros_like(found[level])
+    for number in np.unique(list_of):
+        users = np.zeros_like(result)
+        for east, north, up in walls.lists[number].steps:
+            if up <= level:
+                mark(users, found[level - up], -east, -north)
+        result |= users & (list_of == number)
+    return result
 
 
 def mark(above: np.ndarray, blocks: np.ndarray, east: int, north: int) -> None:

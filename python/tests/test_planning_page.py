@@ -82,3 +82,21 @@ def test_the_phases_of_the_page_are_those_of_the_example():
         assert (phase["factor"], phase["blocks"]) == (int(factor), int(blocks))
         assert [f"{phase[name] / 1000:,.1f}" for name in ("tonnes", "ore_tonnes")] == [rock, ore]
         assert [f"{phase['strip_ratio']:.2f}", f"{phase['grade_copper']:.3f}", f"{phase['worth'] / 1e6:.1f}"] == [strip, copper, worth]
+
+
+def test_the_widths_of_the_page_are_those_of_the_example():
+    project = pitplan.load(EXAMPLE)
+
+    def divided(*rules):
+        plan = pitplan.prepare(pitplan.phases.ending(replace(project, phases=PhaseRules(*rules))))
+        return pitplan.phases.divide(plan)
+
+    shells, wide, four = divided(2, None, None, None), divided(2, None, None, None, 40, 40), divided(4, None, None, None, 40, 40)
+    before, after, many = (pitplan.phases.table(it) for it in (shells, wide, four))
+    (note,) = [note for note in wide.notes if "blocks are dug" in note]
+    later, more = (int(re.search(rf"([\d,]+) {word}", note)[1]) for word in ("later", "besides"))
+    assert f"are {' and '.join(map(str, after['blocks']))} blocks: of the {' and '.join(map(str, before['blocks']))} that the shells add" in PAGE
+    assert f"{later} of the first come in the second, and {more} more blocks are dug" in PAGE
+    cost, worth = after["cost_of_width"].iloc[-1], before["worth"].sum() / 1e6
+    assert f"worth {cost:,.0f} USD less by it, of {worth:.1f} million" in PAGE
+    assert many["blocks"][2] == 3 and "0 earlier" in note and "0 never" in note

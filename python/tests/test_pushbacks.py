@@ -199,7 +199,7 @@ def test_what_is_right_passes(copied, capsys):
     assert wrong(copied) == {}
     assert main(["verify", str(copied)]) == 0
     told = capsys.readouterr().out.splitlines()
-    assert [line.split(":")[0] for line in told][-4:] == ["phase of blocks", "phase walls", "phase fixed", "phases"]
+    assert [line.split(":")[0] for line in told][-5:] == ["phase of blocks", "phase walls", "phase fixed", "phases", "phase widths"]
     page = (copied / "report.html").read_text()
     assert "<h2>Phases</h2>" in page and page.count("data:image/png") == 6
 

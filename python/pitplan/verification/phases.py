@@ -6,14 +6,17 @@ from dataclasses import replace
 
 import numpy as np
 
-from . import fixed, sums, walls
+from . import fixed, phase_widths, sums, walls
 from .answer import TOLD, Answer, Rule, rule
+
+CENT = 0.01
 
 
 def verify(answer: Answer) -> list[Rule]:
-    """Four rules. Of a block that stands in one phase alone, phases up to each number are nested as they are written."""
+    """Five rules. Of a block that stands in one phase alone, phases up to each number are nested as they are written."""
     as_shells = by_phase(answer)
-    return [verify_places(answer), of_phases(walls.verify(as_shells)), of_phases(fixed.verify(as_shells)), verify_sums(answer)]
+    of_shells = [of_phases(check(as_shells)) for check in (walls.verify, fixed.verify)]
+    return [verify_places(answer), *of_shells, verify_sums(answer), phase_widths.verify(answer)]
 
 
 def of_phases(of_shells: Rule) -> Rule:
@@ -40,10 +43,13 @@ def verify_places(answer: Answer) -> Rule:
     differences += unlike_rules(answer, factors)
     first, said = answer.said["factor"].to_numpy(), answer.said["phase"].to_numpy()
     expected = np.array([0, *range(1, len(factors) + 1)])[np.searchsorted([0, *factors], first)]
+    holds = "each block is in the phase of the first shell that holds it"
     off = np.flatnonzero(expected != said)
+    if answer.project.phases is not None and (answer.project.phases.width or answer.project.phases.bottom):
+        holds = "there is a phase for each shell, and each block is in one of them or in none"
+        off = np.flatnonzero((said < 0) | (said > len(factors)))
     differences += [f"{answer.called(row)}: phase {said[row]} for {expected[row]}" for row in off[:TOLD]]
-    count = len(differences) + max(0, len(off) - TOLD)
-    return rule("phase of blocks", "each block is in the phase of the first shell that holds it", differences, count)
+    return rule("phase of blocks", holds, differences, len(differences) + max(0, len(off) - TOLD))
 
 
 def unlike_rules(answer: Answer, factors: list[int]) -> list[str]:
@@ -69,7 +75,10 @@ def verify_sums(answer: Answer) -> Rule:
     differences: list[str] = []
     phase, ore = answer.said["phase"].to_numpy(), answer.ore
     for number, said in answer.phases.iterrows():
-        mine = phase == number
+        mine, up_to = phase == number, (phase > 0) & (phase <= number)
+        lost = answer.worths[sums.within(answer, int(said["factor"]))].sum() - answer.worths[up_to].sum()
+        if not np.isclose(said["cost_of_width"], lost, rtol=1e-9, atol=CENT):
+            differences.append(f"phase {number}: cost_of_width {said['cost_of_width']:.10g} for {lost:.10g}")
         gross = float(np.abs(answer.worths[mine]).sum())
         for name, amount in of_blocks(answer, mine, mine & ore).items():
             slack = 0.6 * sums.smallest(name) + (1e-12 * gross if name == "worth" else 0.0)

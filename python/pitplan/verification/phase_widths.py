@@ -1,0 +1,129 @@
+"""How wide the phases are and into how many pieces they fall, by counting cells in rectangles and by who touches whom."""
+
+from __future__ import annotations
+
+import math
+
+import numpy as np
+import pandas as pd
+from scipy.sparse import coo_matrix
+from scipy.sparse.csgraph import connected_components
+
+from . import fixed, walls
+from .answer import NOTHING, TOLD, Answer, Rule, rule
+
+# Rows and columns of blocks.
+Rectangle = tuple[int, int]
+
+
+def verify(answer: Answer) -> Rule:
+    """The widths that were asked for are kept, and each phase's pieces and least width are told as they are."""
+    assert answer.phases is not None
+    cube, room = cube_of(answer), room_of(answer)
+    differences: list[str] = []
+    count = 0
+    for number, said in answer.phases.iterrows():
+        narrow, more = too_narrow(answer, cube, room, int(number))
+        differences, count = differences + narrow, count + more
+        shape = unlike_shape(answer, cube == number, room, said)
+        differences += [f"phase {number}: {text}" for text in shape]
+        count += len(shape)
+    return rule("phase widths", holds(answer), differences, count)
+
+
+def holds(answer: Answer) -> str:
+    asked, wide = answer.project.phases, []
+    for metres, of_what in ((asked and asked.width, "its phase"), (asked and asked.bottom, "the pit up to its phase")):
+        if metres:
+            wide.append(f"each block lies in a square {metres:g} m wide of {of_what} on its level, with air and what must be dug; ")
+    return "".join(wide) + "pieces and least width of each phase are what its blocks make"
+
+
+def cube_of(answer: Answer) -> np.ndarray:
+    """The phase of each cell; of those without a block 0."""
+    cube = np.zeros(answer.shape, dtype=np.int64)
+    cube[answer.cells] = answer.said["phase"].to_numpy()
+    return cube
+
+
+def room_of(answer: Answer) -> np.ndarray:
+    """A truth for each cell: whether there is nothing to dig, or it must be dug."""
+    room = answer.dug == NOTHING
+    rules = answer.project.fixed
+    if rules is not None:
+        must = np.zeros(answer.shape, dtype=bool)
+        must[answer.cells] = fixed.demanded(answer, rules)[0]
+        room = room | walls.needed_by(answer, must)
+    return room
+
+
+def too_narrow(answer: Answer, cube: np.ndarray, room: np.ndarray, number: int) -> tuple[list[str], int]:
+    """Blocks of a phase that lie in no rectangle of the widths asked for: the first ten, and how many there are."""
+    asked, wrong = answer.project.phases, np.zeros(answer.shape, dtype=bool)
+    assert asked is not None
+    for wide, there in ((asked.width, cube == number), (asked.bottom, (cube > 0) & (cube <= number))):
+        if wide is not None:
+            covered = np.stack([cells_in(level, blocks_across(answer, wide)) for level in there | room])
+            wrong |= (cube == number) & ~room & ~covered
+    rows = np.flatnonzero(wrong[answer.cells])
+    return [f"{answer.called(row)} of phase {number} lies where it is too narrow" for row in rows[:TOLD]], len(rows)
+
+
+def blocks_across(answer: Answer, wide: float) -> Rectangle:
+    """The least number of blocks, north and east, that are so many metres wide."""
+    east, north, _ = answer.size
+    counts = [int(wide // side) for side in (north, east)]
+    enough = [count + (count * side < wide * (1 - 1e-12)) for count, side in zip(counts, (north, east))]
+    return max(1, enough[0]), max(1, enough[1])
+
+
+def cells_in(level: np.ndarray, shape: Rectangle) -> np.ndarray:
+    """The cells that lie in some rectangle without a false cell, by sums over rectangles."""
+    north, east = shape
+    rows, columns = level.shape
+    found = np.zeros(level.shape, dtype=bool)
+    if north > rows or east > columns:
+        return found
+    full = sums_over(level, shape) == north * east
+    # A cell is covered where one of the rectangles that hold it is full: those that begin up to a rectangle's size before it.
+    begins = np.pad(full, ((north - 1, north - 1), (east - 1, east - 1)))
+    return sums_over(begins, shape) > 0
+
+
+def sums_over(values: np.ndarray, shape: Rectangle) -> np.ndarray:
+    """For each place at which a rectangle may begin the sum of what it holds."""
+    north, east = shape
+    sums = np.pad(values.astype(np.int64).cumsum(axis=0).cumsum(axis=1), ((1, 0), (1, 0)))
+    return sums[north:, east:] - sums[:-north, east:] - sums[north:, :-east] + sums[:-north, :-east]
+
+
+def unlike_shape(answer: Answer, phase: np.ndarray, room: np.ndarray, said: pd.Series) -> list[str]:
+    """What is told of a phase's pieces and its least width, and is not so."""
+    rock = phase & (answer.dug != NOTHING)
+    pieces, least, step = count_pieces(rock), float(said["least_width"]), min(answer.size[:2])
+    found = [f"pieces {said['pieces']:g} for {pieces}"] if said["pieces"] != pieces else []
+    asking = phase & ~room
+    if math.isnan(least) or not asking.any():
+        return found + ([f"least_width {least:g}"] if asking.any() or not math.isnan(least) else [])
+    for wide, is_so in ((least, True), (least + step, False)):
+        covered = np.stack([cells_in(level, blocks_across(answer, wide)) for level in phase | room])
+        if (asking & ~covered).any() == is_so:
+            found.append(f"least_width {least:g}, and {wide:g} m is {'too wide' if is_so else 'not too wide'}")
+    return found
+
+
+def count_pieces(rock: np.ndarray) -> int:
+    """How many pieces there are of cells that touch by a side."""
+    number = np.full(rock.shape, -1)
+    number[rock] = np.arange(np.count_nonzero(rock))
+    pairs = []
+    for axis in range(3):
+        first, second = (np.moveaxis(number, axis, 0)[part].ravel() for part in (slice(None, -1), slice(1, None)))
+        both = (first >= 0) & (second >= 0)
+        pairs.append(np.stack([first[both], second[both]]))
+    first, second = np.concatenate(pairs, axis=1)
+    count = int(np.count_nonzero(rock))
+    if not count:
+        return 0
+    touching = coo_matrix((np.ones(len(first)), (first, second)), shape=(count, count))
+    return int(connected_components(touching, directed=False)[0])
