@@ -10,7 +10,7 @@ from matplotlib import pyplot as plt
 from matplotlib.backends.backend_agg import FigureCanvasAgg
 
 import pitplan
-from pitplan import pictures, yearly
+from pitplan import phase_pictures, pictures, yearly
 from pitplan.grid import Grid
 from pitplan.simulation import pictures as many
 
@@ -175,7 +175,7 @@ def drawn_of(monkeypatch, module, draw):
 
 def demand_plain_coordinates(figure):
     """Every tick of every map is all its digits, and no two of an axis overlap."""
-    for axis in (axis for axis in figure.axes if axis.get_xlabel()):
+    for axis in (axis for axis in figure.axes if axis.get_xlabel().endswith(", m")):
         for side in (axis.xaxis, axis.yaxis):
             low, high = sorted(side.get_view_interval())
             ticks = [tick for tick in side.get_major_ticks() if low <= tick.get_loc() <= high]
@@ -197,6 +197,31 @@ def test_plans_and_sections_have_coordinates_in_full(monkeypatch):
     # Row 10 from 6512012.5 by 25 m, and column 12 from 430010 by 20 m.
     assert titles[0] == "Shells, west to east at north 6512262.5"
     assert titles[2] == "Shells, south to north at east 430250"
+
+
+@pytest.mark.parametrize("draw", [phase_pictures.write_plans, phase_pictures.write_sections])
+def test_phases_have_coordinates_in_full_and_nothing_overlaps(monkeypatch, draw):
+    figure = drawn_of(monkeypatch, phase_pictures, lambda: draw(phase_scene(), None))
+    demand_plain_coordinates(figure)
+    boxes = [axis.get_tightbbox() for axis in figure.axes]
+    assert not any(one.overlaps(other) for k, one in enumerate(boxes) for other in boxes[:k])
+    assert all(box.x0 >= 0 and box.y0 >= 0 and box.x1 <= figure.bbox.x1 and box.y1 <= figure.bbox.y1 for box in boxes)
+
+
+def test_what_plans_and_sections_show_of_phases(panels):
+    """On the level 1 below the top the pit reaches nine blocks each way along a row and a column together."""
+    scene = phase_scene()
+    level, west_east = panels[1]
+    drawn = phase_pictures.plot_level(scene, 1, level).images[1].get_array()
+    rows, columns = np.indices((20, 24))
+    inside = abs(rows - 10) + abs(columns - 12) < 10
+    expected = np.where(abs(rows - 10) < 2, 1, 2)
+    assert (np.ma.getmaskarray(drawn) == ~inside).all() and (drawn[inside] == expected[inside]).all()
+    assert level.get_title(loc="left") + level.get_title() == "Phases on the level 787.5 to 800 m"
+    # Shown from the bottom up: the deepest of the row's blocks has 6 levels, of which the sixth is one block wide and more.
+    drawn = phase_pictures.plot_from_west_to_east(scene, 14, west_east).images[1].get_array()
+    assert [int(np.ma.count(line)) for line in drawn[::-1]] == [max(0, 2 * (12 - 4 - 2 * k) - 1) for k in range(12)]
+    assert set(np.ma.compressed(drawn)) == {2}
 
 
 def test_probabilities_have_coordinates_in_full(monkeypatch):
@@ -228,6 +253,14 @@ def scene():
     return pictures.Scene(grid, factor, np.ones(grid.shape, dtype=bool), np.ones(grid.shape), metal, 1000)
 
 
+def phase_scene():
+    """Two phases of the hill: the middle four rows of its pit, and the rest."""
+    grid, factor = at_a_zone()
+    row = np.indices(grid.shape)[1]
+    phase = np.where(factor > 0, np.where(abs(row - 10) < 2, 1, 2), 0)
+    return phase_pictures.PhaseScene(grid, phase, np.ones(grid.shape, dtype=bool), 2)
+
+
 def likely():
     grid, factor = at_a_zone()
     return many.Likely(grid, factor / 1000, np.ones(grid.shape, dtype=bool), 1000, 3)
@@ -239,6 +272,12 @@ EACH = {
     "level": (1, lambda axes, project: [pictures.plot_level(scene(), 2, axes[0])]),
     "shells": (1, lambda axes, project: [pictures.plot_shells(scene(), scene().from_west_to_east(10), axes[0])]),
     "grades": (1, lambda axes, project: [pictures.plot_grades(scene(), scene().from_south_to_north(12), axes[0])]),
+    "phases on the ground": (1, lambda axes, project: [phase_pictures.plot_surface(phase_scene(), axes[0])]),
+    "phases on a level": (1, lambda axes, project: [phase_pictures.plot_level(phase_scene(), 2, axes[0])]),
+    "phases along a row": (1, lambda axes, project: [phase_pictures.plot_from_west_to_east(phase_scene(), 10, axes[0])]),
+    "phases along a column": (1, lambda axes, project: [phase_pictures.plot_from_south_to_north(phase_scene(), 12, axes[0])]),
+    "plans of phases": (4, lambda axes, project: phase_pictures.plot_plans(phase_scene(), axes)),
+    "sections of phases": (2, lambda axes, project: phase_pictures.plot_sections(phase_scene(), axes)),
     "plans": (4, lambda axes, project: pictures.plot_plans(scene(), axes)),
     "sections": (4, lambda axes, project: pictures.plot_sections(scene(), axes)),
     "years": (2, lambda axes, project: yearly.plot_years(YEARS, project, 1000, axes)),
