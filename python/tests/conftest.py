@@ -111,3 +111,20 @@ def solved(solved_once, tmp_path):
 
     project = load(shutil.copytree(solved_once.place, tmp_path / "mine") / "project.toml")
     return project, project.folder
+
+
+@pytest.fixture(scope="module")
+def blank_pictures():
+    """Pictures of a plan's folder are empty files, since they take most of a run's time, and other tests look at them."""
+    from pitplan import commands
+
+    def draw(plan, solution, table, chosen, stage):
+        for name in commands.PICTURES.values():
+            (stage / name).touch()
+
+    with pytest.MonkeyPatch.context() as patch:
+        patch.setattr(commands, "draw", draw)
+        patch.setattr(commands.yearly, "write_years", lambda years, project, chosen, path: path.touch())
+        for name in ("write_plans", "write_sections"):
+            patch.setattr(commands.phase_pictures, name, lambda scene, path: path.touch())
+        yield

@@ -15,6 +15,7 @@ from pitplan.cli import main
 from pitplan.phase_rules import PhaseRules
 from pitplan.verification import verify
 
+pytestmark = pytest.mark.usefixtures("blank_pictures")
 UPRIGHT = PROJECT.replace('pattern = "1:5"', "angle = 90").replace("levels = 3\n", "levels = 1\n")
 GRADES = [1, 0.7, 0.5]
 
@@ -176,7 +177,7 @@ def test_phases_of_random_mines_are_closed_nested_and_even(tmp_path_factory, see
 
 
 @pytest.fixture(scope="module")
-def divided(tmp_path_factory):
+def divided(blank_pictures, tmp_path_factory):
     place = tmp_path_factory.mktemp("divided")
     table = rows(11, 9, 4, cu=lambda i, j, k: {(3, 4, 1): 6, (7, 4, 1): 2, (5, 2, 2): 0.9}.get((i, j, k), 0))
     table["must"], table["never"] = (table["name"] == "b1-1-3").astype(int), (table["x"] > 100).astype(int)
