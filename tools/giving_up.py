@@ -3,13 +3,14 @@
 
     tools/giving_up.py [--only WORD] [--results FILE]      by hand; a minute a body
 
-A contract promises neither memory nor threads, so a call that always answers `no memory` or `no seat` meets it: the prover lets such
-a body pass, and only a test refuses it. The tests are run unproved, over a copy of the crates. A body that no test refuses is named,
+A contract promises neither memory nor threads, nor that another thread has not been faster, so a call that always answers `no memory`,
+`no seat` or that there is nothing meets it: the prover lets such a body pass, and only a test refuses it. The tests are run unproved, over a copy of the crates. A body that no test refuses is named,
 and the status is 1. Calls that each run of the program makes, as `run_solve` or `solve_parts`, are left out: each row of
 tests/test_rows.py refuses such a body.
 """
 
 import argparse
+import datetime
 import pathlib
 import re
 import shutil
@@ -20,22 +21,25 @@ from typing import NamedTuple
 
 from crates import TOP
 
-NO_MEMORY = "faults::Fault::from(std::alloc::AllocError)"
-NO_SEAT = "faults::Fault::no_seat()"
+# What a call that gives up answers, with its name in the table.
+NO_MEMORY = "Err(faults::Fault::from(std::alloc::AllocError))"
+NO_SEAT = "Err(faults::Fault::no_seat())"
+NONE, NO, BACK = "None", "false", "Err(self)"
+SAID = {NO_MEMORY: "no memory", NO_SEAT: "no seat", NONE: "None", NO: "no", BACK: "the seat that came"}
 
 
 class Planted(NamedTuple):
-    """A call by its file and the first words of its head, how it gives up, and the crate whose tests are to tell."""
+    """A call by its file and the first words of its head, what it answers, and the crate whose tests are to tell."""
 
     file: str
     head: str
-    fault: str
+    answer: str
     tests: str
 
     @property
     def name(self) -> str:
         call = self.head.removeprefix("pub fn ")
-        return f"{self.file.split('/')[0]}: {call} always answers {'no seat' if self.fault == NO_SEAT else 'no memory'}"
+        return f"{self.file.split('/')[0]}: {call} always answers {SAID[self.answer]}"
 
 
 PLANTED = [
@@ -43,6 +47,10 @@ PLANTED = [
     Planted("tree_lock/src/holder.rt", "pub fn apply", NO_MEMORY, "lock_tests"),
     Planted("tree_lock/src/serve.rt", "pub fn serve", NO_MEMORY, "lock_tests"),
     Planted("tree_lock/src/shared.rt", "pub fn look_seat", NO_SEAT, "lock_tests"),
+    Planted("versions/src/look.rt", "pub fn look", BACK, "lock_tests"),
+    Planted("proposals/src/serve.rt", "pub fn claim_ask", NONE, "lock_tests"),
+    Planted("proposals/src/ask.rt", "pub fn collect", NONE, "lock_tests"),
+    Planted("proposals/src/ask.rt", "pub fn withdraw", NO, "lock_tests"),
     Planted("mine_graph/src/parts.rt", "pub fn parts", NO_MEMORY, "tree_tests"),
 ]
 
@@ -53,7 +61,7 @@ def plant(crates: pathlib.Path, body: Planted) -> None:
     text = file.read_text()
     found = re.compile(rf"{re.escape(body.head)}\b.*?(?:^ *\{{| \{{)\n", re.MULTILINE | re.DOTALL).search(text)
     assert found, f"{body.file} has no {body.head}"
-    file.write_text(f"{text[: found.end()]}if true {{ return Err({body.fault}); }}\n{text[found.end() :]}")
+    file.write_text(f"{text[: found.end()]}if true {{ return {body.answer}; }}\n{text[found.end() :]}")
 
 
 def failed(crates: pathlib.Path, tests: str) -> str:
@@ -68,7 +76,7 @@ def main() -> int:
     parser.add_argument("--only", default="", metavar="WORD", help="the bodies alone whose name has this word")
     parser.add_argument("--results", type=pathlib.Path)
     given = parser.parse_args()
-    rows = ["# Bodies that always give up", "", "`tools/giving_up.py`: the prover lets these bodies pass; a test must not.", "", "| body | tests of | told |", "|---|---|---|"]
+    rows = [f"# Bodies that always give up, {datetime.date.today()}", "", "`tools/giving_up.py`: the prover lets these bodies pass; a test must not.", "", "| body | tests of | told |", "|---|---|---|"]
     unseen = []
     with tempfile.TemporaryDirectory() as name:
         crates = pathlib.Path(name) / "crates"
