@@ -4,7 +4,7 @@ A level of a phase is wide enough where each of its blocks lies in a rectangle o
 digs on that level: where it is its own opening by the rectangle (Serra, Image Analysis and Mathematical Morphology, 1982). Air is room as
 well, and so is what must be dug. From the last pit inwards:
 
-1. The last pit keeps the greatest part whose levels are wide enough, without waste that only what it leaves has needed, as long as that
+1. The last pit keeps the greatest part whose levels are wide enough, without waste that only what it leaves has needed, where that
    gains. It grows first where that gains more than it costs: each narrow block gets the rectangle round it that digs least, with all that
    this needs.
 2. Small narrow pieces of a phase go to the phase before, with all that they need.
@@ -135,15 +135,12 @@ def best(pit: np.ndarray, ground: Ground) -> np.ndarray:
 
 
 def lean(pit: np.ndarray, ground: Ground) -> np.ndarray:
-    """What is wide enough of a last pit, without the waste that was dug for what it leaves, as long as that gains."""
+    """What is wide enough of a last pit, without the waste that only what it leaves has needed, where that gains."""
     nothing = np.zeros_like(pit)
-    found = shrunk(pit, nothing, ground)
-    wanted = (ground.worth > 0) | (ground.free & (ground.tonnes > 0))
-    while True:
-        less = shrunk(with_needs(found & wanted.astype(bool), ground), nothing, ground)
-        if ground.worth_of(less) <= ground.worth_of(found):
-            return found
-        found = less
+    whole = shrunk(pit, nothing, ground)
+    wanted = (ground.worth > 0).astype(bool) | (ground.free & (ground.tonnes > 0))
+    less = shrunk(with_needs(whole & wanted, ground), nothing, ground)
+    return max((whole, less), key=ground.worth_of)
 
 
 def advanced(inner: np.ndarray, outer: np.ndarray, ground: Ground) -> np.ndarray:

@@ -245,6 +245,20 @@ def test_a_block_that_makes_a_phase_too_narrow_is_found(copied, name, number):
     assert any("lies where it is too narrow" in text for text in found.differences)
 
 
+def test_a_bottom_that_is_wide_by_a_later_phase_alone_is_found(plan_folder):
+    """Two squares of two side by side, one a phase; then the first has but three of its cells."""
+    grades = dict.fromkeys(square(3, 2, 2), RICH) | dict.fromkeys(square(5, 2, 2), 0.6)
+    project = load(plan_folder(floor(grades), with_phases("factors = [400, 1500]\nbottom = 20", PROJECT)))
+    # Above the second square a block of phase 2 lies between one of phase 1 and the ground.
+    assert pitplan.pushbacks(project)["least_width"].tolist() == [20, 10]
+    folder = project.folder / "pushbacks"
+    table = pd.read_csv(folder / "blocks.csv")
+    table.loc[table["name"] == "b4-2-0", "phase"] = 2
+    table.to_csv(folder / "blocks.csv", index=False)
+    told = [text for text in wrong(folder)["phase widths"].differences if "too narrow" in text]
+    assert told == [f"block {name} of phase 1 lies where it is too narrow" for name in ("b3-2-0", "b3-3-0", "b4-3-0")]
+
+
 def test_a_phase_that_is_not_there_is_found(copied):
     table = pd.read_csv(copied / "blocks.csv")
     table.loc[table["phase"] == 2, "phase"] = 3

@@ -56,6 +56,7 @@ def test_three_shells_of_like_tonnage_are_three_phases(plan_folder):
         ("tonnes = 200", [500, 700, 1000], None),
         ("tonnes = 1e6", [1000], None),
         ("count = 5", [351, 501, 1000], "5 phases are asked for, and the shells make 3"),
+        ("count = 7", [351, 501, 1000], "7 phases are asked for, and the shells make 3"),
         ("count = 1", [1000], None),
         ("count = 2\nlast = 600", [500, 600], None),
         ("factors = [1500, 351, 900]", [351, 900], "the shell of factor 1500 has no rock that the one before has not"),
@@ -93,7 +94,7 @@ def test_even_shells_are_the_nearest_of_all_factors(steps, count, last):
     )
     whole = grown[last]
     assert max(found) == last and all(grown[factor] == rock for factor, rock in found.items())
-    assert list(found.values()) == sorted(set(found.values()))
+    assert list(found.values()) == sorted(set(found.values())) and (whole == 0 or 0 not in found.values())
     for number in range(1, count):
         share = whole * number / count
         nearest = min(abs(rock - share) for rock in grown.values())
