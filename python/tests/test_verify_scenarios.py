@@ -378,3 +378,15 @@ def test_blocks_that_come_in_at_factor_1_are_dug(plan_folder):
     simulation.gather(shared.folder, Request(), silent)
     assert wrong(shared.folder) == set()
     assert pd.read_csv(shared.folder / "probability.csv")["probability_1"].tolist() == pytest.approx([1 / 3] * 3, abs=1e-6)
+
+
+def test_ore_that_pays_nothing_once_it_is_rounded_is_none(plan_folder):
+    """3,000,000 t of 0.25 % yield 3,750 t of copper: 30,000,000.00375, which is rounded to what processing costs. The floor pays."""
+    table = rows(1, 1, 2, tonnes=lambda i, j, k: 3_000_000).drop(columns="cu").assign(sim_1=[6.0, 0.25])
+    changes = [UPRIGHT, ("price = 8000", "price = 8000.000001"), ("processing_cost = 10", "processing_cost = 10\ndecimals = 2")]
+    shared = prepared(plan_folder(table, COLUMNS, *changes))
+    solved_in_turn(shared)
+    simulation.gather(shared.folder, Request(), silent)
+    assert wrong(shared.folder) == set()
+    ore = pd.read_csv(shared.folder / "scenarios.csv").set_index("factor")["ore_tonnes"]
+    assert ore[1000] == 3_000_000
