@@ -393,3 +393,14 @@ def test_ore_that_pays_nothing_once_it_is_rounded_is_none(plan_folder):
     # 90,000 t of copper; a tonne costs 10 to process, and 2 to mine in the upper block and 2.5 in the lower.
     worth = pd.read_csv(shared.folder / "scenarios.csv").set_index("factor")["worth"]
     assert worth[1000] == pytest.approx(90_000 * 8000.000001 - 3_000_000 * (10 + 2 + 2.5), abs=0.01)
+
+
+def test_quantiles_of_one_model_are_its_own_amounts(plan_folder):
+    """At factor 1000 its pit has three blocks of 100 t and is worth 4400."""
+    shared = prepared(plan_folder(pillar().drop(columns=["sim_2", "sim_3"]), COLUMNS, UPRIGHT))
+    solved_in_turn(shared)
+    simulation.gather(shared.folder, Request(), silent)
+    assert wrong(shared.folder) == set()
+    row = pd.read_csv(shared.folder / "quantiles.csv").set_index("factor").loc[1000]
+    parts = ("mean", "least", "quantile_0.1", "quantile_0.5", "quantile_0.9", "greatest")
+    assert [(row[f"tonnes_{part}"], row[f"worth_{part}"]) for part in parts] == [(300, 4400)] * 6
