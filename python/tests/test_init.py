@@ -109,6 +109,23 @@ def test_centres_without_a_name_are_told_by_their_steps():
     assert "steps" in found.centres["x"].why
 
 
+@pytest.mark.parametrize(
+    ("values", "is_one"),
+    [
+        ([0, 0, 10, 10, 20, 20], True),
+        ([0, 0, 10, 20, 30, 30], False),
+        ([0, 10], True),
+        ([5, 5, 5, 5], False),
+        ([0, 0, 10, 10, 25, 25], False),
+        ([0, 0.5, 0, 0.5], False),
+        ([0, 0.6, 0, 0.6], True),
+    ],
+)
+def test_centres_have_few_numbers_at_equal_steps(values, is_one):
+    """At most half as many numbers as rows, two at least, and steps of more than half a metre."""
+    assert guesses.is_lattice(pd.DataFrame({"p": [float(value) for value in values]}), "p") == is_one
+
+
 def test_ore_a_year_is_by_taylors_rule(tmp_path):
     """16 Mt of ore last 0.2 * 16,000,000^(1/4) = 12.65 years: 1,265,000 t a year, by two digits 1,300,000."""
     table = rows(8, 8, 4, cu=lambda i, j, k: 2.0 if k == 1 else 0.0, tonnes=lambda i, j, k: 250_000)

@@ -378,3 +378,29 @@ def test_blocks_that_come_in_at_factor_1_are_dug(plan_folder):
     simulation.gather(shared.folder, Request(), silent)
     assert wrong(shared.folder) == set()
     assert pd.read_csv(shared.folder / "probability.csv")["probability_1"].tolist() == pytest.approx([1 / 3] * 3, abs=1e-6)
+
+
+def test_ore_that_pays_nothing_once_it_is_rounded_is_none(plan_folder):
+    """3,000,000 t of 0.25 % yield 3,750 t of copper: 30,000,000.00375, which is rounded to what processing costs. So the highest block that
+    ore needs is at 20 m, above the floor of the first column, and not that block at the top of the second."""
+    table = rows(2, 1, 3, tonnes=lambda i, j, k: 3_000_000).drop(columns="cu")
+    table = table.assign(sim_1=[6.0, 0, 0, 0, 0, 0.25])[table["name"] != "b0-0-2"]
+    more = "mining_cost = 2\nmining_cost_per_level = 0.5\ndecimals = 2"
+    shared = prepared(plan_folder(table, COLUMNS, UPRIGHT, ("price = 8000", "price = 8000.000001"), ("mining_cost = 2", more)))
+    solved_in_turn(shared)
+    simulation.gather(shared.folder, Request(), silent)
+    assert shared.record["mining_cost_reference"] == 20 and wrong(shared.folder) == set()
+    # 90,000 t of copper; a tonne costs 10 to process, and 2 to mine in the upper block and 2.5 in the lower.
+    worth = pd.read_csv(shared.folder / "scenarios.csv").set_index("factor")["worth"]
+    assert worth[1000] == pytest.approx(90_000 * 8000.000001 - 3_000_000 * (10 + 2 + 2.5), abs=0.01)
+
+
+def test_quantiles_of_one_model_are_its_own_amounts(plan_folder):
+    """At factor 1000 its pit has three blocks of 100 t and is worth 4400."""
+    shared = prepared(plan_folder(pillar().drop(columns=["sim_2", "sim_3"]), COLUMNS, UPRIGHT))
+    solved_in_turn(shared)
+    simulation.gather(shared.folder, Request(), silent)
+    assert wrong(shared.folder) == set()
+    row = pd.read_csv(shared.folder / "quantiles.csv").set_index("factor").loc[1000]
+    parts = ("mean", "least", "quantile_0.1", "quantile_0.5", "quantile_0.9", "greatest")
+    assert [(row[f"tonnes_{part}"], row[f"worth_{part}"]) for part in parts] == [(300, 4400)] * 6

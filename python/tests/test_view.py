@@ -4,6 +4,7 @@ import base64
 import re
 import shutil
 import subprocess
+from dataclasses import replace
 
 import numpy as np
 import pandas as pd
@@ -93,6 +94,16 @@ def test_the_model_of_the_page_by_hand(solved):
     assert len(model["shell_colours"]) == 3 and len(model["grade_colours"]) == 256
     # The first and the last of matplotlib's YlOrRd.
     assert (model["grade_colours"][0], model["grade_colours"][-1]) == ([255, 255, 204], [128, 0, 38])
+
+
+@pytest.mark.parametrize(("low", "high", "most"), [(2.0, 4.0, 4.0), (0.0, 0.0, 1.0)])
+def test_the_grades_of_a_page_are_by_the_greatest_where_all_hold_metal_or_none_does(solved, low, high, most):
+    """Of 405 blocks 5 have the lower grade, and a hundredth of the others lies above the higher one, which they all have."""
+    folder = files.read_folder(solved[1])
+    grades = np.where(np.arange(len(folder.blocks)) < 5, low, high)
+    model = pages.model_of(replace(folder, blocks=folder.blocks.assign(cu=grades)))
+    tint = np.frombuffer(base64.b64decode(model["grade"]), dtype=np.uint8)[folder.blocks["id"]]
+    assert model["grade_most"] == most and tint.tolist() == np.rint(255 * grades / most).astype(int).tolist()
 
 
 def test_as_many_factors_as_a_byte_tells_apart_are_shown(solved, monkeypatch):
