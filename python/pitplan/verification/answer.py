@@ -182,7 +182,7 @@ def read(folder: Path, project: Optional[Project] = None) -> Answer:
     try:
         record = json.loads((folder / "prepare.json").read_text(encoding="utf-8"))
         project = project or load(folder / record["project"])
-        written = read_blocks(folder / "blocks.csv", project, (*SAID, *FREE))
+        written = read_blocks(folder / "blocks.csv", project, (*SAID, *FREE, PHASE))
         return read_shells(folder, record, project, written) if "shells" in record else read_pits(folder, record, project, written)
     except OSError as error:
         raise PlanError(f"{error.filename}: cannot be read: run pitplan shells first") from error
