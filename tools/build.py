@@ -120,10 +120,18 @@ def kit() -> pathlib.Path:
     return pathlib.Path(said).parent
 
 
+def has_libraries(copy: pathlib.Path) -> bool:
+    """Whether the proofs in the copy have left the crates that the library stands on compiled, as not every toolchain does."""
+    return all((copy / "crates" / name / "out" / "rlib" / f"{name}.rlib").exists() for name in crates()[LIBRARY])
+
+
 def archive(copy: pathlib.Path) -> pathlib.Path:
-    """The compiled library, over the crates that were proved in the copy; its own crate is proved once more."""
+    """The compiled library, over the crates that were proved in the copy; its own crate is proved once more, or all are, one by one."""
     folder, tools = copy / "crates" / LIBRARY, kit()
     made = folder / "out" / f"lib{LIBRARY}.a"
+    if not has_libraries(copy):
+        subprocess.run(["rt", "lib"], cwd=folder, check=True)
+        return made
     made.parent.mkdir(exist_ok=True)
     folders = [copy / "crates" / name / "out" / "rlib" for name in in_order(LIBRARY) if name != LIBRARY]
     words = [tools / "bin" / "rattle", "build", "--crate-name", LIBRARY, "src/lib.rt", "--crate-type", "staticlib"]

@@ -129,7 +129,8 @@ def tried(chosen: list[str], table: Table) -> tuple[int, list[str]]:
         status = clone.prove(copy, tell)
         if status == 0:
             for crate in build.FILES:
-                build.take(copy, crate)
+                if crate != build.LIBRARY or build.has_libraries(copy):
+                    build.take(copy, crate)
     wrong = []
     for crate, mutant in mutants:
         said = told.get((crate, mutant.stem), "nothing was told")
