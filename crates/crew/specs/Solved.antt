@@ -3,7 +3,7 @@ use Rattle.std.specs.Prelude.{◌≡◌, ◌⊎◌, ℕ, Bool, true, false, List
 use mathlib.Core.List.{IsPrefix}
 use Rattle.pit_model.specs.declared.journal.Entry.{Entry}
 use Rattle.pit_model.specs.declared.journal.Verdict.{Verdict}
-use Rattle.pit_model.specs.declared.journal.Verdict.TheVariants.{Applied}
+use Rattle.pit_model.specs.declared.journal.Verdict.TheVariants.{Applied, Spent}
 use Rattle.pit_model.specs.Mine.{Instance}
 use Rattle.pit_model.specs.Tree.{is_merger}
 use Rattle.pit_model.specs.Journal.{is_used_up, applied_count, IsLawful, AreSeated, replay}
@@ -41,9 +41,10 @@ DecidesFirst old new (Some verdict) = (arc : ℕ) × IsFirstMerger old.mine old.
 abbrev pub HasMet : List Entry → WorkerLedger → Option (List ℕ) → Type 0
 HasMet journal asks looks = MeetsJournal asks journal × IfSome looks (λ list. list ≡ applied_arcs journal)
 
--- a round's end: nothing more is to be done; or, after the workers had met the holder, the first merger arc was merged over
+-- how a round ends, from the holder that the workers met: the driver found no merger arc or no budget for it, and nothing more is to be
+-- done; or it merged over the first one
 abbrev pub RoundEnds : Held → Held → Bool → Type 0
-RoundEnds met after true = IsEnded after
+RoundEnds met after true = IsEnded after × (DecidesFirst met after None ⊎ DecidesFirst met after (Some Spent))
 RoundEnds met after false = DecidesFirst met after (Some Applied)
 
 -- how a worker's look for an arc ends: it saw a version, with all that its seat knew before, and answers whether that shows the arc as
