@@ -3,6 +3,7 @@
 from __future__ import annotations
 
 from dataclasses import dataclass
+from functools import partial
 from pathlib import Path
 from typing import Any
 
@@ -16,7 +17,7 @@ from matplotlib.figure import Figure
 from .grid import Grid, metres
 from .outlines import edges
 from .phases import Phases
-from .pictures import GROUND, MAP, MOST_TICKS, STYLE, busiest, finish, list_of, name_axes, panels
+from .pictures import GROUND, MAP, MOST_TICKS, STYLE, busiest, finish, list_of, name_axes, write_maps
 
 Extent = tuple[float, float, float, float]
 LEAST_SHARE, GREATEST_SHARE = 0.18, 0.9
@@ -51,11 +52,7 @@ def scene_of(phases: Phases) -> PhaseScene:
 
 
 def write_plans(scene: PhaseScene, path: Path) -> None:
-    with matplotlib.rc_context(STYLE):
-        west, east, south, north, _, _ = scene.grid.extent()
-        figure, axes = panels(east - west, north - south)
-        plot_plans(scene, axes)
-        finish(figure, path)
+    write_maps(scene.grid, partial(plot_plans, scene), path)
 
 
 def plot_plans(scene: PhaseScene, axes: Any) -> list[Axes]:

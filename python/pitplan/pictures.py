@@ -6,7 +6,9 @@ it did not ask for."""
 
 from __future__ import annotations
 
+from collections.abc import Callable
 from dataclasses import dataclass
+from functools import partial
 from pathlib import Path
 from typing import Any, Optional
 
@@ -189,11 +191,7 @@ def draw_worth(axis: Axes, table: pd.DataFrame, currency: str) -> None:
 
 
 def write_plans(scene: Scene, path: Path) -> None:
-    with matplotlib.rc_context(STYLE):
-        west, east, south, north, _, _ = scene.grid.extent()
-        figure, axes = panels(east - west, north - south)
-        plot_plans(scene, axes)
-        finish(figure, path)
+    write_maps(scene.grid, partial(plot_plans, scene), path)
 
 
 def plot_plans(scene: Scene, axes: Any) -> list[Axes]:
@@ -237,6 +235,15 @@ def name_axes(axis: Axes, across: str, up: str) -> None:
     axis.set_ylabel(f"{up}, m")
     axis.ticklabel_format(style="plain", useOffset=False)
     axis.xaxis.set_major_locator(MaxNLocator(MOST_COORDINATES, steps=[1, 2, 2.5, 5, 10]))
+
+
+def write_maps(grid: Grid, plot: Callable[[list[Axes]], object], path: Path) -> None:
+    """Writes a picture of four maps of the grid, which `plot` draws on their axes."""
+    with matplotlib.rc_context(STYLE):
+        west, east, south, north, _, _ = grid.extent()
+        figure, axes = panels(east - west, north - south)
+        plot(axes)
+        finish(figure, path)
 
 
 def panels(wide: float, high: float) -> tuple[Figure, list[Axes]]:

@@ -168,7 +168,8 @@ def at_a_zone(origin=(430010.0, 6512012.5, 806.25)):
 def drawn_of(monkeypatch, module, draw):
     """The figure that a picture would write, drawn."""
     figures = []
-    monkeypatch.setattr(module, "finish", lambda figure, path: (FigureCanvasAgg(figure).draw(), figures.append(figure)))
+    for place in (module, pictures):
+        monkeypatch.setattr(place, "finish", lambda figure, path: (FigureCanvasAgg(figure).draw(), figures.append(figure)))
     draw()
     return figures[0]
 

@@ -5,6 +5,7 @@ As those of a plan: each `plot_` function draws on axes that it is given, and ea
 from __future__ import annotations
 
 from dataclasses import dataclass
+from functools import partial
 from pathlib import Path
 from typing import Any
 
@@ -19,7 +20,7 @@ from matplotlib.lines import Line2D
 
 from ..grid import Grid, metres
 from ..outlines import edges
-from ..pictures import GROUND, MAP, STYLE, busiest, finish, list_of, name_axes, panels, scaled
+from ..pictures import GROUND, MAP, STYLE, busiest, finish, list_of, name_axes, scaled, write_maps
 
 STEPS = np.linspace(0, 1, 11)
 COLOURS = ListedColormap(matplotlib.colormaps["viridis_r"](np.linspace(0.02, 1, len(STEPS) - 1)))
@@ -52,11 +53,7 @@ class Likely:
 
 
 def write_plans(likely: Likely, path: Path) -> None:
-    with matplotlib.rc_context(STYLE):
-        west, east, south, north, _, _ = likely.grid.extent()
-        figure, axes = panels(east - west, north - south)
-        plot_plans(likely, axes)
-        finish(figure, path)
+    write_maps(likely.grid, partial(plot_plans, likely), path)
 
 
 def plot_plans(likely: Likely, axes: Any) -> list[Axes]:
