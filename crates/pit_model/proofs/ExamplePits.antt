@@ -81,6 +81,7 @@ pits_of_two_blocks =
         all_open nothing_fixed refl,
         record {
           reversed = record { same_blocks = refl; pairs_are = record { count = refl; forth = one_pair; back = one_pair } };
+          counted = refl;
           negated = both_signs;
         },
         record {

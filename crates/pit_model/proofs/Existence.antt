@@ -4,7 +4,7 @@ use Rattle.std.specs.Prelude.{ℤ, pos, ◌+ℤ◌, ◌-ℤ◌, ◌≤ℤ◌, �
 use Rattle.std.specs.List.{position_or_len, range_with_len}
 use Rattle.std.proofs.lemmas.Int.{ints}
 use Rattle.std.proofs.lemmas.Bool.{false≢true}
-use Rattle.std.proofs.lemmas.List.{get_or-map}
+use Rattle.std.proofs.lemmas.List.{get_or-map, length-map}
 use Rattle.std.proofs.lemmas.List.FromFn.{get_or-range_with_len, length-range_with_len}
 use Rattle.std.proofs.lemmas.List.Sums.{position_or_len_is}
 use Rattle.pit_model.specs.declared.direction.Direction.{Direction}
@@ -127,6 +127,7 @@ module _ (mine : Instance) (simple : IsSimple mine) where
   turned_is : IsTurned mine turned_mine
   turned_is = record {
     reversed = record { same_blocks = refl; pairs_are = record { count = refl; forth = λ k l. (k, l, refl); back = λ k l. (k, l, refl) } };
+    counted = length-map (range_with_len 0 mine.blocks) (λ u. pos 0 -ℤ value mine u) ∙ length-range_with_len 0 mine.blocks;
     negated = λ u l.
         let size = length-range_with_len 0 mine.blocks in
         let inside : u < length (range_with_len 0 mine.blocks) = omega arith in

@@ -4,7 +4,8 @@ use Rattle.pit_model.specs.declared.direction.Direction.{Direction}
 use Rattle.pit_model.specs.Graph.{Graph}
 use Rattle.pit_model.specs.Mine.{Instance}
 use Rattle.pit_model.specs.Part.{IsClass}
-use Rattle.pit_model.specs.Fixed.{Fixed, IsRestOf}
+use Rattle.pit_model.specs.Direction.{IsSearched, nothing}
+use Rattle.pit_model.specs.Fixed.{Fixed}
 use Rattle.pit_model.specs.FirstRun.{HasMerger, HasNoMerger, first_run}
 use Rattle.pit_model.specs.Deposit.{Deposit}
 use Rattle.pit_model.specs.Shells.{IsRest}
@@ -22,12 +23,19 @@ ShellRestIsOne =
     (direction : Direction) (deposit : Deposit) (factors : List ℕ) (k : ℕ) (rest other : Instance) → IsRest direction deposit factors k rest
     → IsRest direction deposit factors k other → rest ≡ other
 
--- the law: by one thread a budget ends one way: where the first run of the rest has a merger arc left after so many mergers, it
--- is not so that none is left; of a mine with fixed blocks, and of a factor of a deposit
+-- the law: the instance that is searched for the pit of a mine is one, toward each direction
+abbrev pub SearchedIsOne : Type 0
+SearchedIsOne =
+    (direction : Direction) (mine : Instance) (fixed : Fixed) (searched other : Instance) → IsSearched direction mine fixed searched
+    → IsSearched direction mine fixed other → searched ≡ other
+
+-- the law: by one thread a budget ends one way: where the first run of the instance that is searched has a merger arc left after so
+-- many mergers, it is not so that none is left; toward each direction, of a mine with fixed blocks, and of a factor of a deposit
 pub record BudgetEndsOneWay : Type 0 where
   pub of_mine :
-      (mine : Instance) (fixed : Fixed) (rest other : Instance) (budget : ℕ) → IsRestOf mine fixed rest → IsRestOf mine fixed other
-      → HasMerger rest (first_run rest budget) → HasNoMerger other (first_run other budget) → ⊥
+      (direction : Direction) (mine : Instance) (fixed : Fixed) (searched other : Instance) (budget : ℕ) → IsSearched direction mine fixed searched
+      → IsSearched direction mine fixed other → HasMerger searched (first_run searched budget) → HasNoMerger other (first_run other budget) → ⊥
   pub of_factor :
-      (direction : Direction) (deposit : Deposit) (factors : List ℕ) (k : ℕ) (rest other : Instance) (budget : ℕ) → IsRest direction deposit factors k rest
-      → IsRest direction deposit factors k other → HasMerger rest (first_run rest budget) → HasNoMerger other (first_run other budget) → ⊥
+      (direction : Direction) (deposit : Deposit) (factors : List ℕ) (k : ℕ) (rest second searched other : Instance) (budget : ℕ)
+      → IsRest direction deposit factors k rest → IsRest direction deposit factors k second → IsSearched direction rest nothing searched
+      → IsSearched direction second nothing other → HasMerger searched (first_run searched budget) → HasNoMerger other (first_run other budget) → ⊥
