@@ -1,5 +1,6 @@
 -- Why arrays spell no mine, or none within the limits.
-use Rattle.std.specs.Prelude.{◌≡◌, ◌⊎◌, ℕ, ◌^◌, ◌<◌, ◌≤◌, List, length, get_or}
+use Rattle.std.specs.Prelude.{◌≡◌, ◌⊎◌, ℕ, ◌<◌, ◌≤◌, List, length, get_or}
+use Rattle.pit_model.specs.Size.{most_blocks, most_pairs}
 use Rattle.faults.specs.Words.{number_of}
 use Rattle.faults.specs.declared.refusal.Refusal.{Refusal}
 use Rattle.faults.specs.declared.refusal.Refusal.TheVariants.{NoMemory, OverLimit, IdOutOfPlace, PredecessorOutOfRange, NeedsItself, PredecessorTwice, Cycle, CountsDiffer, WrongHeader, FixedClash}
@@ -10,7 +11,7 @@ use Rattle.arrays.specs.Spelled.{AreRows, IsInRow, SpellPairs}
 
 -- too many blocks, or too many pairs
 abbrev pub AreTooMany : ℕ → List ℕ → Type 0
-AreTooMany blocks needs = (2 ^ 22 < blocks) ⊎ (2 ^ 26 < length needs)
+AreTooMany blocks needs = (most_blocks < blocks) ⊎ (most_pairs < length needs)
 
 -- the row of a block names at this place a block that it names before
 pub record IsNamedTwice (starts needs : List ℕ) (place : ℕ) : Type 0 where

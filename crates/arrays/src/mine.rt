@@ -1,5 +1,6 @@
 //! The mine that arrays spell, or why they spell none.
 ghost use Rattle.std.specs.Prelude.{◌≡◌, ◌<◌, ◌≤◌, ◌^◌, ℕ, pos, neg_ℤ, ◌≤ℤ◌, length, get_or, IfOk, IfErr};
+ghost use Rattle.pit_model.specs.Size.{most_blocks, most_pairs};
 ghost use Rattle.pit_model.specs.Graph.{AreApart, AreInRange, AreSamePairs};
 ghost use Rattle.arrays.specs.Spelled.{AreRows, ArraysSpellOneMine, IsSpelled, SpellPairs};
 ghost use Rattle.arrays.specs.Refused.{RefusesMine, RefusesPairs};
@@ -50,8 +51,8 @@ fn sound_pairs(
     starts: &[u32],
     needs: &[u32],
 ) -> Result<Vec<(u32, u32)>, Unsound>
-    requires few_blocks { blocks ≤ 2 ^ 22 }
-    requires few_pairs { length needs.now ≤ 2 ^ 26 }
+    requires few_blocks { blocks ≤ most_blocks }
+    requires few_pairs { length needs.now ≤ most_pairs }
     requires rows { AreRows blocks (length needs.now) starts.now }
     ensures spelled { IfOk result (λ v. SpellPairs starts.now needs.now v.items) }
     ensures in_range { IfOk result (λ v. AreInRange v.items blocks) }
@@ -82,8 +83,8 @@ fn sound_pairs(
 
 /// The graph of pairs, or the cycle that they have.
 fn graph_of(alloc: Global, blocks: u32, pairs: Vec<(u32, u32)>) -> Result<Arc<Graph>, Unsound>
-    requires few_blocks { blocks ≤ 2 ^ 22 }
-    requires few_pairs { length pairs.items ≤ 2 ^ 26 }
+    requires few_blocks { blocks ≤ most_blocks }
+    requires few_pairs { length pairs.items ≤ most_pairs }
     requires in_range { AreInRange pairs.items blocks }
     requires apart { AreApart pairs.items }
     ensures blocks { IfOk result (λ g. g.value.blocks ≡ blocks) }

@@ -1,5 +1,6 @@
 -- What the lowest-label order keeps in range; no definition of the problem or the method stands on it.
-use Rattle.std.specs.Prelude.{◌≡◌, ℕ, ◌+◌, ◌<◌, ◌≤◌, ◌^◌, List, length, get_or, Option, Some, None}
+use Rattle.std.specs.Prelude.{◌≡◌, ℕ, ◌+◌, ◌<◌, ◌≤◌, List, length, get_or, Option, Some, None}
+use Rattle.pit_model.specs.Size.{most_blocks}
 use Rattle.merging.specs.declared.distances.Distances.{Distances}
 
 -- each block that a list names is below a bound
@@ -7,7 +8,7 @@ abbrev pub AreSome : List (Option ℕ) → ℕ → Type 0
 AreSome xs bound = (i u : ℕ) → get_or xs i None ≡ Some u → u < bound
 
 pub record AreWaiting (first last next : List (Option ℕ)) : Type 0 where
-  pub few : length next ≤ 2 ^ 22
+  pub few : length next ≤ most_blocks
   pub firsts : length first ≡ length next + 2
   pub lasts : length last ≡ length next + 2
   pub first_in_range : AreSome first (length next)
@@ -20,7 +21,7 @@ AreBelow xs bound = (i : ℕ) → i < length xs → get_or xs i 0 < bound
 
 -- for each of n blocks a distance below n + 2, and a place in the queue of those whose distance is known
 pub record AreMeasured (n : ℕ) (d : Distances) : Type 0 where
-  pub few : n ≤ 2 ^ 22
+  pub few : n ≤ most_blocks
   pub distance_count : length d.of_blocks.items ≡ n
   pub queue_room : length d.queue.items ≡ n
   pub known_few : d.known ≤ n
@@ -29,7 +30,7 @@ pub record AreMeasured (n : ℕ) (d : Distances) : Type 0 where
 
 -- for each block a label below n + 2, an arc to go on from, and room in the list of a branch
 pub record AreOrdered (n : ℕ) (labels arcs counts branch : List ℕ) (found : ℕ) : Type 0 where
-  pub few : n ≤ 2 ^ 22
+  pub few : n ≤ most_blocks
   pub label_count : length labels ≡ n
   pub arc_count : length arcs ≡ n
   pub count_count : length counts ≡ n + 2

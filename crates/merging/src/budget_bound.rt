@@ -1,6 +1,7 @@
 //! Whether a budget of mergers is so large that no run uses it up. Then the order of the mergers is free.
-ghost use Rattle.std.specs.Prelude.{◌≡◌, ◌^◌, ◌*◌, ◌≤ℤ◌, ◌<ℤ◌, pos, MatchBool};
+ghost use Rattle.std.specs.Prelude.{◌≡◌, ◌^◌, ◌≤ℤ◌, ◌<ℤ◌, pos, MatchBool};
 ghost use Rattle.pit_model.specs.Existence.{most_mergers};
+ghost use Rattle.pit_model.specs.Limits.{most_worth};
 ghost use Rattle.pit_model.specs.Rank.{positive_part, positive_worth};
 
 use mine_graph::Instance;
@@ -19,7 +20,7 @@ fn positive_part(value: i128) -> i128
 fn positive_worth(instance: &Instance) -> i128
     ensures worth { result ≡ positive_worth instance.now }
     ensures least { pos 0 ≤ℤ result }
-    ensures most { result ≤ℤ pos (2 ^ 22 * 10 ^ 23) }
+    ensures most { result ≤ℤ pos most_worth }
 {
     instance.law();
     let mut worth = 0i128;

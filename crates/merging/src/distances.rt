@@ -2,8 +2,9 @@
 //! block, and 0 for a weak one. A flood from the weak blocks to those that need them meets the near blocks first.
 //!
 //! Distances are a hint and prove nothing.
-ghost use Rattle.std.specs.Prelude.{◌≡◌, ◌<◌, ◌≤◌, ◌^◌, ◌+◌, length, IfOk};
+ghost use Rattle.std.specs.Prelude.{◌≡◌, ◌<◌, ◌≤◌, ◌+◌, length, IfOk};
 ghost use Rattle.std.specs.List.{All};
+ghost use Rattle.pit_model.specs.Size.{most_blocks};
 ghost use Rattle.merging.specs.Order.{AreMeasured};
 
 use mine_graph::Graph;
@@ -21,7 +22,7 @@ pub struct Distances {
 impl Distances {
     /// No distance is known yet.
     fn unknown(alloc: Global, blocks: u32) -> Result<Distances, AllocError>
-        requires { blocks ≤ 2 ^ 22 }
+        requires { blocks ≤ most_blocks }
         ensures { IfOk result (AreMeasured blocks) }
     {
         let n = blocks as usize;

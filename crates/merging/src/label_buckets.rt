@@ -1,5 +1,6 @@
 //! The strong roots that wait for their turn, by label: a first-in-first-out list for each label, through one link a block.
 ghost use Rattle.std.specs.Prelude.{◌≡◌, ◌<◌, ◌≤◌, ◌^◌, ◌+◌, length, IfOk, IfErr, IfSome};
+ghost use Rattle.pit_model.specs.Size.{most_blocks};
 ghost use Rattle.faults.specs.Refused.{no_memory};
 ghost use Rattle.merging.specs.Order.{AreWaiting};
 
@@ -87,7 +88,7 @@ fn lowest_from(first: &[Option<u32>], from: u32) -> Option<u32>
 impl LabelBuckets {
     /// No root waits yet. Refused for want of memory alone.
     pub fn new(alloc: Global, blocks: u32) -> Result<LabelBuckets, Fault>
-        requires { blocks ≤ 2 ^ 22 }
+        requires { blocks ≤ most_blocks }
         ensures blocks { IfOk result (λ w. w ≡ blocks) }
         ensures no_memory { IfErr result (λ e. e ≡ no_memory) }
     {

@@ -4,8 +4,9 @@
 //! A label is a lower bound on how far a block is from the weak ones. At first it is that distance.
 //! A turn takes a strong root of the lowest label and looks, in its branch, for a pair to a block one label lower. Where
 //! it finds one the branches merge; else the blocks of that label in the branch get the next one.
-ghost use Rattle.std.specs.Prelude.{◌≡◌, ◌<◌, ◌≤◌, ◌^◌, ◌+◌, length, IfOk, IfErr, IfSome};
+ghost use Rattle.std.specs.Prelude.{◌≡◌, ◌<◌, ◌≤◌, ◌+◌, length, IfOk, IfErr, IfSome};
 ghost use Rattle.std.specs.List.{All};
+ghost use Rattle.pit_model.specs.Size.{most_blocks};
 ghost use Rattle.faults.specs.Refused.{no_memory};
 ghost use Rattle.forest.specs.Forest.{size};
 ghost use Rattle.merging.specs.Order.{AreBelow};
@@ -116,7 +117,7 @@ fn add_children(
 
 /// How many blocks have each label.
 fn counts_of(alloc: Global, labels: &[u32]) -> Result<Vec<u32>, AllocError>
-    requires few { length labels.now ≤ 2 ^ 22 }
+    requires few { length labels.now ≤ most_blocks }
     requires in_range { AreBelow labels.now (length labels.now + 2) }
     ensures { IfOk result (λ v. length v.items ≡ length labels.now + 2) }
 {

@@ -1,13 +1,14 @@
 -- What a graph and an instance in memory keep true of their lists.
 use Rattle.std.specs.Prelude.{◌≡◌, ℕ, ◌^◌, ◌<◌, ◌≤◌, ℤ, pos, neg_ℤ, ◌≤ℤ◌, List, length, get_or}
+use Rattle.pit_model.specs.Size.{most_blocks, most_pairs}
 use Rattle.pit_model.specs.Graph.{IsGraph}
 use Rattle.mine_graph.specs.Rows.{AreStarts}
 use Rattle.mine_graph.specs.Users.{AreUsers}
 
 -- the pairs of a graph within the limits, and for each block the pairs that it needs by and is needed by
 pub record IsKept (blocks : ℕ) (starts : List ℕ) (pairs : List (ℕ × ℕ)) (user_starts users : List ℕ) : Type 0 where
-  pub few_blocks : blocks ≤ 2 ^ 22
-  pub few_arcs : length pairs ≤ 2 ^ 26
+  pub few_blocks : blocks ≤ most_blocks
+  pub few_arcs : length pairs ≤ most_pairs
   pub graph : IsGraph blocks pairs
   pub rows : AreStarts pairs starts blocks
   pub way_back : AreUsers pairs users user_starts blocks

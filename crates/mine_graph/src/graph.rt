@@ -1,6 +1,7 @@
 //! The graph of the pairs "u needs p". Making one puts the pairs into their order (rising.rt) and refuses by a cycle where they
 //! have one (no_cycle.rt); so its type carries that it has none.
-ghost use Rattle.std.specs.Prelude.{◌≡◌, ◌<◌, ◌≤◌, ◌^◌, ◌↔◌, ◌==◌, ℕ, length, get_or, IfOk, IfErr, IfSome, IfNone};
+ghost use Rattle.std.specs.Prelude.{◌≡◌, ◌<◌, ◌≤◌, ◌↔◌, ◌==◌, ℕ, length, get_or, IfOk, IfErr, IfSome, IfNone};
+ghost use Rattle.pit_model.specs.Size.{most_blocks, most_pairs};
 ghost use Rattle.faults.specs.Refused.{no_memory};
 ghost use Rattle.pit_model.specs.Direction.{IsReversed};
 ghost use Rattle.pit_model.specs.Graph.{first_of, second_of, AreApart, AreInRange, AreSamePairs, IsAcyclic, IsGraph};
@@ -40,8 +41,8 @@ impl Graph {
     /// The graph of exactly these pairs, in the order of (u, p). Refused for want of memory, and by the cycle of the
     /// pairs where they have one. Time is linear in blocks and pairs.
     pub fn new(alloc: Global, n: u32, pairs: Vec<(u32, u32)>) -> Result<Graph, Fault>
-        requires few_blocks { n ≤ 2 ^ 22 }
-        requires few_pairs { length pairs.items ≤ 2 ^ 26 }
+        requires few_blocks { n ≤ most_blocks }
+        requires few_pairs { length pairs.items ≤ most_pairs }
         requires in_range { AreInRange pairs.items n }
         requires apart { AreApart pairs.items }
         ensures blocks { IfOk result (λ g. g.blocks ≡ n) }
@@ -67,8 +68,8 @@ impl Graph {
         n: u32,
         pairs: Vec<(u32, u32)>,
     ) -> Result<Graph, AllocError>
-        requires few_blocks { n ≤ 2 ^ 22 }
-        requires few_pairs { length pairs.items ≤ 2 ^ 26 }
+        requires few_blocks { n ≤ most_blocks }
+        requires few_pairs { length pairs.items ≤ most_pairs }
         requires graph { IsGraph n pairs.items }
         ensures blocks { IfOk result (λ g. g.blocks ≡ n) }
         ensures pairs { IfOk result (λ g. g.pairs ≡ pairs.items) }
@@ -87,8 +88,8 @@ impl Graph {
     /// What is true of each graph.
     pub fn law(&self)
         ensures graph { IsGraph self.now.blocks self.now.pairs }
-        ensures few_blocks { self.now.blocks ≤ 2 ^ 22 }
-        ensures few_arcs { length self.now.pairs ≤ 2 ^ 26 }
+        ensures few_blocks { self.now.blocks ≤ most_blocks }
+        ensures few_arcs { length self.now.pairs ≤ most_pairs }
     {
         let _ = &self.pairs;
     }

@@ -1,6 +1,7 @@
 //! A part of a graph: some of its blocks, renumbered in rising order, with the pairs among them as a graph of its own.
 //! The blocks of a part are those with one label; `without` labels the blocks of a set, and takes the others.
 ghost use Rattle.std.specs.Prelude.{◌≡◌, ◌<◌, ◌≤◌, ◌^◌, ◌==◌, ◌+◌, ℕ, true, false, not, map, length, get_or, IfOk, IfErr};
+ghost use Rattle.pit_model.specs.Size.{most_blocks};
 ghost use Rattle.faults.specs.Refused.{no_memory};
 ghost use Rattle.pit_model.specs.Graph.{first_of, second_of, AreInRange};
 ghost use Rattle.pit_model.specs.Mine.{members};
@@ -112,7 +113,7 @@ fn labels_of(alloc: Global, taken: &[bool]) -> Result<Vec<u32>, AllocError>
 
 /// The blocks with that label, rising.
 fn blocks_with(alloc: Global, labels: &[u32], label: u32) -> Result<Vec<u32>, AllocError>
-    requires { length labels.now ≤ 2 ^ 22 }
+    requires { length labels.now ≤ most_blocks }
     ensures { IfOk result (λ v. v.items ≡ members (length labels.now) (has_label labels.now label)) }
 {
     let n = labels.len() as u32;

@@ -11,7 +11,8 @@ use Rattle.std.specs.Option.{ok_or}
 use Rattle.minelib_reader.specs.FirstFault.{IsFirstFault}
 use Rattle.minelib_reader.specs.Text.{Row, two_and_more}
 use Rattle.minelib_reader.specs.Number.{whole_of}
-use Rattle.minelib_reader.specs.Prec.{most_pairs, in_precedence, needs_from, front_of, needs_line, pairs_of, pairs_from}
+use Rattle.pit_model.specs.Size.{most_pairs}
+use Rattle.minelib_reader.specs.Prec.{in_precedence, needs_from, front_of, needs_line, pairs_of, pairs_from}
 use Rattle.minelib_reader.specs.PrecFault.{number_or_zero, first_number, second_number, from_behind, total_behind, needs_line_fault, fault_behind}
 use Rattle.minelib_reader.proofs.CheckLemmas.{passed, stopped, passing, same_value, value_there, test_holds}
 use Rattle.std.proofs.lemmas.Option.{same_Some}

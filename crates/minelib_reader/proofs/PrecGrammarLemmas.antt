@@ -12,7 +12,8 @@ use Rattle.std.specs.Option.{ok_or}
 use Rattle.minelib_reader.specs.Text.{Row}
 use Rattle.minelib_reader.specs.Number.{whole_of}
 use Rattle.pit_model.specs.Fixed.{is_among}
-use Rattle.minelib_reader.specs.Prec.{most_pairs, in_precedence, need_of, needs_from, front_of, needs_line, pairs_of, pairs_from}
+use Rattle.pit_model.specs.Size.{most_pairs}
+use Rattle.minelib_reader.specs.Prec.{in_precedence, need_of, needs_from, front_of, needs_line, pairs_of, pairs_from}
 use Rattle.minelib_reader.specs.PrecGrammar.{AreDistinct, numbers_of, SpellsLine, SpellsPairs}
 use Rattle.minelib_reader.proofs.CheckLemmas.{passed, passing, same_value, value_there, test_holds}
 use Rattle.minelib_reader.proofs.PrecFaultLemmas.{line_found}

@@ -5,7 +5,8 @@ use Rattle.std.proofs.lemmas.List.{length-map}
 use Rattle.std.proofs.lemmas.List.Elements.{All-nil, All-append, All-head, All-tail, All-map}
 use Rattle.std.specs.List.{All}
 use Rattle.minelib_reader.specs.Text.{Row}
-use Rattle.minelib_reader.specs.Prec.{most_pairs, pairs_of}
+use Rattle.pit_model.specs.Size.{most_pairs}
+use Rattle.minelib_reader.specs.Prec.{pairs_of}
 use Rattle.minelib_reader.specs.PrecGrammar.{AreDistinct, SpellsLine, SpellsPairs}
 use Rattle.minelib_reader.specs.PrecLimits.{ArePrecedences}
 

@@ -10,11 +10,11 @@ use Rattle.faults.specs.declared.refusal.Refusal.TheVariants.{NoSeat, Exhausted,
 use Rattle.minelib_reader.specs.Checks.{◌>>=◌, ok_if}
 use Rattle.std.specs.Result.{result_err}
 use Rattle.minelib_reader.specs.Text.{two_of, two_and_more, Row, rows_of, count_of_lines, four_and_more}
-use Rattle.pit_model.specs.Size.{most_blocks}
+use Rattle.pit_model.specs.Size.{most_blocks, most_pairs}
 use Rattle.minelib_reader.specs.Upit.{name_line, type_line, blocks_line, objective_line, value_line}
 use Rattle.minelib_reader.specs.UpitFault.{model_line_fault, place_fault, blocks_named, IsFirstUpitFault}
 use Rattle.pit_model.specs.Fixed.{is_among}
-use Rattle.minelib_reader.specs.Prec.{most_pairs, need_of, needs_from, front_of, needs_line}
+use Rattle.minelib_reader.specs.Prec.{need_of, needs_from, front_of, needs_line}
 use Rattle.minelib_reader.specs.Fixed.{is_forced_by, fixed_line}
 use Rattle.minelib_reader.specs.FixedFault.{IsFirstFixedFault, fixed_line_fault, from_behind as fixed_from_behind}
 use Rattle.minelib_reader.specs.Table.{Place}

@@ -1,6 +1,7 @@
 -- The precedence file: the checks of each line in their order, and the reading of all lines by them.
 use Rattle.std.specs.Prelude.{ℕ, ◌+◌, not, nat_lt, nat_le, ◌==◌, ◌&&◌, List, [], ◌∷◌, ◌++◌, length, map, Result, Ok}
 use Rattle.pit_model.specs.Fixed.{is_among}
+use Rattle.pit_model.specs.Size.{most_pairs}
 use Rattle.faults.specs.declared.fault.Fault.{Fault}
 use Rattle.faults.specs.declared.refusal.Refusal.{Refusal}
 use Rattle.faults.specs.declared.refusal.Refusal.TheVariants.{OverLimit, NotWhole, IdOutOfPlace, PredecessorOutOfRange, NeedsItself, PredecessorTwice, WrongFieldCount}
@@ -10,10 +11,6 @@ use Rattle.std.specs.Option.{ok_or}
 use Rattle.faults.specs.Refused.{at_line}
 use Rattle.minelib_reader.specs.Text.{Row, rows_of, two_and_more}
 use Rattle.minelib_reader.specs.Number.{whole_of}
-
--- the most pairs of a file
-abbrev pub most_pairs : ℕ
-most_pairs = 67108864
 
 abbrev pub in_precedence : Refusal → ℕ → Fault
 in_precedence refusal line = at_line Precedence refusal line

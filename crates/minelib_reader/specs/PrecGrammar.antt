@@ -3,7 +3,8 @@ use Rattle.std.specs.Prelude.{◌≡◌, ◌≢◌, ℕ, ◌+◌, ◌<◌, ◌�
 use Rattle.std.specs.List.{All}
 use Rattle.minelib_reader.specs.Text.{Row, rows_of}
 use Rattle.minelib_reader.specs.Number.{whole_of}
-use Rattle.minelib_reader.specs.Prec.{most_pairs, pairs_of}
+use Rattle.pit_model.specs.Size.{most_pairs}
+use Rattle.minelib_reader.specs.Prec.{pairs_of}
 
 -- nothing stands twice in the list
 abbrev pub AreDistinct : {A : Type 0} → List A → Type 0

@@ -7,10 +7,11 @@ ghost use Rattle.std.specs.List.{All};
 ghost use Rattle.faults.specs.declared.fault.Fault.{Fault as AnyFault};
 ghost use Rattle.faults.specs.declared.refusal.Refusal.TheVariants.{OverLimit, WrongFieldCount};
 ghost use Rattle.faults.specs.declared.source.Source.TheVariants as sources;
+ghost use Rattle.pit_model.specs.Size.{most_pairs};
 ghost use Rattle.minelib_reader.specs.Answer.{Gives, Answers, AnswersBy, FailsBy, FailsAt};
 ghost use Rattle.minelib_reader.specs.Marks.{AreMarked, AddsLine};
 ghost use Rattle.minelib_reader.specs.Number.{whole_of};
-ghost use Rattle.minelib_reader.specs.Prec.{in_precedence, need_of, needs_from, front_of, needs_line, pairs_of, prec_of, most_pairs};
+ghost use Rattle.minelib_reader.specs.Prec.{in_precedence, need_of, needs_from, front_of, needs_line, pairs_of, prec_of};
 ghost use Rattle.minelib_reader.specs.PrecFault.{IsFirstPrecFault};
 ghost use Rattle.minelib_reader.specs.PrecGrammar.{SpellsPrec};
 ghost use Rattle.minelib_reader.specs.PrecLimits.{ArePrecedences};
@@ -18,13 +19,12 @@ ghost use Rattle.minelib_reader.specs.Text.{row, fields_of};
 
 use crate::device::InBytes;
 use crate::input::read_all;
+use crate::limits::MOST_PAIRS;
 use crate::lines::{count_fields, has_fields, next_whole, plain_whole};
 use crate::rows::{Row, Rows};
 use counters::Counters;
 use faults::{Fault, Refusal, Source};
 use std::alloc::Global;
-
-const MOST_PAIRS: u64 = 67_108_864;
 
 /// What the lines before tell a line: the least id that it may have, and how many pairs they have.
 #[derive(Clone, Copy)]

@@ -1,6 +1,7 @@
 //! What finds the first merger arc by labels: a mark on each strong block that needs a weak one. Others may be marked too, since
 //! a mark stays when its block turns weak, or what it needs turns strong; it is taken off once a look has passed it by.
-ghost use Rattle.std.specs.Prelude.{◌≡◌, ℕ, ◌^◌, ◌<◌, ◌≤◌, ◌==◌, true, false, length, get_or, set, IsTrue, IfOk, IfErr, IfSome, IsNone, not};
+ghost use Rattle.std.specs.Prelude.{◌≡◌, ℕ, ◌<◌, ◌≤◌, ◌==◌, true, false, length, get_or, set, IsTrue, IfOk, IfErr, IfSome, IsNone, not};
+ghost use Rattle.pit_model.specs.Size.{most_blocks};
 ghost use Rattle.faults.specs.Refused.{no_memory};
 ghost use Rattle.pit_model.specs.Graph.{first_of, second_of};
 ghost use Rattle.norm_tree.specs.Labelled.{is_open, label, labelled, IsClosedBelow, IsIndexed};
@@ -19,7 +20,7 @@ pub(crate) struct Index {
 
 /// Marks the strong blocks.
 fn mark_strong(strong: &[bool], marks: &mut Marks)
-    requires few { length strong.now ≤ 2 ^ 22 }
+    requires few { length strong.now ≤ most_blocks }
     requires room { length marks.old ≡ length strong.now }
     ensures count { length marks.new ≡ length marks.old }
     ensures marked { (u : ℕ) → label strong.now u ≡ true → get_or marks.new u false ≡ true }

@@ -1,6 +1,7 @@
 //! Marks on blocks, and the next marked block. Each run of 64 blocks has a mark of its own, which is there where one of its
 //! blocks is marked, so that a look passes over runs without one.
 ghost use Rattle.std.specs.Prelude.{◌≡◌, ℕ, ◌*◌, ◌+◌, ◌^◌, ◌<◌, ◌≤◌, false, true, length, get_or, IsTrue, IfOk, IfErr, IfSome, IsNone};
+ghost use Rattle.pit_model.specs.Size.{most_blocks};
 ghost use Rattle.faults.specs.Refused.{no_memory};
 ghost use Rattle.norm_tree.specs.Runs.{AreInRuns};
 
@@ -98,7 +99,7 @@ fn clear_runs(blocks: &mut [bool], runs: &mut [bool], to: usize)
 impl Marks {
     /// A mark for each of so many blocks, none of them set. Refused for want of memory alone.
     pub(crate) fn none(alloc: Global, count: u32) -> Result<Marks, Fault>
-        requires few { count ≤ 2 ^ 22 }
+        requires few { count ≤ most_blocks }
         ensures count { IfOk result (λ m. length m ≡ count) }
         ensures unmarked { IfOk result (λ m. (u : ℕ) → get_or m u false ≡ false) }
         ensures no_memory { IfErr result (λ e. e ≡ no_memory) }

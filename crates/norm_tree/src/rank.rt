@@ -1,5 +1,6 @@
 //! The rank of a tree, which each merger lowers: the sum of the positive excesses first, then the number of weak blocks.
-ghost use Rattle.std.specs.Prelude.{◌≡◌, ℕ, ◌^◌, ◌<◌, ◌≤◌, ℤ, pos, ◌≤ℤ◌, length, get_or};
+ghost use Rattle.std.specs.Prelude.{◌≡◌, ℕ, ◌<◌, ◌≤◌, ℤ, pos, ◌≤ℤ◌, length, get_or};
+ghost use Rattle.pit_model.specs.Size.{most_blocks};
 ghost use Rattle.pit_model.specs.Sum.{total};
 ghost use Rattle.pit_model.specs.Limits.{most_worth};
 ghost use Rattle.pit_model.specs.Rank.{positive_part, rank, weak_count};
@@ -8,7 +9,7 @@ use crate::tree::NormTree;
 
 /// The sum of the positive ones.
 fn positive_sum(excesses: &[i128]) -> i128
-    requires few { length excesses.now ≤ 2 ^ 22 }
+    requires few { length excesses.now ≤ most_blocks }
     requires small { (u : ℕ) → u < length excesses.now → get_or excesses.now u (pos 0) ≤ℤ pos most_worth }
     ensures { result ≡ total (length excesses.now) (λ u. positive_part (get_or excesses.now u (pos 0))) }
 {

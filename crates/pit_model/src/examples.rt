@@ -1,5 +1,5 @@
 //! Examples: what the definitions say of small mines, worked out by hand. Each is a law, and one of them is false once a
-//! definition has a sign, a comparison, a quantifier or a number changed; `must-fail/` has such definitions.
+//! definition has a sign, a comparison, a quantifier or a number changed; `mutants/` has such definitions.
 
 ghost use Rattle.pit_model.specs.ExampleTraces.{JournalsOfForks, TracesOfForks};
 ghost use Rattle.pit_model.specs.ExamplePits.{CertificatesOfSmallMines, FixedPitsOfField, PitsOfTwoBlocks, ShellsOfPair};

@@ -1,5 +1,6 @@
 -- The grammar of a journal's text, by its lines with fields.
 use Rattle.std.specs.Prelude.{◌≡◌, ◌↔◌, ℕ, ◌^◌, ◌<◌, ◌≤◌, List, [], ◌∷◌, length, Option, Some, None, codes}
+use Rattle.pit_model.specs.Size.{most_blocks, most_pairs}
 use Rattle.minelib_reader.specs.Text.{Row, rows_of}
 use Rattle.minelib_reader.specs.Number.{whole_of, digits_of}
 use Rattle.pit_model.specs.declared.journal.Entry.{Entry}
@@ -69,5 +70,5 @@ IsBudget (Some budget) = budget < 2 ^ 64
 abbrev pub JournalReadsBack : Type 0
 JournalReadsBack =
     (graph : Graph) (budget : Option ℕ) (entries : List Entry) (j : BudgetAndEntries)
-    → graph.blocks ≤ 2 ^ 22 → length graph.pairs ≤ 2 ^ 26 → IsBudget budget → length entries < 2 ^ 64 → AreSeatedBelow (length graph.pairs) entries
+    → graph.blocks ≤ most_blocks → length graph.pairs ≤ most_pairs → IsBudget budget → length entries < 2 ^ 64 → AreSeatedBelow (length graph.pairs) entries
     → SpellsJournal graph (journal_text graph.blocks (length graph.pairs) budget entries) j ↔ (j ≡ budget_and_entries budget entries)

@@ -2,7 +2,8 @@
 use Rattle.std.proofs.Common.{◌≡◌, ◌≤◌, length}
 use Rattle.std.specs.List.{All}
 use Rattle.minelib_reader.specs.Text.{rows_at}
-use Rattle.minelib_reader.specs.Prec.{pairs_from, prec_of, most_pairs}
+use Rattle.pit_model.specs.Size.{most_pairs}
+use Rattle.minelib_reader.specs.Prec.{pairs_from, prec_of}
 use Rattle.minelib_reader.proofs.PrecLineLemmas.{with_pairs}
 use Rattle.minelib_reader.proofs.prec.parse_lines.Given as goal
 
