@@ -10,7 +10,7 @@ ghost use Rattle.merging.specs.Parts.{graph_of, AreSolved, AreMarked, AreCarried
 use crate::solved_part::SolvedPart;
 use certificate::Certificate;
 use faults::Fault;
-use mine_graph::{Graph, Instance};
+use mine_graph::{Graph, Instance, marked_numbers};
 use std::alloc::{AllocError, Global};
 
 /// Marks the blocks of a part's pit.
@@ -86,15 +86,6 @@ fn place_parts(instance: &Instance, parts: &[SolvedPart], marks: &mut [bool], fl
     }
 }
 
-/// The marked blocks, rising.
-pub(crate) fn marked(alloc: Global, marks: &[bool]) -> Result<Vec<u32>, AllocError>
-    requires { length marks.now < 4294967296 }
-    ensures { IfOk result (λ v. v.items ≡ members (length marks.now) (has marks.now)) }
-{
-    let n = marks.len() as u32;
-    Ok((0..n).filter(|&u| marks[u as usize]).collect(alloc)?)
-}
-
 /// The certificate of the whole: the pits and the flows of its parts, by the numbers of the whole.
 pub(crate) fn join_parts(
     alloc: Global,
@@ -110,6 +101,6 @@ pub(crate) fn join_parts(
     let mut marks = vec![in alloc; false; graph.n() as usize]?;
     let mut flow = vec![in alloc; 0; graph.arcs() as usize]?;
     place_parts(instance, parts, &mut marks, &mut flow);
-    let pit = marked(alloc, &marks)?;
+    let pit = marked_numbers(alloc, &marks)?;
     Ok(Certificate { pit, flow })
 }

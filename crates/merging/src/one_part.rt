@@ -6,7 +6,7 @@ ghost use Rattle.std.specs.Prelude.{◌≡◌, ◌<◌, length, IfOk};
 ghost use Rattle.std.specs.List.{range_with_len};
 ghost use Rattle.merging.specs.Order.{AreBelow};
 
-use mine_graph::Graph;
+use mine_graph::{Graph, all_numbers};
 use std::alloc::{AllocError, Global};
 
 /// How many pairs of each block are looked at, at most. Where blocks need those above them and around, four join all.
@@ -66,16 +66,9 @@ fn join_at(graph: &Graph, leaders: &mut [u32], place: u32) -> u32
     gone
 }
 
-/// Each block leads its own set.
-fn own_leaders(alloc: Global, n: u32) -> Result<Vec<u32>, AllocError>
-    ensures { IfOk result (λ v. v.items ≡ range_with_len 0 n) }
-{
-    (0..n).collect(alloc)
-}
-
 /// Whether a few pairs of each block join all blocks.
 pub fn is_one_part(alloc: Global, graph: &Graph) -> Result<bool, AllocError> {
-    let mut leaders = own_leaders(alloc, graph.n())?;
+    let mut leaders = all_numbers(alloc, graph.n())?;
     let mut sets = graph.n();
     for place in 0..ROUNDS {
         sets = sets.saturating_sub(join_at(graph, &mut leaders, place));

@@ -8,10 +8,9 @@ ghost use Rattle.std.specs.Prelude.{◌≡◌, ◌<◌, ◌≤◌, ℕ, length, 
 ghost use Rattle.faults.specs.Refused.{no_memory};
 ghost use Rattle.pit_model.specs.Mine.{arcs};
 
-use crate::joined::marked;
 use crate::lowest_label::{merge_by_lowest_label, mergers_by_lowest_label};
 use faults::Fault;
-use mine_graph::{Graph, Instance, acyclic_has_no_needy};
+use mine_graph::{Graph, Instance, acyclic_has_no_needy, marked_numbers};
 use norm_tree::BareTree;
 use std::alloc::{AllocError, Global};
 use std::sync::Arc;
@@ -92,7 +91,7 @@ fn links_of(alloc: Global, tree: &BareTree) -> Result<Links, Fault>
 {
     tree.law();
     let marks = link_marks(alloc, tree)?;
-    let arcs = marked(alloc, &marks)?;
+    let arcs = marked_numbers(alloc, &marks)?;
     let graph = graph_of_arcs(alloc, tree.instance().graph(), &arcs)?;
     let classes = graph.classes()?;
     Ok(Links {

@@ -9,11 +9,11 @@ ghost use Rattle.certificate.specs.Check.{amount, has, open_in};
 ghost use Rattle.mine_graph.specs.FixedBlocks.{IsFixedOf, dug_in, left_in};
 ghost use Rattle.merging.specs.Rest.{IsRestIn, ListsJoined};
 
-use crate::joined::{carry_flow, mark_pit, marked};
+use crate::joined::{carry_flow, mark_pit};
 use crate::parts::values_of;
 use certificate::Certificate;
 use faults::Fault;
-use mine_graph::{Fixed, Graph, Instance};
+use mine_graph::{Fixed, Graph, Instance, marked_numbers};
 use std::alloc::{AllocError, Global};
 use std::sync::Arc;
 
@@ -49,7 +49,7 @@ pub fn join_pit(
 {
     let mut marks = dug_marks(alloc, fixed, n)?;
     mark_pit(blocks, found, &mut marks);
-    Ok(marked(alloc, &marks)?)
+    Ok(marked_numbers(alloc, &marks)?)
 }
 
 impl Rest {

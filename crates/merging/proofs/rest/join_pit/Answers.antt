@@ -25,4 +25,4 @@ returns-clause-joined c set listed =
     let back : c.deref.result.now ≡ marks = c.deref.ensures.value ∙ take_at marks (drop (length marks) before) c.in_ok-marks.marks.len long in
     let list = lists_joined c.args.n c.args.fixed.now c.args.blocks.now c.requires.blocks c.requires.apart c.args.found.now before marks c.in_ok-marks.ensures.count c.in_ok-marks.ensures.marks was set listed in
     subst (λ (xs : List ℕ). ListsJoined c.args.n c.args.fixed.now c.args.blocks.now set xs)
-    (sym (c.in_ok-marked.ensures ∙ ap (λ (m : List Bool). members (length m) (has m)) back)) list
+    (sym (c.in_ok-marked_numbers.ensures ∙ ap (λ (m : List Bool). members (length m) (has m)) back)) list
