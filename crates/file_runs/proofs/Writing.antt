@@ -1,25 +1,51 @@
--- The outputs of a run may be there where they are.
-use Rattle.std.proofs.Common.{◌≡◌, inl, inr, refl}
-use Rattle.std.specs.Prelude.{Bool, Option, is_some}
+-- The new writers of a run may be there where they are.
+use Rattle.std.proofs.Common.{◌≡◌, ◌<◌, ◌^◌, Bool, true, false, ap, arith, inl, inr, refl, sym, ◌∙◌}
+use Rattle.std.specs.Prelude.{◌⊎◌, Option, None, Some, is_some}
+use Rattle.std.proofs.lemmas.Bool.{true≢false}
+use Rattle.minelib_reader.specs.Device.{Progress}
 use Rattle.pit_model.specs.declared.direction.Direction.{Direction}
 use Rattle.pit_model.specs.declared.direction.Direction.TheVariants.{Least, Greatest}
 use Rattle.solver.specs.declared.mode.Mode.{Mode}
 use Rattle.solver.specs.declared.mode.Mode.TheVariants.{Single, Parts, Shared}
-use Rattle.file_runs.specs.Made.{certificate_toward, journal_toward}
-use Rattle.file_runs.specs.Solved.{MayHaveJournal, MayHaveRecords}
+use Rattle.runs.specs.Chosen.{IsCountable, progress_of}
+use Rattle.runs.specs.Journaled.{MayJournal}
+use Rattle.runs.specs.Run.{MayWrite}
+use Rattle.runs.specs.declared.asked.Asked.{Asked}
+use Rattle.runs.specs.declared.solve.SolveOutputs.{SolveOutputs}
+use Rattle.file_runs.specs.Made.{certificate_toward, journal_of, journal_toward}
+use Rattle.file_runs.specs.Solved.{IsNew, IsUnwrittenIfAny}
+
+countable : {W : Type 0} → (progress : W → Progress) (writer : Option W) → IsUnwrittenIfAny progress writer → IsCountable (progress_of progress writer)
+countable progress None new = tt
+countable progress (Some writer) new = let none = ap (λ (p : Progress). p.failures) new in omega arith
+
+not_there : {W : Type 0} → (progress : W → Progress) (writer : Option W) → is_some writer ≡ false → progress_of progress writer ≡ None
+not_there progress None named = refl
+not_there progress (Some writer) named = absurd (true≢false named)
 
 -- mode shared alone has a journal
-pub may_journal : {T : Type 0} → (mode : Mode) (direction : Direction) (name : Option T) (there : Bool)
-    → there ≡ is_some (journal_toward direction mode name) → MayHaveJournal mode there
-may_journal (Shared workers budget chunk) direction name there named = inr tt
-may_journal (Single budget) Least name there named = inl named
-may_journal (Single budget) Greatest name there named = inl named
-may_journal Parts Least name there named = inl named
-may_journal Parts Greatest name there named = inl named
+may_journal : {T J : Type 0} → (mode : Mode) (direction : Direction) (name : Option T) (progress : J → Progress) (journal : Option J)
+    → is_some journal ≡ is_some (journal_toward direction mode name) → MayJournal mode (progress_of progress journal)
+may_journal (Shared workers budget chunk) direction name progress journal named = inr tt
+may_journal (Single budget) Least name progress journal named = inl (not_there progress journal named)
+may_journal (Single budget) Greatest name progress journal named = inl (not_there progress journal named)
+may_journal Parts Least name progress journal named = inl (not_there progress journal named)
+may_journal Parts Greatest name progress journal named = inl (not_there progress journal named)
 
 -- and the least pit alone has one or a certificate
-pub may_record : {T : Type 0} → (mode : Mode) (direction : Direction) (journal certificate : Option T) (has_journal has_certificate : Bool)
-    → has_journal ≡ is_some (journal_toward direction mode journal) → has_certificate ≡ is_some (certificate_toward direction certificate)
-    → MayHaveRecords direction has_journal has_certificate
-may_record mode Least journal certificate has_journal has_certificate named certificate_named = inl refl
-may_record mode Greatest journal certificate has_journal has_certificate named certificate_named = inr (named, certificate_named)
+may_record : {T J C : Type 0} → (mode : Mode) (direction : Direction) (journal_name certificate_name : Option T) (journal_at : J → Progress) (journal : Option J) (certificate_at : C → Progress) (certificate : Option C)
+    → is_some journal ≡ is_some (journal_toward direction mode journal_name) → is_some certificate ≡ is_some (certificate_toward direction certificate_name)
+    → (direction ≡ Least) ⊎ ((progress_of journal_at journal ≡ None) × (progress_of certificate_at certificate ≡ None))
+may_record mode Least journal_name certificate_name journal_at journal certificate_at certificate named certificate_named = inl refl
+may_record mode Greatest journal_name certificate_name journal_at journal certificate_at certificate named certificate_named =
+    inr (not_there journal_at journal named, not_there certificate_at certificate certificate_named)
+
+pub may_write : {T J C W : Type 0} → (asked : Asked) (journal_name certificate_name : Option T) (journal_at : J → Progress) (certificate_at : C → Progress) (outputs : SolveOutputs J C W)
+    → IsNew journal_at (is_some (journal_of asked journal_name)) outputs.journal → IsNew certificate_at (is_some (certificate_toward asked.pit certificate_name)) outputs.certificate
+    → MayWrite journal_at certificate_at asked outputs
+may_write asked journal_name certificate_name journal_at certificate_at outputs journal certificate = record {
+  journal_countable = countable journal_at outputs.journal journal.unwritten;
+  certificate_countable = countable certificate_at outputs.certificate certificate.unwritten;
+  may_journal = may_journal asked.mode asked.pit journal_name journal_at outputs.journal journal.named;
+  may_record = may_record asked.mode asked.pit journal_name certificate_name journal_at outputs.journal certificate_at outputs.certificate journal.named certificate.named;
+}

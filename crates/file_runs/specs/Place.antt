@@ -1,5 +1,4 @@
 -- A place where files are: what its calls do, and how that which stands over its streams counts what went through.
-use Rattle.std.specs.Borrow.{MutBor}
 use Rattle.std.specs.Prelude.{◌≡◌, Result, Err}
 use Rattle.faults.specs.declared.fault.Fault.{Fault}
 use Rattle.minelib_reader.specs.Device.{Progress}
@@ -32,7 +31,7 @@ pub record Writers (J C : Type 0) : Type 1 where
 pub record OutputPlace (F JournalOut CertificateOut Model Prec Fixed Certificate Journal Blocks : Type 0) : Type 1 where
   pub inputs : InputPlace F Model Prec Fixed Certificate Journal Blocks
   pub files : Making F JournalOut CertificateOut Model Prec Fixed Certificate Journal Blocks
-  pub writers : Writers (StreamWriter (MutBor JournalOut)) (StreamWriter (MutBor CertificateOut))
+  pub writers : Writers (StreamWriter JournalOut) (StreamWriter CertificateOut)
 
 -- what a call changes: the files, and what standard output has taken
 pub record State (F : Type 0) : Type 0 where

@@ -1,14 +1,11 @@
 -- The call of `solve`: the files of a mine are opened, the outputs beside the pit are made, the run is over both, and then these
 -- outputs are ended.
-use Rattle.std.specs.Prelude.{◌≡◌, ◌⊎◌, Bool, false, Option, None, Some, Result, Ok, Err, is_some}
+use Rattle.std.specs.Prelude.{◌≡◌, Bool, Option, None, Some, Result, Ok, Err, is_some}
 use Rattle.faults.specs.declared.fault.Fault.{Fault}
 use Rattle.minelib_reader.specs.Device.{Progress, unread}
 use Rattle.minelib_reader.specs.declared.input.FileReader.{FileReader}
 use Rattle.pit_model.specs.Replay.{IsSettled}
-use Rattle.pit_model.specs.declared.direction.Direction.{Direction}
-use Rattle.pit_model.specs.declared.direction.Direction.TheVariants.{Least}
-use Rattle.solver.specs.Modes.{EndsWithin, IsShared}
-use Rattle.solver.specs.declared.mode.Mode.{Mode}
+use Rattle.solver.specs.Modes.{EndsWithin}
 use Rattle.runs.specs.Certified.{IsCertified}
 use Rattle.runs.specs.Chosen.{Chosen, chosen, OfWriterIfAny}
 use Rattle.runs.specs.Journaled.{IsJournaled}
@@ -22,7 +19,7 @@ use Rattle.file_runs.specs.declared.options.SolveOptions.{SolveOptions}
 use Rattle.file_runs.specs.Faults.{IsUnmade}
 use Rattle.file_runs.specs.Opened.{AreFromFront, LacksMine, MineTexts, OpensMine}
 use Rattle.file_runs.specs.Place.{IsNotRun, OutputPlace, State, Writers, given}
-use Rattle.file_runs.specs.Made.{EndsOutputs, MakesOutputs, SparesOutputs, finished, wanted_by}
+use Rattle.file_runs.specs.Made.{EndsOutputs, MakesOutputs, SparesOutputs, Wanted, finished, wanted_by}
 
 -- a run of `solve`: what was asked, what its readers gave, and what standard output had taken before it and after it
 pub record SolveCourse : Type 1 where
@@ -49,27 +46,15 @@ pub record IsNew {W : Type 0} (progress : W → Progress) (wanted : Bool) (write
   pub unwritten : IsUnwrittenIfAny progress writer
   pub named : is_some writer ≡ wanted
 
--- a run over this writer of a journal and a new one of a certificate, where that is wanted
-pub record RanCertified {J C : Type 0} (writers : Writers J C) (run : SolveCourse) (journal : Option J) (has_certificate : Bool) (result : Result Status Fault) : Type 0 where
+-- a run over new writers of a journal and of a certificate, where these are wanted
+pub record RunsOverNew {J C : Type 0} (writers : Writers J C) (run : SolveCourse) (wanted : Wanted) (result : Result Status Fault) : Type 0 where
+  pub journal : Option J
   pub journal_left : Option J
   pub certificate : Option C
   pub certificate_left : Option C
-  pub certificate_new : IsNew writers.certificate.progress has_certificate certificate
-  pub ran : RunsSolve run (chosen writers.journal.progress journal journal_left) (chosen writers.certificate.progress certificate certificate_left) result
-
--- a run over new writers of a journal and of a certificate, where these are wanted
-pub record RanRecorded {J C : Type 0} (writers : Writers J C) (run : SolveCourse) (has_journal has_certificate : Bool) (result : Result Status Fault) : Type 0 where
-  pub journal : Option J
-  pub journal_new : IsNew writers.journal.progress has_journal journal
-  pub certified : RanCertified writers run journal has_certificate result
-
--- mode shared alone has an output of a journal
-abbrev pub MayHaveJournal : Mode → Bool → Type 0
-MayHaveJournal mode has_journal = (has_journal ≡ false) ⊎ IsShared mode
-
--- the least pit alone has one of a journal or of a certificate
-abbrev pub MayHaveRecords : Direction → Bool → Bool → Type 0
-MayHaveRecords direction has_journal has_certificate = (direction ≡ Least) ⊎ ((has_journal ≡ false) × (has_certificate ≡ false))
+  pub journal_new : IsNew writers.journal.progress (is_some wanted.journal) journal
+  pub certificate_new : IsNew writers.certificate.progress (is_some wanted.certificate) certificate
+  pub runs : RunsSolve run (chosen writers.journal.progress journal journal_left) (chosen writers.certificate.progress certificate certificate_left) result
 
 module _ {F JournalOut CertificateOut Model Prec Fixed Certificate Journal Blocks : Type 0} where
   -- a file could not be opened, or an output could not be made, and nothing was run; or all were, the run was over the readers
@@ -83,7 +68,6 @@ module _ {F JournalOut CertificateOut Model Prec Fixed Certificate Journal Block
         → MakesOutputs place.files (wanted_by options) f g
         → AreFromFront place.inputs options.mine texts mine
         → KeepsTexts place.inputs.model.known_text place.inputs.prec.known_text place.inputs.fixed.known_text mine read
-        → RanRecorded place.writers (record { asked = options.asked; files = given place.inputs mine read; before = old.out; after = new.out })
-        (is_some (wanted_by options).journal) (is_some (wanted_by options).certificate) outcome
+        → RunsOverNew place.writers (record { asked = options.asked; files = given place.inputs mine read; before = old.out; after = new.out }) (wanted_by options) outcome
         → EndsOutputs place.files (finished outcome (is_some (wanted_by options).journal) (is_some (wanted_by options).certificate)) result g new.files
         → EndsSolve place options old new result

@@ -12,9 +12,9 @@ mod options;
 mod outputs;
 mod place;
 mod readers;
-mod recorded;
 mod replay;
 mod solve;
+mod writers;
 
 pub use check::check_call;
 pub use ending::report_fault;

@@ -12,18 +12,11 @@ use pit_model::Direction;
 use runs::{Asked, Status};
 use solver::Mode;
 
-/// The outputs of `solve` beside the pit, in the order in which they are written.
-#[derive(Drop)]
-pub(crate) struct Outputs<J, C> {
-    pub journal: Option<J>,
-    pub certificate: Option<C>,
-}
-
-/// The outputs of `solve` over these files.
-pub(crate) type OutputsOf<F> = Outputs<
-    <F as OutputFiles>::JournalOut,
-    <F as OutputFiles>::CertificateOut,
->;
+/// The journal and the certificate of `solve`, where they are wanted.
+pub(crate) type MadeOutputs<F> = (
+    Option<<F as OutputFiles>::JournalOut>,
+    Option<<F as OutputFiles>::CertificateOut>,
+);
 
 /// The name of the journal, where one may be written: mode shared alone has a journal, and of the least pit.
 fn journal_wanted<'a>(asked: Asked, name: Option<&'a str>) -> Option<&'a str>
@@ -116,10 +109,10 @@ pub(crate) fn make_outputs<F: OutputFiles>(
     files: &mut F,
     options: &SolveOptions<'_>,
     inputs: &MineStreams<F>,
-) -> Result<OutputsOf<F>, Fault>
+) -> Result<MadeOutputs<F>, Fault>
     ensures made { IfOk result (λ _. MakesOutputs F.OutputFiles.own (wanted_by options.now) files.old files.new) }
-    ensures journal_named { IfOk result (λ r. is_some r.journal ≡ is_some (wanted_by options.now).journal) }
-    ensures certificate_named { IfOk result (λ r. is_some r.certificate ≡ is_some (wanted_by options.now).certificate) }
+    ensures journal_named { IfOk result (λ r. is_some r.0 ≡ is_some (wanted_by options.now).journal) }
+    ensures certificate_named { IfOk result (λ r. is_some r.1 ≡ is_some (wanted_by options.now).certificate) }
     ensures unmade { IfErr result IsUnmade }
     ensures spared { IfErr result (λ _. SparesOutputs F.OutputFiles.own (wanted_by options.now) files.old files.new) }
 {
@@ -127,10 +120,7 @@ pub(crate) fn make_outputs<F: OutputFiles>(
     let journal = make_journal_if_any(files, journal_wanted(asked, options.journal), inputs)?;
     let path = certificate_wanted(asked.pit, options.certificate);
     match make_certificate_if_any(files, path, inputs, journal.as_ref()) {
-        Ok(certificate) => Ok(Outputs {
-            journal,
-            certificate,
-        }),
+        Ok(certificate) => Ok((journal, certificate)),
         Err(fault) => {
             let _ = end_journal_if_any(files, journal, false);
             Err(fault)
@@ -179,15 +169,12 @@ fn behind(
 /// Ends the outputs after a run: they are kept where it was done, and the journal also where the budget was used up.
 pub(crate) fn end_outputs<F: OutputFiles>(
     files: &mut F,
-    outputs: OutputsOf<F>,
+    outputs: MadeOutputs<F>,
     outcome: Result<Status, Fault>,
 ) -> Result<Status, Fault>
-    ensures { EndsOutputs F.OutputFiles.own (finished outcome (is_some outputs.journal) (is_some outputs.certificate)) result files.old files.new }
+    ensures { EndsOutputs F.OutputFiles.own (finished outcome (is_some outputs.0) (is_some outputs.1)) result files.old files.new }
 {
-    let Outputs {
-        journal,
-        certificate,
-    } = outputs;
+    let (journal, certificate) = outputs;
     let is_kept = keeps_journal(&outcome);
     let journal = end_journal_if_any(files, journal, is_kept);
     let is_kept = keeps_certificate(&outcome, &journal);

@@ -12,9 +12,9 @@ use std::io::Write;
 /// Makes files that are written, and ends each: it is kept, and takes its place, or it goes. Each call leads from a state of the
 /// files to a state. The streams of two kinds of output are of two types, so that none is taken for the other.
 pub trait OutputFiles: InputFiles {
-    type JournalOut: Write + Drop + 'static;
+    type JournalOut: Write + Drop;
 
-    type CertificateOut: Write + Drop + 'static;
+    type CertificateOut: Write + Drop;
 
     /// The output of a name was made as this source for later runs.
     ghost makes: { Self → List ℕ → AnySource → Self → Type 0 };

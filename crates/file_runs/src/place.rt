@@ -32,8 +32,8 @@ impl<F: OutputFiles> Writable for F {
       inputs = ⟦<F as Readable>⟧.place;
       files = F.OutputFiles.own;
       writers = record {
-        journal = ⟦<StreamWriter<&'static mut F::JournalOut> as OutBytes>⟧;
-        certificate = ⟦<StreamWriter<&'static mut F::CertificateOut> as OutBytes>⟧;
+        journal = ⟦<StreamWriter<F::JournalOut> as OutBytes>⟧;
+        certificate = ⟦<StreamWriter<F::CertificateOut> as OutBytes>⟧;
       };
     } };
 }

@@ -5,16 +5,16 @@ ghost use Rattle.file_runs.specs.Place.{state};
 ghost use Rattle.file_runs.specs.Solved.{EndsSolve};
 
 use crate::ending::report_fault;
-use crate::make_outputs::{Outputs, end_outputs, make_outputs};
+use crate::make_outputs::{end_outputs, make_outputs};
 use crate::mine::open_mine;
 use crate::options::SolveOptions;
 use crate::outputs::OutputFiles;
 use crate::place::Writable;
 use crate::readers::readers_of;
-use crate::recorded::run_recorded;
+use crate::writers::{output_of, writer_of};
 use faults::Fault;
 use minelib_reader::OutBytes;
-use runs::{SolveOutputs, Status};
+use runs::{SolveOutputs, Status, run_solve};
 use std::alloc::AllocGlobal;
 use std::sync::Wait;
 use std::thread::Threads;
@@ -34,31 +34,24 @@ fn solve_files<R: AllocGlobal + Threads + Wait + Sync, F: OutputFiles, W: OutByt
         Ok(mine) => mine,
         Err(fault) => return (Err(fault), out),
     };
-    let outputs = match make_outputs(files, options, &mine) {
-        Ok(outputs) => outputs,
+    let (journal, certificate) = match make_outputs(files, options, &mine) {
+        Ok(made) => made,
         Err(fault) => return (Err(fault), out),
     };
-    let Outputs {
-        journal,
-        certificate,
-    } = outputs;
-    let outputs = SolveOutputs {
-        journal,
-        certificate,
+    let mut mine = readers_of(mine, &files.counters());
+    let mut outputs = SolveOutputs {
+        journal: writer_of(journal),
+        certificate: writer_of(certificate),
         out,
     };
-    let mut mine = readers_of(mine, &files.counters());
-    let (outcome, outputs) = run_recorded(rt, rt.alloc(), &mut mine, outputs, options.asked);
+    let outcome = run_solve(rt, rt.alloc(), &mut mine, &mut outputs, options.asked);
     let SolveOutputs {
         journal,
         certificate,
         out,
     } = outputs;
-    let outputs = Outputs {
-        journal,
-        certificate,
-    };
-    (end_outputs(files, outputs, outcome), out)
+    let made = (output_of(journal), output_of(certificate));
+    (end_outputs(files, made, outcome), out)
 }
 
 /// The whole call of `solve`: opens the files of a mine, makes the outputs beside the pit, solves the mine, and writes its pit to

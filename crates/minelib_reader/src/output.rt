@@ -70,6 +70,14 @@ impl<S: OutputStream + Drop> StreamWriter<S> {
             tally: Tally::new(0),
         }
     }
+
+    /// Hands the stream back.
+    pub fn into_stream(self) -> S
+        ensures known { S.contents result ≡ ⟦<StreamWriter<S> as OutBytes>⟧.known_content self }
+    {
+        let StreamWriter { stream, .. } = self;
+        stream
+    }
 }
 
 /// One write; a call that a signal interrupts is made again.

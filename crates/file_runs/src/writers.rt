@@ -1,0 +1,26 @@
+//! What writes an output beside the pit, from where it begins, and the output handed back.
+ghost use Rattle.std.specs.Prelude.{◌≡◌, is_some};
+ghost use Rattle.file_runs.specs.Solved.{IsNew};
+
+use minelib_reader::{OutBytes, StreamWriter};
+use std::io::Write;
+
+/// What writes an output, where there is one.
+pub(crate) fn writer_of<S: Write + Drop>(output: Option<S>) -> Option<StreamWriter<S>>
+    ensures { IsNew (⟦<StreamWriter<S> as OutBytes>⟧.progress) (is_some output) result }
+{
+    match output {
+        None => None,
+        Some(stream) => Some(StreamWriter::new(stream)),
+    }
+}
+
+/// The output of a writer, where there is one.
+pub(crate) fn output_of<S: Write + Drop>(writer: Option<StreamWriter<S>>) -> Option<S>
+    ensures { is_some result ≡ is_some writer }
+{
+    match writer {
+        None => None,
+        Some(writer) => Some(writer.into_stream()),
+    }
+}
