@@ -1,5 +1,5 @@
 -- A writer that a run may have or not, as that of a certificate.
-use Rattle.std.specs.Prelude.{◌≡◌, ◌⊎◌, ◌^◌, ◌<◌, Option, Some, None}
+use Rattle.std.specs.Prelude.{◌≡◌, ◌⊎◌, ◌^◌, ◌<◌, Option, Some, None, is_some}
 use Rattle.minelib_reader.specs.Device.{Progress}
 
 -- its states before and after a run; None where there is no such writer
@@ -13,6 +13,10 @@ progress_of progress (Some w) = Some (progress w)
 
 abbrev pub chosen : {W : Type 0} → (W → Progress) → Option W → Option W → Chosen
 chosen progress before after = record { before = progress_of progress before; after = progress_of progress after }
+
+-- a writer of choice neither comes nor goes
+abbrev pub Stays : {W : Type 0} → Option W → Option W → Type 0
+Stays before after = is_some after ≡ is_some before
 
 -- the writer may be called, where there is one
 abbrev pub IsCountable : Option Progress → Type 0

@@ -18,7 +18,7 @@ use Rattle.solver.specs.Searched.{OfSearched, RefusesSearch}
 use Rattle.runs.specs.declared.asked.Asked.{Asked}
 use Rattle.runs.specs.declared.solve.SolveOutputs.{SolveOutputs}
 use Rattle.runs.specs.Solve.{Files, FixedMine, HoldsMine, RefusesMine, IsCutShort, fixed_in}
-use Rattle.runs.specs.Chosen.{Chosen, IsCountable, IsLeft, OfWriter, OfWriterIfAny, progress_of}
+use Rattle.runs.specs.Chosen.{Chosen, IsCountable, IsLeft, OfWriter, OfWriterIfAny, Stays, progress_of}
 use Rattle.runs.specs.Certified.{PutsCertificate, IsCertified, IsCertificateCut}
 use Rattle.runs.specs.Journaled.{AtAnyEnd, AtBudget, EndOf, MayJournal, PutsJournal, IsJournaled, IsJournalCut}
 
@@ -32,6 +32,11 @@ pub record MayWrite {J C W : Type 0} (journal : J → Progress) (certificate : C
   pub certificate_countable : IsCountable (progress_of certificate outputs.certificate)
   pub may_journal : MayJournal asked.mode (progress_of journal outputs.journal)
   pub may_record : (asked.pit ≡ Least) ⊎ ((progress_of journal outputs.journal ≡ None) × (progress_of certificate outputs.certificate ≡ None))
+
+-- the writers of choice are there after a run as before it
+pub record OutputsStay {J C W : Type 0} (before after : SolveOutputs J C W) : Type 0 where
+  pub journal_stays : Stays before.journal after.journal
+  pub certificate_stays : Stays before.certificate after.certificate
 
 -- nothing was written
 pub record IsUnwritten (journal certificate : Chosen) (before after : Progress) : Type 0 where

@@ -8,9 +8,9 @@ ghost use Rattle.pit_model.specs.Fixed.{fixed_of, graph_of_mine};
 ghost use Rattle.pit_model.specs.Replay.{IsSettled};
 ghost use Rattle.runs.specs.Kept.{KeepsTexts};
 ghost use Rattle.runs.specs.Certified.{IsCertified, PutsCertificate};
-ghost use Rattle.runs.specs.Chosen.{chosen, progress_of, IsCountable, OfWriterIfAny};
+ghost use Rattle.runs.specs.Chosen.{chosen, progress_of, IsCountable, OfWriterIfAny, Stays};
 ghost use Rattle.runs.specs.Journaled.{EndOf, IsJournaled, MayJournal, MayPutEntries, PutsEntries, PutsJournal, RefusesEntries};
-ghost use Rattle.runs.specs.Run.{EndsJournaled, HoldsOfSearched, MayWrite, RefusesOutcome, RefusesPit, RefusesRun};
+ghost use Rattle.runs.specs.Run.{EndsJournaled, HoldsOfSearched, MayWrite, OutputsStay, RefusesOutcome, RefusesPit, RefusesRun};
 ghost use Rattle.runs.specs.Solve.{files_of, task_of, IsDone, MayRead};
 ghost use Rattle.solver.specs.Modes.{EndsWithin};
 ghost use Rattle.solver.specs.Searched.{EndsFixed, IsFound, OfSearched};
@@ -24,7 +24,7 @@ use faults::Fault;
 use merging::Outcome;
 use minelib_reader::{InBytes, OutBytes};
 use report::{write_journal, write_pit};
-use solver::{Entry, FoundPit, Mode, OpenGate, Search, find_fixed_pit, solve_fixed};
+use solver::{Entry, FoundPit, Mode, OpenGate, Search};
 use std::alloc::Global;
 use std::sync::Wait;
 use std::thread::Threads;
@@ -48,6 +48,7 @@ fn put_certificate<C: OutBytes>(
     requires fixed { IsFixedOf (graph_of_mine task.now.mine) task.now.fixed }
     requires shown { IsFixedCertificateOf task.now.mine (fixed_of task.now.fixed.lists) certificate.now }
     ensures puts { PutsCertificate (task_of task.now) (chosen C.progress out.old out.new) result }
+    ensures stays { Stays out.old out.new }
 {
     task.mine.law();
     match out {
@@ -90,6 +91,7 @@ fn put_journal<J: OutBytes>(
     requires ended { EndsFixed mode.now task.now.mine (fixed_of task.now.fixed.lists) solved.now.0 solved.now.1.items }
     ensures put { IfOk result (λ x. PutsJournal (EndOf solved.now.0) mode.now (task_of task.now) (chosen J.progress out.old out.new) (Ok x)) }
     ensures refused { IfErr result (λ e. RefusesOutcome mode.now (task_of task.now) e.refusal e (chosen J.progress out.old out.new)) }
+    ensures stays { Stays out.old out.new }
 {
     match out {
         None => Ok(()),
@@ -103,44 +105,42 @@ fn put_journal<J: OutBytes>(
 /// How the solve of a mine ended. Where there is a writer for the journal of what was decided, it goes there, also where the
 /// budget is used up.
 fn solve_journaled<J: OutBytes, R: Threads + Wait + Sync>(
-    rt: &R,
-    alloc: Global,
+    search: &Search<'_, R, OpenGate>,
     task: &Task,
-    mode: &Mode,
     journal: &mut Option<J>,
 ) -> Result<Outcome, Fault>
     requires countable { IsCountable (progress_of J.progress journal.old) }
-    requires may { MayJournal mode.now (progress_of J.progress journal.old) }
+    requires may { MayJournal search.now.mode (progress_of J.progress journal.old) }
     requires fixed { IsFixedOf (graph_of_mine task.now.mine) task.now.fixed }
-    ensures ended { IfOk result (EndsJournaled mode.now (task_of task.now) (chosen J.progress journal.old journal.new)) }
-    ensures refused { IfErr result (λ e. RefusesOutcome mode.now (task_of task.now) e.refusal e (chosen J.progress journal.old journal.new)) }
+    ensures ended { IfOk result (EndsJournaled search.now.mode (task_of task.now) (chosen J.progress journal.old journal.new)) }
+    ensures refused { IfErr result (λ e. RefusesOutcome search.now.mode (task_of task.now) e.refusal e (chosen J.progress journal.old journal.new)) }
+    ensures stays { Stays journal.old journal.new }
 {
-    let solved = solve_fixed(rt, alloc, &task.mine, &task.fixed, mode, &OpenGate)?;
-    put_journal(journal, task, mode, &solved)?;
+    let solved = search.recorded(&task.mine, &task.fixed)?;
+    put_journal(journal, task, &search.mode, &solved)?;
     Ok(solved.0)
 }
 
 /// The least pit of a mine. Where there is a writer for the journal, or for the certificate that shows the pit, these go there,
 /// in this order.
 fn recorded_pit<J: OutBytes, C: OutBytes, W: OutBytes, R: Threads + Wait + Sync>(
-    rt: &R,
-    alloc: Global,
+    search: &Search<'_, R, OpenGate>,
     task: &Task,
-    mode: &Mode,
     outputs: &mut SolveOutputs<J, C, W>,
 ) -> Result<FoundPit, Fault>
     requires journal_countable { IsCountable (progress_of J.progress outputs.old.journal) }
-    requires may { MayJournal mode.now (progress_of J.progress outputs.old.journal) }
+    requires may { MayJournal search.now.mode (progress_of J.progress outputs.old.journal) }
     requires countable { IsCountable (progress_of C.progress outputs.old.certificate) }
     requires fixed { IsFixedOf (graph_of_mine task.now.mine) task.now.fixed }
     ensures found { IfOk result (IsFound Least task.now.mine (fixed_of task.now.fixed.lists)) }
-    ensures journaled { IfOk result (λ _. PutsJournal IsSettled mode.now (task_of task.now) (chosen J.progress outputs.old.journal outputs.new.journal) (Ok tt)) }
+    ensures journaled { IfOk result (λ _. PutsJournal IsSettled search.now.mode (task_of task.now) (chosen J.progress outputs.old.journal outputs.new.journal) (Ok tt)) }
     ensures certified { IfOk result (λ _. PutsCertificate (task_of task.now) (chosen C.progress outputs.old.certificate outputs.new.certificate) (Ok tt)) }
-    ensures within { IfOk result (λ _. OfSearched Least task.now.mine (fixed_of task.now.fixed.lists) (EndsWithin mode.now)) }
-    ensures refused { IfErr result (λ e. RefusesPit mode.now Least (task_of task.now) e.refusal e (chosen J.progress outputs.old.journal outputs.new.journal) (chosen C.progress outputs.old.certificate outputs.new.certificate)) }
+    ensures within { IfOk result (λ _. OfSearched Least task.now.mine (fixed_of task.now.fixed.lists) (EndsWithin search.now.mode)) }
+    ensures refused { IfErr result (λ e. RefusesPit search.now.mode Least (task_of task.now) e.refusal e (chosen J.progress outputs.old.journal outputs.new.journal) (chosen C.progress outputs.old.certificate outputs.new.certificate)) }
     ensures no_pit { outputs.new.out ≡ outputs.old.out }
+    ensures stay { OutputsStay outputs.old outputs.new }
 {
-    match solve_journaled(rt, alloc, task, mode, &mut outputs.journal)? {
+    match solve_journaled(search, task, &mut outputs.journal)? {
         Outcome::Exhausted(count) => Err(Fault::exhausted(count)),
         Outcome::Pit(shown) => {
             put_certificate(&mut outputs.certificate, task, &shown)?;
@@ -171,17 +171,20 @@ fn solve_mine<J: OutBytes, C: OutBytes, W: OutBytes, R: Threads + Wait + Sync>(
     ensures within { IfOk result (λ _. OfSearched asked.now.pit task.mine (fixed_of task.fixed.lists) (EndsWithin asked.now.mode)) }
     ensures refused { IfErr result (λ e. RefusesPit asked.now.mode asked.now.pit (task_of task) e.refusal e (chosen J.progress outputs.old.journal outputs.new.journal) (chosen C.progress outputs.old.certificate outputs.new.certificate)) }
     ensures no_pit { outputs.new.out ≡ outputs.old.out }
+    ensures stay { OutputsStay outputs.old outputs.new }
 {
+    let search = Search {
+        rt,
+        alloc,
+        mode: asked.mode,
+        direction: asked.pit,
+        gate: &OpenGate,
+    };
     if outputs.journal.is_none() && outputs.certificate.is_none() {
-        let search = Search {
-            mode: &asked.mode,
-            direction: asked.pit,
-            gate: &OpenGate,
-        };
         let Task { mine, fixed } = task;
-        return find_fixed_pit(rt, alloc, mine, &fixed, &search);
+        return search.pit(mine, &fixed);
     }
-    recorded_pit(rt, alloc, &task, &asked.mode, outputs)
+    recorded_pit(&search, &task, outputs)
 }
 
 /// Reads a model, then a precedence file, then the file of fixed blocks, where there is one, and writes the text of the pit,
@@ -229,6 +232,7 @@ pub fn run_solve<
         (chosen C.progress outputs.old.certificate outputs.new.certificate)
         (W.progress outputs.old.out) (W.progress outputs.new.out)) }
     ensures files_kept { KeepsTexts M.known_text P.known_text F.known_text files.old files.new }
+    ensures outputs_stay { OutputsStay outputs.old outputs.new }
 {
     let task = read_mine(alloc, files)?;
     let n = task.mine.graph().n();

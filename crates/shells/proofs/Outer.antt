@@ -8,7 +8,7 @@ use Rattle.std.proofs.lemmas.List.Kept.{AllPairs-from_increasing}
 use Rattle.pit_model.specs.Graph.{Graph, AreInRange}
 use Rattle.pit_model.specs.Mine.{members}
 use Rattle.pit_model.specs.Part.{IsPart}
-use Rattle.pit_model.specs.Deposit.{IsPriced}
+use Rattle.pit_model.specs.Deposit.{IsPriced, mine_at}
 use Rattle.pit_model.specs.declared.direction.Direction.{Direction}
 use Rattle.pit_model.specs.Direction.{ListsPit, nothing}
 use Rattle.pit_model.specs.Shells.{AreFactors, AreShells, IsShell}
@@ -27,24 +27,19 @@ twice_not : (b : Bool) → not (not b) ≡ b
 twice_not true = refl
 twice_not false = refl
 
-pub is_outermost : (direction : Direction) (prices inner : Prices) (graph whole part other : Graph) (factor : ℕ) (old new ms : List Bool) (all found blocks : List ℕ)
-    → IsPriced (deposit_of prices graph) → AreInRange graph.pairs graph.blocks → IsGrown direction (deposit_of prices graph) (factor ∷ []) 0 old all whole
-    → ListsPit direction (rest_at prices factor all whole) nothing found
-    → ((u : ℕ) → marked old u ≡ true → marked new u ≡ true)
-    → ((j : ℕ) → j < length found → marked new (get_or all (get_or found j 0) 0) ≡ true)
-    → ((u : ℕ) → marked new u ≡ true → (marked old u ≡ true) ⊎ ((j : ℕ) × (j < length found) × (get_or all (get_or found j 0) 0 ≡ u)))
-    → ms ≡ map not new → length new ≡ graph.blocks → IsPart graph (λ u. not (get_or ms u false)) blocks part → other ≡ part
+pub is_outermost : (direction : Direction) (prices inner : Prices) (graph part other : Graph) (factor : ℕ) (marks ms : List Bool) (found blocks : List ℕ)
+    → AreInRange graph.pairs graph.blocks → ListsPit direction (mine_at (deposit_of prices graph) factor) nothing found
+    → ((set : ℕ → Bool) → found ≡ members graph.blocks set → (u : ℕ) → u < graph.blocks → marked marks u ≡ set u)
+    → ms ≡ map not marks → length marks ≡ graph.blocks → IsPart graph (λ u. not (get_or ms u false)) blocks part → other ≡ part
     → inner.revenues ≡ amounts_of prices.revenues blocks → inner.costs ≡ amounts_of prices.costs blocks
     → IsOutermost direction prices graph factor blocks inner other
-is_outermost direction prices inner graph whole part other factor old new ms all found blocks priced range grown shown keeps adds only mapped size is same revenues costs =
-    let count = grown.outside.is_part.count in
-    let joined = joins (deposit_of prices graph) old new all found whole grown.outside keeps adds only shown.set (shown.listed ∙ ap (λ n. members n shown.set) count) in
-    let unmarked : (u : ℕ) → u < graph.blocks → not (get_or ms u false) ≡ marked new u = λ u l.
-    ap (λ (xs : List Bool). not (get_or xs u false)) mapped ∙ ap not (get_or-map not new u false false (omega arith)) ∙ twice_not (marked new u) in
+is_outermost direction prices inner graph part other factor marks ms found blocks range shown marked_as mapped size is same revenues costs =
+    let unmarked : (u : ℕ) → u < graph.blocks → not (get_or ms u false) ≡ shown.set u = λ u l.
+    ap (λ (xs : List Bool). not (get_or xs u false)) mapped ∙ ap not (get_or-map not marks u false false (omega arith)) ∙ twice_not (marked marks u) ∙ marked_as shown.set shown.listed u l in
     record {
-      set = marked new;
-      is_pit = rest_gives_shell direction (deposit_of prices graph) (factor ∷ []) 0 (marked old) all whole shown.set (marked new) priced (λ k l. absurd (omega arith)) (omega arith) grown.before grown.outside shown.is_pit joined;
-      is_part = subst (λ (h : Graph). IsPart graph (marked new) blocks h) (sym same) (part_ext graph part (λ u. not (get_or ms u false)) (marked new) blocks range unmarked is);
+      set = shown.set;
+      is_pit = shown.is_pit;
+      is_part = subst (λ (h : Graph). IsPart graph shown.set blocks h) (sym same) (part_ext graph part (λ u. not (get_or ms u false)) shown.set blocks range unmarked is);
       revenues = revenues;
       costs = costs;
     }

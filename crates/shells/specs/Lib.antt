@@ -5,3 +5,4 @@ pub mod Prices
 pub mod Grown
 pub mod Risen
 pub mod Outermost
+pub mod Planned

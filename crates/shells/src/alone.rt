@@ -11,8 +11,7 @@ use crate::plan::Plan;
 use crate::rising::rising_shells;
 use faults::Fault;
 use mine_graph::Graph;
-use pit_model::{Direction, Shell};
-use solver::Mode;
+use pit_model::Shell;
 use std::alloc::Global;
 use std::sync::Arc;
 
@@ -34,8 +33,6 @@ pub fn shells_alone(
         columns,
         graph,
         factors,
-        mode: &Mode::Single { budget: None },
-        direction: Direction::Least,
     };
     rising_shells(alloc, &plan)
 }

@@ -8,14 +8,15 @@ ghost use Rattle.pit_model.specs.Shells.{factor_of, IsJoined, IsOutside, IsShell
 ghost use Rattle.pit_model.specs.declared.direction.Direction.{Direction as AnyDirection};
 ghost use Rattle.shells.specs.Prices.{deposit_of, Prices};
 ghost use Rattle.shells.specs.Grown.{marked, rest_at, IsGrown, RefusesShells, RestEndsWithin};
+ghost use Rattle.shells.specs.Planned.{deposit_in, HasRows};
 ghost use Rattle.pit_model.specs.Size.{most_blocks};
 
 use crate::columns::Columns;
 use crate::plan::Plan;
 use faults::Fault;
-use mine_graph::{Graph, Instance};
+use mine_graph::{Graph, Instance, all_numbers, marked_numbers};
 use pit_model::Shell;
-use solver::{Gate, find_pit_toward};
+use solver::{Gate, Search};
 use std::alloc::{AllocError, Global};
 use std::sync::{Arc, Wait};
 use std::thread::Threads;
@@ -29,13 +30,6 @@ pub struct Growing {
     pub graph: Arc<Graph>,
 }
 
-/// The numbers of all blocks.
-pub fn all_blocks(alloc: Global, n: u32) -> Result<Vec<u32>, AllocError>
-    ensures { IfOk result (λ v. v.items ≡ range_with_len 0 n) }
-{
-    (0..n).collect(alloc)
-}
-
 /// Nothing is taken yet, and all blocks are left. The graph itself is not copied. Refused for want of memory alone.
 pub fn start(alloc: Global, graph: &Arc<Graph>) -> Result<Growing, AllocError>
     ensures { IfOk result (λ g. (direction : AnyDirection) (prices : Prices) (factors : List ℕ) → IsGrown direction (deposit_of prices graph.now.value) factors 0 g.marks.items g.blocks.items g.graph.value) }
@@ -43,7 +37,7 @@ pub fn start(alloc: Global, graph: &Arc<Graph>) -> Result<Growing, AllocError>
     graph.law();
     let n = graph.n();
     let marks = vec![in alloc; false; n as usize]?;
-    let blocks = all_blocks(alloc, n)?;
+    let blocks = all_numbers(alloc, n)?;
     let graph = Arc::try_clone(graph)?;
     Ok(Growing {
         marks,
@@ -86,15 +80,6 @@ pub fn mark(marks: &mut [bool], blocks: &[u32], found: &[u32])
     }
 }
 
-/// The marked blocks, rising.
-pub fn marked_blocks(alloc: Global, marks: &[bool]) -> Result<Vec<u32>, AllocError>
-    requires { length marks.now ≤ most_blocks }
-    ensures { IfOk result (λ v. v.items ≡ members (length marks.now) (marked marks.now)) }
-{
-    let n = marks.len() as u32;
-    Ok((0..n).filter(|&u| marks[u as usize]).collect(alloc)?)
-}
-
 /// Joins the shell with what was found on the rest, and takes it off the rest. Where nothing was found, nothing is copied.
 /// Refused for want of memory alone.
 fn join(alloc: Global, graph: &Graph, growing: &mut Growing, found: &[u32]) -> Result<(), Fault>
@@ -124,37 +109,34 @@ fn join(alloc: Global, graph: &Graph, growing: &mut Growing, found: &[u32]) -> R
 /// Refused for want of memory (1), where the budget is used up with a merger arc left (20), and where a worker could not be
 /// started (22).
 pub fn next_shell<G: Gate + Sync, R: Threads + Wait + Sync>(
-    rt: &R,
-    alloc: Global,
+    search: &Search<'_, R, G>,
     plan: &Plan<'_>,
     k: usize,
     growing: &mut Growing,
-    gate: &G,
 ) -> Result<Shell, Fault>
-    requires rows { length plan.now.columns.now.revenues ≡ plan.now.graph.now.value.blocks }
+    requires rows { HasRows plan.now }
     requires known { k < length plan.now.factors.now }
-    requires grown { IsGrown plan.now.direction (deposit_of plan.now.columns.now plan.now.graph.now.value) plan.now.factors.now k growing.old.marks.items growing.old.blocks.items growing.old.graph.value }
-    ensures grown { IfOk result (λ _. IsGrown plan.now.direction (deposit_of plan.now.columns.now plan.now.graph.now.value) plan.now.factors.now (suc k) growing.new.marks.items growing.new.blocks.items growing.new.graph.value) }
-    ensures shell { IfOk result (IsShell plan.now.direction (deposit_of plan.now.columns.now plan.now.graph.now.value)) }
+    requires grown { IsGrown search.now.direction (deposit_in plan.now) plan.now.factors.now k growing.old.marks.items growing.old.blocks.items growing.old.graph.value }
+    ensures grown { IfOk result (λ _. IsGrown search.now.direction (deposit_in plan.now) plan.now.factors.now (suc k) growing.new.marks.items growing.new.blocks.items growing.new.graph.value) }
+    ensures shell { IfOk result (IsShell search.now.direction (deposit_in plan.now)) }
     ensures factor { IfOk result (λ shell. shell.factor ≡ factor_of plan.now.factors.now k) }
-    ensures within { IfOk result (λ _. RestEndsWithin plan.now.mode.now plan.now.direction (deposit_of plan.now.columns.now plan.now.graph.now.value) plan.now.factors.now k) }
-    ensures refused { IfErr result (λ e. RefusesShells plan.now.mode.now plan.now.direction (deposit_of plan.now.columns.now plan.now.graph.now.value) plan.now.factors.now e.refusal e) }
+    ensures within { IfOk result (λ _. RestEndsWithin search.now.mode search.now.direction (deposit_in plan.now) plan.now.factors.now k) }
+    ensures refused { IfErr result (λ e. RefusesShells search.now.mode search.now.direction (deposit_in plan.now) plan.now.factors.now e.refusal e) }
 {
+    let alloc = search.alloc;
     let Plan {
         columns,
         graph,
         factors,
-        mode,
-        direction,
     } = *plan;
     factors.law();
     columns.law();
     graph.law();
     let factor = factors.get(k);
     let rest = rest_instance(alloc, columns, growing, factor)?;
-    let found = find_pit_toward(rt, alloc, rest, direction, mode, gate)?;
-    join(alloc, graph, growing, &found)?;
-    let pit = marked_blocks(alloc, &growing.marks)?;
+    let found = search.unfixed_pit(rest)?;
+    join(alloc, graph, growing, &found.blocks)?;
+    let pit = marked_numbers(alloc, &growing.marks)?;
     let worth = columns.worth(&pit, factor);
     Ok(Shell { factor, pit, worth })
 }

@@ -11,6 +11,7 @@ mod nesting;
 mod outermost;
 mod plan;
 mod rising;
+mod whole;
 
 pub use alone::shells_alone;
 pub use columns::Columns;

@@ -4,6 +4,7 @@ ghost use Rattle.faults.specs.Refused.{no_memory};
 ghost use Rattle.pit_model.specs.Shells.{AreShells};
 ghost use Rattle.shells.specs.Prices.{deposit_of};
 ghost use Rattle.shells.specs.Grown.{EachEndsWithin, IsFree, RefusesShells};
+ghost use Rattle.shells.specs.Planned.{deposit_in, HasRows};
 
 use crate::columns::Columns;
 use crate::factors::Factors;
@@ -14,33 +15,31 @@ use crate::rising::rising_shells;
 use faults::Fault;
 use mine_graph::Graph;
 use pit_model::{Direction, Shell, ShellList};
-use solver::{Gate, Mode};
+use solver::{Gate, Mode, Search};
 use std::alloc::Global;
 use std::sync::{Arc, Wait};
 use std::thread::Threads;
 
 /// The shell of each factor, in their order.
 fn each_shell<G: Gate + Sync, R: Threads + Wait + Sync>(
-    rt: &R,
-    alloc: Global,
+    search: &Search<'_, R, G>,
     plan: &Plan<'_>,
-    gate: &G,
 ) -> Result<Vec<Shell>, Fault>
-    requires { length plan.now.columns.now.revenues ≡ plan.now.graph.now.value.blocks }
-    ensures shells { IfOk result (λ list. AreShells plan.now.direction (deposit_of plan.now.columns.now plan.now.graph.now.value) plan.now.factors.now list.items) }
-    ensures within { IfOk result (λ _. EachEndsWithin plan.now.mode.now plan.now.direction (deposit_of plan.now.columns.now plan.now.graph.now.value) plan.now.factors.now) }
-    ensures refused { IfErr result (λ e. RefusesShells plan.now.mode.now plan.now.direction (deposit_of plan.now.columns.now plan.now.graph.now.value) plan.now.factors.now e.refusal e) }
+    requires { HasRows plan.now }
+    ensures shells { IfOk result (λ list. AreShells search.now.direction (deposit_in plan.now) plan.now.factors.now list.items) }
+    ensures within { IfOk result (λ _. EachEndsWithin search.now.mode search.now.direction (deposit_in plan.now) plan.now.factors.now) }
+    ensures refused { IfErr result (λ e. RefusesShells search.now.mode search.now.direction (deposit_in plan.now) plan.now.factors.now e.refusal e) }
 {
     plan.factors.law();
     plan.columns.law();
     plan.graph.law();
-    let mut growing = start(alloc, plan.graph)?;
-    let mut list = Vec::new(alloc);
+    let mut growing = start(search.alloc, plan.graph)?;
+    let mut list = Vec::new(search.alloc);
     for k in 0..plan.factors.len() {
         plan.columns
             .counters()
             .at_factor(k as u64 + 1, plan.factors.len() as u64);
-        let shell = next_shell(rt, alloc, plan, k, &mut growing, gate)?;
+        let shell = next_shell(search, plan, k, &mut growing)?;
         list.push(shell)?;
     }
     Ok(list)
@@ -49,77 +48,67 @@ fn each_shell<G: Gate + Sync, R: Threads + Wait + Sync>(
 /// The shell of each factor, in their order: by one tree where one thread looks for the least shells. Refused for want of memory
 /// alone.
 fn inner_shells<G: Gate + Sync, R: Threads + Wait + Sync>(
-    rt: &R,
-    alloc: Global,
+    search: &Search<'_, R, G>,
     plan: &Plan<'_>,
-    gate: &G,
 ) -> Result<Vec<Shell>, Fault>
-    requires rows { length plan.now.columns.now.revenues ≡ plan.now.graph.now.value.blocks }
+    requires rows { HasRows plan.now }
     requires some { 0 < length plan.now.factors.now }
-    requires free { IsFree plan.now.mode.now }
-    ensures shells { IfOk result (λ list. AreShells plan.now.direction (deposit_of plan.now.columns.now plan.now.graph.now.value) plan.now.factors.now list.items) }
+    requires free { IsFree search.now.mode }
+    ensures shells { IfOk result (λ list. AreShells search.now.direction (deposit_in plan.now) plan.now.factors.now list.items) }
     ensures refused { IfErr result (λ e. e ≡ no_memory) }
 {
-    match (plan.mode, plan.direction) {
-        (Mode::Single { budget: None }, Direction::Least) => rising_shells(alloc, plan),
-        _ => each_shell(rt, alloc, plan, gate),
+    match (search.mode, search.direction) {
+        (Mode::Single { budget: None }, Direction::Least) => rising_shells(search.alloc, plan),
+        _ => each_shell(search, plan),
     }
 }
 
 /// The shell of each factor, found among the blocks of the last one. Refused for want of memory alone.
 fn shells_within<G: Gate + Sync, R: Threads + Wait + Sync>(
-    rt: &R,
-    alloc: Global,
+    search: &Search<'_, R, G>,
     plan: &Plan<'_>,
-    gate: &G,
 ) -> Result<Vec<Shell>, Fault>
-    requires rows { length plan.now.columns.now.revenues ≡ plan.now.graph.now.value.blocks }
+    requires rows { HasRows plan.now }
     requires some { 0 < length plan.now.factors.now }
-    requires free { IsFree plan.now.mode.now }
-    ensures shells { IfOk result (λ list. AreShells plan.now.direction (deposit_of plan.now.columns.now plan.now.graph.now.value) plan.now.factors.now list.items) }
+    requires free { IsFree search.now.mode }
+    ensures shells { IfOk result (λ list. AreShells search.now.direction (deposit_in plan.now) plan.now.factors.now list.items) }
     ensures refused { IfErr result (λ e. e ≡ no_memory) }
 {
     let Plan {
         columns,
         graph,
         factors,
-        mode,
-        direction,
     } = *plan;
     factors.law();
     columns.law();
     graph.law();
     let greatest = factors.get(factors.len() - 1);
-    let outer = outermost_shell(rt, alloc, plan, greatest, gate)?;
+    let outer = outermost_shell(search, plan, greatest)?;
     outer.columns.law();
     outer.graph.law();
     let within = Plan {
         columns: &outer.columns,
         graph: &outer.graph,
         factors,
-        mode,
-        direction,
     };
-    let inner = inner_shells(rt, alloc, &within, gate)?;
-    Ok(lift_all(alloc, graph.n(), &outer.blocks, &inner)?)
+    let inner = inner_shells(search, &within)?;
+    Ok(lift_all(search.alloc, graph.n(), &outer.blocks, &inner)?)
 }
 
 /// The shell of each factor, in their order, by the way that the mode allows.
 fn all_shells<G: Gate + Sync, R: Threads + Wait + Sync>(
-    rt: &R,
-    alloc: Global,
+    search: &Search<'_, R, G>,
     plan: &Plan<'_>,
-    gate: &G,
 ) -> Result<Vec<Shell>, Fault>
-    requires { length plan.now.columns.now.revenues ≡ plan.now.graph.now.value.blocks }
-    ensures shells { IfOk result (λ list. AreShells plan.now.direction (deposit_of plan.now.columns.now plan.now.graph.now.value) plan.now.factors.now list.items) }
-    ensures within { IfOk result (λ _. EachEndsWithin plan.now.mode.now plan.now.direction (deposit_of plan.now.columns.now plan.now.graph.now.value) plan.now.factors.now) }
-    ensures refused { IfErr result (λ e. RefusesShells plan.now.mode.now plan.now.direction (deposit_of plan.now.columns.now plan.now.graph.now.value) plan.now.factors.now e.refusal e) }
+    requires { HasRows plan.now }
+    ensures shells { IfOk result (λ list. AreShells search.now.direction (deposit_in plan.now) plan.now.factors.now list.items) }
+    ensures within { IfOk result (λ _. EachEndsWithin search.now.mode search.now.direction (deposit_in plan.now) plan.now.factors.now) }
+    ensures refused { IfErr result (λ e. RefusesShells search.now.mode search.now.direction (deposit_in plan.now) plan.now.factors.now e.refusal e) }
 {
-    if plan.factors.len() < 2 || !is_free(plan.mode) {
-        return each_shell(rt, alloc, plan, gate);
+    if plan.factors.len() < 2 || !is_free(&search.mode) {
+        return each_shell(search, plan);
     }
-    shells_within(rt, alloc, plan, gate)
+    shells_within(search, plan)
 }
 
 /// The shells of a mine with these revenues and costs toward a direction: for each factor its least or its greatest pit, with
@@ -149,10 +138,15 @@ pub fn shells<G: Gate + Sync, R: Threads + Wait + Sync>(
         columns,
         graph,
         factors,
-        mode,
-        direction,
     };
-    let shells = all_shells(rt, alloc, &plan, gate)?;
+    let search = Search {
+        rt,
+        alloc,
+        mode: *mode,
+        direction,
+        gate,
+    };
+    let shells = all_shells(&search, &plan)?;
     Ok(ShellList {
         n: graph.n(),
         shells,

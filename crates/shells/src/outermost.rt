@@ -4,16 +4,18 @@ ghost use Rattle.std.specs.Prelude.{◌≡◌, ◌<◌, ◌≤◌, ℕ, not, map
 ghost use Rattle.faults.specs.Refused.{no_memory};
 ghost use Rattle.shells.specs.Grown.{IsFree};
 ghost use Rattle.shells.specs.Outermost.{IsOutermost, IsLiftedShell, AreLifted, IsPlacedIn};
+ghost use Rattle.shells.specs.Planned.{HasRows};
 ghost use Rattle.std.specs.List.{All};
 ghost use Rattle.pit_model.specs.Size.{most_blocks};
 
 use crate::columns::Columns;
-use crate::growing::{mark, marked_blocks, rest_instance, start};
+use crate::growing::mark;
 use crate::plan::Plan;
+use crate::whole::{marks_of, mine_at};
 use faults::Fault;
-use mine_graph::Graph;
+use mine_graph::{Graph, marked_numbers};
 use pit_model::Shell;
-use solver::{Gate, Mode, find_pit_toward};
+use solver::{Gate, Mode, Search};
 use std::alloc::{AllocError, Global};
 use std::sync::{Arc, Wait};
 use std::thread::Threads;
@@ -39,7 +41,7 @@ pub fn is_free(mode: &Mode) -> bool
 }
 
 /// The opposite of each mark.
-fn turned(alloc: Global, marks: &[bool]) -> Result<Vec<bool>, AllocError>
+fn opposite(alloc: Global, marks: &[bool]) -> Result<Vec<bool>, AllocError>
     ensures { IfOk result (λ v. v.items ≡ map not marks.now) }
 {
     marks.iter().map(|&mark| !mark).collect(alloc)
@@ -47,32 +49,24 @@ fn turned(alloc: Global, marks: &[bool]) -> Result<Vec<bool>, AllocError>
 
 /// The pit at a factor toward the plan's direction, as a deposit of its own. Refused for want of memory alone.
 pub fn outermost_shell<G: Gate + Sync, R: Threads + Wait + Sync>(
-    rt: &R,
-    alloc: Global,
+    search: &Search<'_, R, G>,
     plan: &Plan<'_>,
     factor: u32,
-    gate: &G,
 ) -> Result<Outermost, Fault>
-    requires rows { length plan.now.columns.now.revenues ≡ plan.now.graph.now.value.blocks }
+    requires rows { HasRows plan.now }
     requires factor { factor ≤ 100000 }
-    requires free { IsFree plan.now.mode.now }
-    ensures is { IfOk result (λ o. IsOutermost plan.now.direction plan.now.columns.now plan.now.graph.now.value factor o.blocks.items o.columns o.graph.value) }
+    requires free { IsFree search.now.mode }
+    ensures is { IfOk result (λ o. IsOutermost search.now.direction plan.now.columns.now plan.now.graph.now.value factor o.blocks.items o.columns o.graph.value) }
     ensures refused { IfErr result (λ e. e ≡ no_memory) }
 {
-    let Plan {
-        columns,
-        graph,
-        mode,
-        direction,
-        ..
-    } = *plan;
+    let alloc = search.alloc;
+    let Plan { columns, graph, .. } = *plan;
     columns.law();
     graph.law();
-    let mut whole = start(alloc, graph)?;
-    let rest = rest_instance(alloc, columns, &whole, factor)?;
-    let found = find_pit_toward(rt, alloc, rest, direction, mode, gate)?;
-    mark(&mut whole.marks, &whole.blocks, &found);
-    let outside = turned(alloc, &whole.marks)?;
+    let mine = mine_at(alloc, columns, graph, factor)?;
+    let found = search.unfixed_pit(mine)?;
+    let marks = marks_of(alloc, graph.n(), &found.blocks)?;
+    let outside = opposite(alloc, &marks)?;
     let part = graph.without(&outside)?;
     part.graph.law();
     let inner = columns.at(alloc, &part.blocks)?;
@@ -93,7 +87,7 @@ fn lift(alloc: Global, n: u32, blocks: &[u32], shell: &Shell) -> Result<Shell, A
 {
     let mut marks = vec![in alloc; false; n as usize]?;
     mark(&mut marks, blocks, &shell.pit);
-    let pit = marked_blocks(alloc, &marks)?;
+    let pit = marked_numbers(alloc, &marks)?;
     Ok(Shell {
         factor: shell.factor,
         pit,

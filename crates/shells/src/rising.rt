@@ -2,50 +2,29 @@
 //! the shell before rise to what they are then, and each solve goes on from the tree of the one before.
 //!
 //! The blocks of the shell before keep their values: each set that may be the pit holds them all, so its pit stays the same.
-ghost use Rattle.std.specs.Prelude.{◌≡◌, ◌<◌, ◌≤◌, ◌+◌, ℕ, pos, ◌-ℤ◌, ◌≤ℤ◌, ◌^◌, Bool, false, length, IfOk, IfErr};
-ghost use Rattle.std.specs.List.{All};
+ghost use Rattle.std.specs.Prelude.{◌≡◌, ◌<◌, ◌≤◌, ◌+◌, ℕ, pos, ◌-ℤ◌, ◌≤ℤ◌, ◌^◌, false, length, IfOk, IfErr};
 ghost use Rattle.faults.specs.Refused.{no_memory};
 ghost use Rattle.pit_model.specs.declared.direction.Direction.TheVariants.{Least};
-ghost use Rattle.pit_model.specs.Mine.{members, value};
-ghost use Rattle.pit_model.specs.Deposit.{mine_at};
+ghost use Rattle.pit_model.specs.Mine.{value};
 ghost use Rattle.pit_model.specs.Shells.{AreShells, IsShell, factor_of};
 ghost use Rattle.shells.specs.Prices.{deposit_of, price_of};
 ghost use Rattle.shells.specs.Grown.{marked};
 ghost use Rattle.shells.specs.Risen.{IsHeld, IsRisen, IsSolvedAt};
+ghost use Rattle.shells.specs.Planned.{deposit_in, HasRows};
 
 use crate::columns::Columns;
-use crate::growing::all_blocks;
 use crate::plan::Plan;
+use crate::whole::{marks_of, mine_at};
 use faults::Fault;
 use merging::RisingMine;
-use mine_graph::{Graph, Instance};
 use pit_model::Shell;
-use std::alloc::{AllocError, Global};
-use std::sync::Arc;
+use std::alloc::Global;
 
 /// A solved mine, with a mark for each block of its pit.
 #[derive(Drop)]
 pub struct Risen {
     pub mine: RisingMine,
     pub marks: Vec<bool>,
-}
-
-/// The mine at a factor. Refused for want of memory alone.
-fn mine_at(
-    alloc: Global,
-    columns: &Columns,
-    graph: &Arc<Graph>,
-    factor: u32,
-) -> Result<Instance, Fault>
-    requires rows { length columns.now.revenues ≡ graph.now.value.blocks }
-    requires factor { factor ≤ 100000 }
-    ensures is { IfOk result (λ mine. mine ≡ mine_at (deposit_of columns.now graph.now.value) factor) }
-    ensures refused { IfErr result (λ e. e ≡ no_memory) }
-{
-    columns.law();
-    let blocks = all_blocks(alloc, graph.n())?;
-    let values = columns.values(alloc, &blocks, factor)?;
-    Ok(Instance::watched(Arc::try_clone(graph)?, values, columns.counters().share()))
 }
 
 /// What a block gains from one factor to another.
@@ -82,19 +61,6 @@ fn rise(mine: &mut RisingMine, columns: &Columns, marks: &[bool], from: u32, to:
     }
 }
 
-/// A mark for each block of a rising list.
-fn marks_of(alloc: Global, blocks: u32, pit: &[u32]) -> Result<Vec<bool>, AllocError>
-    requires { All (λ u. u < blocks) pit.now }
-    ensures size { IfOk result (λ v. length v.items ≡ blocks) }
-    ensures marks { IfOk result (λ v. (set : ℕ → Bool) → pit.now ≡ members blocks set → (u : ℕ) → u < blocks → marked v.items u ≡ set u) }
-{
-    let mut marks = vec![in alloc; false; blocks as usize]?;
-    for &block in pit {
-        marks[block as usize] = true;
-    }
-    Ok(marks)
-}
-
 /// Solves the mine that has risen to a factor, and answers the factor's shell. Refused for want of memory alone.
 fn solve(
     alloc: Global,
@@ -117,10 +83,10 @@ fn solve(
 
 /// The shell of the first factor, and the mine in which it was found.
 fn first_shell(alloc: Global, plan: &Plan<'_>) -> Result<(Risen, Shell), Fault>
-    requires rows { length plan.now.columns.now.revenues ≡ plan.now.graph.now.value.blocks }
+    requires rows { HasRows plan.now }
     requires some { 0 < length plan.now.factors.now }
-    ensures held { IfOk result (λ r. IsHeld (deposit_of plan.now.columns.now plan.now.graph.now.value) (factor_of plan.now.factors.now 0) r.0.marks.items r.0.mine) }
-    ensures shell { IfOk result (λ r. IsShell Least (deposit_of plan.now.columns.now plan.now.graph.now.value) r.1) }
+    ensures held { IfOk result (λ r. IsHeld (deposit_in plan.now) (factor_of plan.now.factors.now 0) r.0.marks.items r.0.mine) }
+    ensures shell { IfOk result (λ r. IsShell Least (deposit_in plan.now) r.1) }
     ensures factor { IfOk result (λ r. r.1.factor ≡ factor_of plan.now.factors.now 0) }
     ensures refused { IfErr result (λ e. e ≡ no_memory) }
 {
@@ -138,11 +104,11 @@ fn next_shell(
     k: usize,
     risen: Risen,
 ) -> Result<(Risen, Shell), Fault>
-    requires rows { length plan.now.columns.now.revenues ≡ plan.now.graph.now.value.blocks }
+    requires rows { HasRows plan.now }
     requires known { k + 1 < length plan.now.factors.now }
-    requires held { IsHeld (deposit_of plan.now.columns.now plan.now.graph.now.value) (factor_of plan.now.factors.now k) risen.marks.items risen.mine }
-    ensures held { IfOk result (λ r. IsHeld (deposit_of plan.now.columns.now plan.now.graph.now.value) (factor_of plan.now.factors.now (k + 1)) r.0.marks.items r.0.mine) }
-    ensures shell { IfOk result (λ r. IsShell Least (deposit_of plan.now.columns.now plan.now.graph.now.value) r.1) }
+    requires held { IsHeld (deposit_in plan.now) (factor_of plan.now.factors.now k) risen.marks.items risen.mine }
+    ensures held { IfOk result (λ r. IsHeld (deposit_in plan.now) (factor_of plan.now.factors.now (k + 1)) r.0.marks.items r.0.mine) }
+    ensures shell { IfOk result (λ r. IsShell Least (deposit_in plan.now) r.1) }
     ensures factor { IfOk result (λ r. r.1.factor ≡ factor_of plan.now.factors.now (k + 1)) }
     ensures refused { IfErr result (λ e. e ≡ no_memory) }
 {
@@ -157,9 +123,9 @@ fn next_shell(
 
 /// The least shell of each factor, in their order, by one thread. Refused for want of memory alone.
 pub fn rising_shells(alloc: Global, plan: &Plan<'_>) -> Result<Vec<Shell>, Fault>
-    requires rows { length plan.now.columns.now.revenues ≡ plan.now.graph.now.value.blocks }
+    requires rows { HasRows plan.now }
     requires some { 0 < length plan.now.factors.now }
-    ensures shells { IfOk result (λ list. AreShells Least (deposit_of plan.now.columns.now plan.now.graph.now.value) plan.now.factors.now list.items) }
+    ensures shells { IfOk result (λ list. AreShells Least (deposit_in plan.now) plan.now.factors.now list.items) }
     ensures refused { IfErr result (λ e. e ≡ no_memory) }
 {
     plan.columns.law();

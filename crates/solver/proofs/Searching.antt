@@ -1,6 +1,7 @@
 -- What is found on the instance that is searched, by the numbers of the whole mine.
+use Rattle.std.specs.Global.{Vec}
 use Rattle.std.proofs.Common.{◌≡◌, ℕ, ◌<◌, ◌||◌, ◌≤◌, Bool, true, not, refl, sym, ap, subst, ◌∙◌, List, [], ◌∷◌, get_or, length}
-use Rattle.std.specs.Prelude.{IsTrue, pos}
+use Rattle.std.specs.Prelude.{IsTrue, Option, None, Some, pos}
 use Rattle.std.specs.List.{All}
 use Rattle.std.proofs.lemmas.Bool.{eq-eqb, or_left, or_right}
 use Rattle.faults.specs.declared.fault.Fault.{Fault}
@@ -9,13 +10,11 @@ use Rattle.faults.specs.declared.refusal.Refusal.TheVariants as refusals
 use Rattle.pit_model.specs.declared.direction.Direction.{Direction}
 use Rattle.pit_model.specs.declared.direction.Direction.TheVariants.{Least, Greatest}
 use Rattle.pit_model.specs.declared.journal.Entry.{Entry}
-use Rattle.pit_model.specs.Graph.{IsGraph}
 use Rattle.pit_model.specs.Mine.{Instance, members}
-use Rattle.pit_model.specs.Direction.{IsTurned, ListsPit, nothing, IsPitToward}
+use Rattle.pit_model.specs.Direction.{IsSearched, IsTurned, ListsPit, nothing, IsPitToward}
 use Rattle.pit_model.specs.Fixed.{Fixed, FixedLists, IsNothingFixed, IsRestOf, all_open, some_fixed, fixed_of, graph_of_mine, is_among}
 use Rattle.pit_model.proofs.Fixed.{none_fixes_nothing}
 use Rattle.pit_model.proofs.Members.{members_below, members_each, members_few}
-use Rattle.pit_model.proofs.OneRest.{rest_is_one}
 use Rattle.pit_model.proofs.OpenCertificates.{none_fixed_certifies}
 use Rattle.pit_model.proofs.Turned.{complement_is_greatest, nothing_fixed, rest_gives_pit_toward}
 use Rattle.mine_graph.specs.FixedBlocks.{FixedBlocks, IsFixedOf, dug_in, left_in, no_lists}
@@ -28,8 +27,9 @@ use Rattle.merging.specs.declared.outcome.Outcome.{Outcome}
 use Rattle.merging.specs.declared.outcome.Outcome.TheVariants as outcomes
 use Rattle.solver.specs.declared.mode.Mode.{Mode}
 use Rattle.solver.specs.declared.mode.Mode.TheVariants.{Single, Parts, Shared}
-use Rattle.solver.specs.Modes.{EndsIn, RefusesSolve, RunsOut}
-use Rattle.solver.specs.Searched.{EndsFixed, IsLifted, IsShown, OfSearched, RefusesSearch}
+use Rattle.solver.specs.Modes.{EndsIn, RefusesSolve}
+use Rattle.solver.specs.Searched.{EndsFixed, IsLifted, IsOpenPart, IsSearchOf, IsShown, RefusesSearch}
+use Rattle.solver.specs.declared.searched.Searched.{Searched}
 
 -- ---- the rest
 none_named : (lists : FixedLists) → lists ≡ no_lists → IsNothingFixed (fixed_of lists)
@@ -87,9 +87,6 @@ ends_plain mode mine fixed outcome journal of none ended =
 pub plain_pit : (direction : Direction) (mine : Instance) (lists : FixedLists) (pit : List ℕ) → lists ≡ no_lists → ListsPit direction mine nothing pit → ListsPit direction mine (fixed_of lists) pit
 plain_pit direction mine lists pit none shown = subst (λ (l : FixedLists). ListsPit direction mine (fixed_of l) pit) (sym none) shown
 
-pub plain_search : (direction : Direction) (mine : Instance) (lists : FixedLists) (Holds : Instance → Type 0) → lists ≡ no_lists → OfSearched direction mine nothing Holds → OfSearched direction mine (fixed_of lists) Holds
-plain_search direction mine lists Holds none searched = subst (λ (l : FixedLists). OfSearched direction mine (fixed_of l) Holds) (sym none) searched
-
 pub joined_pit : (direction : Direction) (mine : Instance) (fixed : FixedBlocks) (rest : Rest) (found pit : List ℕ) → IsRestIn mine fixed rest → ListsPit direction rest.mine nothing found
     → ((set : ℕ → Bool) → found ≡ members (length rest.blocks.items) set → ListsJoined mine.blocks fixed rest.blocks.items set pit) → ListsPit direction mine (fixed_of fixed.lists) pit
 joined_pit direction mine fixed rest found pit is shown joined =
@@ -114,30 +111,19 @@ turned_pit mine other found list is shown outside = record {
 pub least_pit : (mine : Instance) (pit : List ℕ) → ShowsPit mine pit → ListsPit Least mine nothing pit
 least_pit mine pit shown = record { set = shown.set; listed = shown.listed; is_pit = (none_fixes_nothing mine nothing shown.set nothing_fixed).1 shown.is_pit }
 
-pub mine_is_searched : (mine : Instance) (Holds : Instance → Type 0) → Holds mine → OfSearched Least mine nothing Holds
-mine_is_searched mine Holds h = (mine, all_open nothing_fixed refl, h)
+-- ---- what is searched
+pub rest_is : (mine : Instance) (fixed : FixedBlocks) (blocks : Option (Vec ℕ)) (rest : Instance) → IsOpenPart mine fixed blocks rest → IsRestOf mine (fixed_of fixed.lists) rest
+rest_is mine fixed None rest is = subst (λ (m : Instance). IsRestOf mine (fixed_of fixed.lists) m) (sym is.1) (none_is_rest mine fixed.lists is.0)
+rest_is mine fixed (Some blocks) rest is = is_rest_of mine fixed (record { blocks = blocks; mine = rest }) is.0 is.1
 
--- ---- refusals
-pub least_refused : (mode : Mode) (mine : Instance) (r : Refusal) (e : Fault) → RefusesSolve mode mine r e → RefusesSearch mode Least mine nothing r e
-least_refused mode mine (refusals.Exhausted count) e h = (h.0, mine_is_searched mine (λ searched. RunsOut mode searched count) h.1)
-least_refused mode mine _ e h = h
+pub is_searched : (direction : Direction) (mine : Instance) (fixed : FixedBlocks) (searched : Searched) → IsSearchOf direction mine fixed searched → IsSearched direction mine (fixed_of fixed.lists) searched.instance
+is_searched Least mine fixed searched is = subst (λ (m : Instance). IsRestOf mine (fixed_of fixed.lists) m) (sym is.faced) (rest_is mine fixed searched.blocks is.rest is.open_part)
+is_searched Greatest mine fixed searched is = (is.rest, rest_is mine fixed searched.blocks is.rest is.open_part, is.faced.0, is.faced.1)
 
-pub plain_refused : (mode : Mode) (direction : Direction) (mine : Instance) (lists : FixedLists) (r : Refusal) (e : Fault) → lists ≡ no_lists → RefusesSearch mode direction mine nothing r e → RefusesSearch mode direction mine (fixed_of lists) r e
-plain_refused mode direction mine lists r e none h = subst (λ (l : FixedLists). RefusesSearch mode direction mine (fixed_of l) r e) (sym none) h
-
--- what is searched of the rest is searched of the mine
-pub searched_of_rest : (direction : Direction) (mine : Instance) (fixed : Fixed) (rest : Instance) (Holds : Instance → Type 0) → IsRestOf mine fixed rest → OfSearched direction rest nothing Holds → OfSearched direction mine fixed Holds
-searched_of_rest Least mine fixed rest Holds is s =
-    let same = rest_is_one rest nothing rest s.0 (all_open nothing_fixed refl) s.1 in
-    (s.0, subst (λ m. IsRestOf mine fixed m) same is, s.2)
-searched_of_rest Greatest mine fixed rest Holds is s =
-    let inner = s.1 in
-    let same = rest_is_one rest nothing rest inner.0 (all_open nothing_fixed refl) inner.1 in
-    (s.0, (inner.0, subst (λ m. IsRestOf mine fixed m) same is, inner.2, inner.3), s.2)
-
-pub rest_refused : (mode : Mode) (direction : Direction) (mine : Instance) (fixed : Fixed) (rest : Instance) (r : Refusal) (e : Fault) → IsRestOf mine fixed rest → RefusesSearch mode direction rest nothing r e → RefusesSearch mode direction mine fixed r e
-rest_refused mode direction mine fixed rest (refusals.Exhausted count) e is h = (h.0, searched_of_rest direction mine fixed rest (λ searched. RunsOut mode searched count) is h.1)
-rest_refused mode direction mine fixed rest _ e is h = h
+pub search_refused : (mode : Mode) (direction : Direction) (mine : Instance) (fixed : Fixed) (searched : Instance) (r : Refusal) (e : Fault) → IsSearched direction mine fixed searched
+    → RefusesSolve mode searched r e → RefusesSearch mode direction mine fixed r e
+search_refused mode direction mine fixed searched (refusals.Exhausted count) e is h = (h.0, (searched, is, h.1))
+search_refused mode direction mine fixed searched _ e is h = h
 
 -- the blocks of a set lie below its bound
 pub inside_listed : (n : ℕ) (found : List ℕ) (set : ℕ → Bool) → found ≡ members n set → (i : ℕ) → i < length found → get_or found i 0 < n
@@ -157,11 +143,3 @@ pub found_inside : (mine : Instance) (fixed : FixedBlocks) (rest : Rest) (found 
     → (i : ℕ) → i < length found → get_or found i 0 < length rest.blocks.items
 found_inside mine fixed rest found set is listed =
     inside_listed (length rest.blocks.items) found set (listed ∙ ap (λ n. members n set) is.is_rest.is_part.count)
-
--- a search of the mine turned round is one for the greatest pit
-pub turned_search : (mine other : Instance) (Holds : Instance → Type 0) → IsTurned mine other → IsGraph other.blocks other.pairs → Holds other → OfSearched Greatest mine nothing Holds
-turned_search mine other Holds is graph h = (other, (mine, all_open nothing_fixed refl, is, graph), h)
-
-pub turned_refused : (mode : Mode) (mine other : Instance) (r : Refusal) (e : Fault) → IsTurned mine other → IsGraph other.blocks other.pairs → RefusesSolve mode other r e → RefusesSearch mode Greatest mine nothing r e
-turned_refused mode mine other (refusals.Exhausted count) e is graph h = (h.0, turned_search mine other (λ searched. RunsOut mode searched count) is graph h.1)
-turned_refused mode mine other _ e is graph h = h

@@ -1,5 +1,5 @@
 -- How a solve in a mode ends, and why one is refused.
-use Rattle.std.specs.Prelude.{◌≡◌, ℕ, ◌≤◌, List, [], Option, Some, None, Result, Ok, Err}
+use Rattle.std.specs.Prelude.{◌≡◌, ℕ, ◌≤◌, List, [], Option, Some, None}
 use Rattle.faults.specs.Refused.{no_memory, no_seat, exhausted}
 use Rattle.faults.specs.declared.fault.Fault.{Fault}
 use Rattle.faults.specs.declared.refusal.Refusal.{Refusal}
@@ -9,7 +9,6 @@ use Rattle.pit_model.specs.Mine.{Instance}
 use Rattle.pit_model.specs.JournalText.{most_seat}
 use Rattle.pit_model.specs.Journal.{applied_count, AreSeated, IsLawful, replay}
 use Rattle.pit_model.specs.FirstRun.{HasMerger, HasNoMerger, first_run}
-use Rattle.certificate.specs.declared.pit_with_flow.Certificate.{Certificate}
 use Rattle.certificate.specs.Certificate.{IsCertificateOf}
 use Rattle.crew.specs.Solved.{IsSolvedTogether}
 use Rattle.merging.specs.declared.outcome.Outcome.{Outcome}
@@ -59,8 +58,3 @@ LacksRoom mode _ fault = ⊥
 abbrev pub RefusesSolve : Mode → Instance → Refusal → Fault → Type 0
 RefusesSolve mode mine (refusals.Exhausted count) fault = (fault ≡ exhausted count) × RunsOut mode mine count
 RefusesSolve mode mine refusal fault = LacksRoom mode refusal fault
-
--- the certificate of a pit; a used-up budget is refused
-abbrev pub certificate_in : Outcome → Result Certificate Fault
-certificate_in (Pit certificate) = Ok certificate
-certificate_in (Exhausted count) = Err (exhausted count)

@@ -2,19 +2,15 @@
 #![tactic(auto)]
 
 mod alone;
-mod by_mode;
-mod consuming;
-mod greatest;
+mod calls;
 mod mode;
 mod search;
-mod with_fixed;
+mod searched;
+mod turned;
 
 pub use alone::find_pit_alone;
-pub use by_mode::{find_certificate, find_pit, solve};
-pub use consuming::find_fixed_pit;
+pub use calls::{PitOutcome, solve_fixed, solve_greatest};
 pub use crew::{Entry, Gate, OpenGate, Verdict, solve_shared};
-pub use greatest::{PitOutcome, find_pit_toward, solve_greatest};
 pub use merging::{Outcome, solve_parts, solve_single};
 pub use mode::Mode;
 pub use search::{FoundPit, Search};
-pub use with_fixed::solve_fixed;

@@ -1,14 +1,34 @@
-//! What is asked of a mine, and what is found.
-ghost use Rattle.std.specs.Prelude.{◌≡◌};
+//! A search for the pit of a mine: what its steps share, and what it answers.
+ghost use Rattle.std.specs.Prelude.{◌≡◌, IfOk, IfErr};
+ghost use Rattle.faults.specs.Refused.{no_memory};
+ghost use Rattle.pit_model.specs.Direction.{nothing};
+ghost use Rattle.pit_model.specs.Fixed.{fixed_of, graph_of_mine};
+ghost use Rattle.mine_graph.specs.FixedBlocks.{IsFixedOf};
+ghost use Rattle.merging.specs.Rest.{IsRestIn};
+ghost use Rattle.certificate.specs.Check.{ShowsPit};
+ghost use Rattle.solver.specs.Modes.{EndsIn, EndsWithin, LacksRoom, RefusesSolve};
+ghost use Rattle.solver.specs.Searched.{EndsFixed, IsFound, IsLifted, IsShown, OfSearched, RefusesSearch};
 
 use crate::mode::Mode;
+use crate::searched::Searched;
+use crew::{Entry, Gate, solve_shared};
+use faults::Fault;
+use merging::{Outcome, Rest, pit_by_parts, pit_of, solve_parts, solve_single};
+use mine_graph::{Fixed, Instance};
 use pit_model::Direction;
+use std::alloc::Global;
+use std::sync::Wait;
+use std::thread::Threads;
 
-/// Which pit is searched for, of those of equal worth, and how. The gate is told of the steps of workers.
+/// How a pit is searched for, and which of those of equal worth.
 #[derive(Drop)]
-pub struct Search<'a, G> {
-    pub mode: &'a Mode,
+pub struct Search<'a, R, G> {
+    /// Starts the threads.
+    pub rt: &'a R,
+    pub alloc: Global,
+    pub mode: Mode,
     pub direction: Direction,
+    /// Is told of the steps of workers.
     pub gate: &'a G,
 }
 
@@ -17,4 +37,127 @@ pub struct Search<'a, G> {
 pub struct FoundPit {
     pub blocks: Vec<u32>,
     pub worth: i128,
+}
+
+/// The outcome of the rest by the numbers of the whole.
+fn lift(
+    alloc: Global,
+    instance: &Instance,
+    fixed: &Fixed,
+    rest: &Rest,
+    found: &Outcome,
+) -> Result<Outcome, Fault>
+    requires fixed { IsFixedOf (graph_of_mine instance.now) fixed.now }
+    requires rest { IsRestIn instance.now fixed.now rest.now }
+    requires found { IsShown rest.now.mine found.now }
+    ensures lifted { IfOk result (IsLifted instance.now (fixed_of fixed.now.lists) found.now) }
+    ensures refused { IfErr result (λ e. e ≡ no_memory) }
+{
+    match found {
+        Outcome::Pit(certificate) => Ok(Outcome::Pit(rest.certificate(
+            alloc,
+            instance,
+            fixed,
+            certificate,
+        )?)),
+        Outcome::Exhausted(count) => Ok(Outcome::Exhausted(*count)),
+    }
+}
+
+impl<R: Threads + Wait + Sync, G: Gate + Sync> Search<'_, R, G> {
+    /// How the mode's solve of an instance for its least pit ended, and in mode shared the journal of what the workers and the
+    /// driver decided, also where the budget is used up; in the other modes no entry.
+    fn solve(&self, instance: &Instance) -> Result<(Outcome, Vec<Entry>), Fault>
+        ensures ended { IfOk result (λ r. EndsIn self.now.mode instance.now r.0 r.1.items) }
+        ensures refused { IfErr result (λ e. LacksRoom self.now.mode e.refusal e) }
+    {
+        let alloc = self.alloc;
+        let outcome = match self.mode {
+            Mode::Single { budget } => solve_single(alloc, instance, budget)?,
+            Mode::Parts => Outcome::Pit(solve_parts(self.rt, alloc, instance)?),
+            Mode::Shared {
+                workers,
+                budget,
+                chunk,
+            } => return solve_shared(self.rt, alloc, instance, workers, budget, chunk, self.gate),
+        };
+        Ok((outcome, Vec::new(alloc)))
+    }
+
+    /// The least pit of an instance by a solve that makes its certificate. Refused as `least` is.
+    fn certified(&self, instance: &Instance) -> Result<Vec<u32>, Fault>
+        ensures shown { IfOk result (λ pit. ShowsPit instance.now pit.items) }
+        ensures within { IfOk result (λ _. EndsWithin self.now.mode instance.now) }
+        ensures refused { IfErr result (λ e. RefusesSolve self.now.mode instance.now e.refusal e) }
+    {
+        instance.law();
+        let (outcome, _) = self.solve(instance)?;
+        match outcome {
+            Outcome::Pit(certificate) => Ok(certificate.pit),
+            Outcome::Exhausted(count) => Err(Fault::exhausted(count)),
+        }
+    }
+
+    /// The least pit of an instance. By one thread without a budget, and by parts, no certificate is made. Refused for want of
+    /// room, and where the budget is used up with a merger arc left (20).
+    fn least(&self, instance: &Instance) -> Result<Vec<u32>, Fault>
+        ensures shown { IfOk result (λ pit. ShowsPit instance.now pit.items) }
+        ensures within { IfOk result (λ _. EndsWithin self.now.mode instance.now) }
+        ensures refused { IfErr result (λ e. RefusesSolve self.now.mode instance.now e.refusal e) }
+    {
+        match self.mode {
+            Mode::Single { budget: None } => pit_of(self.alloc, instance),
+            Mode::Parts => pit_by_parts(self.rt, self.alloc, instance),
+            _ => self.certified(instance),
+        }
+    }
+
+    /// The pit of a mine with fixed blocks: of the closed sets that hold each block forced in and none that is barred, the
+    /// smallest of greatest worth, or the largest, as the direction says. The mine's graph is given up as soon as the instance
+    /// that is searched has been made of it, so no two graphs are held while one is solved.
+    ///
+    /// Refused for want of memory (1), in mode shared where a worker could not be started (22), and where the budget is used up
+    /// with a merger arc left (20); for the greatest pit it counts the mergers of the instance turned round.
+    pub fn pit(&self, mine: Instance, fixed: &Fixed) -> Result<FoundPit, Fault>
+        requires { IsFixedOf (graph_of_mine mine) fixed.now }
+        ensures found { IfOk result (IsFound self.now.direction mine (fixed_of fixed.now.lists)) }
+        ensures within { IfOk result (λ _. OfSearched self.now.direction mine (fixed_of fixed.now.lists) (EndsWithin self.now.mode)) }
+        ensures refused { IfErr result (λ e. RefusesSearch self.now.mode self.now.direction mine (fixed_of fixed.now.lists) e.refusal e) }
+    {
+        mine.law();
+        let searched = Searched::of(self.alloc, mine, fixed, self.direction)?;
+        let found = self.least(&searched.instance)?;
+        searched.pit(self.alloc, fixed, found)
+    }
+
+    /// The pit of a mine of which no block is fixed. Refused as `pit` is.
+    pub fn unfixed_pit(&self, mine: Instance) -> Result<FoundPit, Fault>
+        ensures found { IfOk result (IsFound self.now.direction mine nothing) }
+        ensures within { IfOk result (λ _. OfSearched self.now.direction mine nothing (EndsWithin self.now.mode)) }
+        ensures refused { IfErr result (λ e. RefusesSearch self.now.mode self.now.direction mine nothing e.refusal e) }
+    {
+        self.pit(mine, &Fixed::none())
+    }
+
+    /// How the mode's solve of a mine with fixed blocks for its least pit ended, whatever the direction: with a certificate of the
+    /// mine; and in mode shared the journal of the rest, by the rest's own numbers. Where nothing is fixed, no graph is copied.
+    ///
+    /// Refused for want of memory (1), and in mode shared where a worker could not be started (22).
+    pub fn recorded(
+        &self,
+        instance: &Instance,
+        fixed: &Fixed,
+    ) -> Result<(Outcome, Vec<Entry>), Fault>
+        requires { IsFixedOf (graph_of_mine instance.now) fixed.now }
+        ensures ended { IfOk result (λ r. EndsFixed self.now.mode instance.now (fixed_of fixed.now.lists) r.0 r.1.items) }
+        ensures refused { IfErr result (λ e. LacksRoom self.now.mode e.refusal e) }
+    {
+        if fixed.is_empty() {
+            return self.solve(instance);
+        }
+        let rest = Rest::of(self.alloc, instance, fixed)?;
+        let (found, entries) = self.solve(&rest.mine)?;
+        let outcome = lift(self.alloc, instance, fixed, &rest, &found)?;
+        Ok((outcome, entries))
+    }
 }

@@ -1,4 +1,4 @@
-use Rattle.std.proofs.Common.{◌≡◌, subst, ◌∙◌}
+use Rattle.std.proofs.Common.{◌≡◌, refl, subst, ◌∙◌}
 use Rattle.std.specs.Arc.{arc_value}
 use Rattle.pit_model.specs.Graph.{Graph}
 use Rattle.certificate.specs.CertificateLines.{pit_and_flow}
@@ -21,4 +21,4 @@ returns-in-Some g c =
     let spelled : SpellsCertificate (graph_of mine) lists text (pit_and_flow pit flow) = subst (λ (graph : Graph). SpellsCertificate graph lists text (pit_and_flow pit flow)) same c.write.ensures.spelled in
     let old = g.C.OutBytes.progress c.in-Some.writer in
     let new = g.C.OutBytes.progress c.write.new.writer in
-    rw (c.in-Some.is, c.in-Some.writer-is) record { puts = puts (task_of c.args.task.now) (pit_and_flow pit flow) old new text c.write.result spelled c.requires.shown.certifies c.write.ensures.text c.write.ensures.refused }
+    rw (c.in-Some.is, c.in-Some.writer-is) (record { puts = puts (task_of c.args.task.now) (pit_and_flow pit flow) old new text c.write.result spelled c.requires.shown.certifies c.write.ensures.text c.write.ensures.refused; stays = refl })

@@ -13,7 +13,7 @@ use Rattle.runs.proofs.solve.recorded_pit.Goals as goal
 pub worth-worth-requires-clause-few : goal.worth-worth-requires-clause-few
 worth-worth-requires-clause-few g c =
     let task = task_of c.args.task.now in
-    let ended = subst (EndsSolve c.args.mode.now task) c.in-Pit.is c.in_ok-count.ensures.ended.0 in
+    let ended = subst (EndsSolve c.args.search.now.mode task) c.in-Pit.is c.in_ok-count.ensures.ended.0 in
     let shown = shows_fixed task.mine (fixed_in task) c.in-Pit.shown.pit.items c.in-Pit.shown.flow.items (instance_is_simple task.mine c.law.ensures).in_range ended.0.certifies in
     subst (λ (xs : List ℕ). length xs ≤ task.mine.blocks) (sym c.deref.ensures.value) (listed_few task.mine.blocks c.in-Pit.shown.pit.items shown.set shown.listed)
 
@@ -21,7 +21,7 @@ pub returns-in_ok-put_certificate-in-Pit-clause-found :
     goal.returns-in_ok-put_certificate-in-Pit-clause-found
 returns-in_ok-put_certificate-in-Pit-clause-found g c =
     let task = task_of c.args.task.now in
-    let ended = subst (EndsSolve c.args.mode.now task) c.in-Pit.is c.in_ok-count.ensures.ended.0 in
+    let ended = subst (EndsSolve c.args.search.now.mode task) c.in-Pit.is c.in_ok-count.ensures.ended.0 in
     let fits : SFits w128 c.worth-worth.result = search rules in
     record {
       listed = shows_fixed task.mine (fixed_in task) c.in-Pit.shown.pit.items c.in-Pit.shown.flow.items (instance_is_simple task.mine c.law.ensures).in_range ended.0.certifies;

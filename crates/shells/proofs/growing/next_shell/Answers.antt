@@ -30,8 +30,8 @@ pub returns-in_err-found-clause-refused : goal.returns-in_err-found-clause-refus
 returns-in_err-found-clause-refused g c =
     let p = err_from_is_err_and c.from_residual-in_err-found.result c.from_residual-in_err-found.ensures.1 in
     let e = c.in_err-found.field-0.0 in
-    let mode = c.args.plan.now.mode.now in
-    let direction = c.args.plan.now.direction in
+    let mode = c.args.search.now.mode in
+    let direction = c.args.search.now.direction in
     let columns = c.args.plan.now.columns.now in
     let graph = c.args.plan.now.graph.now.value in
     let factors = c.args.plan.now.factors.now in
@@ -47,10 +47,10 @@ pub join-requires-clause-below : goal.join-requires-clause-below
 join-requires-clause-below g c =
     let growing = c.args.growing.now in
     let columns = c.args.plan.now.columns.now in
-    let direction = c.args.plan.now.direction in
-    let found = subst (λ (rest : Instance). ListsPit direction rest nothing c.in_ok-found.found.items) c.in_ok-rest.ensures.is c.in_ok-found.ensures.shown in
+    let direction = c.args.search.now.direction in
+    let found = subst (λ (rest : Instance). ListsPit direction rest nothing c.in_ok-found.found.blocks.items) c.in_ok-rest.ensures.is c.in_ok-found.ensures.found.listed in
     subst (λ (xs : List ℕ). (j : ℕ) → j < length xs → get_or xs j 0 < length growing.blocks.items) (sym c.deref-3.ensures.value)
-    (found_below direction columns c.get-factor.result growing.blocks.items c.in_ok-found.found.items growing.graph.value c.requires.grown.outside.is_part.count found)
+    (found_below direction columns c.get-factor.result growing.blocks.items c.in_ok-found.found.blocks.items growing.graph.value c.requires.grown.outside.is_part.count found)
 
 pub worth-worth-requires-clause-few : goal.worth-worth-requires-clause-few
 worth-worth-requires-clause-few g c =
@@ -74,7 +74,7 @@ worth-worth-requires-clause-blocks g c =
 
 pub returns-clause-grown : goal.returns-clause-grown
 returns-clause-grown g c =
-    let direction = c.args.plan.now.direction in
+    let direction = c.args.search.now.direction in
     let columns = c.args.plan.now.columns.now in
     let graph = c.args.plan.now.graph.now.value in
     let factors = c.args.plan.now.factors.now in
@@ -82,16 +82,16 @@ returns-clause-grown g c =
     let next = c.join.new.growing in
     let is : c.in_ok-rest.rest ≡ rest_at columns (factor_of factors c.args.k) growing.blocks.items growing.graph.value =
     c.in_ok-rest.ensures.is ∙ ap (λ f. rest_at columns f growing.blocks.items growing.graph.value) c.get-factor.ensures in
-    let found = subst (λ (rest : Instance). ListsPit direction rest nothing c.in_ok-found.found.items) is c.in_ok-found.ensures.shown in
+    let found = subst (λ (rest : Instance). ListsPit direction rest nothing c.in_ok-found.found.blocks.items) is c.in_ok-found.ensures.found.listed in
     let joined = subst (λ (xs : List ℕ). (test : ℕ → Bool) → xs ≡ members (length growing.blocks.items) test → IsJoined (marked growing.marks.items) growing.blocks.items test (marked next.marks.items)) c.deref-3.ensures.value c.in_ok-join.ensures.joined in
     let size : length next.marks.items ≡ graph.blocks = c.in_ok-join.ensures.size ∙ ap (λ (h : Graph). h.blocks) c.deref-2.ensures in
     let outside = subst (λ (h : Graph). IsOutside (deposit_of columns h) (marked next.marks.items) next.blocks.items next.graph.value) c.deref-2.ensures (c.in_ok-join.ensures.outside columns) in
-    grows direction columns graph growing.graph.value next.graph.value factors c.args.k growing.marks.items next.marks.items growing.blocks.items next.blocks.items c.in_ok-found.found.items
+    grows direction columns graph growing.graph.value next.graph.value factors c.args.k growing.marks.items next.marks.items growing.blocks.items next.blocks.items c.in_ok-found.found.blocks.items
     (is_priced columns graph c.law-2.ensures c.requires.rows) c.law.ensures c.requires.known c.requires.grown found joined size outside
 
 pub returns-clause-shell : goal.returns-clause-shell
 returns-clause-shell g c =
-    let direction = c.args.plan.now.direction in
+    let direction = c.args.search.now.direction in
     let columns = c.args.plan.now.columns.now in
     let graph = c.args.plan.now.graph.now.value in
     let factors = c.args.plan.now.factors.now in
@@ -107,8 +107,8 @@ returns-clause-shell g c =
 
 pub returns-clause-within : goal.returns-clause-within
 returns-clause-within g c =
-    let mode = c.args.plan.now.mode.now in
-    let direction = c.args.plan.now.direction in
+    let mode = c.args.search.now.mode in
+    let direction = c.args.search.now.direction in
     let columns = c.args.plan.now.columns.now in
     let graph = c.args.plan.now.graph.now.value in
     let growing = c.args.growing.now in

@@ -15,8 +15,8 @@ loop-k-init g c =
     let plan = c.args.plan.now in
     let none = c.new-list.ensures.items in
     record {
-      grown = c.in_ok-growing.ensures plan.direction plan.columns.now plan.factors.now;
-      each = subst (λ (xs : List Shell). All (IsShell plan.direction (deposit_of plan.columns.now plan.graph.now.value)) xs) (sym none) (λ j d l. absurd (omega arith));
+      grown = c.in_ok-growing.ensures c.args.search.now.direction plan.columns.now plan.factors.now;
+      each = subst (λ (xs : List Shell). All (IsShell c.args.search.now.direction (deposit_of plan.columns.now plan.graph.now.value)) xs) (sym none) (λ j d l. absurd (omega arith));
       named = ap (λ (xs : List Shell). map (λ (s : Shell). s.factor) xs) none;
       within = λ j l. absurd (omega arith);
     }
@@ -34,11 +34,11 @@ loop-k-preserved g c =
     let shell = c.in_ok-shell.ensures in
     let items = c.in_ok-push.ensures.items in
     record {
-      grown = subst (λ n. IsGrown plan.direction (deposit_of plan.columns.now plan.graph.now.value) factors n next.marks.items next.blocks.items next.graph.value) e shell.grown;
-      each = subst (λ (xs : List Shell). All (IsShell plan.direction (deposit_of plan.columns.now plan.graph.now.value)) xs) (sym items)
-          (All-push (IsShell plan.direction deposit) c.loop-k.list.items c.in_ok-shell.shell invariant.each shell.shell);
+      grown = subst (λ n. IsGrown c.args.search.now.direction (deposit_of plan.columns.now plan.graph.now.value) factors n next.marks.items next.blocks.items next.graph.value) e shell.grown;
+      each = subst (λ (xs : List Shell). All (IsShell c.args.search.now.direction (deposit_of plan.columns.now plan.graph.now.value)) xs) (sym items)
+          (All-push (IsShell c.args.search.now.direction deposit) c.loop-k.list.items c.in_ok-shell.shell invariant.each shell.shell);
       named = ap (λ (xs : List Shell). map (λ (s : Shell). s.factor) xs) items ∙ one_more_named factors c.loop-k.list.items c.in_ok-shell.shell k inside invariant.named shell.factor;
-      within = each_below (RestEndsWithin plan.mode.now plan.direction deposit factors) k invariant.within shell.within;
+      within = each_below (RestEndsWithin c.args.search.now.mode c.args.search.now.direction deposit factors) k invariant.within shell.within;
     }
 
 pub returns-clause-shells : goal.returns-clause-shells
@@ -46,5 +46,5 @@ returns-clause-shells g c =
     let plan = c.args.plan.now in
     let factors = plan.factors.now in
     let all : length factors ≤ c.loop-k.k = search rules in
-    are_shells plan.direction (deposit_of plan.columns.now plan.graph.now.value) factors c.loop-k.list.items c.loop-k.k (is_priced plan.columns.now plan.graph.now.value c.law-2.ensures c.requires) c.law.ensures all
+    are_shells c.args.search.now.direction (deposit_of plan.columns.now plan.graph.now.value) factors c.loop-k.list.items c.loop-k.k (is_priced plan.columns.now plan.graph.now.value c.law-2.ensures c.requires) c.law.ensures all
     c.loop-k.invariant.named c.loop-k.invariant.each

@@ -8,8 +8,8 @@ use Rattle.shells.proofs.nesting.each_shell.Given as goal
 
 abbrev pub invariant-loop-k : goal.invariant-loop-k
 invariant-loop-k g l = record {
-  grown : IsGrown l.plan.direction (deposit_of l.plan.columns.now l.plan.graph.now.value) l.plan.factors.now l.k l.growing.marks.items l.growing.blocks.items l.growing.graph.value;
-  each : All (IsShell l.plan.direction (deposit_of l.plan.columns.now l.plan.graph.now.value)) l.list.items;
+  grown : IsGrown l.search.direction (deposit_of l.plan.columns.now l.plan.graph.now.value) l.plan.factors.now l.k l.growing.marks.items l.growing.blocks.items l.growing.graph.value;
+  each : All (IsShell l.search.direction (deposit_of l.plan.columns.now l.plan.graph.now.value)) l.list.items;
   named : map (λ shell. shell.factor) l.list.items ≡ take l.k l.plan.factors.now;
-  within : (j : ℕ) → j < l.k → RestEndsWithin l.plan.mode.now l.plan.direction (deposit_of l.plan.columns.now l.plan.graph.now.value) l.plan.factors.now j;
+  within : (j : ℕ) → j < l.k → RestEndsWithin l.search.mode l.search.direction (deposit_of l.plan.columns.now l.plan.graph.now.value) l.plan.factors.now j;
 }

@@ -13,7 +13,7 @@ lift_all-requires-clause-blocks g c i l =
     let outer = c.in_ok-outer.outer in
     let graph = c.args.plan.now.graph.now.value in
     let is : c.deref-4.result.now ≡ outer.blocks.items = c.deref-4.ensures.value in
-    let below = outer_blocks c.args.plan.now.direction c.args.plan.now.columns.now outer.columns graph outer.graph.value c.get-greatest.result outer.blocks.items c.in_ok-outer.ensures.is i (subst (λ (xs : List ℕ). i < length xs) is l) in
+    let below = outer_blocks c.args.search.now.direction c.args.plan.now.columns.now outer.columns graph outer.graph.value c.get-greatest.result outer.blocks.items c.in_ok-outer.ensures.is i (subst (λ (xs : List ℕ). i < length xs) is l) in
     let at = ap (λ (xs : List ℕ). get_or xs i 0) is in
     let count : c.n.result ≡ graph.blocks = search rules in
     omega arith
@@ -24,7 +24,7 @@ lift_all-requires-clause-pits g c =
     let graph = c.args.plan.now.graph.now.value in
     subst (λ (xs : List ℕ). All (IsPlacedIn xs) c.deref-5.result.now) (sym c.deref-4.ensures.value)
     (subst (λ (ss : List Shell). All (IsPlacedIn outer.blocks.items) ss) (sym c.deref-5.ensures.value)
-    (pits_placed c.args.plan.now.direction c.args.plan.now.columns.now outer.columns graph outer.graph.value c.get-greatest.result outer.blocks.items c.in_ok-inner.inner.items c.in_ok-outer.ensures.is c.in_ok-inner.ensures.shells.each))
+    (pits_placed c.args.search.now.direction c.args.plan.now.columns.now outer.columns graph outer.graph.value c.get-greatest.result outer.blocks.items c.in_ok-inner.inner.items c.in_ok-outer.ensures.is c.in_ok-inner.ensures.shells.each))
 
 pub returns-clause-shells : goal.returns-clause-shells
 returns-clause-shells g c =
@@ -40,5 +40,5 @@ returns-clause-shells g c =
     let by = subst (λ (ss : List Shell). AreLifted graph.blocks outer.blocks.items ss lifted (length ss)) c.deref-5.ensures.value
     (subst (λ (xs : List ℕ). AreLifted graph.blocks xs c.deref-5.result.now lifted (length c.deref-5.result.now)) c.deref-4.ensures.value
     (subst (λ n. AreLifted n c.deref-4.result.now c.deref-5.result.now lifted (length c.deref-5.result.now)) count c.in_ok-lift_all.ensures)) in
-    lifted_are_shells c.args.plan.now.direction columns outer.columns graph outer.graph.value c.get-greatest.result outer.blocks.items factors shells lifted (is_priced columns graph c.law-2.ensures c.requires.rows) c.law.ensures
+    lifted_are_shells c.args.search.now.direction columns outer.columns graph outer.graph.value c.get-greatest.result outer.blocks.items factors shells lifted (is_priced columns graph c.law-2.ensures c.requires.rows) c.law.ensures
     c.in_ok-outer.ensures.is is_graph.in_range last c.in_ok-inner.ensures.shells by

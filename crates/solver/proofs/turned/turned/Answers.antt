@@ -1,0 +1,15 @@
+-- A value within the limits stays so with its sign turned.
+use Rattle.std.proofs.Common.{◌<◌, arith, ap}
+use Rattle.std.proofs.lemmas.Int.{ints}
+use Rattle.pit_model.specs.Graph.{Graph}
+use Rattle.solver.proofs.turned.turned.Goals as goal
+
+pub watched-requires-clause-high : goal.watched-requires-clause-high
+watched-requires-clause-high c u l =
+    let held = ap (λ (g : Graph). g.blocks) c.in_ok-new.ensures.ok in
+    let same = c.in_ok-reversed.ensures.reversed.same_blocks in
+    let count = ap (λ (g : Graph). g.blocks) c.deref-graph.ensures in
+    let size = c.graph.ensures.blocks in
+    let inside : u < c.args.mine.now.blocks = omega arith in
+    let low = c.law.ensures.limits.low u inside in
+    rw (c.in_ok-values.ensures.each u inside) (omega (arith, ints))
