@@ -1,6 +1,7 @@
 """What docs/PLANNING.md says of the example, against the example."""
 
 import re
+import shutil
 from dataclasses import replace
 
 import pytest
@@ -13,11 +14,15 @@ PAGE = (ROOT / "docs" / "PLANNING.md").read_text(encoding="utf-8")
 EXAMPLE = ROOT / "examples" / "plan" / "project.toml"
 
 
-def test_the_lines_for_a_notebook_run(monkeypatch):
-    monkeypatch.chdir(EXAMPLE.parent)
+def test_the_lines_for_a_notebook_run(tmp_path, monkeypatch):
+    """In a folder of the example's files, since the last line writes there; its project has no phases as it stands."""
+    monkeypatch.chdir(shutil.copytree(EXAMPLE.parent, tmp_path / "plan"))
+    with open("project.toml", "a", encoding="utf-8") as project:
+        project.write("\n[pushbacks]\nfactors = [500, 1000]\n")
     names = {}
     exec(re.search(r"```python\n(.*?)```", PAGE, re.DOTALL)[1], names)
     assert len(names["plan"].blocks) == 7119 and names["solution"].worth.index.tolist()[-1] == 1200
+    assert names["table"]["factor"].tolist() == names["solution"].worth.index.tolist() and names["phases"]["factor"].tolist() == [500, 1000]
 
 
 def test_the_table_of_cutoffs_is_that_of_the_example():
