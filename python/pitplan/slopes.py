@@ -190,7 +190,10 @@ def levels_of(wall: Wall, size: tuple[float, float, float], asked: np.ndarray) -
 
 
 def widening(wall: Wall, size: tuple[float, float, float], levels: int, asked: np.ndarray) -> float:
-    """The least factor, to a thousandth, by which the cone is widened so that no high wall is steeper than asked."""
+    """The least factor, to a thousandth, by which the cone is widened so that no high wall is steeper than asked.
+
+    One number for the whole cone is simple to say and to check, and makes walls flatter than need be at some azimuths.
+    """
 
     def steepest(by: float) -> float:
         return float((angles_of_cone(cone(wall.angles, size, levels, by), size) - asked).max())
