@@ -93,6 +93,16 @@ def test_a_folder_is_no_output(mine: Mine) -> None:
     assert mine.run(*SOLVE, "folder") == REFUSED
 
 
+@pytest.mark.parametrize("option", ["--certificate", "--journal", "--stats"])
+def test_a_file_that_may_not_be_written_is_no_output(mine: Mine, option: str) -> None:
+    mine.write("made", OLD)
+    (mine.folder / "made").chmod(0o444)
+    before = names(mine)
+    assert mine.run(*SOLVE[:-1], "--mode", "shared", option, "made") == REFUSED
+    assert mine.read("made") == OLD
+    assert names(mine) == before
+
+
 @pytest.mark.parametrize("option", ["--certificate", "--journal"])
 def test_an_empty_name_is_no_output(mine: Mine, option: str) -> None:
     before = names(mine)

@@ -3,6 +3,7 @@
 Neither may change the answer, the other files or the exit status. Of the two-block mine one merger is made.
 """
 
+import os
 import pathlib
 import re
 import subprocess
@@ -11,9 +12,10 @@ import time
 
 import pytest
 
-from conftest import CERTIFICATE, CHAIN, PROGRAM, TOP, TWO_BLOCKS, Mine
+from conftest import CERTIFICATE, CHAIN, ORE_BELOW_WASTE, PROGRAM, TOP, TWO_BLOCKS, Mine
+from rows import model_of, pit_of
 
-PIT = "PIT\nBLOCKS: 2\nIN: 2\nWORTH: 2.000000\n0\n1\n"
+PIT = pit_of(2, [0, 1], "2.000000")
 SOLVE = ["solve", "--model", "mine.upit", "--prec", "mine.prec"]
 SHELLS = ["shells", "--blocks", "mine.blocks", "--prec", "mine.prec", "--revenue", "0", "--cost", "1", "--factors", "300,1000"]
 REFUSED = (1, "", "error 18: write failed\n")
@@ -46,15 +48,39 @@ def test_the_merger_and_what_is_read_are_counted(mine: Mine, mode: list[str]) ->
     assert int(told["PEAK"]) > 0
 
 
-@pytest.mark.parametrize("slopes", ["1:5", "1:9", "cone"])
-def test_the_closing_loop_merges_nothing_on_mines_of_the_bench(mine: Mine, slopes: str) -> None:
+def test_what_shells_read_is_counted(mine: Mine) -> None:
+    plain = mine.run(*SHELLS)
+    assert mine.run(*SHELLS, "--stats", "made.stats") == plain
+    told = stats(mine)
+    assert (int(told["BYTES"]), told["BLOCKS"], told["PAIRS"]) == (len(ORE_BELOW_WASTE) + len(CHAIN), "2", "1")
+
+
+def make_mine(mine: Mine, slopes: str) -> None:
+    """A mine of the bench, of 10,000 blocks."""
     words = ["--blocks", "10000", "--slopes", slopes, "--seed", "1", "--out", mine.folder / "mine"]
     subprocess.run([sys.executable, TOP / "tools" / "make_mine.py", *words], check=True, capture_output=True, timeout=60)
+
+
+@pytest.mark.parametrize("slopes", ["1:5", "1:9", "cone"])
+def test_the_closing_loop_merges_nothing_on_mines_of_the_bench(mine: Mine, slopes: str) -> None:
+    make_mine(mine, slopes)
     status, _, err = mine.run(*SOLVE, "--stats", "made.stats")
     assert (status, err) == (0, "")
     told = stats(mine)
     assert int(told["MERGERS"]) > 1000
-    assert told["CLOSING"] == "0"
+    assert int(told["RELABELS"]) > 1000
+    assert {told[field] for field in ("CLOSING", "PLANNED", "SWEEPS", "ASKS", "STALE")} == {"0"}
+
+
+def test_what_workers_decided_is_counted_by_their_journal(mine: Mine) -> None:
+    """They sweep a few times over asks by the thousand, which a plan of about as many mergers led to."""
+    make_mine(mine, "1:5")
+    assert mine.run(*SOLVE, "--mode", "shared", "--workers", "2", "--journal", "made.journal", "--stats", "made.stats")[0] == 0
+    verdicts = [line.split()[2] for line in mine.read("made.journal").splitlines()[5:]]
+    told = {field: int(number) for field, number in stats(mine).items() if "." not in number}
+    assert (told["ASKS"], told["STALE"]) == (len(verdicts), verdicts.count("2"))
+    assert told["MERGERS"] == verdicts.count("1") > 1000
+    assert 0 < told["SWEEPS"] < 1000 < told["PLANNED"]
 
 
 def test_asks_are_counted_in_mode_shared_alone(mine: Mine) -> None:
@@ -86,10 +112,27 @@ def test_the_file_may_be_no_input_and_must_be_makeable(mine: Mine, name: str) ->
     assert {file.name for file in mine.folder.iterdir()} == before
 
 
-def test_no_other_output_takes_its_place(mine: Mine) -> None:
+@pytest.mark.parametrize(("call", "name"), [([*SOLVE, "--fixed", "mine.fixed"], "mine.fixed"), (SHELLS, "mine.blocks"), (SHELLS, "mine.prec")])
+def test_the_file_may_be_no_fixed_file_and_no_input_of_shells(mine: Mine, call: list[str], name: str) -> None:
+    mine.write("mine.fixed", "in 0\n")
+    before = {file.name: file.read_text() for file in mine.folder.iterdir()}
+    assert mine.run(*call, "--stats", name) == REFUSED
+    assert {file.name: file.read_text() for file in mine.folder.iterdir()} == before
+
+
+def test_the_file_is_made_before_an_input_is_opened(mine: Mine) -> None:
+    assert mine.run("solve", "--model", "missing", "--prec", "missing", "--stats", "no/folder") == REFUSED
+
+
+@pytest.mark.parametrize("output", [["--certificate", "made"], ["--mode", "shared", "--journal", "made"]])
+def test_no_other_output_takes_its_place(mine: Mine, output: list[str]) -> None:
     before = {file.name for file in mine.folder.iterdir()}
-    assert mine.run(*SOLVE, "--certificate", "made", "--stats", "made") == REFUSED
+    assert mine.run(*SOLVE, *output, "--stats", "made") == REFUSED
     assert {file.name for file in mine.folder.iterdir()} == before
+
+
+def test_a_file_that_takes_nothing_is_a_fault_behind_the_answer(mine: Mine) -> None:
+    assert mine.run(*SOLVE, "--stats", "/dev/full") == (1, PIT, "error 18: write failed\n")
 
 
 def test_a_refused_run_leaves_what_stood_there(mine: Mine) -> None:
@@ -104,14 +147,14 @@ def test_a_used_up_budget_is_told_of(mine: Mine) -> None:
     assert (status, out, stats(mine)["MERGERS"]) == (3, "", "0")
 
 
-def stalled(mine: Mine, command: list[str | pathlib.Path]) -> tuple[int, str, str]:
-    """A run whose model stalls behind 40 bytes for two and a half seconds."""
+def stalled(mine: Mine, command: list[str | pathlib.Path], text: str = TWO_BLOCKS, cut: int = 40) -> tuple[int, str, str]:
+    """A run whose standard input, the model where nothing else is said, stalls behind so many bytes for two and a half seconds."""
     with subprocess.Popen(command, cwd=mine.folder, stdin=-1, stdout=-1, stderr=-1) as run:
         assert run.stdin is not None
-        run.stdin.write(TWO_BLOCKS[:40].encode())
+        run.stdin.write(text[:cut].encode())
         run.stdin.flush()
         time.sleep(2.5)
-        out, err = run.communicate(TWO_BLOCKS[40:].encode(), timeout=60)
+        out, err = run.communicate(text[cut:].encode(), timeout=60)
     return run.returncode, out.decode(), err.decode()
 
 
@@ -125,6 +168,15 @@ def test_a_line_comes_while_a_pipe_stalls(mine: Mine) -> None:
     assert (status, out) == (0, PIT)
     assert re.fullmatch(r"(pitshell: reading, 40 bytes, 0 blocks, 0 pairs\n){2,3}", err)
     assert 2 < float(stats(mine)["READING"]) < 60
+
+
+@pytest.mark.parametrize(("call", "model"), [(SOLVE, TWO_BLOCKS), (SHELLS, ORE_BELOW_WASTE)], ids=["solve", "shells"])
+def test_a_line_tells_what_was_read_so_far(mine: Mine, call: list[str], model: str) -> None:
+    """The model is read, and of the pairs three bytes: all is told without a file of what the run did."""
+    piped = ["/dev/stdin" if word == "mine.prec" else word for word in call]
+    status, out, err = stalled(mine, [PROGRAM, *piped, "--progress", "1"], CHAIN, 3)
+    assert (status, out) == mine.run(*call)[:2]
+    assert re.fullmatch(rf"(pitshell: reading, {len(model) + 3} bytes, 2 blocks, 0 pairs\n){{2,3}}", err)
 
 
 @pytest.mark.parametrize("closed", ["2>&-", "2>/dev/full"])
@@ -143,3 +195,59 @@ def test_where_no_thread_starts_no_time_is_told(mine: Mine, shim: pathlib.Path) 
     told = stats(mine)
     assert {told[phase] for phase in FIELDS[:5]} == {"0.000"}
     assert told["MERGERS"] == "1"
+
+
+def times(mine: Mine) -> dict[str, float]:
+    """The seconds at each phase, with three decimals each."""
+    told = {phase: stats(mine)[phase] for phase in FIELDS[:5]}
+    assert all(re.fullmatch(r"\d+\.\d{3}", seconds) for seconds in told.values())
+    return {phase: float(seconds) for phase, seconds in told.items()}
+
+
+def test_the_time_of_opening_is_that_of_a_pipe_that_nobody_writes_to(mine: Mine) -> None:
+    os.mkfifo(mine.folder / "pipe")
+    words = ["solve", "--model", "pipe", "--prec", "mine.prec", "--progress", "1", "--stats", "made.stats"]
+    with subprocess.Popen([PROGRAM, *words], cwd=mine.folder, stdout=-1, stderr=-1, text=True) as run:
+        time.sleep(1.5)
+        mine.write("pipe", TWO_BLOCKS)
+        out, err = run.communicate(timeout=60)
+    assert (run.returncode, out) == (0, PIT)
+    assert err.startswith("pitshell: opening\n")
+    told = times(mine)
+    assert told["OPENING"] == max(told.values()) > 1
+
+
+def test_the_time_of_writing_is_that_of_a_reader_who_waits(mine: Mine) -> None:
+    """The pit of 30,000 blocks is more than a pipe takes at once."""
+    mine.write("mine.upit", model_of(["1"] * 30_000))
+    mine.write("mine.prec", "")
+    with subprocess.Popen([PROGRAM, *SOLVE, "--progress", "1", "--stats", "made.stats"], cwd=mine.folder, stdout=-1, stderr=-1, text=True) as run:
+        time.sleep(2.5)
+        out, err = run.communicate(timeout=60)
+    assert (run.returncode, out) == (0, pit_of(30_000, list(range(30_000)), "30000.000000"))
+    assert err.endswith("pitshell: writing\n")
+    told = times(mine)
+    assert told["WRITING"] == max(told.values()) > 1
+
+
+COLUMN = 40_000
+
+
+def test_the_time_of_solving_is_that_of_a_single_column(mine: Mine) -> None:
+    """Its deeper half is ore, of which a block pays for two of waste: small to read and to write, and long to solve."""
+    mine.write("mine.upit", model_of(["-1"] * (COLUMN // 2) + ["2"] * (COLUMN // 2)))
+    mine.write("mine.prec", "".join(f"{block} 1 {block - 1}\n" for block in range(1, COLUMN)))
+    status, out, err = mine.run(*SOLVE, "--progress", "1", "--stats", "made.stats")
+    assert (status, out) == (0, pit_of(COLUMN, list(range(COLUMN)), f"{COLUMN // 2}.000000"))
+    assert re.search(r"^pitshell: solving, [1-9]\d* mergers$", err, re.MULTILINE)
+    told = times(mine)
+    assert told["SOLVING"] == max(told.values()) > 1 and told["PLANNING"] == 0
+
+
+@pytest.mark.parametrize(("closed", "more", "due"), [("<&- >&- 2>&-", ["--budget", "0"], 3), (">&-", [], 1)])
+def test_no_closed_stream_is_written_to_the_file(mine: Mine, closed: str, more: list[str], due: int) -> None:
+    """It is the first file that is made, and would get the number of a stream that the caller closed."""
+    command = ["sh", "-c", f'"$0" "$@" {closed}', PROGRAM, *SOLVE, *more, "--stats", "made.stats"]
+    assert subprocess.run(command, cwd=mine.folder, timeout=60).returncode == due
+    assert (mine.folder / "made.stats").exists() == (due == 3)
+    assert due == 1 or stats(mine)["MERGERS"] == "0"

@@ -116,3 +116,31 @@ def test_a_full_standard_output(mine: Mine) -> None:
     with open("/dev/full", "w") as full:
         ran = subprocess.run([PROGRAM, *SOLVE], cwd=mine.folder, stdout=full, stderr=subprocess.PIPE, timeout=60)
     assert (ran.returncode, ran.stderr) == (1, b"error 18: write failed\n")
+
+
+@pytest.mark.parametrize("words", [SOLVE, shells()], ids=["solve", "shells"])
+def test_so_many_workers_are_started_as_were_asked_for(mine: Mine, shim: pathlib.Path, words: list[str]) -> None:
+    """Beside the threads that any run starts; four where no number is given."""
+
+    def started(*more: str) -> int:
+        told = mine.folder / "counts"
+        env = {"LD_PRELOAD": str(shim), "COUNT_CALLS": str(told)}
+        subprocess.run([PROGRAM, *words, "--mode", "shared", *more], cwd=mine.folder, env=env, check=True, capture_output=True, timeout=60)
+        return int(told.read_text().split()[3])
+
+    one = started("--workers", "1")
+    assert [started("--workers", number) - one for number in ("2", "7")] == [1, 6]
+    assert started() - one == 3
+
+
+@pytest.mark.parametrize("column", ["revenue", "cost"])
+def test_the_last_column_may_be_named(mine: Mine, column: str) -> None:
+    """Attributes are 64 at most, the first being 0: the mine has two."""
+    words = [*shells(**{column: "63"})]
+    assert mine.run(*words) == (1, "", "error 16: no column 63 in blocks\n")
+
+
+def test_the_exchanges_that_are_planted_by_hand_stand_in_the_sources() -> None:
+    """tools/wiring.py plants them; what it says of a stale one is its name."""
+    ran = subprocess.run([TOP / "tools" / "wiring.py", "--read"], capture_output=True, text=True, timeout=60)
+    assert (ran.returncode, ran.stdout, ran.stderr) == (0, "", "")

@@ -2,7 +2,8 @@
 """Lists what the documents name and nothing has, and ends with 1 if there is any.
 
 The documents are README.md, CONTRIBUTING.md, docs/ and the crates' READMEs. Of each is looked at:
-- a link to a file, which must exist; and where the link's words are a name in backticks, the file must have that name;
+- a link to a file, which must exist, with a heading where the link names one; and where the link's words are a name in backticks, the
+  file must have that name;
 - a path in backticks, alone or in a command, which must exist (beside the document, or from the top); stars stand for anything;
 - a name in backticks, which must stand as a word somewhere in the sources, whole or by its parts (`Holder::law`).
 What a command writes, below build/, and words of other programs (OTHERS) are left out.
@@ -54,15 +55,28 @@ def is_known(name: str) -> bool:
     return all(part in words() or part in OTHERS for part in re.findall(r"\w+", name))
 
 
+@functools.cache
+def headings(file: pathlib.Path) -> set[str]:
+    """How links name the headings of a document: in lower case, with dashes for blanks and without other signs."""
+    found = re.findall(r"^#+ (.*)$", without_code(file.read_text()), re.MULTILINE)
+    return {re.sub(r"[^\w -]", "", heading.strip().lower()).replace(" ", "-") for heading in found}
+
+
+def without_code(text: str) -> str:
+    return re.sub(r"^```.*?^```", "", text, flags=re.MULTILINE | re.DOTALL)
+
+
 def wrong_links(text: str, document: pathlib.Path) -> list[str]:
     found = []
-    for label, target in re.findall(r"\[([^\]]*)\]\(([^)#\s]+)[^)]*\)", text):
+    for label, target, heading in re.findall(r"\[([^\]]*)\]\(([^)#\s]*)#?([^)]*)\)", text):
         if "://" in target:
             continue
-        file = document.parent / target
+        file = document.parent / target if target else document
         name = re.fullmatch(r"`([\w:]+)`", label)
         if not file.exists():
             found.append(f"no file {target}")
+        elif heading and heading not in headings(file):
+            found.append(f"{target or 'it'} has no heading {heading}")
         elif name and not all(re.search(rf"\b{part}\b", file.read_text()) for part in name[1].split("::")):
             found.append(f"{target} has no {name[1]}")
     return found
@@ -86,7 +100,7 @@ def wrong_names(text: str, document: pathlib.Path) -> list[str]:
 def main() -> int:
     wrong = []
     for document in sorted(file for pattern in DOCUMENTS for file in TOP.glob(pattern)):
-        text = re.sub(r"^```.*?^```", "", document.read_text(), flags=re.MULTILINE | re.DOTALL)
+        text = without_code(document.read_text())
         wrong += [f"{document.relative_to(TOP)}: {it}" for it in [*wrong_links(text, document), *wrong_names(text, document)]]
     print("".join(f"{it}\n" for it in wrong), end="")
     return 1 if wrong else 0

@@ -10,7 +10,7 @@ set -eu
 packages="
 python3-numpy         core     arrays, everywhere
 python3-pandas        core     tables, everywhere
-python3-scipy         core     surfaces between points, the second look at a plan
+python3-scipy         core     surfaces between points, hulls of walls, the second look at a plan
 python3-matplotlib    core     pictures
 python3-jinja2        core     the report's page and the 3D page
 python3-vtk9          tests    pitplan export --to vti, and probability.vti of scenarios

@@ -3,12 +3,28 @@
     import pitplan
 
     plan = pitplan.prepare("project.toml")      # plan.blocks: one row a block, with costs and revenue
-    solution = pitplan.solve(plan)              # the program's shells
+    solution = pitplan.solve(plan)              # the program's shells; solution.worth: exact, by factor
     pitplan.blocks(plan, solution)              # plan.blocks with the least factor of each block
     pitplan.shells(plan, solution)              # one row a factor: tonnes, grades, strip ratio, worth, NPV
     pitplan.years(plan, solution)               # one row a case, factor and year: rock, ore, metal, cash
 
-What the subcommands write, `write_shells`, `pit`, `pushbacks`, `view`, `export`, `audit`, `scenarios`, `gather` and `verify` write too, or look at.
+Functions write what the subcommands do, by default into the project's own folder:
+
+    table = pitplan.write_shells("project.toml", "out")    # as pitplan shells, verified: one row a factor
+    pitplan.view("out")                                    # the path of view.html
+    pitplan.export("out", "csv")                           # that of pit.csv; or "vti", or "dxf" with a factor
+    pitplan.audit("out", 800)                              # that of a folder by which others can check the shell
+    rules = pitplan.verify("out")                          # each with what holds, differences, and their count
+    pits = pitplan.pit("project.toml", 1000)               # a row with the fixed blocks and one without
+    phases = pitplan.pushbacks("project.toml")             # one row a phase
+    found = pitplan.scenarios("project.toml")              # found.probability, found.table, found.quantiles; found.notes
+
+`Request` says where and how scenarios are solved; `gather(folder)` gathers what others have solved.
+
+Functions `plot_...` draw on axes of your own, which they give back, and leave matplotlib's backend as it is: those of `pitplan.pictures`
+take a table of shells, or `pictures.scene_of(plan, solution)`; those of `pitplan.phase_pictures` its
+`scene_of(pitplan.phases.divide(plan))`; `pitplan.yearly.plot_years` a table of years; and those of `pitplan.simulation.pictures`
+`found.likely(1000)` or `found.table`.
 
 That a shell is the smallest set of greatest worth that keeps the needs is proved of the program, for the files that it
 reads. This layer, which writes those files, is not proved; `plan.notes` says what it rounded, dropped and clipped.

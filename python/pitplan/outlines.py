@@ -1,4 +1,8 @@
-"""The outlines of a set of cells in a plane: the steps of block edges between what is inside and what is not."""
+"""The outlines of a set of cells in a plane: the steps of block edges between what is inside and what is not.
+
+By code of its own, since shapely's polygonize takes 13 times as long for the 50 levels of a pit of a million cells (3.2 s for 0.24), and
+parts holes that touch at a corner.
+"""
 
 from __future__ import annotations
 

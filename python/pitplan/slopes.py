@@ -11,6 +11,7 @@ import math
 from dataclasses import dataclass
 
 import numpy as np
+from scipy.spatial import ConvexHull, QhullError
 
 from . import cones
 from .errors import PlanError
@@ -121,15 +122,26 @@ def wall_angles(offsets: tuple[Offset, ...], size: tuple[float, float, float]) -
 
 def angles_of(points: set[Point]) -> np.ndarray:
     """Angles in degrees, at each whole azimuth, of walls whose hull has the points: metres east and north, a metre up."""
-    hull = hull_of(sorted(points | {(0.0, 0.0)}))
-    edges = [(b[1] - a[1], a[0] - b[0]) for a, b in zip(hull, hull[1:] + hull[:1]) if a != b]
-    normals = np.array(edges + [(1.0, 0.0), (-1.0, 0.0), (0.0, 1.0), (0.0, -1.0)])
-    far = (normals @ np.array(hull).T).max(1)
+    sides = sides_of(np.array(sorted(points | {(0.0, 0.0)})))
     towards = np.stack([np.sin(np.radians(AZIMUTHS)), np.cos(np.radians(AZIMUTHS))])
-    along = normals @ towards
+    along = sides[:, :2] @ towards
     with np.errstate(divide="ignore", invalid="ignore"):
-        reach = np.where(along > 1e-12, far[:, None] / along, np.inf).min(0)
+        reach = np.where(along > 1e-12, -sides[:, 2:] / along, np.inf).min(0)
     return np.degrees(np.arctan2(1.0, np.maximum(reach, 0.0)))
+
+
+def sides_of(points: np.ndarray) -> np.ndarray:
+    """Sides round the points x, y, the origin among them, as rows a, b, c: a x + b y + c is at most 0 within.
+
+    They are those of the convex hull, and six that go round it: what is left where all points are on one line, which has no hull.
+    """
+    x, y = points[np.hypot(*points.T).argmax()]
+    normals = np.array([(1.0, 0.0), (-1.0, 0.0), (0.0, 1.0), (0.0, -1.0), (-y, x), (y, -x)])
+    round_it = np.column_stack([normals, -(normals @ points.T).max(axis=1)])
+    try:
+        return np.concatenate([round_it, ConvexHull(points).equations])
+    except QhullError:
+        return round_it
 
 
 def rim_of(cells: np.ndarray, up: int, size: tuple[float, float, float]) -> set[Point]:
@@ -145,24 +157,6 @@ def rim_of(cells: np.ndarray, up: int, size: tuple[float, float, float]) -> set[
 def angles_of_cone(cone: np.ndarray, size: tuple[float, float, float]) -> np.ndarray:
     """Angles in degrees, at each whole azimuth, of the high walls that a cone's steps together make."""
     return angles_of(set().union(*(rim_of(cone[up], up, size) for up in range(1, len(cone)))))
-
-
-def hull_of(points: list[Point]) -> list[Point]:
-    """The convex hull of sorted points, anticlockwise (Andrew's monotone chain)."""
-
-    def half(ordered: list[Point]) -> list[Point]:
-        chain: list[Point] = []
-        for p in ordered:
-            while len(chain) > 1 and turn(chain[-2], chain[-1], p) <= 0:
-                chain.pop()
-            chain.append(p)
-        return chain[:-1]
-
-    return half(points) + half(points[::-1]) if len(points) > 1 else list(points)
-
-
-def turn(a: Point, b: Point, c: Point) -> float:
-    return (b[0] - a[0]) * (c[1] - a[1]) - (b[1] - a[1]) * (c[0] - a[0])
 
 
 def pattern_of(wall: Wall, size: tuple[float, float, float], slopes: Slopes) -> Pattern:
@@ -187,16 +181,19 @@ def pattern_of(wall: Wall, size: tuple[float, float, float], slopes: Slopes) -> 
 
 def levels_of(wall: Wall, size: tuple[float, float, float], asked: np.ndarray) -> int:
     """The least number of levels, up to the most, with which no wall is steeper than asked by more than STEEPER degrees."""
-    hull: list[Point] = []
+    points: set[Point] = set()
     for levels in range(1, MOST_LEVELS + 1):
-        hull = hull_of(sorted({*hull, *rim_of(within(wall.angles, size, np.array([levels]))[0], levels, size)}))
-        if (angles_of(set(hull)) - asked).max() <= STEEPER:
+        points |= rim_of(within(wall.angles, size, np.array([levels]))[0], levels, size)
+        if (angles_of(points) - asked).max() <= STEEPER:
             return levels
     return MOST_LEVELS
 
 
 def widening(wall: Wall, size: tuple[float, float, float], levels: int, asked: np.ndarray) -> float:
-    """The least factor, to a thousandth, by which the cone is widened so that no high wall is steeper than asked."""
+    """The least factor, to a thousandth, by which the cone is widened so that no high wall is steeper than asked.
+
+    One number for the whole cone is simple to say and to check, and makes walls flatter than need be at some azimuths.
+    """
 
     def steepest(by: float) -> float:
         return float((angles_of_cone(cone(wall.angles, size, levels, by), size) - asked).max())

@@ -2,7 +2,9 @@
 
 A block pays where its value at the greatest factor is above 0. The smallest best pit of that factor, and so of each
 lower one, is made of paying blocks and of what these need, directly or through others: blocks outside that set keep no
-needs, and stay as blocks that nobody digs. What is left out holds for factors up to that greatest one.
+needs, and stay as blocks that nobody digs. What is left out holds for factors up to that greatest one, at which all blocks pay that
+pay at a lesser one. Scenarios share the needs that are left without selling cost, for the same reason; they give the same pits, and so
+are no part of the name of a scenario's answer.
 """
 
 from __future__ import annotations

@@ -8,7 +8,6 @@ from decimal import Decimal
 
 import pandas as pd
 import pytest
-from conftest import ROOT
 from matplotlib.figure import Figure
 from test_fixed import FIXED_SECTION, ores_and_fixed, with_section
 from test_scenarios import COLUMNS, PRICES, UPRIGHT, pillar
@@ -16,7 +15,8 @@ from test_scenarios import COLUMNS, PRICES, UPRIGHT, pillar
 import pitplan
 from pitplan import PlanError, Request
 
-PAGE = (ROOT / "docs" / "PLANNING.md").read_text(encoding="utf-8")
+# The lines that the package's own help shows.
+LINES = "\n".join(re.findall(r"^    (.+)$", pitplan.__doc__ or "", re.MULTILINE))
 FUNCTIONS = [name for name in pitplan.__all__ if inspect.isfunction(getattr(pitplan, name))]
 
 
@@ -127,8 +127,8 @@ def test_lists_of_jobs_are_told_by_what_to_start(plan_folder):
         pitplan.gather(found.folder)
 
 
-def test_the_lines_of_the_page_that_write_run(plan_folder, monkeypatch):
-    """In a folder whose project has fixed blocks, phases, scenarios and the page's factor."""
+def test_the_lines_of_the_help_run(plan_folder, monkeypatch):
+    """In a folder whose project has fixed blocks, phases, scenarios and the help's factor."""
     pytest.importorskip("distributed", reason="needs the Debian package python3-distributed")
     table = ores_and_fixed().assign(sim_1=lambda it: it["cu"], sim_2=lambda it: it["cu"] / 2)
     more = '[pushbacks]\nfactors = [500, 1000]\n[scenarios]\ncolumns = { copper = "sim_*" }\n'
@@ -136,7 +136,7 @@ def test_the_lines_of_the_page_that_write_run(plan_folder, monkeypatch):
     path = plan_folder(table, text)
     monkeypatch.chdir(path.parent)
     names = {}
-    exec(re.findall(r"```python\n(.*?)```", PAGE, re.DOTALL)[1], names)
+    exec(LINES, names)
     assert names["table"]["factor"].tolist() == [500, 800, 1000] and all(rule.count == 0 for rule in names["rules"])
     assert (path.parent / "out" / "audit-800" / "check.sh").exists()
     assert names["found"].quantiles["factor"].tolist() == [500, 800, 1000]

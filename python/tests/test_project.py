@@ -1,10 +1,15 @@
 """Projects that are refused, each by a sentence with file, section and key."""
 
+import re
+
 import pytest
-from conftest import PROJECT, rows
+from conftest import PROJECT, ROOT, rows
 
 import pitplan
 from pitplan import PlanError
+from pitplan.section import Section
+
+EXAMPLE = ROOT / "examples" / "plan" / "project.toml"
 
 
 def test_a_byte_order_mark_is_passed_over_and_another_encoding_is_refused(plan_folder):
@@ -224,3 +229,22 @@ def test_two_metals_of_one_name_are_refused(plan_folder):
 def test_a_share_of_the_price_is_told_in_per_mille(plan_folder, item, share):
     with pytest.raises(PlanError, match=f"1000 is the price as given, and {share} is {item} of it"):
         pitplan.load(plan_folder(rows(2, 2, 2), PROJECT, ("[500, 1000, 1500]", f"[{item}]")))
+
+
+def test_the_example_names_each_key_of_its_sections_and_no_other(monkeypatch):
+    """Those that it does without stand behind a #."""
+    asked, finish = {}, Section.finish
+
+    def noting(section):
+        asked.setdefault(section.name.partition(" ")[0], set()).update(section.asked - {"walls"})
+        finish(section)
+
+    monkeypatch.setattr(Section, "finish", noting)
+    pitplan.load(EXAMPLE)
+    named, section = {}, ""
+    for line in EXAMPLE.read_text(encoding="utf-8").splitlines():
+        head, key = re.match(r"(?:# )?\[+([\w.]+)\]", line), re.match(r"(?:# )?(\w+) = ", line)
+        section = head[1] if head else section
+        named.setdefault(section, set()).update({key[1]} if key else ())
+    sections = ("table", "grid", "money", "metals", "slopes", "slopes.walls", "shells")
+    assert {name: named[name] for name in sections} == {name: asked[name] for name in sections}

@@ -123,6 +123,9 @@ def test_walls_that_stand_upright_and_lists_without_width():
     assert slopes.wall_angles(((0, 0, 1),), CUBE) == pytest.approx(np.full(360, 90.0))
     line = slopes.wall_angles(((0, 0, 1), (1, 0, 1)), CUBE)
     assert line[90] == pytest.approx(45) and line[270] == pytest.approx(90) and line[0] == pytest.approx(90)
+    # A block and the one above it in the north-east: a step up for each root of two.
+    askew = slopes.wall_angles(((0, 0, 1), (1, 1, 1)), CUBE)
+    assert askew[45] == pytest.approx(math.degrees(math.atan(1 / math.sqrt(2)))) and np.delete(askew, 45) == pytest.approx(np.full(359, 90.0))
     assert least_list(90, CUBE, 4) == ((0, 0, 1),)
 
 

@@ -1,4 +1,8 @@
-"""Many scenarios: simulated models of the grades, each solved at each set of prices, on one machine or on many."""
+"""Many scenarios: simulated models of the grades, each solved at each set of prices, on one machine or on many.
+
+All models are read before anything is solved, so that a mistake in the last one stops nothing half-way. Answers are files and no
+messages: a scheduler can lose only a number. Lists for Slurm and GNU parallel are text that a person can change; nothing here submits them.
+"""
 
 from __future__ import annotations
 

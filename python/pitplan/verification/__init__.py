@@ -1,7 +1,22 @@
 """A second way to every number that a plan's folder tells: from the project, its table and the files of the answer alone.
 
 It has nothing in common with what it checks but the reader of the project and of its table. Whether each shell is the best is proved
-of the program, for the files that it was given; here is looked whether these say what the project says, and whether the answer does.
+of the program, for the files that it was given; here is looked whether these say what the project says, and whether the answer does:
+
+- each block of the table stands in the answer, in its own cell; where the project gives a rock to cells without rows, each that is not
+  above the highest row of its column is a block of that rock, and no other is;
+- no shell leaves a block standing, or ground of which nothing is known, in the whole cone above a block that it digs, by that block's
+  own region and over as many levels as its needs reach; where the project leaves the levels open, no wall comes out more than half a
+  degree steeper than asked;
+- what must be dug is in every shell and what may not be is in none; the surface as mined over a column without points is there a
+  triangle of three points whose circle holds no other, and where several may be laid, as on a regular grid of points, the highest;
+- each cost and each revenue is the product of the table's and the project's numbers: by floats for all blocks, and exactly, by
+  decimals, for those at the edge of a shell and 10,000 others;
+- the table of shells adds up, and the program's worth of each shell is that of its blocks to the last digit that blocks.csv holds;
+- no year exceeds a capacity, the years add up to their shell, and both net present values follow from its benches;
+- of `pit`, both rows of pits.csv are right in all this, and the pit without fixed blocks is worth no less;
+- phases are closed under the whole cones, hold what must be dug in phase 1 and what may not be in none, add up, and are as wide as
+  asked, which is counted anew by sums over squares.
 """
 
 from __future__ import annotations

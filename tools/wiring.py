@@ -1,0 +1,127 @@
+#!/usr/bin/env python3
+"""Plants exchanges in the program's own wiring, builds it so, and looks whether the test named beside each fails.
+
+    tools/wiring.py [--only WORD] [--results FILE]      by hand; a proof of the program a round
+    tools/wiring.py --read                              plants none: each can be planted, and its test is there
+
+No contract says which option goes to which field, when an output is kept, or what a file of the system may be: the prover lets an
+exchange pass, and only a test of the built program refuses it. wiring.toml lists them. Those that have no feature in common are planted
+together, since the test of one cannot see the others. An exchange that its test does not see is named, and the status is 1; it is 2
+where a round is not proved.
+"""
+
+import argparse
+import datetime
+import os
+import pathlib
+import re
+import subprocess
+import sys
+import tomllib
+from typing import NamedTuple
+
+import clone
+from build import PROGRAM
+from crates import TOP, in_order
+
+SOURCES = pathlib.Path("crates") / "pitshell" / "src"
+
+
+class Exchange(NamedTuple):
+    """What is exchanged, in a file of the program: old texts and new ones; what it may alter and its test uses; and that test."""
+
+    what: str
+    file: str
+    change: list[list[str]]
+    features: str
+    test: str
+
+    def planted(self, text: str) -> str:
+        """The file's text with the exchange. Raises ValueError where an old text does not stand once."""
+        for old, new in self.change:
+            if text.count(old) != 1:
+                raise ValueError(f"{self.what}: {self.file} has this {text.count(old)} times: {old}")
+            text = text.replace(old, new)
+        return text
+
+
+def listed() -> list[Exchange]:
+    told = tomllib.loads((TOP / "tools" / "wiring.toml").read_text())["exchange"]
+    return [Exchange(**it) for it in told]
+
+
+def misplaced(exchange: Exchange) -> str:
+    """Why an exchange cannot be planted or tried; empty where it can."""
+    name, _, test = exchange.test.partition("::")
+    if not re.search(rf"^def {re.escape(test.partition('[')[0])}\(", (TOP / "tests" / name).read_text(), re.MULTILINE):
+        return f"{exchange.what}: no test {exchange.test}"
+    try:
+        exchange.planted((TOP / SOURCES / exchange.file).read_text())
+    except ValueError as error:
+        return str(error)
+    return ""
+
+
+def rounds(exchanges: list[Exchange]) -> list[list[Exchange]]:
+    """The exchanges in as few rounds as come of putting each into the first that it shares no feature with."""
+    found: list[tuple[set[str], list[Exchange]]] = []
+    for exchange in exchanges:
+        features = set(exchange.features.split())
+        place = next((it for it in found if not features & it[0] and "all" not in features | it[0]), None)
+        if place is None:
+            found.append((set(features), [exchange]))
+        else:
+            place[0].update(features)
+            place[1].append(exchange)
+    return [it for _, it in found]
+
+
+def fails(test: str, program: pathlib.Path) -> bool:
+    """Whether the test fails over this program, and not because there is no such test."""
+    words = ["/usr/bin/python3", "-m", "pytest", "-q", "-x", "-p", "no:cacheprovider", f"tests/{test}"]
+    ran = subprocess.run(words, cwd=TOP, env={**os.environ, "PITSHELL": str(program)}, capture_output=True, text=True)
+    if ran.returncode not in (0, 1):
+        raise RuntimeError(f"{test}: {ran.stdout[-400:]}{ran.stderr[-400:]}")
+    return ran.returncode == 1
+
+
+def try_round(together: list[Exchange]) -> list[str]:
+    """What is told of each exchange, planted together: "seen", "not seen", or "not proved" of all."""
+    with clone.clone(only=in_order(PROGRAM)) as copy:
+        for exchange in together:
+            file = copy / SOURCES / exchange.file
+            file.write_text(exchange.planted(file.read_text()))
+        lines: list[str] = []
+        clone.prove(copy, lines.append)
+        program = copy / "crates" / PROGRAM / "out" / PROGRAM
+        if not program.is_file():
+            print("".join(lines[-30:]))
+            return ["not proved"] * len(together)
+        return ["seen" if fails(exchange.test, program) else "not seen" for exchange in together]
+
+
+def main() -> int:
+    parser = argparse.ArgumentParser(description=__doc__, formatter_class=argparse.RawDescriptionHelpFormatter)
+    parser.add_argument("--only", default="", metavar="WORD", help="the exchanges alone whose words have this one")
+    parser.add_argument("--read", action="store_true", help="plant none")
+    parser.add_argument("--results", type=pathlib.Path)
+    given = parser.parse_args()
+    exchanges = [it for it in listed() if given.only in it.what]
+    wrong = [it for it in map(misplaced, exchanges) if it]
+    if wrong or given.read:
+        print("".join(f"{it}\n" for it in wrong), end="")
+        return 1 if wrong else 0
+    rows = [f"# Exchanges in the program's wiring, {datetime.date.today()}", "", "`tools/wiring.py`: no contract refuses these; the test beside each must.", "", "| exchange | test | told |", "|---|---|---|"]
+    told: list[str] = []
+    for together in rounds(exchanges):
+        answers = try_round(together)
+        rows += [f"| {it.file}: {it.what} | `{it.test}` | {answer} |" for it, answer in zip(together, answers)]
+        print("\n".join(rows[-len(together) :]), flush=True)
+        told += answers
+    if given.results:
+        given.results.write_text("\n".join(rows) + "\n")
+    return 2 if "not proved" in told else 1 if "not seen" in told else 0
+
+
+if __name__ == "__main__":
+    sys.exit(main())
