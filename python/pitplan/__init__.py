@@ -8,14 +8,14 @@
     pitplan.shells(plan, solution)              # one row a factor: tonnes, grades, strip ratio, worth, NPV
     pitplan.years(plan, solution)               # one row a case, factor and year: rock, ore, metal, cash
 
-What the subcommands write, `write_shells`, `pit`, `pushbacks`, `view`, `export`, `audit`, `scenarios`, `gather` and `verify` write too, or look at.
+What the subcommands write, `write_shells`, `pit`, `pushbacks`, `write_schedule`, `view`, `export`, `audit`, `scenarios`, `gather` and `verify` write too, or look at.
 
 That a shell is the smallest set of greatest worth that keeps the needs is proved of the program, for the files that it
 reads. This layer, which writes those files, is not proved; `plan.notes` says what it rounded, dropped and clipped.
 """
 
 from .analyse import blocks, shells, years
-from .commands import audit, export, gather, pit, pushbacks, scenarios, verify, view, write_shells
+from .commands import audit, export, gather, pit, pushbacks, scenarios, verify, view, write_schedule, write_shells
 from .errors import BudgetUsedUp, MissingPackage, PlanError, ProgramError
 from .plan import Plan, prepare
 from .project import Project, load
@@ -49,6 +49,7 @@ __all__ = [
     "solve",
     "verify",
     "view",
+    "write_schedule",
     "write_shells",
     "years",
 ]

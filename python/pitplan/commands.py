@@ -10,7 +10,8 @@ from typing import Any, Optional, Union
 import numpy as np
 import pandas as pd
 
-from . import absent, analyse, auditing, exports, files, page, phase_pictures, phases as phasing, pictures, report, run, simulation, verification, yearly
+from . import absent, analyse, auditing, exports, files, page, phase_pictures, phases as phasing, pictures, report, run, simulation, verification
+from . import yearly, yearly_schedule as scheduling
 from .errors import PlanError
 from .phases import Phases
 from .plan import Plan, prepare as prepare_plan
@@ -18,6 +19,7 @@ from .progress import Progress, silent
 from .project import REFERENCE_FACTOR, Project, load
 from .simulation import Request, ScenarioResult
 from .verification import Rule
+from .yearly_schedule import YearlySchedule
 
 # A project, or where its project.toml is; and a folder.
 Source = Union[str, Path, Project]
@@ -42,6 +44,8 @@ WRITTEN = {
     files.SHELLS,
     files.YEARS,
     files.PHASES,
+    files.SCHEDULE,
+    files.SCHEDULE_RECORD,
     files.ANSWER,
     REPORT,
     VIEW,
@@ -152,7 +156,7 @@ def write_shells(
     with files.staged(target) as stage:
         record = write_prepared(plan, stage, progress) | {"program": identity}
         solution = run.solve(plan, stage, progress)
-        return write_answer(plan, solution, record, Writing(stage, progress, verifies))
+        return write_answer(Answered(plan, solution), record, Writing(stage, progress, verifies))
 
 
 def pushbacks(
@@ -175,8 +179,34 @@ def pushbacks(
         record = write_prepared(plan, stage, progress) | {"program": identity}
         phases = phasing.divide(plan, stage, progress)
         record["notes"] += phases.notes
-        write_answer(phases.plan, phases.solution, record, Writing(stage, progress, verifies), phases)
+        write_answer(Answered(phases.plan, phases.solution, phases), record, Writing(stage, progress, verifies))
     return phasing.table(phases)
+
+
+def write_schedule(
+    project: Source, folder: Optional[Place] = None, progress: Progress = silent, verifies: bool = True
+) -> pd.DataFrame:
+    """Divides the pit of one factor into phases and schedules their benches by years, as `pitplan schedule` does.
+
+    Gives a table with a row a way in which that was done: by rule, and by a linear programme. Into the folder (by default schedule in the
+    project's own) it writes what `pushbacks` writes, with each block's year in blocks.csv and the ways' years in years.csv, and
+    schedule.csv and schedule.json. An interruption while programmes are solved ends these alone: schedule.json says so.
+
+    Raises PlanError where the project has no `[pushbacks]`, the pit is empty or takes too many years, and where what is written is not
+    right, unless it is not verified.
+    """
+    project = phasing.ending(read(project))
+    target = project.folder / "schedule" if folder is None else Path(folder)
+    demand_apart(project, target)
+    identity = run.identity()
+    plan = prepare_plan(project, progress=progress)
+    with files.staged(target) as stage:
+        record = write_prepared(plan, stage, progress) | {"program": identity}
+        phases = phasing.divide(plan, stage, progress)
+        schedule = scheduling.make(phases, progress)
+        record["notes"] += [*phases.notes, *scheduling.notes(schedule)]
+        write_answer(Answered(phases.plan, phases.solution, phases, schedule), record, Writing(stage, progress, verifies))
+    return scheduling.ways(schedule)
 
 
 @dataclass(frozen=True)
@@ -188,19 +218,30 @@ class Writing:
     verifies: bool
 
 
-def write_answer(
-    plan: Plan, solution: run.Solution, record: dict[str, Any], writing: Writing, phases: Optional[Phases] = None
-) -> pd.DataFrame:
-    """Writes tables, pictures, the report and the record of shells, and of their phases where there are such; gives the shells' table."""
+@dataclass(frozen=True)
+class Answered:
+    """What was found of a plan: its shells, and where they were asked for phases of these and a yearly schedule of the phases."""
+
+    plan: Plan
+    solution: run.Solution
+    phases: Optional[Phases] = None
+    schedule: Optional[YearlySchedule] = None
+
+
+def write_answer(answered: Answered, record: dict[str, Any], writing: Writing) -> pd.DataFrame:
+    """Writes tables, pictures, the report and the record of what was found; gives the shells' table."""
+    plan, solution, phases = answered.plan, answered.solution, answered.phases
     stage, progress, project = writing.stage, writing.progress, plan.project
     with progress.step("counting the shells"):
-        table, years = write_tables(plan, solution, stage, phases)
+        table, years = write_tables(answered, stage)
         record["notes"] += analyse.edge_notes(plan, solution)
     chosen = analyse.chosen_factor(table, project.schedule)
     check_fixed(plan, solution, chosen, stage, progress)
     record["shells"] = {"factors": list(project.schedule.factors), "chosen": chosen, "program": record.pop("program")}
     if phases is not None:
         record["phases"] = len(phases.factors)
+    if answered.schedule is not None:
+        record["schedule"] = answered.schedule.shown
     note_verified(plan, record, stage, writing.verifies, progress)
     drawn = PICTURES if phases is None else PICTURES | PHASE_PICTURES
     with progress.step("drawing"):
@@ -210,20 +251,31 @@ def write_answer(
             scene = phase_pictures.scene_of(phases)
             phase_pictures.write_plans(scene, stage / PHASE_PICTURES["phase_plans"])
             phase_pictures.write_sections(scene, stage / PHASE_PICTURES["phase_sections"])
-    names = [*written(plan), *([PIT_MODEL] if project.fixed else []), files.ANSWER, files.TABLE, files.SHELLS, files.YEARS]
-    finish(plan, record, [*names, *([files.PHASES] if phases else []), *drawn.values()], stage)
+    finish(plan, record, [*written(plan), *([PIT_MODEL] if project.fixed else []), *tables_of(answered), *drawn.values()], stage)
     facts = facts_of(record, {name: stage / file for name, file in drawn.items()})
     report.write(stage / REPORT, project, table, facts, None if phases is None else phasing.table(phases))
     return table
 
 
-def write_tables(
-    plan: Plan, solution: run.Solution, stage: Path, phases: Optional[Phases] = None
-) -> tuple[pd.DataFrame, pd.DataFrame]:
-    """Writes the program's answer, blocks.csv, shells.csv, years.csv, and of phases phases.csv; gives the shells and the years."""
+def tables_of(answered: Answered) -> list[str]:
+    """The names of the tables that `write_tables` writes."""
+    names = [files.ANSWER, files.TABLE, files.SHELLS, files.YEARS, *([files.PHASES] if answered.phases else [])]
+    return [*names, files.SCHEDULE, files.SCHEDULE_RECORD] if answered.schedule else names
+
+
+def write_tables(answered: Answered, stage: Path) -> tuple[pd.DataFrame, pd.DataFrame]:
+    """Writes the program's answer, blocks.csv, shells.csv, years.csv, of phases phases.csv, and of a schedule schedule.csv and
+    schedule.json; gives the shells and the years."""
+    plan, solution, phases, schedule = answered.plan, answered.solution, answered.phases, answered.schedule
     table, years = analyse.shells(plan, solution), analyse.years(plan, solution)
     (stage / files.ANSWER).write_bytes(solution.answer)
-    write_table(analyse.blocks(plan, solution) if phases is None else phasing.blocks(phases), stage)
+    blocks = analyse.blocks(plan, solution) if phases is None else phasing.blocks(phases)
+    if schedule is not None:
+        blocks["year"] = scheduling.blocks_year(schedule)[blocks["id"].to_numpy()]
+        years = pd.concat([years, scheduling.years(schedule)], ignore_index=True)
+        shown(scheduling.table(schedule)).to_csv(stage / files.SCHEDULE, index=False)
+        files.write_json(stage / files.SCHEDULE_RECORD, scheduling.record(schedule))
+    write_table(blocks, stage)
     shown(table).to_csv(stage / files.SHELLS, index=False)
     shown(years).to_csv(stage / files.YEARS, index=False)
     if phases is not None:
@@ -256,13 +308,13 @@ def finish(plan: Plan, record: dict[str, Any], names: list[str], stage: Path) ->
 
 
 def shown(table: pd.DataFrame) -> pd.DataFrame:
-    """A table as shells.csv and years.csv have it: sums to a thousandth, grades and ratios to a millionth."""
+    """A table as shells.csv and years.csv have it: sums to a thousandth, grades and ratios to a millionth, shares to a billionth."""
     result = table.copy()
     if "worth_at_factor" in result:
         result["worth_at_factor"] = result["worth_at_factor"].map("{:f}".format)
     for name in result.columns:
         if result[name].dtype == np.float64:
-            places = 6 if name.startswith("grade_") or name in ("strip_ratio", "years") else 3
+            places = 6 if name.startswith("grade_") or name in ("strip_ratio", "years") else 9 if name == "share" else 3
             # A hair below nothing is rounded to -0.0, which is no amount.
             result[name] = result[name].round(places) + 0.0
     return result

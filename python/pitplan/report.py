@@ -72,6 +72,21 @@ def columns_of_phases(table: pd.DataFrame, project: Project) -> list[tuple[str, 
     ]
 
 
+def columns_of_ways(table: pd.DataFrame, project: Project) -> list[tuple[str, str, float, int]]:
+    """What is shown of the ways of a schedule, as `columns_of` of shells."""
+    money, sign = scaled(float(table["value"].abs().max()))
+    tonnes, of_tonnes = scaled(float(table["tonnes"].max()))
+    return [
+        ("way", "way", 1.0, 0),
+        ("value", f"NPV, {f'{sign} {project.money.currency}'.strip()}", money, 2),
+        ("below_bound", "below bound, %", 0.01, 2),
+        ("years", "years", 1.0, 0),
+        ("tonnes", f"rock, {of_tonnes}t", tonnes, 2),
+        ("ore_tonnes", f"ore, {of_tonnes}t", tonnes, 2),
+        ("left_tonnes", f"left, {of_tonnes}t", tonnes, 2),
+    ]
+
+
 def phase_facts(table: pd.DataFrame, project: Project) -> dict[str, Any]:
     """The headings and the rows of the page's table of phases."""
     columns = columns_of_phases(table, project)
@@ -90,6 +105,8 @@ def cells_of(table: pd.DataFrame, columns: list[tuple[str, str, float, int]]) ->
     """The table as texts; a dash where a number is not defined."""
 
     def cell(row: pd.Series, name: str, size: float, places: int) -> str:
+        if name == "way":
+            return str(row[name])
         if name in ("phase", "factor"):
             return str(int(row[name]))
         return "–" if pd.isna(row[name]) else f"{row[name] / size:,.{places}f}"

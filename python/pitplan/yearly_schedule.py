@@ -1,0 +1,204 @@
+"""A yearly schedule of a pit's phases: by rule, and by a linear programme whose optimum bounds them all."""
+
+from __future__ import annotations
+
+import math
+from dataclasses import dataclass
+from typing import Any, Optional
+
+import numpy as np
+import pandas as pd
+import scipy
+
+from . import linear_programme, phase_benches
+from .linear_programme import Relaxed
+from .phase_benches import ORE, ROCK, PhaseBenches
+from .phases import Phases
+from .progress import Progress, silent
+from .project import Project, Schedule
+from .schedule import year_discounts
+from .schedule_rules import ScheduleRules
+from .sequencing import Problem, by_rule, limits_of
+
+RULE, LP = "rule", "lp"
+# The linear programme may take this part of the rule's years more.
+MORE_YEARS = 0.2
+
+
+@dataclass(frozen=True)
+class YearlySchedule:
+    """What is dug in which year, by each way in which that was found.
+
+    shares       by way, rule first: an array of benches and years, of the share of each bench that is dug in each year
+    lead         by how many benches each phase follows the one before, of the rule
+    years        of which there are so many at most
+    optimum      that of the linear programme; None where it was not solved
+    interrupted  whether a way is missing since the run was interrupted
+    """
+
+    phases: Phases
+    problem: Problem
+    shares: dict[str, np.ndarray]
+    lead: int
+    years: int
+    optimum: Optional[Relaxed] = None
+    interrupted: bool = False
+
+    @property
+    def benches(self) -> PhaseBenches:
+        return self.problem.benches
+
+    @property
+    def settings(self) -> Schedule:
+        return self.problem.settings
+
+    @property
+    def factor(self) -> int:
+        """That of the last phase's shell, per mille."""
+        return self.phases.factors[-1]
+
+    @property
+    def shown(self) -> str:
+        """The way whose years the blocks have: the one that earns most."""
+        return max(self.shares, key=self.value)
+
+    def value(self, way: str) -> float:
+        """What a way earns, discounted, in money."""
+        return self.problem.value(self.shares[way])
+
+    def left(self, way: str) -> float:
+        """Tonnes of the phases that a way does not dig."""
+        return float(self.benches.of(ROCK) @ (1 - self.shares[way].sum(axis=1)))
+
+
+def rules_of(project: Project) -> ScheduleRules:
+    """What `[schedule]` says; without it the limits are those of `[shells]`."""
+    return project.schedule_rules or ScheduleRules()
+
+
+def make(phases: Phases, progress: Progress = silent) -> YearlySchedule:
+    """The schedule of a pit's phases. Where it is interrupted while programmes are solved, the ways that are found by then.
+
+    Raises PlanError where it takes more than a thousand years, or HiGHS finds nothing.
+    """
+    project, rules = phases.plan.project, rules_of(phases.plan.project)
+    benches = phase_benches.of_phases(phases, rules.lag)
+    problem = Problem(benches, limits_of(project, rules), project.schedule)
+    with progress.step(f"scheduling {len(benches):,} benches of {len(phases.factors)} phases by rule"):
+        shares, lead = by_rule(problem, rules.years)
+    years = rules.years or math.ceil((1 + MORE_YEARS) * shares.shape[1])
+    found = {RULE: shares}
+    try:
+        with progress.step(f"solving the linear programme of {years} years, {len(benches) * years:,} unknowns"):
+            optimum = linear_programme.relaxed(problem, years)
+        with progress.step("making a schedule that can be dug of it"):
+            found[LP] = linear_programme.diggable(optimum, problem)
+    except KeyboardInterrupt:
+        return YearlySchedule(phases, problem, found, lead, years, interrupted=True)
+    return YearlySchedule(phases, problem, found, lead, years, optimum)
+
+
+def table(schedule: YearlySchedule) -> pd.DataFrame:
+    """One row for what is dug of a bench in a year.
+
+    way; year from 1; phase; bench, the z of its centres in metres; share of the bench; rock_tonnes and, of these, ore_tonnes; metal_NAME
+    recovered (tonnes, or grams); cash, and discounted, in money.
+    """
+    return pd.concat([rows_of(schedule, way) for way in schedule.shares], ignore_index=True)
+
+
+def rows_of(schedule: YearlySchedule, way: str) -> pd.DataFrame:
+    benches, shares = schedule.benches, schedule.shares[way]
+    year, bench = np.nonzero(shares.T)
+    share = shares[bench, year]
+    amounts = benches.amounts[bench] * share[:, None]
+    discounts = year_discounts(schedule.settings, shares.shape[1])
+    head = {
+        "way": np.full(len(year), way, dtype=object),
+        "year": year + 1,
+        "phase": benches.phase[bench],
+        "bench": schedule.phases.plan.grid.elevations()[benches.level[bench]],
+        "share": share,
+    }
+    flows = dict(zip(benches.names, amounts.T))
+    return pd.DataFrame(head | flows | {"discounted": flows["cash"] * discounts[year]})
+
+
+def years(schedule: YearlySchedule) -> pd.DataFrame:
+    """One row a way and year, as `pitplan.years` has of cases; the factor is that of the last phase."""
+    found = []
+    for way, shares in schedule.shares.items():
+        flows = (schedule.benches.amounts.T @ shares).T
+        count = shares.shape[1]
+        discounted = flows[:, -1] * year_discounts(schedule.settings, count)
+        head = {"case": np.full(count, way, dtype=object), "factor": schedule.factor, "year": np.arange(1, count + 1)}
+        found.append(pd.DataFrame(head | dict(zip(schedule.benches.names, flows.T)) | {"discounted": discounted}))
+    return pd.concat(found, ignore_index=True)
+
+
+def ways(schedule: YearlySchedule) -> pd.DataFrame:
+    """One row a way: way; value, discounted, in money; below_bound, by which share of the bound it is less; years; tonnes and ore_tonnes
+    that are dug, and left_tonnes that are not."""
+    rows = []
+    for way, shares in schedule.shares.items():
+        whole, value = shares.sum(axis=1), schedule.value(way)
+        bound = np.nan if schedule.optimum is None else schedule.optimum.bound
+        rows.append(
+            {
+                "way": way,
+                "value": value,
+                "below_bound": (bound - value) / abs(bound) if bound else np.nan,
+                "years": shares.shape[1],
+                "tonnes": schedule.benches.of(ROCK) @ whole,
+                "ore_tonnes": schedule.benches.of(ORE) @ whole,
+                "left_tonnes": schedule.left(way),
+            }
+        )
+    return pd.DataFrame(rows)
+
+
+def blocks_year(schedule: YearlySchedule) -> np.ndarray:
+    """For each cell the year by whose end its bench of its phase is through, by the way that earns most; 0 where it never is."""
+    shares, grid = schedule.shares[schedule.shown], schedule.phases.plan.grid
+    # Before the first year nothing is dug.
+    through = (np.pad(shares, ((0, 0), (1, 0))).cumsum(axis=1) > 1 - 1e-6).argmax(axis=1)
+    year_of = np.zeros((len(schedule.phases.factors) + 1, grid.shape[0]), dtype=np.int16)
+    year_of[schedule.benches.phase, schedule.benches.level] = through
+    return year_of[schedule.phases.phase, np.arange(grid.count) // grid.per_level]
+
+
+def record(schedule: YearlySchedule) -> dict[str, Any]:
+    """What schedule.json says: of each way the value, the years and the tonnes that are left; the bound; and the limits."""
+    limits, bound = schedule.problem.limits, None if schedule.optimum is None else round(schedule.optimum.bound, 3)
+    found = {
+        way: {"value": round(schedule.value(way), 3), "years": shares.shape[1], "left_tonnes": round(schedule.left(way), 3)}
+        for way, shares in schedule.shares.items()
+    }
+    return {
+        "factor": schedule.factor,
+        "ways": found,
+        "bound": bound,
+        "years": schedule.years,
+        "shown": schedule.shown,
+        "lead": schedule.lead,
+        "lag": schedule.benches.lag,
+        "limits": limits.most,
+        "ramp_up": list(limits.ramp_up),
+        "sinking_rate": None if math.isinf(limits.sinking_rate) else limits.sinking_rate,
+        "interrupted": schedule.interrupted,
+        "solver": f"HiGHS of scipy {scipy.__version__}",
+    }
+
+
+def notes(schedule: YearlySchedule) -> list[str]:
+    """What a planner should know of the schedule."""
+    found = [f"by rule each phase follows the one before by {schedule.lead} benches, the lead that earns most"]
+    if schedule.interrupted:
+        found.append("WARNING: the run was interrupted before all ways were found: these are the best so far")
+    if schedule.optimum is not None:
+        found.append(f"no schedule of up to {schedule.years} years that keeps these limits earns more than {schedule.optimum.bound:,.0f}")
+    for way in schedule.shares:
+        rock = schedule.left(way)
+        if rock > 0.5:
+            found.append(f"{way} leaves {rock:,.0f} t of the phases undug")
+    return found
