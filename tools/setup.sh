@@ -12,6 +12,7 @@ python3-numpy         core     arrays, everywhere
 python3-pandas        core     tables, everywhere
 python3-scipy         core     surfaces between points, schedules (HiGHS), the second look at a plan
 python3-matplotlib    core     pictures
+python3-openpyxl      core     the workbook of pitplan schedule
 python3-jinja2        core     the report's page and the 3D page
 python3-vtk9          tests    pitplan export --to vti, and probability.vti of scenarios
 python3-ezdxf         tests    pitplan export --to dxf

@@ -10,8 +10,8 @@ from typing import Any, Optional, Union
 import numpy as np
 import pandas as pd
 
-from . import absent, analyse, auditing, exports, files, page, phase_pictures, phases as phasing, pictures, report, run, simulation, verification
-from . import yearly, yearly_schedule as scheduling
+from . import absent, analyse, auditing, exports, files, page, phase_pictures, phases as phasing, pictures, report, run, schedule_pictures, simulation, verification
+from . import workbook, yearly, yearly_schedule as scheduling
 from .errors import PlanError
 from .phases import Phases
 from .plan import Plan, prepare as prepare_plan
@@ -33,7 +33,12 @@ PICTURES = {
     "sections": "sections.png",
 }
 PHASE_PICTURES = {"phase_plans": "phase_plans.png", "phase_sections": "phase_sections.png"}
-REPORT, VIEW = "report.html", "view.html"
+SCHEDULE_PICTURES = {
+    "schedule_gantt": "schedule_gantt.png",
+    "schedule_tonnes": "schedule_tonnes.png",
+    "schedule_value": "schedule_value.png",
+}
+REPORT, VIEW, WORKBOOK = "report.html", "view.html", "schedule.xlsx"
 WRITTEN = {
     *PREPARED,
     files.FIXED,
@@ -51,6 +56,8 @@ WRITTEN = {
     VIEW,
     *PICTURES.values(),
     *PHASE_PICTURES.values(),
+    *SCHEDULE_PICTURES.values(),
+    WORKBOOK,
 }
 WRITTEN |= {PIT_MODEL, PITS}
 
@@ -186,18 +193,20 @@ def pushbacks(
 def write_schedule(
     project: Source, folder: Optional[Place] = None, progress: Progress = silent, verifies: bool = True
 ) -> pd.DataFrame:
-    """Divides the pit of one factor into phases and schedules their benches by years, as `pitplan schedule` does.
+    """Schedules the phases of a pit by years, as `pitplan schedule` does.
 
     Gives a table with a row a way in which that was done: by rule, and by a linear programme. Into the folder (by default schedule in the
     project's own) it writes what `pushbacks` writes, with each block's year in blocks.csv and the ways' years in years.csv, and
-    schedule.csv and schedule.json. An interruption while programmes are solved ends these alone: schedule.json says so.
+    schedule.csv, schedule.json, a workbook of the tables and pictures. An interruption while programmes are solved ends these alone:
+    schedule.json says so.
 
-    Raises PlanError where the project has no `[pushbacks]`, the pit is empty or takes too many years, and where what is written is not
+    Raises MissingPackage without openpyxl, and PlanError where the project has no `[pushbacks]`, the pit is empty or takes too many years, and where what is written is not
     right, unless it is not verified.
     """
     project = phasing.ending(read(project))
     target = project.folder / "schedule" if folder is None else Path(folder)
     demand_apart(project, target)
+    workbook.demand_library()
     identity = run.identity()
     plan = prepare_plan(project, progress=progress)
     with files.staged(target) as stage:
@@ -243,24 +252,39 @@ def write_answer(answered: Answered, record: dict[str, Any], writing: Writing) -
     if answered.schedule is not None:
         record["schedule"] = answered.schedule.shown
     note_verified(plan, record, stage, writing.verifies, progress)
-    drawn = PICTURES if phases is None else PICTURES | PHASE_PICTURES
     with progress.step("drawing"):
         draw(plan, solution, table, chosen, stage)
         yearly.write_years(years, project, chosen, stage / PICTURES["years"])
-        if phases is not None:
-            scene = phase_pictures.scene_of(phases)
-            phase_pictures.write_plans(scene, stage / PHASE_PICTURES["phase_plans"])
-            phase_pictures.write_sections(scene, stage / PHASE_PICTURES["phase_sections"])
+        drawn = PICTURES | draw_phases(answered, years, stage)
+    if answered.schedule is not None:
+        with progress.step("writing the workbook"):
+            workbook.write(stage / WORKBOOK, sheets_of(answered, table, years))
     finish(plan, record, [*written(plan), *([PIT_MODEL] if project.fixed else []), *tables_of(answered), *drawn.values()], stage)
     facts = facts_of(record, {name: stage / file for name, file in drawn.items()})
-    report.write(stage / REPORT, project, table, facts, None if phases is None else phasing.table(phases))
+    if phases is not None:
+        facts |= {"phases": report.table_of(phasing.table(phases), report.columns_of_phases, project)}
+    if answered.schedule is not None:
+        facts |= {"ways": report.table_of(scheduling.ways(answered.schedule), report.columns_of_ways, project)}
+    report.write(stage / REPORT, project, table, facts)
     return table
 
 
 def tables_of(answered: Answered) -> list[str]:
-    """The names of the tables that `write_tables` writes."""
+    """The names of the files of tables that are written."""
     names = [files.ANSWER, files.TABLE, files.SHELLS, files.YEARS, *([files.PHASES] if answered.phases else [])]
-    return [*names, files.SCHEDULE, files.SCHEDULE_RECORD] if answered.schedule else names
+    return [*names, files.SCHEDULE, files.SCHEDULE_RECORD, WORKBOOK] if answered.schedule else names
+
+
+def sheets_of(answered: Answered, table: pd.DataFrame, years: pd.DataFrame) -> dict[str, pd.DataFrame]:
+    """The tables of a schedule's workbook, by sheet."""
+    assert answered.phases is not None and answered.schedule is not None
+    return {
+        "ways": scheduling.ways(answered.schedule),
+        "schedule": shown(scheduling.table(answered.schedule)),
+        "years": shown(years[years["factor"] == answered.schedule.factor]),
+        "phases": shown(phasing.table(answered.phases)),
+        "shells": shown(table),
+    }
 
 
 def write_tables(answered: Answered, stage: Path) -> tuple[pd.DataFrame, pd.DataFrame]:
@@ -325,6 +349,21 @@ def draw(plan: Plan, solution: run.Solution, table: pd.DataFrame, chosen: int, s
     pictures.write_pit_by_pit(table, plan.project.money.currency, chosen, stage / PICTURES["pit_by_pit"])
     pictures.write_plans(scene, stage / PICTURES["plans"])
     pictures.write_sections(scene, stage / PICTURES["sections"])
+
+
+def draw_phases(answered: Answered, years: pd.DataFrame, stage: Path) -> dict[str, str]:
+    """Draws phases and their schedule, where there are such; gives the pictures' files by name."""
+    drawn: dict[str, str] = {}
+    if answered.phases is not None:
+        scene, drawn = phase_pictures.scene_of(answered.phases), PHASE_PICTURES
+        phase_pictures.write_plans(scene, stage / PHASE_PICTURES["phase_plans"])
+        phase_pictures.write_sections(scene, stage / PHASE_PICTURES["phase_sections"])
+    if answered.schedule is not None:
+        drawn = drawn | SCHEDULE_PICTURES
+        schedule_pictures.write_gantt(answered.schedule, stage / drawn["schedule_gantt"])
+        schedule_pictures.write_tonnes(answered.schedule, stage / drawn["schedule_tonnes"])
+        schedule_pictures.write_cumulative(answered.schedule, years, stage / drawn["schedule_value"])
+    return drawn
 
 
 def facts_of(record: dict[str, Any], drawn: dict[str, Path]) -> dict[str, Any]:

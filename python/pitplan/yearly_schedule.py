@@ -62,6 +62,10 @@ class YearlySchedule:
         """The way whose years the blocks have: the one that earns most."""
         return max(self.shares, key=self.value)
 
+    def discounts(self, count: int) -> np.ndarray:
+        """By year what one of money that flows in it is worth at the start."""
+        return year_discounts(self.settings, count)
+
     def value(self, way: str) -> float:
         """What a way earns, discounted, in money."""
         return self.problem.value(self.shares[way])
@@ -112,7 +116,7 @@ def rows_of(schedule: YearlySchedule, way: str) -> pd.DataFrame:
     year, bench = np.nonzero(shares.T)
     share = shares[bench, year]
     amounts = benches.amounts[bench] * share[:, None]
-    discounts = year_discounts(schedule.settings, shares.shape[1])
+    discounts = schedule.discounts(shares.shape[1])
     head = {
         "way": np.full(len(year), way, dtype=object),
         "year": year + 1,
@@ -130,7 +134,7 @@ def years(schedule: YearlySchedule) -> pd.DataFrame:
     for way, shares in schedule.shares.items():
         flows = (schedule.benches.amounts.T @ shares).T
         count = shares.shape[1]
-        discounted = flows[:, -1] * year_discounts(schedule.settings, count)
+        discounted = flows[:, -1] * schedule.discounts(count)
         head = {"case": np.full(count, way, dtype=object), "factor": schedule.factor, "year": np.arange(1, count + 1)}
         found.append(pd.DataFrame(head | dict(zip(schedule.benches.names, flows.T)) | {"discounted": discounted}))
     return pd.concat(found, ignore_index=True)
