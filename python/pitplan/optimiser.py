@@ -22,6 +22,7 @@ from scipy.sparse import csr_matrix, load_npz, save_npz
 
 from .errors import PlanError
 from .installation import PACKAGES
+from .schedule_rules import Effort
 
 PROGRAMME, MATRIX, EFFORT, OPTIMUM = "programme.npz", "matrix.npz", "effort.json", "optimum.npz"
 # What scipy says of a run: done, and ended by its limit of time.
@@ -37,14 +38,6 @@ class Programme:
     most: np.ndarray
     upper: np.ndarray
     whole: np.ndarray
-
-
-@dataclass(frozen=True)
-class Effort:
-    """When an integer programme is good enough: the gap to its bound as a share of it, and the seconds after which it ends."""
-
-    gap: float = 0.0
-    seconds: Optional[float] = None
 
 
 @dataclass(frozen=True)

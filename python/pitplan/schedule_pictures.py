@@ -18,14 +18,14 @@ from .grid import metres
 from .pictures import BEST, ORE, PLAIN, STYLE, WASTE, WORST, finish, list_of, scaled
 from .project import Metal
 from .yearly import MILL, SHOVELS
-from .yearly_schedule import LP, RULE, YearlySchedule, years as years_of
+from .yearly_schedule import LP, MILP, RULE, YearlySchedule, years as years_of
 
-TITLES = {RULE: "By rule", LP: "By linear programme"}
-COLOURS = {"worst": WORST, RULE: "#d08a1d", LP: ORE, "best": BEST, "bound": PLAIN}
-NAMES = {"worst": "worst case", RULE: "rule", LP: "linear programme", "best": "best case", "bound": "bound"}
+TITLES = {RULE: "By rule", LP: "By linear programme", MILP: "By integer programme"}
+COLOURS = {"worst": WORST, RULE: "#d08a1d", LP: ORE, MILP: "#7b4fa3", "best": BEST, "bound": PLAIN}
+NAMES = {"worst": "worst case", RULE: "rule", LP: "linear programme", MILP: "integer programme", "best": "best case", "bound": "bound"}
 MARKED = {"marker": "o", "markersize": 3, "linewidth": 1.4}
 # The rule's line is seen where the other lies on it.
-LINES = {"worst": MARKED, RULE: {"linewidth": 5, "alpha": 0.5}, LP: MARKED, "best": MARKED, "bound": {"linestyle": "--", "linewidth": 1.2}}
+LINES = {"worst": MARKED, RULE: {"linewidth": 5, "alpha": 0.5}, LP: MARKED, MILP: MARKED, "best": MARKED, "bound": {"linestyle": "--", "linewidth": 1.2}}
 GRADE = "#a23b8f"
 # The palest part of a bench is still seen.
 PALEST = 0.25

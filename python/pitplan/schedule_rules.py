@@ -3,11 +3,21 @@
 from __future__ import annotations
 
 from dataclasses import dataclass, field
+from decimal import Decimal
 from typing import Optional
 
 from .section import Section
 
 MOST_YEARS, MOST_BENCHES = 200, 1_000
+MOST_SECONDS = 7 * 24 * 3600
+
+
+@dataclass(frozen=True)
+class Effort:
+    """When an integer programme is good enough: the gap to its bound as a share of it, and the seconds after which it ends."""
+
+    gap: float = 0.0
+    seconds: Optional[float] = None
 
 
 @dataclass(frozen=True)
@@ -21,6 +31,7 @@ class ScheduleRules:
     lag             by how many benches a phase is behind the one before at least
     ramp_up         shares of the mill's tonnes in the first years; the last one stays
     years           so many years at most; None: a fifth more than the rule takes
+    milp            whether and how far an integer programme is solved too; None: it is not
     """
 
     ore_per_year: Optional[float] = None
@@ -30,6 +41,7 @@ class ScheduleRules:
     lag: int = 0
     ramp_up: tuple[float, ...] = (1.0,)
     years: Optional[int] = None
+    milp: Optional[Effort] = None
 
 
 def read_schedule_rules(section: Section) -> ScheduleRules:
@@ -42,11 +54,22 @@ def read_schedule_rules(section: Section) -> ScheduleRules:
         lag=section.whole("lag", 0, 0, MOST_BENCHES),
         ramp_up=read_ramp_up(section),
         years=section.whole("years", 1, 1, MOST_YEARS) if section.has("years") else None,
+        milp=read_effort(section.section("milp")) if section.has("milp") else None,
     )
     section.finish()
     if rules.sinking_rate is not None and rules.sinking_rate <= 0:
         raise section.wrong("sinking_rate", "is above 0 benches a year: leave it out where there is no limit")
     return rules
+
+
+def read_effort(section: Section) -> Effort:
+    """The gap and the seconds, which must be given since an integer programme may take for ever."""
+    gap = section.number("gap", Decimal(0), least=0)
+    seconds = section.whole("seconds", 0, 1, MOST_SECONDS)
+    section.finish()
+    if gap >= 1:
+        raise section.wrong("gap", "is a share of the bound, such as 0.01 for 1 %")
+    return Effort(float(gap), float(seconds))
 
 
 def read_tonnes(section: Section, key: str) -> Optional[float]:

@@ -10,7 +10,7 @@ import numpy as np
 import pandas as pd
 import scipy
 
-from . import linear_programme, phase_benches
+from . import integer_programme, linear_programme, phase_benches
 from .linear_programme import Relaxed
 from .phase_benches import ORE, ROCK, PhaseBenches
 from .phases import Phases
@@ -20,7 +20,7 @@ from .schedule import year_discounts
 from .schedule_rules import ScheduleRules
 from .sequencing import Problem, by_rule, limits_of
 
-RULE, LP = "rule", "lp"
+RULE, LP, MILP = "rule", "lp", "milp"
 # The linear programme may take this part of the rule's years more.
 MORE_YEARS = 0.2
 
@@ -33,6 +33,7 @@ class YearlySchedule:
     lead         by how many benches each phase follows the one before, of the rule
     years        of which there are so many at most
     optimum      that of the linear programme; None where it was not solved
+    milp_bound   what the integer programme had shown by its end that no schedule exceeds; None where it was not solved
     interrupted  whether a way is missing since the run was interrupted
     """
 
@@ -42,6 +43,7 @@ class YearlySchedule:
     lead: int
     years: int
     optimum: Optional[Relaxed] = None
+    milp_bound: Optional[float] = None
     interrupted: bool = False
 
     @property
@@ -92,14 +94,19 @@ def make(phases: Phases, progress: Progress = silent) -> YearlySchedule:
         shares, lead = by_rule(problem, rules.years)
     years = rules.years or math.ceil((1 + MORE_YEARS) * shares.shape[1])
     found = {RULE: shares}
+    optimum, milp_bound = None, None
     try:
         with progress.step(f"solving the linear programme of {years} years, {len(benches) * years:,} unknowns"):
             optimum = linear_programme.relaxed(problem, years)
         with progress.step("making a schedule that can be dug of it"):
             found[LP] = linear_programme.diggable(optimum, problem)
+        if rules.milp is not None:
+            with progress.step(f"solving the integer programme, up to {rules.milp.seconds:,.0f} s"):
+                shares, milp_bound = integer_programme.best_diggable(problem, years, rules.milp)
+            found |= {} if shares is None else {MILP: shares}
     except KeyboardInterrupt:
-        return YearlySchedule(phases, problem, found, lead, years, interrupted=True)
-    return YearlySchedule(phases, problem, found, lead, years, optimum)
+        return YearlySchedule(phases, problem, found, lead, years, optimum, milp_bound, interrupted=True)
+    return YearlySchedule(phases, problem, found, lead, years, optimum, milp_bound)
 
 
 def table(schedule: YearlySchedule) -> pd.DataFrame:
@@ -182,6 +189,7 @@ def record(schedule: YearlySchedule) -> dict[str, Any]:
         "factor": schedule.factor,
         "ways": found,
         "bound": bound,
+        "milp_bound": None if schedule.milp_bound is None or math.isinf(schedule.milp_bound) else round(schedule.milp_bound, 3),
         "years": schedule.years,
         "shown": schedule.shown,
         "lead": schedule.lead,
@@ -201,6 +209,10 @@ def notes(schedule: YearlySchedule) -> list[str]:
         found.append("WARNING: the run was interrupted before all ways were found: these are the best so far")
     if schedule.optimum is not None:
         found.append(f"no schedule of up to {schedule.years} years that keeps these limits earns more than {schedule.optimum.bound:,.0f}")
+    if schedule.milp_bound is not None and MILP not in schedule.shares:
+        found.append("WARNING: the integer programme found no schedule in its time")
+    elif schedule.milp_bound is not None:
+        found.append(f"the integer programme had shown by its end that none earns more than {schedule.milp_bound:,.0f}")
     for way in schedule.shares:
         rock = schedule.left(way)
         if rock > 0.5:

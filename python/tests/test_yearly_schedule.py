@@ -235,6 +235,17 @@ def test_a_total_that_does_not_follow_is_found(copied, name):
     assert "schedule value" in wrong(copied)
 
 
+@pytest.mark.parametrize("name", ["bound", "milp_bound"])
+def test_a_way_above_a_bound_is_found(copied, name):
+    told = change_told(copied)
+    least = min(way["value"] for way in told["ways"].values())
+    change_told(copied, **{name: least + 1e-4})
+    found = wrong(copied)
+    assert found == ({"schedule value"} if any(way["value"] > least + 0.1 for way in told["ways"].values()) else set())
+    change_told(copied, **{name: least - 1})
+    assert wrong(copied) == {"schedule value"}
+
+
 def test_cash_that_is_discounted_otherwise_is_found(copied):
     rewrite(copied / "schedule.csv", with_more("discounted", 1))
     assert "schedule value" in wrong(copied)

@@ -161,7 +161,7 @@ def verify_value(ways: list[Way], told: dict[str, Any], sums: pd.DataFrame) -> R
     """Cash is discounted as the project asks; values and years.csv add up; no way earns more than the bound."""
     differences = []
     for way in ways:
-        rows, bound = way.rows, told["bound"]
+        rows = way.rows
         present = rows["cash"] * rows["year"].map(lambda year: discount(way.answer, int(year)))
         off = (rows["discounted"] - present).abs() > 2 * AMOUNT + 1e-9 * present.abs()
         differences += [f"{place(row)}: discounted {row.discounted:.10g} for {present[row.Index]:.10g}" for row in rows[off].itertuples()]
@@ -172,8 +172,9 @@ def verify_value(ways: list[Way], told: dict[str, Any], sums: pd.DataFrame) -> R
                 differences.append(f"{way.name}: {name} {way.said[name]:.12g} for {amount:.12g}")
         if way.name == "rule" and not (way.project_rules and way.project_rules.years) and left > CENT + AMOUNT * len(rows):
             differences.append(f"{way.name} leaves {left:.10g} t")
-        if bound is not None and way.said["value"] > bound + CENT + 1e-7 * abs(bound):
-            differences.append(f"{way.name}: value {way.said['value']:.12g} is above the bound {bound:.12g}")
+        for name in ("bound", "milp_bound"):
+            if told[name] is not None and way.said["value"] > told[name] + CENT + 1e-7 * abs(told[name]):
+                differences.append(f"{way.name}: value {way.said['value']:.12g} is above {name} {told[name]:.12g}")
         differences += unlike_years(way, told["factor"])
     holds = "cash is discounted as the project asks, values and years are the sums of it, and none is above the bound"
     return rule("schedule value", holds, differences[:TOLD], len(differences))
