@@ -51,6 +51,7 @@ WRITTEN = {
     files.PHASES,
     files.SCHEDULE,
     files.SCHEDULE_RECORD,
+    files.MILLING,
     files.ANSWER,
     REPORT,
     VIEW,
@@ -272,13 +273,15 @@ def write_answer(answered: Answered, record: dict[str, Any], writing: Writing) -
 def tables_of(answered: Answered) -> list[str]:
     """The names of the files of tables that are written."""
     names = [files.ANSWER, files.TABLE, files.SHELLS, files.YEARS, *([files.PHASES] if answered.phases else [])]
-    return [*names, files.SCHEDULE, files.SCHEDULE_RECORD, WORKBOOK] if answered.schedule else names
+    names += [files.SCHEDULE, files.SCHEDULE_RECORD, WORKBOOK] if answered.schedule else []
+    return [*names, files.MILLING] if answered.schedule and answered.schedule.milling else names
 
 
 def sheets_of(answered: Answered, table: pd.DataFrame, years: pd.DataFrame) -> dict[str, pd.DataFrame]:
     """The tables of a schedule's workbook, by sheet."""
     assert answered.phases is not None and answered.schedule is not None
-    return {
+    bins = {"milling": shown(scheduling.milling(answered.schedule))} if answered.schedule.milling else {}
+    return bins | {
         "ways": scheduling.ways(answered.schedule),
         "schedule": shown(scheduling.table(answered.schedule)),
         "years": shown(years[years["factor"] == answered.schedule.factor]),
@@ -288,8 +291,8 @@ def sheets_of(answered: Answered, table: pd.DataFrame, years: pd.DataFrame) -> d
 
 
 def write_tables(answered: Answered, stage: Path) -> tuple[pd.DataFrame, pd.DataFrame]:
-    """Writes the program's answer, blocks.csv, shells.csv, years.csv, of phases phases.csv, and of a schedule schedule.csv and
-    schedule.json; gives the shells and the years."""
+    """Writes the program's answer, blocks.csv, shells.csv, years.csv, of phases phases.csv, and of a schedule schedule.csv, schedule.json
+    and where ore is divided into bins milling.csv; gives the shells and the years."""
     plan, solution, phases, schedule = answered.plan, answered.solution, answered.phases, answered.schedule
     table, years = analyse.shells(plan, solution), analyse.years(plan, solution)
     (stage / files.ANSWER).write_bytes(solution.answer)
@@ -299,6 +302,8 @@ def write_tables(answered: Answered, stage: Path) -> tuple[pd.DataFrame, pd.Data
         years = pd.concat([years, scheduling.years(schedule)], ignore_index=True)
         shown(scheduling.table(schedule)).to_csv(stage / files.SCHEDULE, index=False)
         files.write_json(stage / files.SCHEDULE_RECORD, scheduling.record(schedule))
+        if schedule.milling:
+            shown(scheduling.milling(schedule)).to_csv(stage / files.MILLING, index=False)
     write_table(blocks, stage)
     shown(table).to_csv(stage / files.SHELLS, index=False)
     shown(years).to_csv(stage / files.YEARS, index=False)

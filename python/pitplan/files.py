@@ -26,7 +26,7 @@ BLOCKS, MODEL, PREC, FIXED = "mine.blocks", "mine.upit", "mine.prec", "mine.fixe
 REST_BLOCKS, REST_PREC = "rest.blocks", "rest.prec"
 RECORD, TABLE, SHELLS, YEARS, ANSWER = "prepare.json", "blocks.csv", "shells.csv", "years.csv", "shells.txt"
 PHASES = "phases.csv"
-SCHEDULE, SCHEDULE_RECORD = "schedule.csv", "schedule.json"
+SCHEDULE, SCHEDULE_RECORD, MILLING = "schedule.csv", "schedule.json", "milling.csv"
 CHUNK = 200_000
 
 

@@ -174,7 +174,8 @@ def diggable(optimum: Relaxed, problem: Problem) -> np.ndarray:
 def without_loss(sequence: Sequence, shares: np.ndarray, problem: Problem, years: int) -> np.ndarray:
     """A schedule without what does not pay at its time, dug anew without it as long as that gains."""
     while True:
-        pays = paying(shares, problem)
+        earned = problem.benches.of(CASH) * (shares @ year_discounts(problem.settings, shares.shape[1]))
+        pays = paying(earned, problem.benches)
         sequence = replace(sequence, order=sequence.order[pays[sequence.order]])
         best = max(shares * pays[:, None], dig(problem, sequence, years), key=problem.value)
         if problem.value(best) <= problem.value(shares) * (1 + HAIR) + HAIR:
@@ -183,10 +184,9 @@ def without_loss(sequence: Sequence, shares: np.ndarray, problem: Problem, years
         shares = best
 
 
-def paying(shares: np.ndarray, problem: Problem) -> np.ndarray:
-    """A truth for each bench: whether it is in the part of a schedule that earns most, of those that hold with each bench all that it
-    waits for. As such a part is a closed set, the linear programme of it has whole numbers."""
-    value = problem.benches.of(CASH) * (shares @ year_discounts(problem.settings, shares.shape[1]))
-    unit = float(np.abs(value).max(initial=0.0)) or 1.0
-    matrix, most = order_rows(problem.benches, 1)
-    return linprog(-value / unit, A_ub=matrix, b_ub=most, bounds=(0, 1), method="highs-ds").x > 0.5
+def paying(earned: np.ndarray, benches: PhaseBenches) -> np.ndarray:
+    """A truth for each bench: whether it is in the part that earns most, of those that hold with each bench all that it waits for, where
+    each earns so much. As such a part is a closed set, the linear programme of it has whole numbers."""
+    unit = float(np.abs(earned).max(initial=0.0)) or 1.0
+    matrix, most = order_rows(benches, 1)
+    return linprog(-earned / unit, A_ub=matrix, b_ub=most, bounds=(0, 1), method="highs-ds").x > 0.5

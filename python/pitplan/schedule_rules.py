@@ -9,6 +9,7 @@ from typing import Optional
 from .section import Section
 
 MOST_YEARS, MOST_BENCHES = 200, 1_000
+MOST_BINS = 50
 MOST_SECONDS = 7 * 24 * 3600
 
 
@@ -32,6 +33,8 @@ class ScheduleRules:
     ramp_up         shares of the mill's tonnes in the first years; the last one stays
     years           so many years at most; None: a fifth more than the rule takes
     milp            whether and how far an integer programme is solved too; None: it is not
+    bins            into so many bins ore is divided, which may be left as waste while the mill is full; None: all ore is milled
+    rehandling      what it costs to reclaim a tonne from a stockpile; None: there is none
     """
 
     ore_per_year: Optional[float] = None
@@ -42,6 +45,8 @@ class ScheduleRules:
     ramp_up: tuple[float, ...] = (1.0,)
     years: Optional[int] = None
     milp: Optional[Effort] = None
+    bins: Optional[int] = None
+    rehandling: Optional[float] = None
 
 
 def read_schedule_rules(section: Section) -> ScheduleRules:
@@ -55,11 +60,23 @@ def read_schedule_rules(section: Section) -> ScheduleRules:
         ramp_up=read_ramp_up(section),
         years=section.whole("years", 1, 1, MOST_YEARS) if section.has("years") else None,
         milp=read_effort(section.section("milp")) if section.has("milp") else None,
+        bins=section.whole("bins", 1, 1, MOST_BINS) if section.has("bins") else None,
+        rehandling=read_stockpile(section.section("stockpile")) if section.has("stockpile") else None,
     )
     section.finish()
     if rules.sinking_rate is not None and rules.sinking_rate <= 0:
         raise section.wrong("sinking_rate", "is above 0 benches a year: leave it out where there is no limit")
+    if rules.rehandling is not None and rules.bins is None:
+        raise section.wrong("stockpile", "needs bins, by which ore is laid on it")
+    if rules.milp is not None and rules.bins is not None:
+        raise section.wrong("milp", "knows no bins: leave out one of the two")
     return rules
+
+
+def read_stockpile(section: Section) -> float:
+    cost = float(section.number("rehandling_cost", least=0))
+    section.finish()
+    return cost
 
 
 def read_effort(section: Section) -> Effort:

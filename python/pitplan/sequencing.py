@@ -41,7 +41,7 @@ class Limits:
 
     def amounts(self, benches: PhaseBenches) -> np.ndarray:
         """What each bench takes of each limit: an array of benches and limited amounts."""
-        return np.column_stack([benches.of(name) for name in self.most])
+        return np.array([benches.of(name) for name in self.most]).reshape(len(self.most), len(benches)).T
 
 
 def limits_of(project: Project, rules: ScheduleRules) -> Limits:
@@ -74,11 +74,13 @@ class Sequence:
     first  for each bench the first year, from 1, in which it may be dug; None: any
     eager  whether benches further down the order use what a full limit leaves of the others; else the first limit that is full ends the
            year, but for that of sinking, which holds up its phase alone
+    pace   the most rock that is dug by the end of each year; None: any
     """
 
     order: np.ndarray
     first: Optional[np.ndarray] = None
     eager: bool = False
+    pace: Optional[np.ndarray] = None
 
 
 class Digging:
@@ -86,7 +88,8 @@ class Digging:
 
     def __init__(self, problem: Problem) -> None:
         self.benches, self.limits = problem.benches, problem.limits
-        self.takes = self.limits.amounts(self.benches)
+        rock = self.benches.of(ROCK)
+        self.takes = np.column_stack([self.limits.amounts(self.benches), rock])
         self.done = np.zeros(len(self.benches))
 
     def room(self, bench: int, left: np.ndarray, depth: float) -> float:
@@ -97,7 +100,8 @@ class Digging:
 
     def year(self, sequence: Sequence, pending: list[int], number: int) -> np.ndarray:
         """Digs one year, numbered from 1, of what is pending; gives the share of each bench."""
-        left = self.limits.of_year(number)
+        pace = np.inf if sequence.pace is None else max(0.0, sequence.pace[number - 1] - self.benches.of(ROCK) @ self.done)
+        left = np.append(self.limits.of_year(number), pace)
         depth = np.full(int(self.benches.phase.max()) + 1, self.limits.sinking_rate)
         shares = np.zeros(len(self.benches))
         for bench in pending:

@@ -3,16 +3,18 @@
 from __future__ import annotations
 
 import math
-from dataclasses import dataclass
+from collections.abc import Iterator
+from dataclasses import dataclass, field, replace
 from typing import Any, Optional
 
 import numpy as np
 import pandas as pd
 import scipy
 
-from . import integer_programme, linear_programme, phase_benches
+from . import grade_bins, integer_programme, linear_programme, phase_benches
 from .linear_programme import Relaxed
-from .phase_benches import ORE, ROCK, PhaseBenches
+from .milling_programme import Milling, MillingProblem
+from .phase_benches import CASH, ORE, ROCK, PhaseBenches
 from .phases import Phases
 from .progress import Progress, silent
 from .project import Project, Schedule
@@ -35,6 +37,7 @@ class YearlySchedule:
     optimum      that of the linear programme; None where it was not solved
     milp_bound   what the integer programme had shown by its end that no schedule exceeds; None where it was not solved
     interrupted  whether a way is missing since the run was interrupted
+    milling      what becomes of the ore, of ways in which it is not all milled as it is dug
     """
 
     phases: Phases
@@ -45,6 +48,7 @@ class YearlySchedule:
     optimum: Optional[Relaxed] = None
     milp_bound: Optional[float] = None
     interrupted: bool = False
+    milling: dict[str, Milling] = field(default_factory=dict)
 
     @property
     def benches(self) -> PhaseBenches:
@@ -70,7 +74,14 @@ class YearlySchedule:
 
     def value(self, way: str) -> float:
         """What a way earns, discounted, in money."""
-        return self.problem.value(self.shares[way])
+        discounts = self.discounts(self.shares[way].shape[1])
+        return float(self.flows(way)[:, :, self.benches.names.index(CASH)].sum(axis=0) @ discounts)
+
+    def flows(self, way: str) -> np.ndarray:
+        """What flows of each bench in each year: an array of benches, years and the benches' names."""
+        if way in self.milling:
+            return self.milling[way].flows(self.benches, self.shares[way])
+        return self.shares[way][:, :, None] * self.benches.amounts[:, None, :]
 
     def left(self, way: str) -> float:
         """Tonnes of the phases that a way does not dig."""
@@ -93,20 +104,45 @@ def make(phases: Phases, progress: Progress = silent) -> YearlySchedule:
     with progress.step(f"scheduling {len(benches):,} benches of {len(phases.factors)} phases by rule"):
         shares, lead = by_rule(problem, rules.years)
     years = rules.years or math.ceil((1 + MORE_YEARS) * shares.shape[1])
-    found = {RULE: shares}
-    optimum, milp_bound = None, None
+    schedule = YearlySchedule(phases, problem, {RULE: shares}, lead, years)
     try:
-        with progress.step(f"solving the linear programme of {years} years, {len(benches) * years:,} unknowns"):
-            optimum = linear_programme.relaxed(problem, years)
-        with progress.step("making a schedule that can be dug of it"):
-            found[LP] = linear_programme.diggable(optimum, problem)
-        if rules.milp is not None:
-            with progress.step(f"solving the integer programme, up to {rules.milp.seconds:,.0f} s"):
-                shares, milp_bound = integer_programme.best_diggable(problem, years, rules.milp)
-            found |= {} if shares is None else {MILP: shares}
+        for schedule in better(schedule, rules, progress):
+            pass
     except KeyboardInterrupt:
-        return YearlySchedule(phases, problem, found, lead, years, optimum, milp_bound, interrupted=True)
-    return YearlySchedule(phases, problem, found, lead, years, optimum, milp_bound)
+        return replace(schedule, interrupted=True)
+    return schedule
+
+
+def better(schedule: YearlySchedule, rules: ScheduleRules, progress: Progress) -> Iterator[YearlySchedule]:
+    """The schedule with one thing after the other that programmes tell of it. Raises KeyboardInterrupt where one is interrupted."""
+    problem, years = schedule.problem, schedule.years
+    if rules.bins is not None and schedule.benches.of(ORE).any():
+        yield from with_bins(schedule, rules, progress)
+        return
+    with progress.step(f"solving the linear programme of {years} years, {len(problem.benches) * years:,} unknowns"):
+        optimum = linear_programme.relaxed(problem, years)
+    with progress.step("making a schedule that can be dug of it"):
+        shares = linear_programme.diggable(optimum, problem)
+    schedule = replace(schedule, shares=schedule.shares | {LP: shares}, optimum=optimum)
+    yield schedule
+    if rules.milp is not None:
+        with progress.step(f"solving the integer programme, up to {rules.milp.seconds:,.0f} s"):
+            best, bound = integer_programme.best_diggable(problem, years, rules.milp)
+        found = {} if best is None else {MILP: best}
+        yield replace(schedule, shares=schedule.shares | found, milp_bound=bound)
+
+
+def with_bins(schedule: YearlySchedule, rules: ScheduleRules, progress: Progress) -> Iterator[YearlySchedule]:
+    """The same where ore is divided into bins, of which some may be left as waste or stocked."""
+    assert rules.bins is not None
+    parcels = grade_bins.of_phases(schedule.phases, schedule.benches, rules.bins)
+    problem = MillingProblem(schedule.problem, parcels, schedule.years, rules.rehandling)
+    unknowns = problem.dug + problem.kinds * len(parcels) * problem.years
+    with progress.step(f"solving the linear programme of {schedule.years} years and {len(parcels):,} parcels, {unknowns:,} unknowns"):
+        optimum = problem.relaxed()
+    with progress.step("making a schedule that can be dug of it"):
+        shares, milling = problem.diggable(optimum)
+    yield replace(schedule, shares=schedule.shares | {LP: shares}, optimum=optimum, milling={LP: milling})
 
 
 def table(schedule: YearlySchedule) -> pd.DataFrame:
@@ -119,27 +155,26 @@ def table(schedule: YearlySchedule) -> pd.DataFrame:
 
 
 def rows_of(schedule: YearlySchedule, way: str) -> pd.DataFrame:
-    benches, shares = schedule.benches, schedule.shares[way]
-    year, bench = np.nonzero(shares.T)
-    share = shares[bench, year]
-    amounts = benches.amounts[bench] * share[:, None]
+    benches, shares, flows = schedule.benches, schedule.shares[way], schedule.flows(way)
+    # Ore that is reclaimed from a stockpile has a row although nothing is dug.
+    year, bench = np.nonzero((shares + flows[:, :, benches.names.index(ORE)]).T)
+    amounts = dict(zip(benches.names, flows[bench, year].T))
     discounts = schedule.discounts(shares.shape[1])
     head = {
         "way": np.full(len(year), way, dtype=object),
         "year": year + 1,
         "phase": benches.phase[bench],
         "bench": schedule.phases.plan.grid.elevations()[benches.level[bench]],
-        "share": share,
+        "share": shares[bench, year],
     }
-    flows = dict(zip(benches.names, amounts.T))
-    return pd.DataFrame(head | flows | {"discounted": flows["cash"] * discounts[year]})
+    return pd.DataFrame(head | amounts | {"discounted": amounts[CASH] * discounts[year]})
 
 
 def years(schedule: YearlySchedule) -> pd.DataFrame:
     """One row a way and year, as `pitplan.years` has of cases; the factor is that of the last phase."""
     found = []
     for way, shares in schedule.shares.items():
-        flows = (schedule.benches.amounts.T @ shares).T
+        flows = schedule.flows(way).sum(axis=0)
         count = shares.shape[1]
         discounted = flows[:, -1] * schedule.discounts(count)
         head = {"case": np.full(count, way, dtype=object), "factor": schedule.factor, "year": np.arange(1, count + 1)}
@@ -148,8 +183,8 @@ def years(schedule: YearlySchedule) -> pd.DataFrame:
 
 
 def ways(schedule: YearlySchedule) -> pd.DataFrame:
-    """One row a way: way; value, discounted, in money; below_bound, by which share of the bound it is less; years; tonnes and ore_tonnes
-    that are dug, and left_tonnes that are not."""
+    """One row a way: way; value, discounted, in money; below_bound, by which share of the bound it is less; years; tonnes that are dug,
+    ore_tonnes that are milled, and left_tonnes that are not dug."""
     rows = []
     for way, shares in schedule.shares.items():
         whole, value = shares.sum(axis=1), schedule.value(way)
@@ -161,11 +196,33 @@ def ways(schedule: YearlySchedule) -> pd.DataFrame:
                 "below_bound": (bound - value) / abs(bound) if bound else np.nan,
                 "years": shares.shape[1],
                 "tonnes": schedule.benches.of(ROCK) @ whole,
-                "ore_tonnes": schedule.benches.of(ORE) @ whole,
+                "ore_tonnes": schedule.flows(way)[:, :, schedule.benches.names.index(ORE)].sum(),
                 "left_tonnes": schedule.left(way),
             }
         )
     return pd.DataFrame(rows)
+
+
+def milling(schedule: YearlySchedule) -> pd.DataFrame:
+    """Of the ways that divide ore into bins one row for a bin of a bench in a year: way; year; phase; bench, the z of its centres in metres;
+    bin, from 1, the poorest; dug_tonnes of it; milled_tonnes, of these, and reclaimed_tonnes, which are milled from the stockpile."""
+    found = []
+    for way, made in schedule.milling.items():
+        parcels, tonnes = made.parcels, made.parcels.of(ORE)
+        dug = schedule.shares[way][parcels.bench]
+        year, parcel = np.nonzero((dug + made.reclaimed).T)
+        bench = parcels.bench[parcel]
+        columns = {
+            "way": np.full(len(year), way, dtype=object),
+            "year": year + 1,
+            "phase": schedule.benches.phase[bench],
+            "bench": schedule.phases.plan.grid.elevations()[schedule.benches.level[bench]],
+            "bin": parcels.bin[parcel],
+        }
+        for name, shares in (("dug", dug), ("milled", made.straight), ("reclaimed", made.reclaimed)):
+            columns[f"{name}_tonnes"] = shares[parcel, year] * tonnes[parcel]
+        found.append(pd.DataFrame(columns))
+    return pd.concat(found, ignore_index=True)
 
 
 def blocks_year(schedule: YearlySchedule) -> np.ndarray:
@@ -197,9 +254,15 @@ def record(schedule: YearlySchedule) -> dict[str, Any]:
         "limits": limits.most,
         "ramp_up": list(limits.ramp_up),
         "sinking_rate": None if math.isinf(limits.sinking_rate) else limits.sinking_rate,
+        "bins": {way: record_of(made) for way, made in schedule.milling.items()},
         "interrupted": schedule.interrupted,
         "solver": f"HiGHS of scipy {scipy.__version__}",
     }
+
+
+def record_of(made: Milling) -> dict[str, Any]:
+    """Of a way that divides ore into bins what a tonne is worth between two of them, and at the cut-off of each year."""
+    return {"edges": made.parcels.edges.tolist(), "cutoffs": made.cutoffs, "rehandling_cost": made.cost if made.is_stocked else None}
 
 
 def notes(schedule: YearlySchedule) -> list[str]:
@@ -213,6 +276,9 @@ def notes(schedule: YearlySchedule) -> list[str]:
         found.append("WARNING: the integer programme found no schedule in its time")
     elif schedule.milp_bound is not None:
         found.append(f"the integer programme had shown by its end that none earns more than {schedule.milp_bound:,.0f}")
+    for way, made in schedule.milling.items():
+        told = ", ".join("-" if worth is None else f"{worth:.2f}" for worth in made.cutoffs)
+        found.append(f"{way} mills at once what a tonne of ore is worth in the mill from these amounts on, year by year: {told}")
     for way in schedule.shares:
         rock = schedule.left(way)
         if rock > 0.5:

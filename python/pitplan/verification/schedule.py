@@ -12,7 +12,7 @@ from typing import Any
 import numpy as np
 import pandas as pd
 
-from . import years
+from . import milling, years
 from .answer import TOLD, Answer, Rule, rule
 
 CENT, SLIGHT = 0.01, 1e-6
@@ -57,7 +57,7 @@ def verify(answer: Answer) -> list[Rule]:
     sums = sums_of_benches(answer)
     misplaced, ways = ways_of(answer, told)
     return [
-        verify_amounts(ways, sums, misplaced),
+        verify_amounts(ways, told, sums, misplaced),
         verify_order(ways, sums),
         verify_limits(ways),
         verify_value(ways, told, sums),
@@ -72,7 +72,9 @@ def ways_of(answer: Answer, told: dict[str, Any]) -> tuple[list[str], list[Way]]
     steps = (answer.elevations[0] - rows["bench"]) / answer.size[2]
     rows["level"] = np.rint(steps).astype(int)
     lost = (abs(steps - rows["level"]) > SLIGHT) | ~rows["level"].between(0, answer.shape[0] - 1)
-    lost |= ~rows["phase"].between(1, answer.said["phase"].max()) | (rows["year"] < 1) | (rows["share"] <= 0)
+    # Of ore that is reclaimed from a stockpile nothing is dug.
+    nothing = (rows["share"] < 0) | ((rows["share"] == 0) & ((rows["ore_tonnes"] <= 0) | ~rows["way"].isin(told["bins"])))
+    lost |= ~rows["phase"].between(1, answer.said["phase"].max()) | (rows["year"] < 1) | nothing
     differences = [f"{row.way}, year {row.year}: no bench {row.bench:.10g} of phase {row.phase}, or no share {row.share:g}" for row in rows[lost].itertuples()]
     if not set(rows["way"]) <= set(told["ways"]):
         differences.append(f"ways {sorted(set(rows['way']))} for {sorted(told['ways'])}")
@@ -88,15 +90,19 @@ def sums_of_benches(answer: Answer) -> pd.DataFrame:
     return frame[(frame["phase"] > 0) & (frame["rock_tonnes"] > 0)].groupby(["phase", "level"]).sum()
 
 
-def verify_amounts(ways: list[Way], sums: pd.DataFrame, misplaced: list[str]) -> Rule:
-    """Each row is a share of the bench's blocks, and all shares of a bench are one at most."""
+def verify_amounts(ways: list[Way], told: dict[str, Any], sums: pd.DataFrame, misplaced: list[str]) -> Rule:
+    """Each row is a share of the bench's blocks, or what is milled of them, and all shares of a bench are one at most."""
     differences = list(misplaced)
     for way in ways:
         whole = sums.reindex(pd.MultiIndex.from_frame(way.rows[["phase", "level"]])).fillna(0.0).reset_index(drop=True)
         rows = way.rows.reset_index(drop=True)
+        amounts, slack = whole.mul(rows["share"], axis=0), AMOUNT + SHARE * whole.abs()
+        if way.name in told["bins"]:
+            amounts, more, wrong = milling.amounts(way.answer, rows, amounts, told["bins"][way.name])
+            slack, differences = slack + more, [*differences, *wrong]
         for name in sums.columns:
-            expected = whole[name] * rows["share"]
-            off = (rows[name] - expected).abs() > AMOUNT + SHARE * whole[name].abs() + 1e-9 * expected.abs()
+            expected = amounts[name]
+            off = (rows[name] - expected).abs() > slack[name] + 1e-9 * expected.abs()
             differences += [f"{place(row)}: {name} {getattr(row, name):.10g} for {expected[row.Index]:.10g}" for row in rows[off].itertuples()]
         twice = np.argwhere(way.done[:, :, -1] > 1 + SLIGHT)
         differences += [f"{way.name}: phase {phase}, level {level} is dug {way.done[phase, level, -1]:.9g} times" for phase, level in twice]
