@@ -10,12 +10,15 @@ set -eu
 packages="
 python3-numpy         core     arrays, everywhere
 python3-pandas        core     tables, everywhere
-python3-scipy         core     surfaces between points, hulls of walls, the second look at a plan
+python3-scipy         core     surfaces between points, hulls of walls, schedules (HiGHS), the second look at a plan
 python3-matplotlib    core     pictures
+python3-openpyxl      core     the workbook of pitplan schedule
 python3-jinja2        core     the report's page and the 3D page
 python3-vtk9          tests    pitplan export --to vti, and probability.vti of scenarios
 python3-ezdxf         tests    pitplan export --to dxf
 libjs-three           tests    pitplan view
+python3-pulp          tests    the test of a bound by another solver
+coinor-cbc            tests    the same: that solver
 python3-dask          tests    pitplan scenarios --on local, or on a cluster
 python3-distributed   tests    the same
 python3-pytest        tests    make test

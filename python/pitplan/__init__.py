@@ -17,6 +17,7 @@ Functions write what the subcommands do, by default into the project's own folde
     rules = pitplan.verify("out")                          # each with what holds, differences, and their count
     pits = pitplan.pit("project.toml", 1000)               # a row with the fixed blocks and one without
     phases = pitplan.pushbacks("project.toml")             # one row a phase
+    ways = pitplan.write_schedule("project.toml")          # one row a way: rule and lp
     found = pitplan.scenarios("project.toml")              # found.probability, found.table, found.quantiles; found.notes
 
 `Request` says where and how scenarios are solved; `gather(folder)` gathers what others have solved.
@@ -31,7 +32,7 @@ reads. This layer, which writes those files, is not proved; `plan.notes` says wh
 """
 
 from .analyse import blocks, shells, years
-from .commands import audit, export, gather, pit, pushbacks, scenarios, verify, view, write_shells
+from .commands import audit, export, gather, pit, pushbacks, scenarios, verify, view, write_schedule, write_shells
 from .errors import BudgetUsedUp, MissingPackage, PlanError, ProgramError
 from .plan import Plan, prepare
 from .project import Project, load
@@ -65,6 +66,7 @@ __all__ = [
     "solve",
     "verify",
     "view",
+    "write_schedule",
     "write_shells",
     "years",
 ]

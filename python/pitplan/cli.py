@@ -1,4 +1,4 @@
-"""The command line: `pitplan init | prepare | shells | pit | pushbacks | verify | view | export | audit | scenarios | convert`, and what these need."""
+"""The command line: `pitplan init | prepare | shells | pit | pushbacks | schedule | verify | view | export | audit | scenarios | convert`, and what these need."""
 
 from __future__ import annotations
 
@@ -32,6 +32,7 @@ def parser() -> argparse.ArgumentParser:
         "shells": "prepare, run the program, and write tables, pictures and the report",
         "pit": "solve the pit of one factor with the project's fixed blocks and without them, and compare the two",
         "pushbacks": "divide the pit of one factor into phases, and write tables, pictures and the report",
+        "schedule": "schedule the phases of a pit by years, and write tables, pictures and the report",
         "view": "write a page that shows the shells in 3D (libjs-three)",
         "export": "write the shells for other programs",
         "audit": "write a folder by which others can check one shell",
@@ -43,13 +44,13 @@ def parser() -> argparse.ArgumentParser:
         sub.add_argument("--quiet", action="store_true", help="tell no progress on standard error")
         if name == "export":
             sub.add_argument("--to", required=True, choices=tuple(exports.WRITERS))
-        if name in ("pit", "pushbacks", "shells"):
+        if name in ("pit", "pushbacks", "schedule", "shells"):
             sub.add_argument("--no-verify", action="store_true", help="leave out the second look at every number")
         if name in ("pit", "export", "audit"):
             is_needed = name == "audit"
             kind = positive if name == "pit" else int
             sub.add_argument("--factor", type=kind, required=is_needed, default=None if is_needed else REFERENCE_FACTOR)
-    text = "look a second time at the numbers of a folder that shells, pit, scenarios or gather has written"
+    text = "look a second time at the numbers of a folder that shells, pit, pushbacks, schedule, scenarios or gather has written"
     subs.add_parser("verify", help=text, description=text).add_argument("folder", type=Path, help="the folder of the plan or the scenarios")
     add_scenarios(subs)
     text = "write other people's files as the program's"
@@ -173,6 +174,15 @@ def run_command(options: argparse.Namespace, project: Project, folder: Path, pro
         print_table([heading for _, heading, _, _ in columns], report.cells_of(table, columns))
         tell_notes(files.read_record(folder)["notes"])
         print(folder / commands.REPORT)
+    elif options.command == "schedule":
+        folder = options.out or project.folder / "schedule"
+        table = commands.write_schedule(project, folder, progress, not options.no_verify)
+        columns = report.columns_of_ways(table, project)
+        print_table([heading for _, heading, _, _ in columns], report.cells_of(table, columns))
+        tell_notes(files.read_record(folder)["notes"])
+        print(folder / commands.REPORT)
+        if files.read_json(folder / files.SCHEDULE_RECORD)["interrupted"]:
+            raise KeyboardInterrupt
     elif options.command == "view":
         print(commands.view(folder, progress))
     elif options.command == "export":

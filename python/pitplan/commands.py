@@ -10,7 +10,8 @@ from typing import Any, Optional, Union
 import numpy as np
 import pandas as pd
 
-from . import absent, analyse, auditing, exports, files, page, phase_pictures, phases as phasing, pictures, report, run, simulation, verification, yearly
+from . import absent, analyse, auditing, exports, files, page, phase_pictures, phases as phasing, pictures, report, run, schedule_pictures, simulation, verification
+from . import workbook, yearly, yearly_schedule as scheduling
 from .errors import PlanError
 from .phases import Phases
 from .plan import Plan, prepare as prepare_plan
@@ -18,6 +19,7 @@ from .progress import Progress, silent
 from .project import REFERENCE_FACTOR, Project, load
 from .simulation import Request, ScenarioResult
 from .verification import Rule
+from .yearly_schedule import YearlySchedule
 
 # A project, or where its project.toml is; and a folder.
 Source = Union[str, Path, Project]
@@ -31,7 +33,12 @@ PICTURES = {
     "sections": "sections.png",
 }
 PHASE_PICTURES = {"phase_plans": "phase_plans.png", "phase_sections": "phase_sections.png"}
-REPORT, VIEW = "report.html", "view.html"
+SCHEDULE_PICTURES = {
+    "schedule_gantt": "schedule_gantt.png",
+    "schedule_tonnes": "schedule_tonnes.png",
+    "schedule_value": "schedule_value.png",
+}
+REPORT, VIEW, WORKBOOK = "report.html", "view.html", "schedule.xlsx"
 WRITTEN = {
     *PREPARED,
     files.FIXED,
@@ -42,11 +49,16 @@ WRITTEN = {
     files.SHELLS,
     files.YEARS,
     files.PHASES,
+    files.SCHEDULE,
+    files.SCHEDULE_RECORD,
+    files.MILLING,
     files.ANSWER,
     REPORT,
     VIEW,
     *PICTURES.values(),
     *PHASE_PICTURES.values(),
+    *SCHEDULE_PICTURES.values(),
+    WORKBOOK,
 }
 WRITTEN |= {PIT_MODEL, PITS}
 
@@ -152,7 +164,7 @@ def write_shells(
     with files.staged(target) as stage:
         record = write_prepared(plan, stage, progress) | {"program": identity}
         solution = run.solve(plan, stage, progress)
-        return write_answer(plan, solution, record, Writing(stage, progress, verifies))
+        return write_answer(Answered(plan, solution), record, Writing(stage, progress, verifies))
 
 
 def pushbacks(
@@ -175,8 +187,36 @@ def pushbacks(
         record = write_prepared(plan, stage, progress) | {"program": identity}
         phases = phasing.divide(plan, stage, progress)
         record["notes"] += phases.notes
-        write_answer(phases.plan, phases.solution, record, Writing(stage, progress, verifies), phases)
+        write_answer(Answered(phases.plan, phases.solution, phases), record, Writing(stage, progress, verifies))
     return phasing.table(phases)
+
+
+def write_schedule(
+    project: Source, folder: Optional[Place] = None, progress: Progress = silent, verifies: bool = True
+) -> pd.DataFrame:
+    """Schedules the phases of a pit by years, as `pitplan schedule` does.
+
+    Gives a table with a row a way in which that was done: by rule, and by a linear programme. Into the folder (by default schedule in the
+    project's own) it writes what `pushbacks` writes, with each block's year in blocks.csv and the ways' years in years.csv, and
+    schedule.csv, schedule.json, a workbook of the tables and pictures. An interruption while programmes are solved ends these alone:
+    schedule.json says so.
+
+    Raises MissingPackage without openpyxl, and PlanError where the project has no `[pushbacks]`, the pit is empty or takes too many years, and where what is written is not
+    right, unless it is not verified.
+    """
+    project = phasing.ending(read(project))
+    target = project.folder / "schedule" if folder is None else Path(folder)
+    demand_apart(project, target)
+    workbook.demand_library()
+    identity = run.identity()
+    plan = prepare_plan(project, progress=progress)
+    with files.staged(target) as stage:
+        record = write_prepared(plan, stage, progress) | {"program": identity}
+        phases = phasing.divide(plan, stage, progress)
+        schedule = scheduling.make(phases, progress)
+        record["notes"] += [*phases.notes, *scheduling.notes(schedule)]
+        write_answer(Answered(phases.plan, phases.solution, phases, schedule), record, Writing(stage, progress, verifies))
+    return scheduling.ways(schedule)
 
 
 @dataclass(frozen=True)
@@ -188,42 +228,83 @@ class Writing:
     verifies: bool
 
 
-def write_answer(
-    plan: Plan, solution: run.Solution, record: dict[str, Any], writing: Writing, phases: Optional[Phases] = None
-) -> pd.DataFrame:
-    """Writes tables, pictures, the report and the record of shells, and of their phases where there are such; gives the shells' table."""
+@dataclass(frozen=True)
+class Answered:
+    """What was found of a plan: its shells, and where they were asked for phases of these and a yearly schedule of the phases."""
+
+    plan: Plan
+    solution: run.Solution
+    phases: Optional[Phases] = None
+    schedule: Optional[YearlySchedule] = None
+
+
+def write_answer(answered: Answered, record: dict[str, Any], writing: Writing) -> pd.DataFrame:
+    """Writes tables, pictures, the report and the record of what was found; gives the shells' table."""
+    plan, solution, phases = answered.plan, answered.solution, answered.phases
     stage, progress, project = writing.stage, writing.progress, plan.project
     with progress.step("counting the shells"):
-        table, years = write_tables(plan, solution, stage, phases)
+        table, years = write_tables(answered, stage)
         record["notes"] += analyse.edge_notes(plan, solution)
     chosen = analyse.chosen_factor(table, project.schedule)
     check_fixed(plan, solution, chosen, stage, progress)
     record["shells"] = {"factors": list(project.schedule.factors), "chosen": chosen, "program": record.pop("program")}
     if phases is not None:
         record["phases"] = len(phases.factors)
+    if answered.schedule is not None:
+        record["schedule"] = answered.schedule.shown
     note_verified(plan, record, stage, writing.verifies, progress)
-    drawn = PICTURES if phases is None else PICTURES | PHASE_PICTURES
     with progress.step("drawing"):
         draw(plan, solution, table, chosen, stage)
         yearly.write_years(years, project, chosen, stage / PICTURES["years"])
-        if phases is not None:
-            scene = phase_pictures.scene_of(phases)
-            phase_pictures.write_plans(scene, stage / PHASE_PICTURES["phase_plans"])
-            phase_pictures.write_sections(scene, stage / PHASE_PICTURES["phase_sections"])
-    names = [*written(plan), *([PIT_MODEL] if project.fixed else []), files.ANSWER, files.TABLE, files.SHELLS, files.YEARS]
-    finish(plan, record, [*names, *([files.PHASES] if phases else []), *drawn.values()], stage)
+        drawn = PICTURES | draw_phases(answered, years, stage)
+    if answered.schedule is not None:
+        with progress.step("writing the workbook"):
+            workbook.write(stage / WORKBOOK, sheets_of(answered, table, years))
+    finish(plan, record, [*written(plan), *([PIT_MODEL] if project.fixed else []), *tables_of(answered), *drawn.values()], stage)
     facts = facts_of(record, {name: stage / file for name, file in drawn.items()})
-    report.write(stage / REPORT, project, table, facts, None if phases is None else phasing.table(phases))
+    if phases is not None:
+        facts |= {"phases": report.table_of(phasing.table(phases), report.columns_of_phases, project)}
+    if answered.schedule is not None:
+        facts |= {"ways": report.table_of(scheduling.ways(answered.schedule), report.columns_of_ways, project)}
+    report.write(stage / REPORT, project, table, facts)
     return table
 
 
-def write_tables(
-    plan: Plan, solution: run.Solution, stage: Path, phases: Optional[Phases] = None
-) -> tuple[pd.DataFrame, pd.DataFrame]:
-    """Writes the program's answer, blocks.csv, shells.csv, years.csv, and of phases phases.csv; gives the shells and the years."""
+def tables_of(answered: Answered) -> list[str]:
+    """The names of the files of tables that are written."""
+    names = [files.ANSWER, files.TABLE, files.SHELLS, files.YEARS, *([files.PHASES] if answered.phases else [])]
+    names += [files.SCHEDULE, files.SCHEDULE_RECORD, WORKBOOK] if answered.schedule else []
+    return [*names, files.MILLING] if answered.schedule and answered.schedule.milling else names
+
+
+def sheets_of(answered: Answered, table: pd.DataFrame, years: pd.DataFrame) -> dict[str, pd.DataFrame]:
+    """The tables of a schedule's workbook, by sheet."""
+    assert answered.phases is not None and answered.schedule is not None
+    bins = {"milling": shown(scheduling.milling(answered.schedule))} if answered.schedule.milling else {}
+    return bins | {
+        "ways": scheduling.ways(answered.schedule),
+        "schedule": shown(scheduling.table(answered.schedule)),
+        "years": shown(years[years["factor"] == answered.schedule.factor]),
+        "phases": shown(phasing.table(answered.phases)),
+        "shells": shown(table),
+    }
+
+
+def write_tables(answered: Answered, stage: Path) -> tuple[pd.DataFrame, pd.DataFrame]:
+    """Writes the program's answer, blocks.csv, shells.csv, years.csv, of phases phases.csv, and of a schedule schedule.csv, schedule.json
+    and where ore is divided into bins milling.csv; gives the shells and the years."""
+    plan, solution, phases, schedule = answered.plan, answered.solution, answered.phases, answered.schedule
     table, years = analyse.shells(plan, solution), analyse.years(plan, solution)
     (stage / files.ANSWER).write_bytes(solution.answer)
-    write_table(analyse.blocks(plan, solution) if phases is None else phasing.blocks(phases), stage)
+    blocks = analyse.blocks(plan, solution) if phases is None else phasing.blocks(phases)
+    if schedule is not None:
+        blocks["year"] = scheduling.blocks_year(schedule)[blocks["id"].to_numpy()]
+        years = pd.concat([years, scheduling.years(schedule)], ignore_index=True)
+        shown(scheduling.table(schedule)).to_csv(stage / files.SCHEDULE, index=False)
+        files.write_json(stage / files.SCHEDULE_RECORD, scheduling.record(schedule))
+        if schedule.milling:
+            shown(scheduling.milling(schedule)).to_csv(stage / files.MILLING, index=False)
+    write_table(blocks, stage)
     shown(table).to_csv(stage / files.SHELLS, index=False)
     shown(years).to_csv(stage / files.YEARS, index=False)
     if phases is not None:
@@ -256,13 +337,13 @@ def finish(plan: Plan, record: dict[str, Any], names: list[str], stage: Path) ->
 
 
 def shown(table: pd.DataFrame) -> pd.DataFrame:
-    """A table as shells.csv and years.csv have it: sums to a thousandth, grades and ratios to a millionth."""
+    """A table as shells.csv and years.csv have it: sums to a thousandth, grades and ratios to a millionth, shares to a billionth."""
     result = table.copy()
     if "worth_at_factor" in result:
         result["worth_at_factor"] = result["worth_at_factor"].map("{:f}".format)
     for name in result.columns:
         if result[name].dtype == np.float64:
-            places = 6 if name.startswith("grade_") or name in ("strip_ratio", "years") else 3
+            places = 6 if name.startswith("grade_") or name in ("strip_ratio", "years") else 9 if name == "share" else 3
             # A hair below nothing is rounded to -0.0, which is no amount.
             result[name] = result[name].round(places) + 0.0
     return result
@@ -273,6 +354,21 @@ def draw(plan: Plan, solution: run.Solution, table: pd.DataFrame, chosen: int, s
     pictures.write_pit_by_pit(table, plan.project.money.currency, chosen, stage / PICTURES["pit_by_pit"])
     pictures.write_plans(scene, stage / PICTURES["plans"])
     pictures.write_sections(scene, stage / PICTURES["sections"])
+
+
+def draw_phases(answered: Answered, years: pd.DataFrame, stage: Path) -> dict[str, str]:
+    """Draws phases and their schedule, where there are such; gives the pictures' files by name."""
+    drawn: dict[str, str] = {}
+    if answered.phases is not None:
+        scene, drawn = phase_pictures.scene_of(answered.phases), PHASE_PICTURES
+        phase_pictures.write_plans(scene, stage / PHASE_PICTURES["phase_plans"])
+        phase_pictures.write_sections(scene, stage / PHASE_PICTURES["phase_sections"])
+    if answered.schedule is not None:
+        drawn = drawn | SCHEDULE_PICTURES
+        schedule_pictures.write_gantt(answered.schedule, stage / drawn["schedule_gantt"])
+        schedule_pictures.write_tonnes(answered.schedule, stage / drawn["schedule_tonnes"])
+        schedule_pictures.write_cumulative(answered.schedule, years, stage / drawn["schedule_value"])
+    return drawn
 
 
 def facts_of(record: dict[str, Any], drawn: dict[str, Path]) -> dict[str, Any]:

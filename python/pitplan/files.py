@@ -26,6 +26,7 @@ BLOCKS, MODEL, PREC, FIXED = "mine.blocks", "mine.upit", "mine.prec", "mine.fixe
 REST_BLOCKS, REST_PREC = "rest.blocks", "rest.prec"
 RECORD, TABLE, SHELLS, YEARS, ANSWER = "prepare.json", "blocks.csv", "shells.csv", "years.csv", "shells.txt"
 PHASES = "phases.csv"
+SCHEDULE, SCHEDULE_RECORD, MILLING = "schedule.csv", "schedule.json", "milling.csv"
 CHUNK = 200_000
 
 
@@ -166,7 +167,11 @@ def grid_of(box: dict[str, Any], rows: np.ndarray) -> Grid:
 
 def read_record(folder: Path) -> dict[str, Any]:
     """What prepare.json says."""
-    record: dict[str, Any] = json.loads((folder / RECORD).read_text(encoding="utf-8"))
+    return read_json(folder / RECORD)
+
+
+def read_json(path: Path) -> dict[str, Any]:
+    record: dict[str, Any] = json.loads(path.read_text(encoding="utf-8"))
     return record
 
 

@@ -1,6 +1,7 @@
 """The shells in 3D: one HTML page with three.js and the model in it, to rotate and to cut by factor and by bench.
 
-The page holds a byte a cell; which faces are seen at a factor and a bench is found in the page.
+The page holds a byte a cell; which faces are seen at a factor and a bench is found in the page. Of a schedule each block may have the
+colour of its year.
 """
 
 from __future__ import annotations
@@ -48,7 +49,7 @@ def model_of(folder: Folder) -> dict[str, Any]:
     most = float(np.quantile(grade[grade > 0], 0.99)) if (grade > 0).any() else 1.0
     tint = np.rint(np.clip(grade / most, 0, 1) * 255).astype(np.uint8)
     west, _, south, _, floor, top = grid.extent()
-    return {
+    return years_of(folder) | {
         "shape": list(grid.shape),
         "size": list(grid.size),
         "corner": [west, south, floor],
@@ -62,6 +63,16 @@ def model_of(folder: Folder) -> dict[str, Any]:
         "shell_colours": colours("viridis_r", np.linspace(0.02, 1, len(factors))),
         "grade_colours": colours("YlOrRd", np.linspace(0, 1, 256)),
     }
+
+
+def years_of(folder: Folder) -> dict[str, Any]:
+    """Of a schedule a byte of the year for each cell, 0 where it has none, and a colour a year; else nothing. Years that a byte does not
+    hold have the colour of the last that it does."""
+    if "schedule" not in folder.record:
+        return {}
+    year = np.minimum(folder.blocks["year"].to_numpy(), 255)
+    last = max(int(year.max()), 1)
+    return {"year": encoded(folder.grid.spread(year, 0)), "year_colours": colours("turbo", np.linspace(0.05, 0.95, last))}
 
 
 def encoded(cells: np.ndarray) -> str:

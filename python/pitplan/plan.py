@@ -26,6 +26,7 @@ MILLION = 1_000_000
 OWN_COLUMNS = (
     *("id", "mining_cost", "revenue", "processing_cost", "factor", "process_factor", "free_factor", "free_process_factor"),
     "phase",
+    "year",
 )
 
 

@@ -11,6 +11,7 @@ from typing import Optional, Union
 
 from .errors import PlanError
 from .phase_rules import PhaseRules, read_phases
+from .schedule_rules import ScheduleRules, read_schedule_rules
 from .section import Section
 
 # A price or a cost: one for every rock, or one for each rock by its code.
@@ -200,6 +201,7 @@ class Project:
     scenarios: Optional[Scenarios] = None
     fixed: Optional[FixedRules] = None
     phases: Optional[PhaseRules] = None
+    schedule_rules: Optional[ScheduleRules] = None
 
 
 def load(path: Union[str, Path], original: Optional[Path] = None) -> Project:
@@ -235,6 +237,7 @@ def of_data(data: dict, path: Path) -> Project:
         scenarios=read_scenarios(top.section("scenarios"), path.parent) if top.has("scenarios") else None,
         fixed=read_fixed(top.section("fixed"), path.parent) if top.has("fixed") else None,
         phases=read_phases(top.section("pushbacks"), GREATEST_FACTOR) if top.has("pushbacks") else None,
+        schedule_rules=read_schedule_rules(top.section("schedule")) if top.has("schedule") else None,
     )
     output.finish()
     top.finish()
@@ -261,6 +264,9 @@ def demand_agreement(project: Project) -> None:
     names = [metal.name for metal in project.metals]
     if len(set(names)) < len(names):
         raise PlanError(f"{path}: two [[metals]] have one name")
+    for name in project.schedule_rules.metal_per_year if project.schedule_rules else ():
+        if name not in names:
+            raise PlanError(f"{path}: [schedule] metal_per_year names {name}, which is none of the [[metals]] {', '.join(names)}")
     if project.scenarios is not None:
         named = [*project.scenarios.columns, *(name for prices in project.scenarios.prices for name in prices)]
         for name in named:

@@ -3,8 +3,9 @@
 from __future__ import annotations
 
 import base64
+from collections.abc import Callable
 from pathlib import Path
-from typing import Any, Optional
+from typing import Any
 
 import pandas as pd
 from jinja2 import Environment, FileSystemLoader, select_autoescape
@@ -18,6 +19,8 @@ TEMPLATES = Environment(
     trim_blocks=True,
     lstrip_blocks=True,
 )
+# Column, heading with unit, by what to divide, and decimals.
+Columns = list[tuple[str, str, float, int]]
 DISCOUNTED = {
     "continuous": "from the moment when cash flows",
     "end_of_year": "from the end of each year",
@@ -30,7 +33,7 @@ def picture(path: Path) -> str:
     return "data:image/png;base64," + base64.b64encode(path.read_bytes()).decode("ascii")
 
 
-def columns_of(table: pd.DataFrame, project: Project) -> list[tuple[str, str, float, int]]:
+def columns_of(table: pd.DataFrame, project: Project) -> Columns:
     """What the page's table shows: column, heading with unit, by what to divide, and decimals."""
     money, m_sign = scaled(float(table[["worth", "npv_best", "npv_worst"]].abs().max().max()))
     currency = f"{m_sign} {project.money.currency}".strip()
@@ -40,7 +43,7 @@ def columns_of(table: pd.DataFrame, project: Project) -> list[tuple[str, str, fl
     return [*columns, ("years", "years", 1.0, 1)]
 
 
-def columns_of_rock(table: pd.DataFrame, project: Project) -> list[tuple[str, str, float, int]]:
+def columns_of_rock(table: pd.DataFrame, project: Project) -> Columns:
     """Blocks, tonnes, strip ratio, grades and metals."""
     tonnes, sign = scaled(float(table["tonnes"].max()))
     columns = [
@@ -57,7 +60,7 @@ def columns_of_rock(table: pd.DataFrame, project: Project) -> list[tuple[str, st
     return columns
 
 
-def columns_of_phases(table: pd.DataFrame, project: Project) -> list[tuple[str, str, float, int]]:
+def columns_of_phases(table: pd.DataFrame, project: Project) -> Columns:
     """What is shown of phases, as `columns_of` of shells."""
     money, sign = scaled(float(table["worth"].abs().max()))
     currency = f"{sign} {project.money.currency}".strip()
@@ -72,9 +75,24 @@ def columns_of_phases(table: pd.DataFrame, project: Project) -> list[tuple[str, 
     ]
 
 
-def phase_facts(table: pd.DataFrame, project: Project) -> dict[str, Any]:
-    """The headings and the rows of the page's table of phases."""
-    columns = columns_of_phases(table, project)
+def columns_of_ways(table: pd.DataFrame, project: Project) -> Columns:
+    """What is shown of the ways of a schedule, as `columns_of` of shells."""
+    money, sign = scaled(float(table["value"].abs().max()))
+    tonnes, of_tonnes = scaled(float(table["tonnes"].max()))
+    return [
+        ("way", "way", 1.0, 0),
+        ("value", f"NPV, {f'{sign} {project.money.currency}'.strip()}", money, 2),
+        ("below_bound", "below bound, %", 0.01, 2),
+        ("years", "years", 1.0, 0),
+        ("tonnes", f"rock, {of_tonnes}t", tonnes, 2),
+        ("ore_tonnes", f"ore, {of_tonnes}t", tonnes, 2),
+        ("left_tonnes", f"left, {of_tonnes}t", tonnes, 2),
+    ]
+
+
+def table_of(table: pd.DataFrame, columns_of: Callable[[pd.DataFrame, Project], Columns], project: Project) -> dict[str, Any]:
+    """The headings and the rows of a table of the page."""
+    columns = columns_of(table, project)
     return {"headings": [heading for _, heading, _, _ in columns], "rows": cells_of(table, columns)}
 
 
@@ -86,10 +104,12 @@ def metal_unit(most: float, metal: Metal) -> tuple[float, str]:
     return (1e6, "t") if most >= 1e7 else (1e3, "kg") if most >= 1e4 else (1.0, "g")
 
 
-def cells_of(table: pd.DataFrame, columns: list[tuple[str, str, float, int]]) -> list[list[str]]:
+def cells_of(table: pd.DataFrame, columns: Columns) -> list[list[str]]:
     """The table as texts; a dash where a number is not defined."""
 
     def cell(row: pd.Series, name: str, size: float, places: int) -> str:
+        if name == "way":
+            return str(row[name])
         if name in ("phase", "factor"):
             return str(int(row[name]))
         return "–" if pd.isna(row[name]) else f"{row[name] / size:,.{places}f}"
@@ -97,10 +117,11 @@ def cells_of(table: pd.DataFrame, columns: list[tuple[str, str, float, int]]) ->
     return [[cell(row, name, size, places) for name, _, size, places in columns] for _, row in table.iterrows()]
 
 
-def write(path: Path, project: Project, table: pd.DataFrame, facts: dict[str, Any], phases: Optional[pd.DataFrame] = None) -> None:
-    """The page of a table of shells, and of one of phases where there are such.
+def write(path: Path, project: Project, table: pd.DataFrame, facts: dict[str, Any]) -> None:
+    """The page of a table of shells.
 
-    `facts`: chosen factor, pictures by name, the table's summary, notes, what was verified, files with their hashes, and the program's identity.
+    `facts`: chosen factor, pictures by name, the table's summary, notes, what was verified, files with their hashes, the program's identity,
+    and where there are such the tables of phases and of a schedule's ways.
     """
     columns = columns_of(table, project)
     rows = [
@@ -112,7 +133,8 @@ def write(path: Path, project: Project, table: pd.DataFrame, facts: dict[str, An
         title=project.title,
         headings=[heading for _, heading, _, _ in columns],
         rows=rows,
-        phases=None if phases is None else phase_facts(phases, project),
+        phases=facts.get("phases"),
+        ways=facts.get("ways"),
         warnings=[note.removeprefix("WARNING: ") for note in warnings],
         notes=[note for note in facts["notes"] if note not in warnings],
         pictures={name: picture(place) for name, place in facts["pictures"].items()},

@@ -119,13 +119,20 @@ def course_of(amounts: np.ndarray, settings: Schedule) -> Course:
     return Course(amounts, np.where(np.abs(ends - nearest) < HAIR, nearest, ends), settings.rate)
 
 
+def year_discounts(settings: Schedule, count: int) -> np.ndarray:
+    """By year what one of money that flows in it is worth at the start: evenly through the year, or at its end or its middle."""
+    ends = np.arange(1.0, count + 1)
+    if settings.discounting not in BEFORE_THE_END:
+        return mean_discount(ends - 1, ends, settings.rate)
+    return (1 + settings.rate) ** -(ends - BEFORE_THE_END[settings.discounting])
+
+
 def discounted(years: Years, settings: Schedule) -> Years:
     """The same years with their cash discounted as the project asks."""
     if settings.discounting not in BEFORE_THE_END:
         return years
     *_, cash, _ = years.amounts.T
-    moments = np.arange(1, len(cash) + 1) - BEFORE_THE_END[settings.discounting]
-    present = cash * (1 + settings.rate) ** -moments
+    present = cash * year_discounts(settings, len(cash))
     return Years(years.end, np.column_stack([years.amounts[:, :-1], present]))
 
 

@@ -127,4 +127,7 @@ def blank_pictures():
         patch.setattr(commands.yearly, "write_years", lambda years, project, chosen, path: path.touch())
         for name in ("write_plans", "write_sections"):
             patch.setattr(commands.phase_pictures, name, lambda scene, path: path.touch())
+        for name in ("write_gantt", "write_tonnes"):
+            patch.setattr(commands.schedule_pictures, name, lambda schedule, path: path.touch())
+        patch.setattr(commands.schedule_pictures, "write_cumulative", lambda schedule, years, path: path.touch())
         yield

@@ -27,7 +27,7 @@ from typing import Optional
 
 from ..errors import PlanError
 from ..project import Project
-from . import absent, answer as answers, fixed, money, phases, scenarios, sums, walls, years
+from . import absent, answer as answers, fixed, money, phases, scenarios, schedule, sums, walls, years
 from .answer import TOLD, Answer, Rule, rule
 
 OF_PITS = (walls.verify, sums.verify, sums.verify_worth, years.verify)
@@ -41,7 +41,8 @@ def verify(folder: Path, project: Optional[Project] = None) -> list[Rule]:
     """
     answer = answers.read(folder, project)
     more = [verify_free(answer, answer.free)] if answer.free else []
-    return [*(check(answer) for check in CHECKS), *more, *(phases.verify(answer) if answer.phases is not None else [])]
+    more += phases.verify(answer) if answer.phases is not None else []
+    return [*(check(answer) for check in CHECKS), *more, *(schedule.verify(answer) if answer.schedule is not None else [])]
 
 
 def verify_free(kept: Answer, free: Answer) -> Rule:

@@ -23,8 +23,8 @@ TOLD = 10
 SAID = ("id", "mining_cost", "revenue", "processing_cost", "factor", "process_factor")
 # Those that `pitplan pit` writes besides, of the pit that keeps to no fixed blocks.
 FREE = ("free_factor", "free_process_factor")
-# The one that `pitplan pushbacks` writes besides.
-PHASE = "phase"
+# Those that `pitplan pushbacks` and `pitplan schedule` write besides.
+PHASE, YEAR = "phase", "year"
 
 
 @dataclass(frozen=True)
@@ -55,6 +55,7 @@ class Answer:
     free    of `pitplan pit` the answer that keeps to no fixed blocks
     found   what was told of it before, by name
     phases  of `pitplan pushbacks` phases.csv, by phase; `said` has each block's phase then
+    schedule  of `pitplan schedule` schedule.csv; `said` has each block's year then
     """
 
     folder: Path
@@ -69,6 +70,7 @@ class Answer:
     free: Optional[Answer] = None
     found: dict[str, Any] = field(default_factory=dict)
     phases: Optional[pd.DataFrame] = None
+    schedule: Optional[pd.DataFrame] = None
 
     @property
     def shape(self) -> tuple[int, int, int]:
@@ -182,7 +184,7 @@ def read(folder: Path, project: Optional[Project] = None) -> Answer:
     try:
         record = json.loads((folder / "prepare.json").read_text(encoding="utf-8"))
         project = project or load(folder / record["project"])
-        written = read_blocks(folder / "blocks.csv", project, (*SAID, *FREE, PHASE))
+        written = read_blocks(folder / "blocks.csv", project, (*SAID, *FREE, PHASE, YEAR))
         return read_shells(folder, record, project, written) if "shells" in record else read_pits(folder, record, project, written)
     except OSError as error:
         raise PlanError(f"{error.filename}: cannot be read: run pitplan shells first") from error
@@ -191,13 +193,15 @@ def read(folder: Path, project: Optional[Project] = None) -> Answer:
 
 
 def read_shells(folder: Path, record: dict[str, Any], project: Project, written: pd.DataFrame) -> Answer:
-    """The answer of `pitplan shells`, or of `pitplan pushbacks`."""
+    """The answer of `pitplan shells`, `pitplan pushbacks` or `pitplan schedule`."""
     shells = pd.read_csv(folder / "shells.csv", dtype={"worth_at_factor": str}).set_index("factor")
     years = pd.read_csv(folder / "years.csv") if (folder / "years.csv").exists() else None
     rows, known, order = beside(tables.read(project).frame, written, project, record["grid"], "blocks.csv")
     phases = pd.read_csv(folder / "phases.csv").set_index("phase") if "phases" in record else None
-    said = written[[*SAID, *([PHASE] if phases is not None else [])]].iloc[order].reset_index(drop=True)
-    return Answer(folder, project, rows, known, said, shells, years, record, tuple(record["shells"]["factors"]), phases=phases)
+    schedule = pd.read_csv(folder / "schedule.csv") if "schedule" in record else None
+    more = [*([PHASE] if phases is not None else []), *([YEAR] if schedule is not None else [])]
+    said, factors = written[[*SAID, *more]].iloc[order].reset_index(drop=True), tuple(record["shells"]["factors"])
+    return Answer(folder, project, rows, known, said, shells, years, record, factors, phases=phases, schedule=schedule)
 
 
 def read_pits(folder: Path, record: dict[str, Any], project: Project, written: pd.DataFrame) -> Answer:
@@ -225,7 +229,7 @@ def read_blocks(path: Path, project: Project, said: Optional[tuple[str, ...]] = 
 
 def own_name(column: str) -> str:
     """A column of the planner's, as blocks.csv names it."""
-    return f"planner_{column}" if column in (*SAID, *FREE, PHASE) else column
+    return f"planner_{column}" if column in (*SAID, *FREE, PHASE, YEAR) else column
 
 
 def beside(

@@ -16,18 +16,21 @@ def verify(answer: Answer) -> Rule:
     """No year exceeds a capacity; the years of a shell add up to it, and its NPV is what flows in them, discounted."""
     if answer.years is None:
         return verify_npv(answer)
-    differences: list[str] = over_capacity(answer)
-    for (case, factor), years in answer.years.groupby(["case", "factor"]):
-        differences += unlike_sums(answer, case, factor, years)
+    # Those of a schedule are looked at with it.
+    ways = () if answer.schedule is None else answer.schedule["way"].unique()
+    of_shells = answer.years[~answer.years["case"].isin(ways)]
+    differences: list[str] = over_capacity(answer, of_shells)
+    for (case, factor), years in of_shells.groupby(["case", "factor"]):
+        is_one = case in ("best", "worst")
+        differences += unlike_sums(answer, case, factor, years) if is_one else [f"years of case {case}, which is none"]
     npv = verify_npv(answer)
     return rule(npv.name, f"no year exceeds a capacity, years add up to their shell, and {npv.holds}", [*differences, *npv.differences])
 
 
-def over_capacity(answer: Answer) -> list[str]:
-    assert answer.years is not None
+def over_capacity(answer: Answer, years: pd.DataFrame) -> list[str]:
     schedule, found = answer.project.schedule, []
     for name, most in (("ore_tonnes", schedule.ore_per_year), ("rock_tonnes", schedule.rock_per_year or math.inf)):
-        over = answer.years[answer.years[name] > most * (1 + 1e-9) + CENT]
+        over = years[years[name] > most * (1 + 1e-9) + CENT]
         found += [f"{row.case} case of factor {row.factor}, year {row.year}: {name} {getattr(row, name):.10g} above {most:.10g}" for row in over.itertuples()]
     return found
 

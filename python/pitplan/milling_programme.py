@@ -1,0 +1,254 @@
+"""The linear programme of a yearly schedule in which ore goes to the mill, to a stockpile or to waste, bin by bin.
+
+To what is dug come, cumulative by year, the share of each parcel of ore that is milled in the year in which it is dug, and the share that
+is reclaimed from the stockpile, in a later year. What is never milled is waste. So which ore is worth milling while the mill is full, the
+cut-off of Lane (The Economic Definition of Ore, 1988), is a result. A stockpile is taken to give each parcel back as it was laid.
+"""
+
+from __future__ import annotations
+
+from collections.abc import Iterator
+from dataclasses import dataclass, replace
+from functools import cached_property
+from typing import Optional
+
+import numpy as np
+from scipy.sparse import bmat, csr_matrix, diags, eye, identity, kron
+
+from .grade_bins import GAIN, Parcels
+from .linear_programme import Relaxed, furthest, joined, limit_rows, order_rows, paying, sequences, yearly_rows
+from .optimiser import Programme, solve
+from .phase_benches import CASH, ORE, ROCK, PhaseBenches
+from .schedule import year_discounts
+from .sequencing import Limits, Problem, by_lead, dig, leads
+
+# How much faster than the mill a pit may be dug by rule, so that it has the best of what there is.
+FASTER = (1.0, 1.25, 1.5, 2.0, 3.0)
+# Of so many schedules, the best where each year mills the best that there is, the best milling is sought.
+TRIED = 4
+# A share that may be the solver's tolerance alone.
+SLIGHT = 1e-7
+
+
+@dataclass(frozen=True)
+class Milling:
+    """What becomes of the ore of a schedule: arrays of parcels and years.
+
+    straight   the share of each parcel that is milled in the year in which it is dug
+    reclaimed  the share that is milled in a year from the stockpile
+    cost       of reclaiming a tonne, in money
+    is_stocked whether there is a stockpile
+    """
+
+    parcels: Parcels
+    straight: np.ndarray
+    reclaimed: np.ndarray
+    cost: float
+    is_stocked: bool
+
+    @property
+    def milled(self) -> np.ndarray:
+        return self.straight + self.reclaimed
+
+    def flows(self, benches: PhaseBenches, shares: np.ndarray) -> np.ndarray:
+        """What flows of each bench in each year, by the benches' names: an array of benches, years and names."""
+        flows = np.zeros((len(benches), shares.shape[1], len(benches.names)))
+        place = self.parcels.bench
+        for number, name in enumerate(benches.names):
+            if name == ROCK:
+                flows[:, :, number] = benches.of(ROCK)[:, None] * shares
+            elif name == CASH:
+                flows[:, :, number] = self.mining(benches)[:, None] * shares
+                gain = self.parcels.of(GAIN)[:, None] * self.milled - self.cost * self.parcels.of(ORE)[:, None] * self.reclaimed
+                np.add.at(flows[:, :, number], place, gain)
+            else:
+                np.add.at(flows[:, :, number], place, self.parcels.of(name)[:, None] * self.milled)
+        return flows
+
+    def mining(self, benches: PhaseBenches) -> np.ndarray:
+        """What digging each bench whole earns without its ore: less than nothing."""
+        return mining_of(benches, self.parcels)
+
+    @property
+    def cutoffs(self) -> list[Optional[float]]:
+        """By year what a tonne is worth at the lower edge of the poorest bin of which some is milled straight; None where none is."""
+        lower = np.concatenate([[0.0], self.parcels.edges])[self.parcels.bin - 1]
+        return [float(lower[some].min()) if some.any() else None for some in (self.straight > SLIGHT).T]
+
+
+def mining_of(benches: PhaseBenches, parcels: Parcels) -> np.ndarray:
+    return benches.of(CASH) - np.bincount(parcels.bench, parcels.of(GAIN), minlength=len(benches))
+
+
+@dataclass(frozen=True)
+class MillingProblem:
+    """A problem of years with parcels of ore; `cost` is that of reclaiming a tonne, None where there is no stockpile."""
+
+    problem: Problem
+    parcels: Parcels
+    years: int
+    cost: Optional[float]
+
+    @property
+    def kinds(self) -> int:
+        """Of unknowns of each parcel and year: milled straight, and where there is a stockpile reclaimed."""
+        return 1 if self.cost is None else 2
+
+    @property
+    def dug(self) -> int:
+        """How many unknowns are of benches; they stand first."""
+        return len(self.problem.benches) * self.years
+
+    @cached_property
+    def programme(self) -> tuple[Programme, float]:
+        """The programme, and the money that one unit of its gain is."""
+        benches, parcels, years = self.problem.benches, self.parcels, self.years
+        discounts = year_discounts(self.problem.settings, years)
+        steps = discounts - np.append(discounts[1:], 0.0)
+        worth = [mining_of(benches, parcels), parcels.of(GAIN)]
+        worth += [] if self.cost is None else [parcels.of(GAIN) - self.cost * parcels.of(ORE)]
+        gain = np.concatenate([np.outer(of_whole, steps).ravel() for of_whole in worth])
+        unit = float(np.abs(gain).max(initial=0.0)) or 1.0
+        rows = [*self.digging_rows(), *self.parcel_rows(), *self.mill_rows()]
+        matrix, most = (joined([part[k] for part in rows]) for k in (0, 1))
+        upper = furthest(benches, self.of_digging, years)
+        upper = np.concatenate([upper.ravel(), np.tile(upper[parcels.bench].ravel(), self.kinds)])
+        return Programme(gain / unit, matrix.tocsr(), most, upper, np.zeros(len(gain), dtype=bool)), unit
+
+    @property
+    def of_digging(self) -> Limits:
+        """The limits that digging has without the mill."""
+        limits = self.problem.limits
+        return Limits({name: most for name, most in limits.most.items() if name == ROCK}, (1.0,), limits.sinking_rate)
+
+    def digging_rows(self) -> Iterator[tuple[csr_matrix, np.ndarray]]:
+        """Order, and the limits of digging."""
+        behind = self.kinds * len(self.parcels) * self.years
+        for matrix, most in (order_rows(self.problem.benches, self.years), *limit_rows(self.problem.benches, self.of_digging, self.years)):
+            yield csr_matrix(bmat([[matrix, csr_matrix((matrix.shape[0], behind))]])), most
+
+    def parcel_rows(self) -> Iterator[tuple[csr_matrix, np.ndarray]]:
+        """Cumulative shares never fall; no more of a parcel is milled straight than is dug in the year; and no more is reclaimed by the end
+        of a year than was dug and not milled before it."""
+        count, years = len(self.parcels), self.years
+        step, before = diags([1.0, -1.0], [0, -1], (years, years)), eye(years, k=-1)
+        bench = csr_matrix((np.ones(count), (np.arange(count), self.parcels.bench)), (count, len(self.problem.benches)))
+        each = identity(count)
+        nothing = csr_matrix((count * years, count * years))
+        rest = [nothing] if self.cost is not None else []
+        yield csr_matrix(bmat([[csr_matrix((count * years, self.dug)), -kron(each, step), *rest]])), np.zeros(count * years)
+        yield csr_matrix(bmat([[-kron(bench, step), kron(each, step), *rest]])), np.zeros(count * years)
+        if self.cost is not None:
+            yield csr_matrix(bmat([[csr_matrix((count * years, self.dug)), nothing, -kron(each, step)]])), np.zeros(count * years)
+            yield csr_matrix(bmat([[-kron(bench, before), kron(each, before), identity(count * years)]])), np.zeros(count * years)
+
+    def mill_rows(self) -> Iterator[tuple[csr_matrix, np.ndarray]]:
+        """What is milled keeps to the limits of ore and metals."""
+        limits = self.problem.limits
+        of_years = limits.of_years(self.years)
+        for number, name in enumerate(limits.most):
+            if name != ROCK:
+                whole = float(of_years[:, number].max())
+                milled = yearly_rows(self.parcels.of(name) / whole, self.years)
+                parts = [csr_matrix((self.years, self.dug)), *[milled] * self.kinds]
+                yield csr_matrix(bmat([parts])), of_years[:, number] / whole
+
+    def relaxed(self) -> Relaxed:
+        """The optimum. Raises KeyboardInterrupt where it is interrupted."""
+        programme, unit = self.programme
+        found = solve(programme)
+        assert found.unknowns is not None
+        cumulative = found.unknowns[: self.dug].reshape(-1, self.years)
+        return Relaxed(np.maximum.accumulate(np.clip(cumulative, 0.0, 1.0), axis=1), found.bound * unit)
+
+    def milling(self, dug: np.ndarray) -> Milling:
+        """The best that can become of the ore of what is dug in all years. Raises KeyboardInterrupt where it is interrupted."""
+        programme, _ = self.programme
+        matrix = programme.matrix.tocsc()
+        some = np.flatnonzero(np.diff(programme.matrix[:, self.dug :].indptr))
+        most = programme.most - matrix[:, : self.dug] @ dug.cumsum(axis=1).ravel()
+        size = len(programme.gain) - self.dug
+        rest = Programme(programme.gain[self.dug :], matrix[:, self.dug :].tocsr()[some], most[some], np.ones(size), np.zeros(size, dtype=bool))
+        found = solve(rest)
+        assert found.unknowns is not None
+        parts = np.diff(found.unknowns.reshape(self.kinds, len(self.parcels), self.years), axis=2, prepend=0.0)
+        return self.kept(dug, parts[0], parts[1] if self.kinds == 2 else np.zeros_like(parts[0]))
+
+    def kept(self, dug: np.ndarray, straight: np.ndarray, reclaimed: np.ndarray) -> Milling:
+        """Shares that keep to what is dug, to what is stocked and to the mill without the solver's tolerance."""
+        parcels, limits = self.parcels, self.problem.limits
+        straight = np.where(straight > SLIGHT, np.minimum(straight, dug[parcels.bench]), 0.0)
+        reclaimed = np.where(reclaimed > SLIGHT, reclaimed, 0.0)
+        stock = np.zeros(len(parcels))
+        for year in range(self.years):
+            reclaimed[:, year] = np.minimum(reclaimed[:, year], stock)
+            for name, most in zip(limits.most, limits.of_year(year + 1)):
+                used = 0.0 if name == ROCK else parcels.of(name) @ (straight[:, year] + reclaimed[:, year])
+                if used > most:
+                    straight[:, year] *= most / used
+                    reclaimed[:, year] *= most / used
+            stock = np.maximum(stock + dug[parcels.bench, year] - straight[:, year] - reclaimed[:, year], 0.0)
+        return Milling(parcels, straight, reclaimed, self.cost or 0.0, self.cost is not None)
+
+    def diggable(self, optimum: Relaxed) -> tuple[np.ndarray, Milling]:
+        """The schedule worth most of those that are made of the optimum and by rule, without what does not pay in it."""
+        made = [dug for dug in self.dug_by_rule()] + [dug for dug in self.paced(optimum)]
+        made.sort(key=lambda dug: self.value(dug, self.best_first(dug)), reverse=True)
+        pairs = [(dug, self.milling(dug)) for dug in made[:TRIED]]
+        dug, milling = max(pairs, key=lambda pair: self.value(*pair))
+        pays = paying(self.earned(dug, milling), self.problem.benches)
+        if not pays.all():
+            less = dug * pays[:, None]
+            dug, milling = max((less, self.milling(less)), (dug, milling), key=lambda pair: self.value(*pair))
+        last = np.flatnonzero(dug.any(axis=0) | milling.milled.any(axis=0))
+        some = slice(last[-1] + 1 if len(last) else 0)
+        return dug[:, some], replace(milling, straight=milling.straight[:, some], reclaimed=milling.reclaimed[:, some])
+
+    def dug_by_rule(self) -> Iterator[np.ndarray]:
+        """What is dug in all years by rule, as if the mill took more than it does."""
+        limits, benches = self.problem.limits, self.problem.benches
+        for more in FASTER:
+            most = {name: amount * (1.0 if name == ROCK else more) for name, amount in limits.most.items()}
+            faster = replace(self.problem, limits=replace(limits, most=most))
+            for lead in leads(benches):
+                yield self.in_all_years(dig(faster, by_lead(benches, lead), self.years))
+
+    def paced(self, optimum: Relaxed) -> Iterator[np.ndarray]:
+        """What is dug in all years in the orders of the optimum, each year as much rock as the optimum has dug by then."""
+        pace = self.problem.benches.of(ROCK) @ optimum.cumulative
+        digging = replace(self.problem, limits=self.of_digging)
+        for sequence in sequences(optimum, self.problem.benches):
+            if sequence.first is None and not sequence.eager:
+                yield self.in_all_years(dig(digging, replace(sequence, pace=pace), self.years))
+
+    def in_all_years(self, shares: np.ndarray) -> np.ndarray:
+        return np.pad(shares, ((0, 0), (0, self.years - shares.shape[1])))
+
+    def best_first(self, dug: np.ndarray) -> Milling:
+        """What becomes of the ore if each year mills the best that there is, of what is dug and of the stockpile."""
+        parcels, limits = self.parcels, self.problem.limits
+        tonnes, straight, reclaimed = parcels.of(ORE), np.zeros((len(parcels), self.years)), np.zeros((len(parcels), self.years))
+        worth = parcels.of(GAIN) / tonnes
+        worths = np.concatenate([worth, worth - (self.cost or 0.0)])
+        order = np.argsort(-worths, kind="stable")
+        order = order[worths[order] > 0]
+        stock = np.zeros(len(parcels))
+        for year in range(self.years):
+            there = np.concatenate([dug[parcels.bench, year], stock])
+            amounts = (there * np.tile(tonnes, 2))[order]
+            mill = dict(zip(limits.most, limits.of_year(year + 1)))[ORE]
+            taken = np.clip(mill - (np.cumsum(amounts) - amounts), 0.0, amounts)
+            shares = np.zeros(2 * len(parcels))
+            shares[order] = taken / np.tile(tonnes, 2)[order]
+            straight[:, year], reclaimed[:, year] = np.split(shares, 2)
+            stock = stock + dug[parcels.bench, year] - straight[:, year] - reclaimed[:, year] if self.cost is not None else stock
+        return self.kept(dug, straight, reclaimed)
+
+    def value(self, dug: np.ndarray, milling: Milling) -> float:
+        """What a schedule earns, discounted, in money."""
+        return float(self.earned(dug, milling).sum())
+
+    def earned(self, dug: np.ndarray, milling: Milling) -> np.ndarray:
+        """What each bench earns, discounted, in money."""
+        flows = milling.flows(self.problem.benches, dug)[:, :, self.problem.benches.names.index(CASH)]
+        return flows @ year_discounts(self.problem.settings, self.years)

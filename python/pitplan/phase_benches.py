@@ -1,0 +1,85 @@
+"""The benches of each phase, which a yearly schedule digs, and which of them must be through before another is begun."""
+
+from __future__ import annotations
+
+from dataclasses import dataclass
+from functools import cached_property
+
+import numpy as np
+
+from . import analyse
+from .phases import Phases
+
+ROCK, ORE, CASH = "rock_tonnes", "ore_tonnes", "cash"
+
+
+@dataclass(frozen=True)
+class PhaseBenches:
+    """The benches with rock of each phase, phase by phase and there from the top.
+
+    phase    of each bench, from 1
+    level    of each, from 0 at the top of the grid
+    names    of the amounts: rock_tonnes, ore_tonnes, metal_NAME of each metal, and cash, in money
+    amounts  an array of benches and names
+    lag      by how many benches a phase is behind the one before at least
+    """
+
+    phase: np.ndarray
+    level: np.ndarray
+    names: tuple[str, ...]
+    amounts: np.ndarray
+    lag: int = 0
+
+    def __len__(self) -> int:
+        return len(self.phase)
+
+    def of(self, name: str) -> np.ndarray:
+        """One amount of each bench."""
+        return self.amounts[:, self.names.index(name)]
+
+    @cached_property
+    def before(self) -> np.ndarray:
+        """An array of truths: whether each bench needs each other one to be through before it is begun, by whatever steps."""
+        needs = np.zeros((len(self), len(self)), dtype=bool)
+        for bench in range(len(self)):
+            for other in self.candidates(bench):
+                needs[bench] |= needs[other]
+                needs[bench, other] = True
+        return needs
+
+    @cached_property
+    def waits(self) -> tuple[np.ndarray, ...]:
+        """For each bench those that must be through before it is begun: the bench above it in its phase, and of each phase before the
+        lowest that is not more than `lag` benches below it. Those that another of them waits for are left out.
+
+        So all that lies over a bench in its phase and those before is dug first, wherever a phase begins or ends.
+        """
+        found = []
+        for bench in range(len(self)):
+            some = self.candidates(bench)
+            found.append(np.array([other for other in some if not self.before[some, other].any()], dtype=np.int64))
+        return tuple(found)
+
+    def candidates(self, bench: int) -> list[int]:
+        """The lowest bench above it in its phase, and of each phase before the lowest that it waits for. Benches stand in an order in
+        which each is behind those that it waits for."""
+        phase, level = self.phase[bench], self.level[bench]
+        deepest = np.where(self.phase == phase, level - 1, level + self.lag)
+        open_to = np.flatnonzero((self.phase <= phase) & (self.level <= deepest))
+        last = np.flatnonzero(np.diff(self.phase[open_to], append=-1))
+        return open_to[last].tolist()
+
+
+def of_phases(phases: Phases, lag: int = 0) -> PhaseBenches:
+    """The benches of a pit's phases, at the price as given."""
+    plan, cells = phases.plan, analyse.cells_of(phases.plan, phases.solution)
+    inside = np.flatnonzero((phases.phase > 0) & (cells.tonnes > 0))
+    levels = plan.grid.shape[0]
+    place = (phases.phase[inside].astype(np.int64) - 1) * levels + inside // plan.grid.per_level
+    used, bench = np.unique(place, return_inverse=True)
+    ore = cells.ore[inside]
+    flows = {ROCK: cells.tonnes[inside], ORE: np.where(ore, cells.tonnes[inside], 0.0)}
+    flows |= {f"metal_{name}": np.where(ore, metal[inside], 0.0) for name, metal in plan.values.metal.items()}
+    flows[CASH] = cells.worth[inside]
+    sums = np.column_stack([np.bincount(bench, flow, minlength=len(used)) for flow in flows.values()])
+    return PhaseBenches(used // levels + 1, used % levels, tuple(flows), sums, lag)

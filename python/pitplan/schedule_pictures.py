@@ -1,0 +1,186 @@
+"""Pictures of a yearly schedule, by matplotlib; `pictures` says how its functions are called."""
+
+from __future__ import annotations
+
+from pathlib import Path
+from typing import Any
+
+import matplotlib
+import numpy as np
+import pandas as pd
+from matplotlib.axes import Axes
+from matplotlib.collections import PatchCollection
+from matplotlib.figure import Figure
+from matplotlib.patches import Rectangle
+from matplotlib.ticker import MaxNLocator
+
+from .grid import metres
+from .pictures import BEST, ORE, PLAIN, STYLE, WASTE, WORST, finish, list_of, scaled
+from .project import Metal
+from .yearly import MILL, SHOVELS
+from .yearly_schedule import LP, MILP, RULE, YearlySchedule, years as years_of
+
+TITLES = {RULE: "By rule", LP: "By linear programme", MILP: "By integer programme"}
+COLOURS = {"worst": WORST, RULE: "#d08a1d", LP: ORE, MILP: "#7b4fa3", "best": BEST, "bound": PLAIN}
+NAMES = {"worst": "worst case", RULE: "rule", LP: "linear programme", MILP: "integer programme", "best": "best case", "bound": "bound"}
+MARKED = {"marker": "o", "markersize": 3, "linewidth": 1.4}
+# The rule's line is seen where the other lies on it.
+LINES = {"worst": MARKED, RULE: {"linewidth": 5, "alpha": 0.5}, LP: MARKED, MILP: MARKED, "best": MARKED, "bound": {"linestyle": "--", "linewidth": 1.2}}
+GRADE = "#a23b8f"
+# The palest part of a bench is still seen.
+PALEST = 0.25
+# So many benches are named at most.
+MOST_NAMES = 28
+
+
+def write_gantt(schedule: YearlySchedule, path: Path) -> None:
+    with matplotlib.rc_context(STYLE):
+        high = min(max(3.2, 0.16 * len(schedule.benches)), 14.0)
+        figure = Figure(figsize=(12, high + 0.8), constrained_layout=True)
+        plot_gantt(schedule, figure.subplots(1, len(schedule.shares), sharex=True, sharey=True, squeeze=False))
+        finish(figure, path)
+
+
+def plot_gantt(schedule: YearlySchedule, axes: Any) -> list[Axes]:
+    """The years in which benches are dug, phase by phase from the top, on an axis a way, which it gives."""
+    found = list_of(axes, len(schedule.shares))
+    for ax, way in zip(found, schedule.shares):
+        draw_gantt(schedule, way, ax)
+    found[0].set_ylabel("bench of each phase: z of its centres, m")
+    return found
+
+
+def draw_gantt(schedule: YearlySchedule, way: str, ax: Axes) -> None:
+    """A bar a bench and year, the darker the more of the bench is dug."""
+    shares, benches = schedule.shares[way], schedule.benches
+    row = rows_of(schedule)
+    bench, year = np.nonzero(shares)
+    tints = phase_tints(int(benches.phase.max()))[benches.phase[bench] - 1]
+    tints[:, 3] = PALEST + (1 - PALEST) * shares[bench, year]
+    bars = [Rectangle((t + 0.5, row[b] - 0.5), 1, 1) for b, t in zip(bench, year)]
+    ax.add_collection(PatchCollection(bars, facecolors=tints, edgecolors="white", linewidths=0.3))
+    longest = max(other.shape[1] for other in schedule.shares.values())
+    ax.set_xlim(0.5, longest + 0.5)
+    ax.set_ylim(row[-1] + 1, -1)
+    ax.xaxis.set_major_locator(MaxNLocator(integer=True))
+    ax.set_xlabel("year")
+    ax.spines["right"].set_visible(False)
+    ax.set_title(f"{TITLES.get(way, way)}: NPV {money(schedule.value(way), schedule)}")
+    name_benches(schedule, row, longest, ax)
+
+
+def rows_of(schedule: YearlySchedule) -> np.ndarray:
+    """Where each bench stands from the top of the picture, with room for a phase's name above its first."""
+    phase = schedule.benches.phase
+    return np.arange(len(phase)) + 2.0 * (phase - 1) + 1
+
+
+def phase_tints(count: int) -> np.ndarray:
+    """A colour a phase, as plans of phases have it."""
+    return matplotlib.colormaps["viridis_r"](np.linspace(0.08, 0.95, count))
+
+
+def name_benches(schedule: YearlySchedule, row: np.ndarray, longest: int, ax: Axes) -> None:
+    benches, elevations = schedule.benches, schedule.phases.plan.grid.elevations()
+    each = -(-len(benches) // MOST_NAMES)
+    shown = [bench for bench in range(len(benches)) if benches.level[bench] % each == 0]
+    ax.set_yticks(row[shown], [metres(elevations[benches.level[bench]]) for bench in shown], fontsize=7)
+    for number in np.unique(benches.phase):
+        first = row[benches.phase == number][0]
+        ax.text(0.6, first - 1.0, f"phase {number}", va="center", ha="left", fontsize=8, fontweight="bold")
+        ax.plot([0.5, longest + 0.5], [first - 0.55] * 2, color="#999999", linewidth=0.6)
+
+
+def money(amount: float, schedule: YearlySchedule) -> str:
+    size, sign = scaled(abs(amount))
+    return f"{amount / size:,.2f} {sign} {schedule.phases.plan.project.money.currency}".replace("  ", " ")
+
+
+def write_tonnes(schedule: YearlySchedule, path: Path) -> None:
+    with matplotlib.rc_context(STYLE):
+        figure = Figure(figsize=(12, 4.6))
+        plot_tonnes(schedule, figure.subplots(1, len(schedule.shares), sharey=True, squeeze=False))
+        figure.tight_layout(rect=(0, 0, 1, 0.92))
+        finish(figure, path)
+
+
+def plot_tonnes(schedule: YearlySchedule, axes: Any) -> list[Axes]:
+    """Ore and waste of each year with its limits, and what of the first metal is recovered of a tonne of ore, on an axis a way, which it
+    gives."""
+    found, table = list_of(axes, len(schedule.shares)), years_of(schedule)
+    metal = schedule.phases.plan.project.metals[0]
+    size, sign = scaled(float(table["rock_tonnes"].max()))
+    rights = [ax.twinx() for ax in found]
+    most = max(recovered(table, metal).max(), 0.0)
+    for left, right, way in zip(found, rights, schedule.shares):
+        shown = table[table["case"] == way]
+        draw_bars(left, shown, size)
+        draw_limits(left, schedule, len(shown), (size, sign))
+        left.set_title(TITLES.get(way, way))
+        right.plot(shown["year"], recovered(shown, metal), color=GRADE, marker="o", markersize=3.5, linewidth=1.4, label=f"{metal.name} recovered")
+        right.set_ylim(0, 1.25 * most or 1.0)
+        right.spines["top"].set_visible(False)
+    found[0].set_ylabel(f"rock in the year, {sign}t")
+    rights[-1].set_ylabel(f"{metal.name} recovered of the ore, {metal.sign}")
+    drawn = [*found[0].containers, *found[0].lines, *rights[0].lines]
+    names = [str(handle.get_label()) for handle in drawn]
+    found[0].figure.legend(drawn, names, ncol=len(names), loc="upper center", frameon=False)
+    return found
+
+
+def recovered(table: pd.DataFrame, metal: Metal) -> pd.Series:
+    """What is recovered of a metal in the unit of its grade, of each year's ore; nan where there is none."""
+    ore = table["ore_tonnes"].where(table["ore_tonnes"] > 0)
+    return table[f"metal_{metal.name}"] / ore * (100.0 if metal.unit == "percent" else 1.0)
+
+
+def draw_bars(ax: Axes, shown: pd.DataFrame, size: float) -> None:
+    ore, waste = shown["ore_tonnes"] / size, (shown["rock_tonnes"] - shown["ore_tonnes"]) / size
+    ax.bar(shown["year"], ore, 0.8, color=ORE, label="ore", linewidth=0)
+    ax.bar(shown["year"], waste, 0.8, bottom=ore, color=WASTE, label="waste", linewidth=0)
+    ax.xaxis.set_major_locator(MaxNLocator(integer=True))
+    ax.set_xlim(0.4, float(shown["year"].max()) + 0.6)
+    ax.set_xlabel("year")
+
+
+def draw_limits(ax: Axes, schedule: YearlySchedule, count: int, unit: tuple[float, str]) -> None:
+    """A line for each limit of tonnes; that of the mill with its ramp-up."""
+    size, sign = unit
+    limits = schedule.problem.limits
+    edges = np.arange(max(count, 1) + 1) + 0.5
+    for name, label, colour in (("ore_tonnes", "mill", MILL), ("rock_tonnes", "shovels", SHOVELS)):
+        if name in limits.most:
+            most = limits.of_years(max(count, 1))[:, list(limits.most).index(name)] / size
+            label = f"{label}: {round(limits.most[name] / size, 3):,.12g} {sign}t a year"
+            ax.plot(edges, np.append(most, most[-1]), drawstyle="steps-post", color=colour, linestyle="--", linewidth=1.3, label=label)
+    ax.set_ylim(0, 1.05 * max(ax.get_ylim()[1], 0.0))
+
+
+def write_cumulative(schedule: YearlySchedule, years: pd.DataFrame, path: Path) -> None:
+    with matplotlib.rc_context(STYLE):
+        figure = Figure(figsize=(9.5, 4.8))
+        plot_cumulative(schedule, years, figure.subplots())
+        figure.tight_layout()
+        finish(figure, path)
+
+
+def plot_cumulative(schedule: YearlySchedule, years: pd.DataFrame, ax: Axes) -> Axes:
+    """What has been earned by the end of each year, discounted, by the cases of a table of years as years.csv has it, and by the optimum of
+    the linear programme, which ends at the bound; gives `ax`."""
+    shown = years[years["factor"] == schedule.factor]
+    curves = {case: np.append(0.0, shown["discounted"][shown["case"] == case].cumsum()) for case in NAMES if case != "bound"}
+    if schedule.optimum is not None:
+        flows = schedule.benches.of("cash") @ schedule.optimum.shares
+        curves["bound"] = np.append(0.0, np.cumsum(flows * schedule.discounts(len(flows))))
+    size, sign = scaled(max(float(np.abs(curve).max()) for curve in curves.values()))
+    for case, curve in curves.items():
+        if len(curve) > 1:
+            ax.plot(np.arange(len(curve)), curve / size, color=COLOURS[case], label=f"{NAMES[case]}: {curve[-1] / size:,.2f}", **LINES[case])
+    if schedule.optimum is not None:
+        ax.axhline(schedule.optimum.bound / size, color=COLOURS["bound"], linewidth=0.8, linestyle=":")
+    ax.axhline(0, color="black", linewidth=0.8)
+    ax.set_xlabel("end of year")
+    ax.set_ylabel(f"discounted cash so far, {sign} {schedule.phases.plan.project.money.currency}".replace(",  ", ", "))
+    ax.xaxis.set_major_locator(MaxNLocator(integer=True))
+    ax.legend(loc="lower right", facecolor="white", edgecolor="none", framealpha=0.9)
+    return ax

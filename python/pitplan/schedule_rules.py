@@ -1,0 +1,117 @@
+"""What `[schedule]` of a project says: the limits of a year, and how phases follow each other."""
+
+from __future__ import annotations
+
+from dataclasses import dataclass, field
+from decimal import Decimal
+from typing import Optional
+
+from .section import Section
+
+MOST_YEARS, MOST_BENCHES = 200, 1_000
+MOST_BINS = 50
+MOST_SECONDS = 7 * 24 * 3600
+
+
+@dataclass(frozen=True)
+class Effort:
+    """When an integer programme is good enough: the gap to its bound as a share of it, and the seconds after which it ends."""
+
+    gap: float = 0.0
+    seconds: Optional[float] = None
+
+
+@dataclass(frozen=True)
+class ScheduleRules:
+    """The limits of a year, and how phases follow each other.
+
+    ore_per_year    tonnes that the mill takes; None: as `[shells]` says
+    rock_per_year   tonnes that the shovels take; None: as `[shells]` says, which may have no limit
+    metal_per_year  by metal the most that is recovered: tonnes, or grams where the grade is in grams a tonne
+    sinking_rate    the most benches by which a phase sinks in a year; None: any
+    lag             by how many benches a phase is behind the one before at least
+    ramp_up         shares of the mill's tonnes in the first years; the last one stays
+    years           so many years at most; None: a fifth more than the rule takes
+    milp            whether and how far an integer programme is solved too; None: it is not
+    bins            into so many bins ore is divided, which may be left as waste while the mill is full; None: all ore is milled
+    rehandling      what it costs to reclaim a tonne from a stockpile; None: there is none
+    """
+
+    ore_per_year: Optional[float] = None
+    rock_per_year: Optional[float] = None
+    metal_per_year: dict[str, float] = field(default_factory=dict)
+    sinking_rate: Optional[float] = None
+    lag: int = 0
+    ramp_up: tuple[float, ...] = (1.0,)
+    years: Optional[int] = None
+    milp: Optional[Effort] = None
+    bins: Optional[int] = None
+    rehandling: Optional[float] = None
+
+
+def read_schedule_rules(section: Section) -> ScheduleRules:
+    """The section's rules. Raises PlanError, with the key, where one is wrong."""
+    rules = ScheduleRules(
+        ore_per_year=read_tonnes(section, "ore_per_year"),
+        rock_per_year=read_tonnes(section, "rock_per_year"),
+        metal_per_year=read_metals(section),
+        sinking_rate=float(section.number("sinking_rate")) if section.has("sinking_rate") else None,
+        lag=section.whole("lag", 0, 0, MOST_BENCHES),
+        ramp_up=read_ramp_up(section),
+        years=section.whole("years", 1, 1, MOST_YEARS) if section.has("years") else None,
+        milp=read_effort(section.section("milp")) if section.has("milp") else None,
+        bins=section.whole("bins", 1, 1, MOST_BINS) if section.has("bins") else None,
+        rehandling=read_stockpile(section.section("stockpile")) if section.has("stockpile") else None,
+    )
+    section.finish()
+    if rules.sinking_rate is not None and rules.sinking_rate <= 0:
+        raise section.wrong("sinking_rate", "is above 0 benches a year: leave it out where there is no limit")
+    if rules.rehandling is not None and rules.bins is None:
+        raise section.wrong("stockpile", "needs bins, by which ore is laid on it")
+    if rules.milp is not None and rules.bins is not None:
+        raise section.wrong("milp", "knows no bins: leave out one of the two")
+    return rules
+
+
+def read_stockpile(section: Section) -> float:
+    cost = float(section.number("rehandling_cost", least=0))
+    section.finish()
+    return cost
+
+
+def read_effort(section: Section) -> Effort:
+    """The gap and the seconds, which must be given since an integer programme may take for ever."""
+    gap = section.number("gap", Decimal(0), least=0)
+    seconds = section.whole("seconds", 0, 1, MOST_SECONDS)
+    section.finish()
+    if gap >= 1:
+        raise section.wrong("gap", "is a share of the bound, such as 0.01 for 1 %")
+    return Effort(float(gap), float(seconds))
+
+
+def read_tonnes(section: Section, key: str) -> Optional[float]:
+    return float(section.number(key, least=1)) if section.has(key) else None
+
+
+def read_metals(section: Section) -> dict[str, float]:
+    """The most of each metal that is named."""
+    if not section.has("metal_per_year"):
+        return {}
+    by_metal = section.section("metal_per_year")
+    most = {name: float(by_metal.number(name)) for name in by_metal.data}
+    for name, amount in most.items():
+        if amount <= 0:
+            raise by_metal.wrong(name, "is above 0: leave it out where there is no limit")
+    return most
+
+
+def read_ramp_up(section: Section) -> tuple[float, ...]:
+    if not section.has("ramp_up"):
+        return (1.0,)
+    value = section.get("ramp_up")
+    if not isinstance(value, list) or not value:
+        raise section.wrong("ramp_up", "must be a list of shares of ore_per_year, one a year, such as [0.5, 0.8, 1.0]")
+    shares = tuple(float(section.as_number("ramp_up", item)) for item in value)
+    if any(not 0 <= share <= 1 for share in shares) or shares[-1] == 0:
+        raise section.wrong("ramp_up", "shares are from 0 to 1, and the last, which stays, is above 0")
+    return shares

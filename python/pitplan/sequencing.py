@@ -1,0 +1,157 @@
+"""Schedules that can be dug: benches in an order, each begun when all that it waits for are through, within the limits of each year."""
+
+from __future__ import annotations
+
+from dataclasses import dataclass
+from typing import Optional
+
+import numpy as np
+
+from .errors import PlanError
+from .phase_benches import CASH, ORE, ROCK, PhaseBenches
+from .project import Project, Schedule
+from .schedule import MOST_YEARS, year_discounts
+from .schedule_rules import ScheduleRules
+
+# A share so small is taken as nothing, since sums of fractions miss it by a hair.
+HAIR = 1e-9
+
+
+@dataclass(frozen=True)
+class Limits:
+    """What a year may hold.
+
+    most          by name the most of an amount; of ore once the mill runs in full
+    ramp_up       shares of the mill's tonnes in the first years; the last one stays
+    sinking_rate  the most benches by which a phase sinks; infinite where there is no limit
+    """
+
+    most: dict[str, float]
+    ramp_up: tuple[float, ...] = (1.0,)
+    sinking_rate: float = np.inf
+
+    def of_year(self, number: int) -> np.ndarray:
+        """The limited amounts of a year, numbered from 1."""
+        of_mill = self.ramp_up[min(number, len(self.ramp_up)) - 1]
+        return np.array([most * of_mill if name == ORE else most for name, most in self.most.items()], dtype=float)
+
+    def of_years(self, count: int) -> np.ndarray:
+        """An array of years, from the first, and limited amounts."""
+        return np.stack([self.of_year(number) for number in range(1, count + 1)])
+
+    def amounts(self, benches: PhaseBenches) -> np.ndarray:
+        """What each bench takes of each limit: an array of benches and limited amounts."""
+        return np.array([benches.of(name) for name in self.most]).reshape(len(self.most), len(benches)).T
+
+
+def limits_of(project: Project, rules: ScheduleRules) -> Limits:
+    """The limits of `[schedule]`, and of `[shells]` where it gives none."""
+    rock = rules.rock_per_year or project.schedule.rock_per_year
+    most = {ORE: rules.ore_per_year or project.schedule.ore_per_year}
+    most |= {} if rock is None else {ROCK: rock}
+    most |= {f"metal_{name}": amount for name, amount in rules.metal_per_year.items()}
+    return Limits(most, rules.ramp_up, np.inf if rules.sinking_rate is None else rules.sinking_rate)
+
+
+@dataclass(frozen=True)
+class Problem:
+    """What is scheduled: benches of phases, the limits of a year, and the settings by which cash is discounted."""
+
+    benches: PhaseBenches
+    limits: Limits
+    settings: Schedule
+
+    def value(self, shares: np.ndarray) -> float:
+        """What the years of a schedule earn, discounted, in money; the shares are an array of benches and years."""
+        return float(self.benches.of(CASH) @ shares @ year_discounts(self.settings, shares.shape[1]))
+
+
+@dataclass(frozen=True)
+class Sequence:
+    """How benches are dug one after the other.
+
+    order  the benches that are dug, each behind those that it waits for
+    first  for each bench the first year, from 1, in which it may be dug; None: any
+    eager  whether benches further down the order use what a full limit leaves of the others; else the first limit that is full ends the
+           year, but for that of sinking, which holds up its phase alone
+    pace   the most rock that is dug by the end of each year; None: any
+    """
+
+    order: np.ndarray
+    first: Optional[np.ndarray] = None
+    eager: bool = False
+    pace: Optional[np.ndarray] = None
+
+
+class Digging:
+    """A schedule in the making, year by year."""
+
+    def __init__(self, problem: Problem) -> None:
+        self.benches, self.limits = problem.benches, problem.limits
+        rock = self.benches.of(ROCK)
+        self.takes = np.column_stack([self.limits.amounts(self.benches), rock])
+        self.done = np.zeros(len(self.benches))
+
+    def room(self, bench: int, left: np.ndarray, depth: float) -> float:
+        """The share of a bench that fits into what is left of a year."""
+        takes = self.takes[bench]
+        some = takes > 0
+        return float(min(1 - self.done[bench], depth, *(left[some] / takes[some])))
+
+    def year(self, sequence: Sequence, pending: list[int], number: int) -> np.ndarray:
+        """Digs one year, numbered from 1, of what is pending; gives the share of each bench."""
+        pace = np.inf if sequence.pace is None else max(0.0, sequence.pace[number - 1] - self.benches.of(ROCK) @ self.done)
+        left = np.append(self.limits.of_year(number), pace)
+        depth = np.full(int(self.benches.phase.max()) + 1, self.limits.sinking_rate)
+        shares = np.zeros(len(self.benches))
+        for bench in pending:
+            is_due = sequence.first is None or sequence.first[bench] <= number
+            if not is_due or (self.done[self.benches.waits[bench]] < 1).any():
+                continue
+            phase = self.benches.phase[bench]
+            share = self.room(bench, left, depth[phase])
+            if share > HAIR:
+                shares[bench] = share
+                left = np.maximum(left - share * self.takes[bench], 0.0)
+                depth[phase] -= share
+                self.done[bench] = 1.0 if self.done[bench] + share > 1 - HAIR else self.done[bench] + share
+            if self.done[bench] < 1 and not sequence.eager and depth[phase] > HAIR:
+                break
+        return shares
+
+
+def dig(problem: Problem, sequence: Sequence, years: Optional[int] = None) -> np.ndarray:
+    """The share of each bench that is dug in each year: an array of benches and years, up to the year when all is dug or the last that
+    is allowed.
+
+    Raises PlanError where it takes more than a thousand years.
+    """
+    digging, found = Digging(problem), []
+    pending = sequence.order.tolist()
+    while pending and (years is None or len(found) < years):
+        if len(found) == MOST_YEARS:
+            raise PlanError(f"[schedule] the pit would take more than {MOST_YEARS:,} years: are the limits in tonnes a year?")
+        found.append(digging.year(sequence, pending, len(found) + 1))
+        pending = [bench for bench in pending if digging.done[bench] < 1]
+    return np.column_stack(found) if found else np.zeros((len(problem.benches), 0))
+
+
+def by_lead(benches: PhaseBenches, lead: int) -> Sequence:
+    """All benches, each phase so many benches behind the one before. No lead is the whole pit bench by bench; one of all levels is phase
+    by phase."""
+    return Sequence(np.lexsort((benches.phase, benches.level + lead * (benches.phase - 1))))
+
+
+def leads(benches: PhaseBenches) -> range:
+    """From the lag up to the lead at which phases follow one after the other."""
+    return range(benches.lag, max(benches.lag, int(np.ptp(benches.level)) + 1) + 1)
+
+
+def by_rule(problem: Problem, years: Optional[int] = None) -> tuple[np.ndarray, int]:
+    """The shares by year of the lead that earns most, and this lead.
+
+    Raises PlanError where it takes more than a thousand years.
+    """
+    tried = {lead: dig(problem, by_lead(problem.benches, lead), years) for lead in leads(problem.benches)}
+    best = max(tried, key=lambda lead: problem.value(tried[lead]))
+    return tried[best], best

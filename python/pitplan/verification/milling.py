@@ -1,0 +1,78 @@
+"""What becomes of ore that is divided into bins, anew from the blocks and milling.csv."""
+
+from __future__ import annotations
+
+from typing import Any
+
+import numpy as np
+import pandas as pd
+
+from .answer import Answer
+
+# The last place that milling.csv keeps of tonnes, and what a share may be off by the solver's tolerance.
+AMOUNT, SHARE = 0.6e-3, 1e-6
+KEYS = ["phase", "level", "bin"]
+
+
+def parcels_of(answer: Answer, edges: list[float]) -> pd.DataFrame:
+    """By phase, level and bin what the ore adds up to: tonnes, metals and gain."""
+    gain = (answer.said["revenue"] - answer.said["processing_cost"]).to_numpy()
+    with np.errstate(divide="ignore", invalid="ignore"):
+        bins = 1 + (gain[:, None] / answer.tonnes[:, None] > np.array(edges)).sum(axis=1)
+    columns = {"ore_tonnes": answer.tonnes, "gain": gain} | {f"metal_{name}": metal for name, metal in answer.quantities.items()}
+    frame = pd.DataFrame(columns | {"phase": answer.said["phase"].to_numpy(), "level": answer.cells[0], "bin": bins})
+    return frame[(frame["phase"] > 0) & answer.ore & (answer.tonnes > 0)].groupby(KEYS).sum()
+
+
+def amounts(answer: Answer, rows: pd.DataFrame, plain: pd.DataFrame, told: dict[str, Any]) -> tuple[pd.DataFrame, pd.DataFrame, list[str]]:
+    """What each row of a way's schedule should have, by how much it may be off, and what is wrong in milling.csv. `plain` is what it would
+    have if all ore were milled as it is dug."""
+    table = pd.read_csv(answer.folder / "milling.csv")
+    table = table[table["way"].isin(rows["way"].unique())].copy()
+    table["level"] = np.rint((answer.elevations[0] - table["bench"]) / answer.size[2]).astype(int)
+    whole = parcels_of(answer, told["edges"])
+    of_parcel = whole.reindex(pd.MultiIndex.from_frame(table[KEYS])).reset_index(drop=True)
+    table = table.reset_index(drop=True)
+    if of_parcel.isna().any(axis=None):
+        return plain, plain * 0, [f"milling.csv has ore of no bin in {int(of_parcel.isna().any(axis=1).sum())} rows"]
+    milled = table["milled_tonnes"] + table["reclaimed_tonnes"]
+    flows = of_parcel.mul(milled / of_parcel["ore_tonnes"], axis=0)
+    cost = told["rehandling_cost"]
+    flows["gain"] -= (cost or 0.0) * table["reclaimed_tonnes"]
+    # A thousandth of a tonne of a parcel is worth so much.
+    slack = of_parcel.abs().mul(2 * AMOUNT / of_parcel["ore_tonnes"], axis=0)
+    slack["gain"] += (cost or 0.0) * AMOUNT
+    keys = [table["year"], table["phase"], table["level"]]
+    at = pd.MultiIndex.from_frame(rows[["year", "phase", "level"]])
+    flowed, more = (frame.groupby(keys).sum().reindex(at).fillna(0.0).reset_index(drop=True) for frame in (flows, slack))
+    expected, loose = flowed.drop(columns="gain"), more.drop(columns="gain")
+    expected["rock_tonnes"], loose["rock_tonnes"] = plain["rock_tonnes"], 0.0
+    gains = whole["gain"].groupby(level=["phase", "level"]).sum().reindex(at.droplevel("year")).fillna(0.0).to_numpy()
+    expected["cash"], loose["cash"] = plain["cash"] - rows["share"] * gains + flowed["gain"], more["gain"] + 1e-9 * np.abs(gains)
+    return expected, loose, [*unlike_rows(table, rows, of_parcel), *unlike_stock(table, whole, cost is not None)]
+
+
+def unlike_rows(table: pd.DataFrame, rows: pd.DataFrame, of_parcel: pd.DataFrame) -> list[str]:
+    """What is dug of a bin and is not the share of its bench, and more that is milled straight than is dug."""
+    keys = ["year", "phase", "level"]
+    share = rows.groupby(keys)["share"].sum().reindex(pd.MultiIndex.from_frame(table[keys]))
+    dug = share.fillna(0.0).to_numpy() * of_parcel["ore_tonnes"]
+    slack = AMOUNT + SHARE * of_parcel["ore_tonnes"]
+    wrong = (table["dug_tonnes"] - dug).abs() > slack
+    wrong |= (table["milled_tonnes"] > table["dug_tonnes"] + slack) | (table[["milled_tonnes", "reclaimed_tonnes"]] < 0).any(axis=1)
+    return [f"milling.csv, year {row.year}, phase {row.phase}, bench {row.bench:.10g}, bin {row.bin}: dug or milled tonnes are wrong" for row in table[wrong].itertuples()]
+
+
+def unlike_stock(table: pd.DataFrame, whole: pd.DataFrame, is_stocked: bool) -> list[str]:
+    """Bins of benches of which by the end of a year more is reclaimed than was dug and not milled before it."""
+    if not is_stocked:
+        return ["ore is reclaimed, and there is no stockpile"] if (table["reclaimed_tonnes"] > 0).any() else []
+    years = range(1, int(table["year"].max()) + 1)
+    dug, milled, reclaimed = (
+        table.pivot_table(index=KEYS, columns="year", values=f"{name}_tonnes", aggfunc="sum").reindex(columns=years).fillna(0.0).cumsum(axis=1)
+        for name in ("dug", "milled", "reclaimed")
+    )
+    stocked = (dug - milled).shift(1, axis=1, fill_value=0.0)
+    slack = (SHARE * whole["ore_tonnes"]).reindex(dug.index) + AMOUNT * len(years) * 3
+    wrong = reclaimed.gt(stocked.add(slack, axis=0)).any(axis=1)
+    return [f"milling.csv: more is reclaimed of phase {at[0]}, level {at[1]}, bin {at[2]} than is stocked" for at in wrong.index[wrong]]

@@ -1,0 +1,224 @@
+"""The yearly schedule anew, from its rows, the phases of blocks and the project: order, limits, amounts, and what they earn."""
+
+from __future__ import annotations
+
+import json
+import math
+from collections.abc import Iterator
+from dataclasses import dataclass
+from functools import cached_property
+from typing import Any
+
+import numpy as np
+import pandas as pd
+
+from . import milling, years
+from .answer import TOLD, Answer, Rule, rule
+
+CENT, SLIGHT = 0.01, 1e-6
+# The last places that schedule.csv keeps of amounts and of shares.
+AMOUNT, SHARE = 0.6e-3, 0.6e-9
+
+
+@dataclass(frozen=True)
+class Way:
+    """What one way digs.
+
+    rows  of schedule.csv, with the `level` of their bench, from 0 at the top; -1 where there is none
+    said  what schedule.json says of it
+    """
+
+    answer: Answer
+    name: str
+    rows: pd.DataFrame
+    said: dict[str, Any]
+
+    @property
+    def project_rules(self) -> Any:
+        return self.answer.project.schedule_rules
+
+    @property
+    def last(self) -> int:
+        return int(self.rows["year"].max()) if len(self.rows) else 0
+
+    @cached_property
+    def done(self) -> np.ndarray:
+        """The share of each bench that is dug by the end of each year: an array of phases from 0, levels and years from 0."""
+        phases, levels = int(self.answer.said["phase"].max()), self.answer.shape[0]
+        dug = np.zeros((phases + 1, levels, self.last + 1))
+        place = tuple(self.rows[name].to_numpy() for name in ("phase", "level", "year"))
+        np.add.at(dug, place, self.rows["share"].to_numpy())
+        return dug.cumsum(axis=2)
+
+
+def verify(answer: Answer) -> list[Rule]:
+    """Five rules."""
+    told = json.loads((answer.folder / "schedule.json").read_text(encoding="utf-8"))
+    sums = sums_of_benches(answer)
+    misplaced, ways = ways_of(answer, told)
+    return [
+        verify_amounts(ways, told, sums, misplaced),
+        verify_order(ways, sums),
+        verify_limits(ways),
+        verify_value(ways, told, sums),
+        verify_years_of_blocks(ways, told, sums),
+    ]
+
+
+def ways_of(answer: Answer, told: dict[str, Any]) -> tuple[list[str], list[Way]]:
+    """What stands in no place, and each way's rows that do."""
+    assert answer.schedule is not None
+    rows = answer.schedule.copy()
+    steps = (answer.elevations[0] - rows["bench"]) / answer.size[2]
+    rows["level"] = np.rint(steps).astype(int)
+    lost = (abs(steps - rows["level"]) > SLIGHT) | ~rows["level"].between(0, answer.shape[0] - 1)
+    # Of ore that is reclaimed from a stockpile nothing is dug.
+    nothing = (rows["share"] < 0) | ((rows["share"] == 0) & ((rows["ore_tonnes"] <= 0) | ~rows["way"].isin(told["bins"])))
+    lost |= ~rows["phase"].between(1, answer.said["phase"].max()) | (rows["year"] < 1) | nothing
+    differences = [f"{row.way}, year {row.year}: no bench {row.bench:.10g} of phase {row.phase}, or no share {row.share:g}" for row in rows[lost].itertuples()]
+    if not set(rows["way"]) <= set(told["ways"]):
+        differences.append(f"ways {sorted(set(rows['way']))} for {sorted(told['ways'])}")
+    rows = rows[~lost]
+    return differences, [Way(answer, name, rows[rows["way"] == name], said) for name, said in told["ways"].items()]
+
+
+def sums_of_benches(answer: Answer) -> pd.DataFrame:
+    """By phase and level what the blocks add up to, of benches that hold rock."""
+    columns = {"rock_tonnes": answer.tonnes, "ore_tonnes": np.where(answer.ore, answer.tonnes, 0.0), "cash": answer.worths}
+    columns |= {f"metal_{name}": np.where(answer.ore, metal, 0.0) for name, metal in answer.quantities.items()}
+    frame = pd.DataFrame(columns | {"phase": answer.said["phase"].to_numpy(), "level": answer.cells[0]})
+    return frame[(frame["phase"] > 0) & (frame["rock_tonnes"] > 0)].groupby(["phase", "level"]).sum()
+
+
+def verify_amounts(ways: list[Way], told: dict[str, Any], sums: pd.DataFrame, misplaced: list[str]) -> Rule:
+    """Each row is a share of the bench's blocks, or what is milled of them, and all shares of a bench are one at most."""
+    differences = list(misplaced)
+    for way in ways:
+        whole = sums.reindex(pd.MultiIndex.from_frame(way.rows[["phase", "level"]])).fillna(0.0).reset_index(drop=True)
+        rows = way.rows.reset_index(drop=True)
+        amounts, slack = whole.mul(rows["share"], axis=0), AMOUNT + SHARE * whole.abs()
+        if way.name in told["bins"]:
+            amounts, more, wrong = milling.amounts(way.answer, rows, amounts, told["bins"][way.name])
+            slack, differences = slack + more, [*differences, *wrong]
+        for name in sums.columns:
+            expected = amounts[name]
+            off = (rows[name] - expected).abs() > slack[name] + 1e-9 * expected.abs()
+            differences += [f"{place(row)}: {name} {getattr(row, name):.10g} for {expected[row.Index]:.10g}" for row in rows[off].itertuples()]
+        twice = np.argwhere(way.done[:, :, -1] > 1 + SLIGHT)
+        differences += [f"{way.name}: phase {phase}, level {level} is dug {way.done[phase, level, -1]:.9g} times" for phase, level in twice]
+    holds = "each row of the schedule is a share of the blocks of its bench, and no tonne is dug twice"
+    return rule("schedule amounts", holds, differences[:TOLD], len(differences))
+
+
+def place(row: Any) -> str:
+    return f"{row.way}, year {row.year}, phase {row.phase}, bench {row.bench:.10g}"
+
+
+def verify_order(ways: list[Way], sums: pd.DataFrame) -> Rule:
+    """No bench is begun before all benches above it in its phase, and all of phases before down to `lag` below it, are through."""
+    differences = []
+    for way in ways:
+        lag = way.project_rules.lag if way.project_rules else 0
+        is_there = np.zeros(way.done.shape[:2], dtype=bool)
+        is_there[tuple(np.array(sums.index.to_list()).T)] = True
+        # The least that is through, from the top of each phase down; where there is no bench there is nothing to wait for.
+        least = np.minimum.accumulate(np.where(is_there[:, :, None], way.done, 1.0), axis=1)
+        for row in way.rows.itertuples():
+            down = min(row.level + lag, least.shape[1] - 1)
+            waited = [1.0, *([least[row.phase, row.level - 1, row.year]] if row.level else []), *least[: row.phase, down, row.year]]
+            if min(waited) < 1 - SLIGHT:
+                differences.append(f"{place(row)}: is begun when one that it waits for is dug to {min(waited):.6g}")
+    holds = "no bench is begun before all that it waits for is through"
+    return rule("schedule order", holds, differences[:TOLD], len(differences))
+
+
+def limits_of(way: Way) -> Iterator[tuple[str, float, float]]:
+    """Name of an amount, the most of a year, and by how much its sum may be off for rounding."""
+    rules, shells = way.project_rules, way.answer.project.schedule
+    ore, rock = (rules and rules.ore_per_year) or shells.ore_per_year, (rules and rules.rock_per_year) or shells.rock_per_year
+    yield "ore_tonnes", ore, CENT
+    yield "rock_tonnes", rock or math.inf, CENT
+    for name, most in (rules.metal_per_year if rules else {}).items():
+        yield f"metal_{name}", most, CENT
+
+
+def verify_limits(ways: list[Way]) -> Rule:
+    """No year is above a limit, the mill's ramp-up and the sinking rate among them, nor behind the last that is allowed."""
+    differences = []
+    for way in ways:
+        rules = way.project_rules
+        ramp_up = rules.ramp_up if rules else (1.0,)
+        by_year = way.rows.groupby("year")
+        for name, most, slack in limits_of(way):
+            for year, amount in by_year[name].sum().items():
+                share = ramp_up[min(int(year), len(ramp_up)) - 1] if name == "ore_tonnes" else 1.0
+                if amount > most * share * (1 + 1e-8) + slack:
+                    differences.append(f"{way.name}, year {year}: {name} {amount:.10g} above {most * share:.10g}")
+        sunk = way.rows.groupby(["phase", "year"])["share"].sum()
+        deepest = (rules and rules.sinking_rate) or math.inf
+        differences += [f"{way.name}: phase {at[0]} sinks {by:.9g} benches in year {at[1]}" for at, by in sunk[sunk > deepest + SLIGHT].items()]
+        if rules and rules.years and way.last > rules.years:
+            differences.append(f"{way.name}: something is dug in year {way.last}")
+    holds = "no year is above a limit of ore, rock, metal or sinking"
+    return rule("schedule limits", holds, differences[:TOLD], len(differences))
+
+
+def verify_value(ways: list[Way], told: dict[str, Any], sums: pd.DataFrame) -> Rule:
+    """Cash is discounted as the project asks; values and years.csv add up; no way earns more than the bound."""
+    differences = []
+    for way in ways:
+        rows = way.rows
+        present = rows["cash"] * rows["year"].map(lambda year: discount(way.answer, int(year)))
+        off = (rows["discounted"] - present).abs() > 2 * AMOUNT + 1e-9 * present.abs()
+        differences += [f"{place(row)}: discounted {row.discounted:.10g} for {present[row.Index]:.10g}" for row in rows[off].itertuples()]
+        left = sums["rock_tonnes"].sum() - rows["rock_tonnes"].sum()
+        expected = {"value": rows["discounted"].sum(), "years": way.last, "left_tonnes": left}
+        for name, amount in expected.items():
+            if abs(way.said[name] - amount) > CENT + AMOUNT * len(rows) + 1e-9 * abs(amount):
+                differences.append(f"{way.name}: {name} {way.said[name]:.12g} for {amount:.12g}")
+        if way.name == "rule" and not (way.project_rules and way.project_rules.years) and left > CENT + AMOUNT * len(rows):
+            differences.append(f"{way.name} leaves {left:.10g} t")
+        for name in ("bound", "milp_bound"):
+            if told[name] is not None and way.said["value"] > told[name] + CENT + 1e-7 * abs(told[name]):
+                differences.append(f"{way.name}: value {way.said['value']:.12g} is above {name} {told[name]:.12g}")
+        differences += unlike_years(way, told["factor"])
+    holds = "cash is discounted as the project asks, values and years are the sums of it, and none is above the bound"
+    return rule("schedule value", holds, differences[:TOLD], len(differences))
+
+
+def discount(answer: Answer, year: int) -> float:
+    """What one of money of a year is worth at the start."""
+    settings = answer.project.schedule
+    if settings.discounting == "continuous":
+        return years.mean(year - 1, year, settings.rate)
+    return (1 + settings.rate) ** -(year - (0.5 if settings.discounting == "mid_year" else 0.0))
+
+
+def unlike_years(way: Way, factor: int) -> list[str]:
+    """What years.csv says of a way, and is not the sum of its rows."""
+    assert way.answer.years is not None
+    said = way.answer.years[way.answer.years["case"] == way.name].set_index("year")
+    found = [] if set(said["factor"]) <= {factor} else [f"{way.name}: years of factors {sorted(set(said['factor']))}"]
+    if said.index.tolist() != list(range(1, way.last + 1)):
+        return [*found, f"{way.name}: years {said.index.tolist()} for 1 to {way.last}"]
+    for name in [name for name in said.columns if name not in ("case", "factor")]:
+        total = way.rows.groupby("year")[name].sum().reindex(said.index, fill_value=0.0)
+        off = (said[name] - total).abs() > CENT + AMOUNT * len(way.rows) + 1e-9 * total.abs()
+        found += [f"{way.name}, year {year}: {name} {said[name][year]:.12g} for {total[year]:.12g}" for year in said.index[off]]
+    return found
+
+
+def verify_years_of_blocks(ways: list[Way], told: dict[str, Any], sums: pd.DataFrame) -> Rule:
+    """Each block has the year by whose end its bench of its phase is through, by the way that earns most."""
+    best = max(told["ways"], key=lambda name: told["ways"][name]["value"])
+    differences = [] if told["shown"] == best else [f"shown is {told['shown']} for {best}"]
+    for way in ways:
+        if way.name != told["shown"]:
+            continue
+        through = way.done > 1 - SLIGHT
+        year = np.where(through.any(axis=2), through.argmax(axis=2), 0)
+        expected = year[way.answer.said["phase"].to_numpy(), way.answer.cells[0]]
+        off = np.flatnonzero(expected != way.answer.said["year"].to_numpy())
+        differences += [f"{way.answer.called(row)}: year {way.answer.said['year'][row]} for {expected[row]}" for row in off]
+    holds = f"each block has the year by whose end its bench is through, as {told['shown']} digs it"
+    return rule("years of blocks", holds, differences[:TOLD], len(differences))

@@ -1,0 +1,286 @@
+"""A yearly schedule of a pit's phases: by rule, and by a linear programme whose optimum bounds them all."""
+
+from __future__ import annotations
+
+import math
+from collections.abc import Iterator
+from dataclasses import dataclass, field, replace
+from typing import Any, Optional
+
+import numpy as np
+import pandas as pd
+import scipy
+
+from . import grade_bins, integer_programme, linear_programme, phase_benches
+from .linear_programme import Relaxed
+from .milling_programme import Milling, MillingProblem
+from .phase_benches import CASH, ORE, ROCK, PhaseBenches
+from .phases import Phases
+from .progress import Progress, silent
+from .project import Project, Schedule
+from .schedule import year_discounts
+from .schedule_rules import ScheduleRules
+from .sequencing import Problem, by_rule, limits_of
+
+RULE, LP, MILP = "rule", "lp", "milp"
+# The linear programme may take this part of the rule's years more.
+MORE_YEARS = 0.2
+
+
+@dataclass(frozen=True)
+class YearlySchedule:
+    """What is dug in which year, by each way in which that was found.
+
+    shares       by way, rule first: an array of benches and years, of the share of each bench that is dug in each year
+    lead         by how many benches each phase follows the one before, of the rule
+    years        of which there are so many at most
+    optimum      that of the linear programme; None where it was not solved
+    milp_bound   what the integer programme had shown by its end that no schedule exceeds; None where it was not solved
+    interrupted  whether a way is missing since the run was interrupted
+    milling      what becomes of the ore, of ways in which it is not all milled as it is dug
+    """
+
+    phases: Phases
+    problem: Problem
+    shares: dict[str, np.ndarray]
+    lead: int
+    years: int
+    optimum: Optional[Relaxed] = None
+    milp_bound: Optional[float] = None
+    interrupted: bool = False
+    milling: dict[str, Milling] = field(default_factory=dict)
+
+    @property
+    def benches(self) -> PhaseBenches:
+        return self.problem.benches
+
+    @property
+    def settings(self) -> Schedule:
+        return self.problem.settings
+
+    @property
+    def factor(self) -> int:
+        """That of the last phase's shell, per mille."""
+        return self.phases.factors[-1]
+
+    @property
+    def shown(self) -> str:
+        """The way whose years the blocks have: the one that earns most."""
+        return max(self.shares, key=self.value)
+
+    def discounts(self, count: int) -> np.ndarray:
+        """By year what one of money that flows in it is worth at the start."""
+        return year_discounts(self.settings, count)
+
+    def value(self, way: str) -> float:
+        """What a way earns, discounted, in money."""
+        discounts = self.discounts(self.shares[way].shape[1])
+        return float(self.flows(way)[:, :, self.benches.names.index(CASH)].sum(axis=0) @ discounts)
+
+    def flows(self, way: str) -> np.ndarray:
+        """What flows of each bench in each year: an array of benches, years and the benches' names."""
+        if way in self.milling:
+            return self.milling[way].flows(self.benches, self.shares[way])
+        return self.shares[way][:, :, None] * self.benches.amounts[:, None, :]
+
+    def left(self, way: str) -> float:
+        """Tonnes of the phases that a way does not dig."""
+        return float(self.benches.of(ROCK) @ (1 - self.shares[way].sum(axis=1)))
+
+
+def rules_of(project: Project) -> ScheduleRules:
+    """What `[schedule]` says; without it the limits are those of `[shells]`."""
+    return project.schedule_rules or ScheduleRules()
+
+
+def make(phases: Phases, progress: Progress = silent) -> YearlySchedule:
+    """The schedule of a pit's phases. Where it is interrupted while programmes are solved, the ways that are found by then.
+
+    Raises PlanError where it takes more than a thousand years, or HiGHS finds nothing.
+    """
+    project, rules = phases.plan.project, rules_of(phases.plan.project)
+    benches = phase_benches.of_phases(phases, rules.lag)
+    problem = Problem(benches, limits_of(project, rules), project.schedule)
+    with progress.step(f"scheduling {len(benches):,} benches of {len(phases.factors)} phases by rule"):
+        shares, lead = by_rule(problem, rules.years)
+    years = rules.years or math.ceil((1 + MORE_YEARS) * shares.shape[1])
+    schedule = YearlySchedule(phases, problem, {RULE: shares}, lead, years)
+    try:
+        for schedule in better(schedule, rules, progress):
+            pass
+    except KeyboardInterrupt:
+        return replace(schedule, interrupted=True)
+    return schedule
+
+
+def better(schedule: YearlySchedule, rules: ScheduleRules, progress: Progress) -> Iterator[YearlySchedule]:
+    """The schedule with one thing after the other that programmes tell of it. Raises KeyboardInterrupt where one is interrupted."""
+    problem, years = schedule.problem, schedule.years
+    if rules.bins is not None and schedule.benches.of(ORE).any():
+        yield from with_bins(schedule, rules, progress)
+        return
+    with progress.step(f"solving the linear programme of {years} years, {len(problem.benches) * years:,} unknowns"):
+        optimum = linear_programme.relaxed(problem, years)
+    with progress.step("making a schedule that can be dug of it"):
+        shares = linear_programme.diggable(optimum, problem)
+    schedule = replace(schedule, shares=schedule.shares | {LP: shares}, optimum=optimum)
+    yield schedule
+    if rules.milp is not None:
+        with progress.step(f"solving the integer programme, up to {rules.milp.seconds:,.0f} s"):
+            best, bound = integer_programme.best_diggable(problem, years, rules.milp)
+        found = {} if best is None else {MILP: best}
+        yield replace(schedule, shares=schedule.shares | found, milp_bound=bound)
+
+
+def with_bins(schedule: YearlySchedule, rules: ScheduleRules, progress: Progress) -> Iterator[YearlySchedule]:
+    """The same where ore is divided into bins, of which some may be left as waste or stocked."""
+    assert rules.bins is not None
+    parcels = grade_bins.of_phases(schedule.phases, schedule.benches, rules.bins)
+    problem = MillingProblem(schedule.problem, parcels, schedule.years, rules.rehandling)
+    unknowns = problem.dug + problem.kinds * len(parcels) * problem.years
+    with progress.step(f"solving the linear programme of {schedule.years} years and {len(parcels):,} parcels, {unknowns:,} unknowns"):
+        optimum = problem.relaxed()
+    with progress.step("making a schedule that can be dug of it"):
+        shares, milling = problem.diggable(optimum)
+    yield replace(schedule, shares=schedule.shares | {LP: shares}, optimum=optimum, milling={LP: milling})
+
+
+def table(schedule: YearlySchedule) -> pd.DataFrame:
+    """One row for what is dug of a bench in a year.
+
+    way; year from 1; phase; bench, the z of its centres in metres; share of the bench; rock_tonnes and, of these, ore_tonnes; metal_NAME
+    recovered (tonnes, or grams); cash, and discounted, in money.
+    """
+    return pd.concat([rows_of(schedule, way) for way in schedule.shares], ignore_index=True)
+
+
+def rows_of(schedule: YearlySchedule, way: str) -> pd.DataFrame:
+    benches, shares, flows = schedule.benches, schedule.shares[way], schedule.flows(way)
+    # Ore that is reclaimed from a stockpile has a row although nothing is dug.
+    year, bench = np.nonzero((shares + flows[:, :, benches.names.index(ORE)]).T)
+    amounts = dict(zip(benches.names, flows[bench, year].T))
+    discounts = schedule.discounts(shares.shape[1])
+    head = {
+        "way": np.full(len(year), way, dtype=object),
+        "year": year + 1,
+        "phase": benches.phase[bench],
+        "bench": schedule.phases.plan.grid.elevations()[benches.level[bench]],
+        "share": shares[bench, year],
+    }
+    return pd.DataFrame(head | amounts | {"discounted": amounts[CASH] * discounts[year]})
+
+
+def years(schedule: YearlySchedule) -> pd.DataFrame:
+    """One row a way and year, as `pitplan.years` has of cases; the factor is that of the last phase."""
+    found = []
+    for way, shares in schedule.shares.items():
+        flows = schedule.flows(way).sum(axis=0)
+        count = shares.shape[1]
+        discounted = flows[:, -1] * schedule.discounts(count)
+        head = {"case": np.full(count, way, dtype=object), "factor": schedule.factor, "year": np.arange(1, count + 1)}
+        found.append(pd.DataFrame(head | dict(zip(schedule.benches.names, flows.T)) | {"discounted": discounted}))
+    return pd.concat(found, ignore_index=True)
+
+
+def ways(schedule: YearlySchedule) -> pd.DataFrame:
+    """One row a way: way; value, discounted, in money; below_bound, by which share of the bound it is less; years; tonnes that are dug,
+    ore_tonnes that are milled, and left_tonnes that are not dug."""
+    rows = []
+    for way, shares in schedule.shares.items():
+        whole, value = shares.sum(axis=1), schedule.value(way)
+        bound = np.nan if schedule.optimum is None else schedule.optimum.bound
+        rows.append(
+            {
+                "way": way,
+                "value": value,
+                "below_bound": (bound - value) / abs(bound) if bound else np.nan,
+                "years": shares.shape[1],
+                "tonnes": schedule.benches.of(ROCK) @ whole,
+                "ore_tonnes": schedule.flows(way)[:, :, schedule.benches.names.index(ORE)].sum(),
+                "left_tonnes": schedule.left(way),
+            }
+        )
+    return pd.DataFrame(rows)
+
+
+def milling(schedule: YearlySchedule) -> pd.DataFrame:
+    """Of the ways that divide ore into bins one row for a bin of a bench in a year: way; year; phase; bench, the z of its centres in metres;
+    bin, from 1, the poorest; dug_tonnes of it; milled_tonnes, of these, and reclaimed_tonnes, which are milled from the stockpile."""
+    found = []
+    for way, made in schedule.milling.items():
+        parcels, tonnes = made.parcels, made.parcels.of(ORE)
+        dug = schedule.shares[way][parcels.bench]
+        year, parcel = np.nonzero((dug + made.reclaimed).T)
+        bench = parcels.bench[parcel]
+        columns = {
+            "way": np.full(len(year), way, dtype=object),
+            "year": year + 1,
+            "phase": schedule.benches.phase[bench],
+            "bench": schedule.phases.plan.grid.elevations()[schedule.benches.level[bench]],
+            "bin": parcels.bin[parcel],
+        }
+        for name, shares in (("dug", dug), ("milled", made.straight), ("reclaimed", made.reclaimed)):
+            columns[f"{name}_tonnes"] = shares[parcel, year] * tonnes[parcel]
+        found.append(pd.DataFrame(columns))
+    return pd.concat(found, ignore_index=True)
+
+
+def blocks_year(schedule: YearlySchedule) -> np.ndarray:
+    """For each cell the year by whose end its bench of its phase is through, by the way that earns most; 0 where it never is."""
+    shares, grid = schedule.shares[schedule.shown], schedule.phases.plan.grid
+    # Before the first year nothing is dug.
+    through = (np.pad(shares, ((0, 0), (1, 0))).cumsum(axis=1) > 1 - 1e-6).argmax(axis=1)
+    year_of = np.zeros((len(schedule.phases.factors) + 1, grid.shape[0]), dtype=np.int16)
+    year_of[schedule.benches.phase, schedule.benches.level] = through
+    return year_of[schedule.phases.phase, np.arange(grid.count) // grid.per_level]
+
+
+def record(schedule: YearlySchedule) -> dict[str, Any]:
+    """What schedule.json says: of each way the value, the years and the tonnes that are left; the bound; and the limits."""
+    limits, bound = schedule.problem.limits, None if schedule.optimum is None else round(schedule.optimum.bound, 3)
+    found = {
+        way: {"value": round(schedule.value(way), 3), "years": shares.shape[1], "left_tonnes": round(schedule.left(way), 3)}
+        for way, shares in schedule.shares.items()
+    }
+    return {
+        "factor": schedule.factor,
+        "ways": found,
+        "bound": bound,
+        "milp_bound": None if schedule.milp_bound is None or math.isinf(schedule.milp_bound) else round(schedule.milp_bound, 3),
+        "years": schedule.years,
+        "shown": schedule.shown,
+        "lead": schedule.lead,
+        "lag": schedule.benches.lag,
+        "limits": limits.most,
+        "ramp_up": list(limits.ramp_up),
+        "sinking_rate": None if math.isinf(limits.sinking_rate) else limits.sinking_rate,
+        "bins": {way: record_of(made) for way, made in schedule.milling.items()},
+        "interrupted": schedule.interrupted,
+        "solver": f"HiGHS of scipy {scipy.__version__}",
+    }
+
+
+def record_of(made: Milling) -> dict[str, Any]:
+    """Of a way that divides ore into bins what a tonne is worth between two of them, and at the cut-off of each year."""
+    return {"edges": made.parcels.edges.tolist(), "cutoffs": made.cutoffs, "rehandling_cost": made.cost if made.is_stocked else None}
+
+
+def notes(schedule: YearlySchedule) -> list[str]:
+    """What a planner should know of the schedule."""
+    found = [f"by rule each phase follows the one before by {schedule.lead} benches, the lead that earns most"]
+    if schedule.interrupted:
+        found.append("WARNING: the run was interrupted before all ways were found: these are the best so far")
+    if schedule.optimum is not None:
+        found.append(f"no schedule of up to {schedule.years} years that keeps these limits earns more than {schedule.optimum.bound:,.0f}")
+    if schedule.milp_bound is not None and MILP not in schedule.shares:
+        found.append("WARNING: the integer programme found no schedule in its time")
+    elif schedule.milp_bound is not None:
+        found.append(f"the integer programme had shown by its end that none earns more than {schedule.milp_bound:,.0f}")
+    for way, made in schedule.milling.items():
+        told = ", ".join("-" if worth is None else f"{worth:.2f}" for worth in made.cutoffs)
+        found.append(f"{way} mills at once what a tonne of ore is worth in the mill from these amounts on, year by year: {told}")
+    for way in schedule.shares:
+        rock = schedule.left(way)
+        if rock > 0.5:
+            found.append(f"{way} leaves {rock:,.0f} t of the phases undug")
+    return found

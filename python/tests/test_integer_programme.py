@@ -1,0 +1,101 @@
+"""The best schedule that can be dug, against the tests' own statement of it."""
+
+import json
+
+import numpy as np
+import pandas as pd
+import pytest
+from conftest import rows
+from hypothesis import given, settings
+from hypothesis import strategies as st
+from test_linear_programme import integer_optimum, limits, small
+from test_pushbacks import pillars, with_phases
+from test_sequencing import THREE, benches_of, demand_diggable, problem_of, random_benches
+from test_yearly_schedule import PHASES
+
+import pitplan
+from pitplan import PlanError, files, integer_programme as ip, load, optimiser
+from pitplan.schedule_rules import Effort
+from pitplan.sequencing import Limits
+from pitplan.verification import verify
+
+
+@pytest.fixture(scope="module")
+def in_this_process():
+    """Programmes are solved here, since a process takes longer to begin than a small one to be solved."""
+    with pytest.MonkeyPatch.context() as patch:
+        patch.setattr(ip, "solve", optimiser.optimum_of)
+        patch.setattr(ip, "diggable", lambda optimum, problem: np.zeros((len(problem.benches), 0)))
+        yield
+
+
+@settings(max_examples=25)
+@given(small, limits, st.integers(0, 1))
+def test_it_is_the_best_schedule_of_all(in_this_process, pit, limits, lag):
+    """Made of the programme's own unknowns, without the help of orders."""
+    benches, years = random_benches(pit, lag), 5
+    shares, bound = ip.best_diggable(problem_of(benches, limits), years, Effort(0.0, 60.0))
+    best, slack = integer_optimum(benches, limits, years), 2e-6 * max(1.0, np.abs(benches.of("cash")).sum())
+    assert shares is not None
+    demand_diggable(benches, limits, shares)
+    assert problem_of(benches, limits).value(shares) == pytest.approx(best, abs=slack) and bound == pytest.approx(best, abs=slack)
+
+
+@pytest.mark.parametrize(
+    ("shares", "is_kept"),
+    [
+        ([[1, 0], [1, 0], [0, 1]], True),
+        ([[1, 0], [0.9, 0.1], [0, 0.9]], True),
+        # The ore before its waste is through; the mill above its limit; the shovels above theirs.
+        ([[0.9, 0.1], [1, 0], [0, 1]], False),
+        ([[1, 0], [0.5, 0.5], [0, 0.6]], False),
+        ([[1, 0], [0.6, 0.4], [0.5, 0.5]], False),
+    ],
+)
+def test_what_keeps_to_the_rules_by_hand(shares, is_kept):
+    problem = problem_of(benches_of(*THREE), Limits({"ore_tonnes": 100, "rock_tonnes": 200}))
+    assert ip.keeps(problem, np.array(shares, dtype=float)) == is_kept
+
+
+def test_a_phase_that_sinks_too_fast_does_not_keep_to_the_rules():
+    problem = problem_of(benches_of(*THREE), Limits({"ore_tonnes": 1000}, sinking_rate=1.5))
+    assert ip.keeps(problem, np.array([[1, 0], [0.5, 0.5], [1, 0]]))
+    assert not ip.keeps(problem, np.array([[1, 0], [0.6, 0.4], [1, 0]]))
+
+
+@pytest.mark.usefixtures("blank_pictures")
+def test_it_is_written_as_a_way_of_its_own(plan_folder):
+    project = load(plan_folder(pillars(), PHASES + "[schedule]\nmilp = { gap = 0.001, seconds = 60 }\n"))
+    table = pitplan.write_schedule(project).set_index("way")
+    value = 2600 / 1.1 + 1400 / 1.21 + 600 / 1.331
+    assert table.index.tolist() == ["rule", "lp", "milp"] and table["value"]["milp"] == pytest.approx(value, rel=1e-4)
+    folder = project.folder / "schedule"
+    told = json.loads((folder / "schedule.json").read_text())
+    assert told["milp_bound"] == pytest.approx(value, rel=1.1e-3) and set(pd.read_csv(folder / "years.csv")["case"]) == {"best", "worst", *told["ways"]}
+    assert [rule.name for rule in verify(folder) if rule.differences] == []
+    notes = files.read_record(folder)["notes"]
+    assert any("the integer programme had shown by its end" in note for note in notes)
+
+
+@pytest.mark.usefixtures("blank_pictures")
+def test_where_none_is_found_in_time_the_others_stand(plan_folder, monkeypatch):
+    monkeypatch.setattr(ip, "solve", lambda programme, effort: optimiser.Optimum(None, np.inf))
+    project = load(plan_folder(pillars(), PHASES + "[schedule]\nmilp = { seconds = 1 }\n"))
+    assert pitplan.write_schedule(project)["way"].tolist() == ["rule", "lp"]
+    assert "WARNING: the integer programme found no schedule in its time" in files.read_record(project.folder / "schedule")["notes"]
+    assert json.loads((project.folder / "schedule" / "schedule.json").read_text())["milp_bound"] is None
+
+
+@pytest.mark.parametrize(
+    ("words", "said"),
+    [
+        ("milp = true", "[schedule.milp] must be a section of its own"),
+        ("milp = { gap = 0.1 }", "[schedule.milp] seconds: must be a whole number from 1 to 604,800"),
+        ("milp = { gap = 1, seconds = 5 }", "[schedule.milp] gap: is a share of the bound"),
+        ("milp = { time = 5, seconds = 5 }", "[schedule.milp] time: is no key here"),
+    ],
+)
+def test_what_is_refused(plan_folder, words, said):
+    with pytest.raises(PlanError) as error:
+        load(plan_folder(rows(2, 2, 2), with_phases("count = 2") + f"[schedule]\n{words}\n"))
+    assert said in str(error.value)

@@ -1,0 +1,204 @@
+"""The linear programme of a yearly schedule and what is made of it, against cases worked by hand, an integer programme and another solver."""
+
+import os
+import signal
+import time
+from threading import Timer
+
+import numpy as np
+import pytest
+from conftest import ROOT
+from hypothesis import given, settings
+from hypothesis import strategies as st
+from scipy.optimize import Bounds, LinearConstraint, milp
+from test_sequencing import THREE, amounts, benches_of, demand_diggable, pits, problem_of, random_benches
+
+from pitplan import linear_programme as lp, optimiser
+from pitplan.sequencing import Limits, by_rule
+
+
+@pytest.fixture(autouse=True)
+def in_this_process(monkeypatch, request):
+    """Programmes are solved here, since a process takes longer to begin than a small one to be solved."""
+    if "of_its_own" not in request.node.name:
+        monkeypatch.setattr(lp, "solve", lambda programme, effort=optimiser.Effort(): optimiser.optimum_of(programme, effort))
+
+
+def solved(benches, limits, years):
+    problem = problem_of(benches, limits)
+    optimum = lp.relaxed(problem, years)
+    return optimum, lp.diggable(optimum, problem)
+
+
+def test_three_benches_by_hand():
+    """Shovels take two benches a year and the mill one. The waste is dug with the rich ore under it, and then the poor ore."""
+    benches = benches_of(*THREE)
+    optimum, shares = solved(benches, Limits({"ore_tonnes": 100, "rock_tonnes": 200}), 3)
+    assert optimum.bound == pytest.approx(800 / 1.1 + 500 / 1.21)
+    assert shares.tolist() == [[1, 0], [1, 0], [0, 1]]
+
+
+def test_the_bound_digs_parts_of_benches_together():
+    """Two tonnes of waste over one of ore worth 900, at two tonnes a year, and beside it one of ore worth 100, which waits for the waste.
+
+    A schedule digs the waste first and then both; that the waste fills the first year the bound knows. With a year that takes two tonnes
+    and a half, half of each ore may come in the first year, and for these the bound digs half of the waste, where a schedule digs it whole.
+    """
+    benches = benches_of((1, 0, 200, 0, -200), (1, 1, 100, 100, 900), (2, 0, 100, 100, 100))
+    optimum, shares = solved(benches, Limits({"ore_tonnes": 1e6, "rock_tonnes": 200}), 2)
+    assert optimum.bound == pytest.approx(-200 / 1.1 + 1000 / 1.21) and shares.tolist() == [[1, 0], [0, 1], [0, 1]]
+    optimum, shares = solved(benches, Limits({"ore_tonnes": 1e6, "rock_tonnes": 250}), 2)
+    assert optimum.bound == pytest.approx(400 / 1.1 + 400 / 1.21)
+    assert problem_of(benches, Limits({})).value(shares) == pytest.approx((450 - 200) / 1.1 + 550 / 1.21)
+
+
+def test_what_does_not_pay_is_left():
+    """Waste that costs 100 over ore that yields 105 pays only if both are dug in one year. The bound digs halves of both in each of two
+    years, but in the first, which the waste fills."""
+    benches = benches_of((1, 0, 100, 0, -100), (1, 1, 100, 100, 105))
+    optimum, shares = solved(benches, Limits({"ore_tonnes": 100, "rock_tonnes": 100}), 3)
+    assert optimum.bound == pytest.approx(2.5 / 1.21 + 2.5 / 1.331) and shares.shape == (2, 0)
+    optimum, shares = solved(benches, Limits({"ore_tonnes": 100}), 3)
+    assert optimum.bound == pytest.approx(5 / 1.1) and shares.tolist() == [[1], [1]]
+
+
+def statement(benches, limits, years):
+    """The same programme stated anew, by what is dug in a year: gains, rows of (coefficients, most), and the greatest cumulative share.
+
+    Unknowns are x(bench, year).
+    """
+    count = len(benches)
+    before = [
+        [
+            other
+            for other in range(count)
+            if (benches.phase[other] == benches.phase[bench] and benches.level[other] < benches.level[bench])
+            or (benches.phase[other] < benches.phase[bench] and benches.level[other] <= benches.level[bench] + benches.lag)
+        ]
+        for bench in range(count)
+    ]
+    # A bench waits for others by those that wait in turn.
+    for bench in range(count):
+        before[bench] = sorted(set(before[bench]).union(*(before[other] for other in before[bench])))
+    gain = {(bench, year): benches.of("cash")[bench] / 1.1 ** (year + 1) for bench in range(count) for year in range(years)}
+    ramp_up = [limits.ramp_up[min(year, len(limits.ramp_up) - 1)] for year in range(years)]
+    most = [{name: amount * (ramp if name == "ore_tonnes" else 1) for name, amount in limits.most.items()} for ramp in ramp_up]
+    rows = [({(bench, year): 1.0 for year in range(years)}, 1.0) for bench in range(count)]
+    for year in range(years):
+        rows += [({(bench, year): benches.of(name)[bench] for bench in range(count)}, most[year][name]) for name in limits.most]
+        for phase in set(benches.phase.tolist()) if np.isfinite(limits.sinking_rate) else ():
+            rows.append(({(bench, year): 1.0 for bench in range(count) if benches.phase[bench] == phase}, limits.sinking_rate))
+        for bench in range(count):
+            for other in before[bench]:
+                rows.append(({**{(bench, t): 1.0 for t in range(year + 1)}, **{(other, t): -1.0 for t in range(year + 1)}}, 0.0))
+            # By the end of the year all before it is dug, and of it what the limits leave.
+            for name in limits.most:
+                room = sum(most[t][name] for t in range(year + 1)) - sum(benches.of(name)[other] for other in before[bench])
+                own = benches.of(name)[bench]
+                rows.append(({(bench, t): 1.0 for t in range(year + 1)}, max(0.0, room / own) if own else float(room >= 0)))
+            if np.isfinite(limits.sinking_rate):
+                above = sum(benches.phase[other] == benches.phase[bench] for other in before[bench])
+                rows.append(({(bench, t): 1.0 for t in range(year + 1)}, max(0.0, limits.sinking_rate * (year + 1) - above)))
+    return gain, rows, before
+
+
+def integer_optimum(benches, limits, years):
+    """The most that a schedule earns that can be dug: whole unknowns say whether a bench may be begun."""
+    gain, rows, before = statement(benches, limits, years)
+    place = {key: number for number, key in enumerate(gain)}
+    size = len(place)
+    table, most = [], []
+    for coefficients, right in rows:
+        row = np.zeros(2 * size)
+        for key, factor in coefficients.items():
+            row[place[key]] += factor
+        table.append(row)
+        most.append(right)
+    for (bench, year), number in place.items():
+        row = np.zeros(2 * size)
+        row[number], row[size + number] = 1, -1
+        table.append(row)
+        most.append(0)
+        for other in before[bench]:
+            row = np.zeros(2 * size)
+            row[size + number] = 1
+            row[[place[other, t] for t in range(year + 1)]] = -1
+            table.append(row)
+            most.append(1e-9)
+    cost = -np.concatenate([list(gain.values()), np.zeros(size)])
+    whole = np.repeat([0, 1], size)
+    found = milp(cost, integrality=whole, bounds=Bounds(0, 1), constraints=LinearConstraint(np.array(table), -np.inf, most))
+    assert found.status == 0, found.message
+    return -found.fun
+
+
+small = st.lists(st.tuples(st.integers(0, 1), st.lists(amounts, min_size=1, max_size=3)), min_size=1, max_size=2)
+limits = st.builds(
+    lambda ore, rock, sinking, ramp_up: Limits({"ore_tonnes": ore, "rock_tonnes": rock}, ramp_up, sinking),
+    st.sampled_from([40.0, 110.0]),
+    st.sampled_from([70.0, 200.0, 1e6]),
+    st.sampled_from([0.7, 1.5, np.inf]),
+    st.sampled_from([(1.0,), (0.5, 1.0)]),
+)
+
+
+@settings(max_examples=40)
+@given(small, limits, st.integers(0, 1))
+def test_rule_and_programme_are_at_most_the_best_schedule_and_this_at_most_the_bound(pit, limits, lag):
+    benches, years = random_benches(pit, lag), 5
+    optimum, shares = solved(benches, limits, years)
+    demand_diggable(benches, limits, shares)
+    problem = problem_of(benches, limits)
+    rule, _ = by_rule(problem, years)
+    best, value = integer_optimum(benches, limits, years), problem.value(shares)
+    slack = 2e-6 * max(1.0, np.abs(benches.of("cash")).sum())
+    assert problem.value(rule) <= value + slack
+    assert value <= best + slack and best <= optimum.bound + slack
+    # To dig nothing at all earns nothing.
+    assert value >= 0
+
+
+@settings(max_examples=15)
+@given(pits, limits, st.integers(0, 1))
+def test_the_bound_is_that_of_another_solver(pit, limits, lag):
+    pulp = pytest.importorskip("pulp", reason="python3-pulp is not installed")
+    solver = pulp.COIN_CMD(msg=False)
+    if not solver.available():
+        pytest.skip("coinor-cbc is not installed")
+    benches, years = random_benches(pit, lag), 6
+    gain, rows, _ = statement(benches, limits, years)
+    problem = pulp.LpProblem("schedule", pulp.LpMaximize)
+    unknown = {key: pulp.LpVariable("x_%d_%d" % key, 0) for key in gain}
+    problem += pulp.lpSum(factor * unknown[key] for key, factor in gain.items())
+    for coefficients, most in rows:
+        problem += pulp.lpSum(factor * unknown[key] for key, factor in coefficients.items()) <= most
+    problem.solve(solver)
+    assert pulp.LpStatus[problem.status] == "Optimal"
+    bound = lp.relaxed(problem_of(benches, limits), years).bound
+    assert bound == pytest.approx(pulp.value(problem.objective) or 0.0, rel=1e-6, abs=1e-3)
+
+
+def test_solved_in_a_process_of_its_own_the_same():
+    benches, limits = benches_of(*THREE), Limits({"ore_tonnes": 100, "rock_tonnes": 200})
+    assert lp.relaxed(problem_of(benches, limits), 3).bound == pytest.approx(800 / 1.1 + 500 / 1.21)
+
+
+def test_an_interruption_ends_a_process_of_its_own(monkeypatch):
+    """The process would take ten minutes."""
+    popen, begun = optimiser.subprocess.Popen, []
+
+    def sleep(arguments, **options):
+        begun.append(popen(["/bin/sleep", "600"], **options))
+        return begun[0]
+
+    monkeypatch.setattr(optimiser.subprocess, "Popen", sleep)
+    Timer(0.3, os.kill, (os.getpid(), signal.SIGINT)).start()
+    started = time.monotonic()
+    with pytest.raises(KeyboardInterrupt):
+        lp.relaxed(problem_of(benches_of(*THREE), Limits({"ore_tonnes": 100})), 3)
+    assert time.monotonic() - started < 30 and begun[0].wait(5) != 0
+
+
+def test_setup_names_the_other_solver():
+    told = (ROOT / "tools" / "setup.sh").read_text()
+    assert "python3-pulp" in told and "coinor-cbc" in told

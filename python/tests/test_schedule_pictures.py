@@ -1,0 +1,134 @@
+"""Pictures, workbook and 3D page of a yearly schedule, by what they hold."""
+
+import base64
+from types import SimpleNamespace
+
+import matplotlib
+import numpy as np
+import pandas as pd
+import pytest
+from matplotlib.figure import Figure
+from test_sequencing import THREE, benches_of, problem_of
+
+from pitplan import PlanError, files, page, schedule_pictures as pictures, workbook, yearly_schedule
+from pitplan.linear_programme import Relaxed
+from pitplan.project import Metal
+from pitplan.sequencing import Limits
+
+METAL = Metal("copper", "cu", "percent", 8000, 0, 0.5)
+
+
+@pytest.fixture
+def schedule():
+    """Three benches under a mill that begins at a half: by rule in three years, and by the programme the same in other shares."""
+    problem = problem_of(benches_of(*THREE), Limits({"ore_tonnes": 100, "rock_tonnes": 200}, (0.5, 1.0)))
+    shares = {
+        "rule": np.array([[1, 0, 0], [0.5, 0.5, 0], [0, 0.5, 0.5]]),
+        "lp": np.array([[1, 0, 0], [0.25, 0.75, 0], [0, 0.25, 0.75]]),
+    }
+    grid = SimpleNamespace(elevations=lambda: np.array([15.0, 5.0]))
+    project = SimpleNamespace(money=SimpleNamespace(currency="USD"), metals=(METAL,))
+    phases = SimpleNamespace(plan=SimpleNamespace(grid=grid, project=project), factors=(500, 1000))
+    optimum = Relaxed(np.array([[1.0, 1, 1], [0.5, 1, 1], [0, 0.5, 1]]), 990.0)
+    return yearly_schedule.YearlySchedule(phases, problem, shares, 1, 3, optimum)
+
+
+def test_a_gantt_has_a_bar_for_each_share(schedule):
+    axes = pictures.plot_gantt(schedule, Figure().subplots(1, 2))
+    for ax, way in zip(axes, schedule.shares):
+        (bars,) = ax.collections
+        shares = schedule.shares[way]
+        bench, year = np.nonzero(shares)
+        boxes = [path.get_extents() for path in bars.get_paths()]
+        # A phase's first bench stands two places below the last of the one before.
+        rows = np.array([1, 2, 5])[bench]
+        assert [(box.x0, box.y0) for box in boxes] == [(t + 0.5, r - 0.5) for t, r in zip(year, rows)]
+        assert bars.get_facecolors()[:, 3] == pytest.approx(0.25 + 0.75 * shares[bench, year])
+        assert len({tuple(colour[:3]) for colour in bars.get_facecolors()}) == 2
+        assert [text.get_text() for text in ax.texts] == ["phase 1", "phase 2"]
+        assert [tick.get_text() for tick in ax.get_yticklabels()] == ["15", "5", "15"]
+        low, high = ax.get_ylim()
+        assert low > 5.5 and high < 0 and ax.get_xlim() == (0.5, 3.5)
+    assert axes[0].get_title() == f"By rule: NPV {schedule.value('rule'):,.2f} USD"
+
+
+def test_the_bars_of_years_are_the_ore_and_the_waste_beside_their_limits(schedule):
+    axes = pictures.plot_tonnes(schedule, Figure().subplots(1, 2))
+    ore, waste = axes[0].containers
+    assert [bar.get_height() for bar in ore] == [50, 100, 50] and [bar.get_height() for bar in waste] == [100, 0, 0]
+    assert [bar.get_height() for bar in axes[1].containers[0]] == [25, 100, 75]
+    mill, shovels = axes[0].lines
+    assert mill.get_ydata().tolist() == [50, 100, 100, 100] and shovels.get_ydata().tolist() == [200] * 4
+    assert mill.get_label() == "mill: 100 t a year"
+    # A hundredth of the ore is recovered as copper.
+    right = axes[0].figure.axes[2]
+    assert right.lines[0].get_ydata().tolist() == pytest.approx([1, 1, 1]) and right.get_ylim()[1] > 1
+    assert axes[0].get_ylim()[1] > 200 and not axes[0].figure.axes[3].get_ylabel().isspace()
+
+
+def test_what_is_recovered_of_a_year_without_ore_is_not_drawn(schedule):
+    table = pd.DataFrame({"ore_tonnes": [0.0, 50.0], "metal_copper": [0.0, 1.0]})
+    assert np.isnan(pictures.recovered(table, METAL)[0]) and pictures.recovered(table, METAL)[1] == pytest.approx(2)
+
+
+def test_curves_end_at_what_each_case_earns(schedule):
+    years = yearly_schedule.years(schedule)
+    best = pd.DataFrame({"case": "best", "factor": [1000, 1000, 900], "year": [1, 2, 1], "discounted": [700.0, 300, 5]})
+    ax = pictures.plot_cumulative(schedule, pd.concat([years, best]), Figure().subplots())
+    curves = {line.get_label().partition(":")[0]: line.get_ydata() for line in ax.lines if ":" in str(line.get_label())}
+    # -200 + 500, 500 + 250 and 250, discounted at the ends of years.
+    assert curves["rule"] == pytest.approx(np.cumsum([0, 300 / 1.1, 750 / 1.21, 250 / 1.331]))
+    assert curves["best case"].tolist() == [0, 700, 1000] and "worst case" not in curves
+    assert curves["bound"] == pytest.approx(curves["rule"])
+    flat = [line.get_ydata()[0] for line in ax.lines if len(set(np.atleast_1d(line.get_ydata()))) == 1]
+    assert 990.0 in flat
+    assert len(ax.get_legend().get_texts()) == 4
+
+
+@pytest.mark.parametrize("write", [pictures.write_gantt, pictures.write_tonnes])
+def test_pictures_are_written(schedule, write, tmp_path):
+    backend = matplotlib.get_backend()
+    write(schedule, tmp_path / "picture.png")
+    assert (tmp_path / "picture.png").stat().st_size > 5_000 and matplotlib.get_backend() == backend
+
+
+def test_axes_that_are_too_few_are_refused(schedule):
+    with pytest.raises(PlanError, match="1 axes are given, and the picture has 2"):
+        pictures.plot_gantt(schedule, [Figure().subplots()])
+
+
+def test_a_workbook_has_a_sheet_a_table(tmp_path):
+    openpyxl = pytest.importorskip("openpyxl")
+    tables = {
+        "ways": pd.DataFrame({"way": ["rule", "lp"], "value": [1234567.891, -5.0], "below_bound": [0.25, np.nan]}),
+        "schedule": pd.DataFrame({"year": np.array([1, 2], dtype=np.int16), "share": [0.123456789, 1.0], "metal_copper": [1.5, 2.0]}),
+    }
+    workbook.write(tmp_path / "book.xlsx", tables)
+    book = openpyxl.load_workbook(tmp_path / "book.xlsx")
+    assert book.sheetnames == ["ways", "schedule"]
+    assert [[cell.value for cell in row] for row in book["ways"]] == [
+        ["way", "value", "below_bound"],
+        ["rule", 1234567.891, 0.25],
+        ["lp", -5, None],
+    ]
+    assert [[cell.value for cell in row] for row in book["schedule"]][1:] == [[1, 0.123456789, 1.5], [2, 1, 2]]
+    assert book["schedule"].freeze_panes == "A2" and book["schedule"]["A1"].font.bold
+    assert [book["schedule"].cell(2, k).number_format for k in (1, 2, 3)] == ["General", "0.0000", "#,##0.00"]
+
+
+def test_a_library_that_is_missing_is_named_before_anything_is_solved(monkeypatch):
+    monkeypatch.setitem(__import__("sys").modules, "openpyxl", None)
+    with pytest.raises(PlanError, match="python3-openpyxl"):
+        workbook.demand_library()
+
+
+def test_the_page_has_a_colour_a_year(solved):
+    """The last year of the blocks has the last colour; a folder without a schedule has none."""
+    folder = files.read_folder(solved[1])
+    assert "year" not in page.model_of(folder)
+    years = np.where(folder.blocks["factor"] > 0, 1 + np.arange(len(folder.blocks)) % 3, 0)
+    scheduled = files.Folder(folder.path, folder.blocks.assign(year=years), folder.record | {"schedule": "lp"})
+    model = page.model_of(scheduled)
+    cells = np.frombuffer(base64.b64decode(model["year"]), dtype=np.uint8)
+    assert cells[folder.blocks["id"]].tolist() == years.tolist() and cells.sum() == years.sum()
+    assert len(model["year_colours"]) == 3 and len(set(map(tuple, model["year_colours"]))) == 3

@@ -1,0 +1,289 @@
+"""Yearly schedules as they are written: a mine worked by hand, what is refused, and the second look at them."""
+
+import json
+import os
+import shutil
+import signal
+
+import pandas as pd
+import pytest
+from conftest import PROJECT, rows
+from test_pushbacks import UPRIGHT, pillars, with_phases
+
+import pitplan
+from pitplan import PlanError, files, load, yearly_schedule
+from pitplan.cli import main
+from pitplan.verification import verify
+
+pytestmark = pytest.mark.usefixtures("blank_pictures")
+# Three pillars of waste over ore; the mill takes the ore of one a year, and the shovels a pillar.
+PHASES = with_phases("count = 3", UPRIGHT.replace("ore_per_year = 100", 'ore_per_year = 100\nrock_per_year = 200\ndiscounting = "end_of_year"'))
+# What each pillar is worth: 40 a per cent and tonne, less 10 for processing and 4 for mining.
+WORTHS = [2600, 1400, 600]
+
+
+def scheduled(plan_folder, words="", text=PHASES):
+    project = load(plan_folder(pillars(), text + words))
+    return pitplan.write_schedule(project).set_index("way"), project.folder / "schedule"
+
+
+def test_three_pillars_by_hand(plan_folder):
+    """One pillar a year, the richest first. No schedule earns more, and the bound says so."""
+    table, folder = scheduled(plan_folder)
+    value = 2600 / 1.1 + 1400 / 1.21 + 600 / 1.331
+    assert table["value"].tolist() == pytest.approx([value] * len(table)) and table["years"].tolist() == [3] * len(table)
+    assert table["tonnes"].tolist() == [600] * len(table) and table["left_tonnes"].tolist() == [0] * len(table)
+    told = json.loads((folder / "schedule.json").read_text())
+    assert told["ways"]["rule"] == {"value": pytest.approx(value, abs=1e-3), "years": 3, "left_tonnes": 0}
+    rows_of = pd.read_csv(folder / "schedule.csv").groupby("way")
+    for _, found in rows_of:
+        assert found["year"].tolist() == [1, 1, 2, 2, 3, 3] and found["phase"].tolist() == [1, 1, 2, 2, 3, 3]
+        assert found["bench"].tolist() == [15, 5] * 3 and found["share"].tolist() == [1] * 6
+        assert found["rock_tonnes"].tolist() == [100] * 6 and found["ore_tonnes"].tolist() == [0, 100] * 3
+        assert found["metal_copper"].tolist() == pytest.approx([0, 0.5, 0, 0.35, 0, 0.25])
+        assert found["cash"].tolist() == [-200, 2800, -200, 1600, -200, 800]
+        assert found["discounted"].tolist() == pytest.approx([cash / 1.1 ** (1 + k // 2) for k, cash in enumerate(found["cash"])], abs=1e-3)
+    years = pd.read_csv(folder / "years.csv").set_index("case").loc["rule"]
+    assert years["factor"].tolist() == [1000] * 3 and years["year"].tolist() == [1, 2, 3] and years["cash"].tolist() == WORTHS
+    assert years["discounted"].tolist() == pytest.approx([2600 / 1.1, 1400 / 1.21, 600 / 1.331], abs=1e-3)
+    blocks = pd.read_csv(folder / "blocks.csv").set_index("name")
+    assert blocks["year"].to_dict() == {f"b{i}-0-{k}": i + 1 for i in range(3) for k in range(2)}
+
+
+@pytest.mark.parametrize(
+    ("words", "cash"),
+    [
+        ("rock_per_year = 150", [1200, 1200, 1500, 700]),
+        ("ore_per_year = 200\nrock_per_year = 400", [4000, 600]),
+        ("ramp_up = [0.5, 1.0]", [1200, 2000, 1000, 400]),
+        # The waste of the third pillar takes no metal, and is dug in the first year.
+        ("metal_per_year = { copper = 0.85 }\nore_per_year = 1e6\nrock_per_year = 1e6", [3800, 800]),
+        # Two wastes, then ore; when the mill is full the waste of the third waits, and goes with the second ore.
+        ("sinking_rate = 1", [-400, 2800, 1400, 800]),
+        ("years = 2", [2600, 1400]),
+    ],
+)
+def test_the_rule_keeps_each_limit(plan_folder, words, cash):
+    table, folder = scheduled(plan_folder, f"[schedule]\n{words}\n")
+    years = pd.read_csv(folder / "years.csv").set_index("case").loc["rule"]
+    assert years["cash"].tolist() == cash
+    assert table["left_tonnes"]["rule"] == (200 if words == "years = 2" else 0)
+
+
+@pytest.mark.parametrize(
+    ("words", "said"),
+    [
+        ("ore_per_year = 0", "[schedule] ore_per_year: 0 is below 1"),
+        ("sinking_rate = 0", "[schedule] sinking_rate: is above 0 benches a year"),
+        ("lag = -1", "[schedule] lag: must be a whole number from 0 to 1,000"),
+        ("ramp_up = 0.5", "[schedule] ramp_up: must be a list of shares of ore_per_year"),
+        ("ramp_up = [0.5, 1.2]", "[schedule] ramp_up: shares are from 0 to 1"),
+        ("ramp_up = [0.5, 0]", "[schedule] ramp_up: shares are from 0 to 1, and the last, which stays, is above 0"),
+        ("metal_per_year = { copper = 0 }", "[schedule.metal_per_year] copper: is above 0"),
+        ("metal_per_year = { tin = 1 }", "[schedule] metal_per_year names tin, which is none of the [[metals]] copper"),
+        ("years = 0", "[schedule] years: must be a whole number from 1 to 200"),
+        ("sinking = 3", "[schedule] sinking: is no key here; sinking_rate is"),
+    ],
+)
+def test_what_is_refused(plan_folder, words, said):
+    with pytest.raises(PlanError) as error:
+        load(plan_folder(pillars(), PHASES + f"[schedule]\n{words}\n"))
+    assert said in str(error.value) and "project.toml" in str(error.value)
+
+
+def test_without_phases_nothing_is_scheduled(plan_folder):
+    with pytest.raises(PlanError, match="project.toml: .pushbacks. is missing"):
+        pitplan.write_schedule(plan_folder(pillars(), UPRIGHT))
+
+
+def test_the_command_line_tells_the_ways(plan_folder, capsys):
+    path = plan_folder(pillars(), PHASES)
+    assert main(["schedule", str(path), "--quiet"]) == 0
+    said = capsys.readouterr()
+    lines = [line.split() for line in said.out.splitlines()]
+    assert lines[0][:2] == ["way", "NPV"] and [line[:2] for line in lines[2:4]] == [["rule", "3,971.45"], ["lp", "3,971.45"]]
+    assert "the lead that earns most" in said.err and "no schedule of up to 4 years" in said.err
+    assert (path.parent / "plan" / "schedule" / "report.html").exists()
+
+
+@pytest.fixture(scope="module")
+def written(blank_pictures, tmp_path_factory):
+    """A hill in three phases under several limits."""
+    place = tmp_path_factory.mktemp("scheduled")
+    table = rows(11, 9, 4, cu=lambda i, j, k: {(3, 4, 1): 6, (7, 4, 1): 2, (5, 2, 2): 0.9, (3, 3, 2): 1.5, (8, 4, 2): 0.8}.get((i, j, k), 0))
+    table.to_csv(place / "blocks.csv", index=False)
+    words = "[schedule]\nrock_per_year = 700\nsinking_rate = 2\nramp_up = [0.5, 1]\nmetal_per_year = { copper = 2 }\n"
+    (place / "project.toml").write_text(with_phases("count = 3", PROJECT) + words)
+    pitplan.write_schedule(place / "project.toml")
+    return place
+
+
+@pytest.fixture
+def copied(written, tmp_path):
+    return shutil.copytree(written, tmp_path / "mine") / "plan" / "schedule"
+
+
+def wrong(folder):
+    return {rule.name for rule in verify(folder) if rule.differences}
+
+
+RULES = ["schedule amounts", "schedule order", "schedule limits", "schedule value", "years of blocks"]
+
+
+def test_what_is_right_passes(copied, capsys):
+    assert wrong(copied) == set()
+    assert main(["verify", str(copied)]) == 0
+    told = capsys.readouterr().out.splitlines()
+    assert [line.split(":")[0] for line in told][-5:] == RULES
+    record = files.read_record(copied)
+    named = ["schedule.csv", "schedule.json", "schedule.xlsx", "schedule_gantt.png", "schedule_tonnes.png", "schedule_value.png"]
+    assert set(named) <= set(record["files"])
+    assert any(line.startswith("schedule order") for line in record["verified"])
+
+
+def test_the_report_and_the_workbook_have_the_schedule(copied):
+    page = (copied / "report.html").read_text()
+    assert "<h2>Yearly schedule</h2>" in page and page.count("data:image/png") == 9 and "the schedule and its bound, the other numbers" in page
+    book = pd.read_excel(copied / "schedule.xlsx", sheet_name=None)
+    assert list(book) == ["ways", "schedule", "years", "phases", "shells"]
+    for name in ("schedule", "phases", "shells"):
+        pd.testing.assert_frame_equal(book[name], pd.read_csv(copied / f"{name}.csv"), check_dtype=False)
+    years = pd.read_csv(copied / "years.csv")
+    pd.testing.assert_frame_equal(book["years"], years[years["factor"] == years["factor"].max()].reset_index(drop=True), check_dtype=False)
+    told = json.loads((copied / "schedule.json").read_text())["ways"]
+    assert book["ways"]["value"].tolist() == pytest.approx([way["value"] for way in told.values()], abs=1e-3)
+
+
+def rewrite(path, change):
+    """A table as it was, but for what `change` makes of it."""
+    table = pd.read_csv(path)
+    change(table).to_csv(path, index=False)
+
+
+def with_more(name, by):
+    def change(table):
+        table.loc[0, name] += by
+        return table
+
+    return change
+
+
+@pytest.mark.parametrize("name", ["rock_tonnes", "ore_tonnes", "metal_copper", "cash", "share"])
+def test_an_amount_that_is_not_of_its_bench_is_found(copied, name):
+    rewrite(copied / "schedule.csv", with_more(name, 0.01 if name in ("metal_copper", "share") else 1))
+    assert "schedule amounts" in wrong(copied)
+
+
+@pytest.mark.parametrize(("name", "by"), [("phase", 7), ("bench", 3), ("bench", 5000), ("year", -9)])
+def test_a_row_of_no_bench_is_found(copied, name, by):
+    rewrite(copied / "schedule.csv", with_more(name, by))
+    assert "schedule amounts" in wrong(copied)
+
+
+def test_a_bench_that_is_dug_twice_is_found(copied):
+    rewrite(copied / "schedule.csv", lambda table: pd.concat([table, table.head(1)]))
+    assert "schedule amounts" in wrong(copied)
+
+
+def test_a_bench_before_its_time_is_found(copied):
+    """The last that is dug is dug in the first year."""
+
+    def change(table):
+        table.loc[table["year"] == table["year"].max(), "year"] = 1
+        return table
+
+    rewrite(copied / "schedule.csv", change)
+    assert "schedule order" in wrong(copied)
+
+
+@pytest.mark.parametrize(
+    ("old", "new"),
+    [
+        ("rock_per_year = 700", "rock_per_year = 690"),
+        ("sinking_rate = 2", "sinking_rate = 1.2"),
+        ("ramp_up = [0.5, 1]", "ramp_up = [0.5]"),
+        ("copper = 2", "copper = 1"),
+        ("[schedule]", "[schedule]\nore_per_year = 60"),
+        ("[schedule]", "[schedule]\nyears = 2"),
+    ],
+)
+def test_a_year_above_a_limit_is_found(copied, old, new):
+    project = copied.parents[1] / "project.toml"
+    text = project.read_text()
+    assert old in text
+    project.write_text(text.replace(old, new))
+    assert "schedule limits" in wrong(copied)
+
+
+def test_a_lag_that_is_not_kept_is_found(copied):
+    project = copied.parents[1] / "project.toml"
+    project.write_text(project.read_text() + "lag = 3\n")
+    assert "schedule order" in wrong(copied)
+
+
+def change_told(folder, **more):
+    told = json.loads((folder / "schedule.json").read_text())
+    (folder / "schedule.json").write_text(json.dumps(told | more))
+    return told
+
+
+@pytest.mark.parametrize("name", ["value", "years", "left_tonnes"])
+def test_a_total_that_does_not_follow_is_found(copied, name):
+    told = change_told(copied)
+    told["ways"]["rule"][name] += 1
+    change_told(copied, ways=told["ways"])
+    assert "schedule value" in wrong(copied)
+
+
+@pytest.mark.parametrize("name", ["bound", "milp_bound"])
+def test_a_way_above_a_bound_is_found(copied, name):
+    told = change_told(copied)
+    least = min(way["value"] for way in told["ways"].values())
+    change_told(copied, **{name: least + 1e-4})
+    found = wrong(copied)
+    assert found == ({"schedule value"} if any(way["value"] > least + 0.1 for way in told["ways"].values()) else set())
+    change_told(copied, **{name: least - 1})
+    assert wrong(copied) == {"schedule value"}
+
+
+def test_cash_that_is_discounted_otherwise_is_found(copied):
+    rewrite(copied / "schedule.csv", with_more("discounted", 1))
+    assert "schedule value" in wrong(copied)
+
+
+@pytest.mark.parametrize("name", ["rock_tonnes", "ore_tonnes", "metal_copper", "cash", "discounted", "factor", "year"])
+def test_years_that_do_not_follow_are_found(copied, name):
+    def change(table):
+        table.loc[table.index[table["case"] == "rule"][-1], name] += 1
+        return table
+
+    rewrite(copied / "years.csv", change)
+    assert "schedule value" in wrong(copied)
+
+
+def test_a_year_of_a_block_is_found(copied):
+    rewrite(copied / "blocks.csv", lambda table: table.assign(year=table["year"].where(table.index != table["year"].idxmax(), 1)))
+    assert wrong(copied) == {"years of blocks"}
+    rewrite(copied / "blocks.csv", lambda table: table.assign(year=0))
+    assert wrong(copied) == {"years of blocks"}
+
+
+def test_a_case_of_no_way_is_found(copied):
+    rewrite(copied / "years.csv", lambda table: table.assign(case=table["case"].replace("rule", "hand")))
+    assert wrong(copied) == {"years", "schedule value"}
+
+
+def test_an_interruption_keeps_what_is_found_so_far(plan_folder, capsys, monkeypatch):
+    """While the linear programme is solved; what is written is the schedule by rule, without a bound."""
+
+    def interrupted(programme, effort=None):
+        os.kill(os.getpid(), signal.SIGINT)
+
+    monkeypatch.setattr(yearly_schedule.linear_programme, "solve", interrupted)
+    path = plan_folder(pillars(), PHASES)
+    assert main(["schedule", str(path), "--quiet"]) == 130
+    folder = path.parent / "plan" / "schedule"
+    told = json.loads((folder / "schedule.json").read_text())
+    assert list(told["ways"]) == ["rule"] and told["bound"] is None and told["interrupted"]
+    assert "interrupted before all ways were found" in capsys.readouterr().err
+    assert wrong(folder) == set() and (folder / "report.html").exists()
