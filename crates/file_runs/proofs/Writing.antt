@@ -1,5 +1,5 @@
 -- The new writers of a run may be there where they are.
-use Rattle.std.proofs.Common.{◌≡◌, ◌<◌, ◌^◌, Bool, true, false, ap, arith, inl, inr, refl, sym, ◌∙◌}
+use Rattle.std.proofs.Common.{◌≡◌, false, ap, arith, inl, inr, refl}
 use Rattle.std.specs.Prelude.{◌⊎◌, Option, None, Some, is_some}
 use Rattle.std.proofs.lemmas.Bool.{true≢false}
 use Rattle.minelib_reader.specs.Device.{Progress}
@@ -13,7 +13,7 @@ use Rattle.runs.specs.Run.{MayWrite}
 use Rattle.runs.specs.declared.asked.Asked.{Asked}
 use Rattle.runs.specs.declared.solve.SolveOutputs.{SolveOutputs}
 use Rattle.file_runs.specs.Made.{certificate_toward, journal_of, journal_toward}
-use Rattle.file_runs.specs.Solved.{IsNew, IsUnwrittenIfAny}
+use Rattle.file_runs.specs.Solved.{IsUnwrittenIfAny}
 
 countable : {W : Type 0} → (progress : W → Progress) (writer : Option W) → IsUnwrittenIfAny progress writer → IsCountable (progress_of progress writer)
 countable progress None new = tt
@@ -41,11 +41,12 @@ may_record mode Greatest journal_name certificate_name journal_at journal certif
     inr (not_there journal_at journal named, not_there certificate_at certificate certificate_named)
 
 pub may_write : {T J C W : Type 0} → (asked : Asked) (journal_name certificate_name : Option T) (journal_at : J → Progress) (certificate_at : C → Progress) (outputs : SolveOutputs J C W)
-    → IsNew journal_at (is_some (journal_of asked journal_name)) outputs.journal → IsNew certificate_at (is_some (certificate_toward asked.pit certificate_name)) outputs.certificate
+    → IsUnwrittenIfAny journal_at outputs.journal → is_some outputs.journal ≡ is_some (journal_of asked journal_name)
+    → IsUnwrittenIfAny certificate_at outputs.certificate → is_some outputs.certificate ≡ is_some (certificate_toward asked.pit certificate_name)
     → MayWrite journal_at certificate_at asked outputs
-may_write asked journal_name certificate_name journal_at certificate_at outputs journal certificate = record {
-  journal_countable = countable journal_at outputs.journal journal.unwritten;
-  certificate_countable = countable certificate_at outputs.certificate certificate.unwritten;
-  may_journal = may_journal asked.mode asked.pit journal_name journal_at outputs.journal journal.named;
-  may_record = may_record asked.mode asked.pit journal_name certificate_name journal_at outputs.journal certificate_at outputs.certificate journal.named certificate.named;
+may_write asked journal_name certificate_name journal_at certificate_at outputs journal_new journal_named certificate_new certificate_named = record {
+  journal_countable = countable journal_at outputs.journal journal_new;
+  certificate_countable = countable certificate_at outputs.certificate certificate_new;
+  may_journal = may_journal asked.mode asked.pit journal_name journal_at outputs.journal journal_named;
+  may_record = may_record asked.mode asked.pit journal_name certificate_name journal_at outputs.journal certificate_at outputs.certificate journal_named certificate_named;
 }

@@ -17,14 +17,14 @@ pub record MineTexts : Type 0 where
   pub prec : Option (List ℕ)
   pub fixed : Option (List ℕ)
 
--- what a stream of choice has left to be read
-abbrev pub left_if_any : {X : Type 0} → (X → Option (List ℕ)) → Option X → Option (List ℕ)
-left_if_any remaining None = None
-left_if_any remaining (Some stream) = remaining stream
+-- what is known of a stream of choice: what it has left to be read, or what it holds
+abbrev pub known_if_any : {X : Type 0} → (X → Option (List ℕ)) → Option X → Option (List ℕ)
+known_if_any known None = None
+known_if_any known (Some stream) = known stream
 
 -- and the streams of a mine's files
 abbrev pub texts_of : {M P X : Type 0} → (M → Option (List ℕ)) → (P → Option (List ℕ)) → (X → Option (List ℕ)) → MineFiles M P X → MineTexts
-texts_of model prec fixed mine = record { model = model mine.model; prec = prec mine.prec; fixed = left_if_any fixed mine.fixed }
+texts_of model prec fixed mine = record { model = model mine.model; prec = prec mine.prec; fixed = known_if_any fixed mine.fixed }
 
 module _ {F Model Prec Fixed Certificate Journal Blocks : Type 0} where
   -- the file of fixed blocks was opened, where there is one, with this to be read

@@ -2,7 +2,8 @@
 ghost use Rattle.std.specs.Prelude.{◌≡◌, ◌&&◌, ◌||◌, IfOk, IfErr, is_some, is_ok, option_copied};
 ghost use Rattle.faults.specs.declared.source.Source.TheVariants as sources;
 ghost use Rattle.file_runs.specs.Faults.{IsUnmade};
-ghost use Rattle.file_runs.specs.Made.{EndsIfAny, EndsOutputs, MakesIfAny, MakesOutputs, SparesIfAny, SparesOutputs, behind_outputs, certificate_toward, finished, is_exhausted as ended_at_budget, journal_of, output as output_of, wanted_by};
+ghost use Rattle.file_runs.specs.Opened.{known_if_any};
+ghost use Rattle.file_runs.specs.Made.{EndsIfAny, EndsOutputs, MakesIfAny, MakesOutputs, SparesIfAny, SparesOutputs, behind_outputs, certificate_toward, finished, held, is_exhausted as ended_at_budget, journal_of, output as output_of, wanted_by};
 
 use crate::inputs::MineStreams;
 use crate::options::SolveOptions;
@@ -11,6 +12,7 @@ use faults::{Fault, Refusal};
 use pit_model::Direction;
 use runs::{Asked, Status};
 use solver::Mode;
+use std::io::Write;
 
 /// The journal and the certificate of `solve`, where they are wanted.
 pub(crate) type MadeOutputs<F> = (
@@ -47,7 +49,7 @@ fn make_journal_if_any<F: OutputFiles>(
     path: Option<&str>,
     inputs: &MineStreams<F>,
 ) -> Result<Option<F::JournalOut>, Fault>
-    ensures made { IfOk result (λ _. MakesIfAny F.OutputFiles.own sources.Journal (option_copied path.entry) files.old files.new) }
+    ensures made { IfOk result (λ r. MakesIfAny F.OutputFiles.own sources.Journal (option_copied path.entry) (known_if_any (⟦<F::JournalOut as Write>⟧.contents) r) files.old files.new) }
     ensures named { IfOk result (λ r. is_some r ≡ is_some (option_copied path.entry)) }
     ensures unmade { IfErr result IsUnmade }
     ensures spared { IfErr result (λ _. SparesIfAny F.OutputFiles.own sources.Journal (option_copied path.entry) files.old files.new) }
@@ -65,7 +67,7 @@ fn make_certificate_if_any<F: OutputFiles>(
     inputs: &MineStreams<F>,
     journal: Option<&F::JournalOut>,
 ) -> Result<Option<F::CertificateOut>, Fault>
-    ensures made { IfOk result (λ _. MakesIfAny F.OutputFiles.own sources.Certificate (option_copied path.entry) files.old files.new) }
+    ensures made { IfOk result (λ r. MakesIfAny F.OutputFiles.own sources.Certificate (option_copied path.entry) (known_if_any (⟦<F::CertificateOut as Write>⟧.contents) r) files.old files.new) }
     ensures named { IfOk result (λ r. is_some r ≡ is_some (option_copied path.entry)) }
     ensures unmade { IfErr result IsUnmade }
     ensures spared { IfErr result (λ _. SparesIfAny F.OutputFiles.own sources.Certificate (option_copied path.entry) files.old files.new) }
@@ -82,7 +84,7 @@ fn end_journal_if_any<F: OutputFiles>(
     output: Option<F::JournalOut>,
     is_kept: bool,
 ) -> Result<(), Fault>
-    ensures { EndsIfAny F.OutputFiles.own (output_of sources.Journal (is_some output) is_kept) result files.old files.new }
+    ensures { EndsIfAny F.OutputFiles.own (output_of sources.Journal (is_some output) (known_if_any (⟦<F::JournalOut as Write>⟧.contents) output) is_kept) result files.old files.new }
 {
     match output {
         None => Ok(()),
@@ -96,7 +98,7 @@ fn end_certificate_if_any<F: OutputFiles>(
     output: Option<F::CertificateOut>,
     is_kept: bool,
 ) -> Result<(), Fault>
-    ensures { EndsIfAny F.OutputFiles.own (output_of sources.Certificate (is_some output) is_kept) result files.old files.new }
+    ensures { EndsIfAny F.OutputFiles.own (output_of sources.Certificate (is_some output) (known_if_any (⟦<F::CertificateOut as Write>⟧.contents) output) is_kept) result files.old files.new }
 {
     match output {
         None => Ok(()),
@@ -110,7 +112,8 @@ pub(crate) fn make_outputs<F: OutputFiles>(
     options: &SolveOptions<'_>,
     inputs: &MineStreams<F>,
 ) -> Result<MadeOutputs<F>, Fault>
-    ensures made { IfOk result (λ _. MakesOutputs F.OutputFiles.own (wanted_by options.now) files.old files.new) }
+    ensures made { IfOk result (λ r. MakesOutputs F.OutputFiles.own (wanted_by options.now)
+        (held (known_if_any (⟦<F::JournalOut as Write>⟧.contents) r.0) (known_if_any (⟦<F::CertificateOut as Write>⟧.contents) r.1)) files.old files.new) }
     ensures journal_named { IfOk result (λ r. is_some r.0 ≡ is_some (wanted_by options.now).journal) }
     ensures certificate_named { IfOk result (λ r. is_some r.1 ≡ is_some (wanted_by options.now).certificate) }
     ensures unmade { IfErr result IsUnmade }
@@ -172,7 +175,8 @@ pub(crate) fn end_outputs<F: OutputFiles>(
     outputs: MadeOutputs<F>,
     outcome: Result<Status, Fault>,
 ) -> Result<Status, Fault>
-    ensures { EndsOutputs F.OutputFiles.own (finished outcome (is_some outputs.0) (is_some outputs.1)) result files.old files.new }
+    ensures { EndsOutputs F.OutputFiles.own (finished outcome (is_some outputs.0) (is_some outputs.1)
+        (held (known_if_any (⟦<F::JournalOut as Write>⟧.contents) outputs.0) (known_if_any (⟦<F::CertificateOut as Write>⟧.contents) outputs.1))) result files.old files.new }
 {
     let (journal, certificate) = outputs;
     let is_kept = keeps_journal(&outcome);

@@ -1,6 +1,6 @@
 //! The files of a mine, opened in the order in which they are read.
 ghost use Rattle.std.specs.Prelude.{◌≡◌, IfOk, IfErr, is_some, option_copied};
-ghost use Rattle.file_runs.specs.Opened.{left_if_any, texts_of, LacksFixed, LacksMine, OpensFixed, OpensMine};
+ghost use Rattle.file_runs.specs.Opened.{known_if_any, texts_of, LacksFixed, LacksMine, OpensFixed, OpensMine};
 
 use crate::inputs::{InputFiles, MineStreams};
 use crate::options::MineNames;
@@ -13,7 +13,7 @@ fn open_fixed_if_any<F: InputFiles>(
     files: &mut F,
     path: Option<&str>,
 ) -> Result<Option<F::Fixed>, Fault>
-    ensures opened { IfOk result (λ r. OpensFixed F.InputFiles (option_copied path.entry) (left_if_any (⟦<F::Fixed as Read>⟧.remaining) r) files.old files.new) }
+    ensures opened { IfOk result (λ r. OpensFixed F.InputFiles (option_copied path.entry) (known_if_any (⟦<F::Fixed as Read>⟧.remaining) r) files.old files.new) }
     ensures named { IfOk result (λ r. is_some r ≡ is_some (option_copied path.entry)) }
     ensures lacked { IfErr result (λ e. LacksFixed F.InputFiles (option_copied path.entry) e files.old files.new) }
 {

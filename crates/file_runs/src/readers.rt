@@ -1,7 +1,7 @@
 //! What reads the files of a mine, each from its front.
 ghost use Rattle.std.specs.Prelude.{◌≡◌, is_some};
 ghost use Rattle.runs.specs.Solve.{MayRead};
-ghost use Rattle.file_runs.specs.Opened.{left_if_any, IsFromFront, IsFromFrontIfAny};
+ghost use Rattle.file_runs.specs.Opened.{known_if_any, IsFromFront, IsFromFrontIfAny};
 
 use counters::Counters;
 use minelib_reader::{FileReader, InBytes, InputStream};
@@ -12,7 +12,7 @@ pub(crate) type MineReaders<M, P, X> = MineFiles<FileReader<M>, FileReader<P>, F
 
 /// What reads the file of fixed blocks, where there is one.
 fn reader_of<X: InputStream + Drop>(fixed: Option<X>, counters: &Counters) -> Option<FileReader<X>>
-    ensures front { IsFromFrontIfAny (⟦<FileReader<X> as InBytes>⟧.progress) (⟦<FileReader<X> as InBytes>⟧.known_text) (left_if_any X.remaining fixed) result }
+    ensures front { IsFromFrontIfAny (⟦<FileReader<X> as InBytes>⟧.progress) (⟦<FileReader<X> as InBytes>⟧.known_text) (known_if_any X.remaining fixed) result }
     ensures named { is_some result ≡ is_some fixed }
 {
     match fixed {
@@ -28,7 +28,7 @@ pub(crate) fn readers_of<M: InputStream + Drop, P: InputStream + Drop, X: InputS
 ) -> MineReaders<M, P, X>
     ensures model { IsFromFront (⟦<FileReader<M> as InBytes>⟧.progress) (⟦<FileReader<M> as InBytes>⟧.known_text) (M.remaining mine.model) result.model }
     ensures prec { IsFromFront (⟦<FileReader<P> as InBytes>⟧.progress) (⟦<FileReader<P> as InBytes>⟧.known_text) (P.remaining mine.prec) result.prec }
-    ensures fixed { IsFromFrontIfAny (⟦<FileReader<X> as InBytes>⟧.progress) (⟦<FileReader<X> as InBytes>⟧.known_text) (left_if_any X.remaining mine.fixed) result.fixed }
+    ensures fixed { IsFromFrontIfAny (⟦<FileReader<X> as InBytes>⟧.progress) (⟦<FileReader<X> as InBytes>⟧.known_text) (known_if_any X.remaining mine.fixed) result.fixed }
     ensures named { is_some result.fixed ≡ is_some mine.fixed }
     ensures may_read { MayRead (⟦<FileReader<M> as InBytes>⟧.progress) (⟦<FileReader<P> as InBytes>⟧.progress) (⟦<FileReader<X> as InBytes>⟧.progress) result }
 {

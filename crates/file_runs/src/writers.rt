@@ -1,5 +1,6 @@
 //! What writes an output beside the pit, from where it begins, and the output handed back.
 ghost use Rattle.std.specs.Prelude.{◌≡◌, is_some};
+ghost use Rattle.file_runs.specs.Opened.{known_if_any};
 ghost use Rattle.file_runs.specs.Solved.{IsNew};
 
 use minelib_reader::{OutBytes, StreamWriter};
@@ -7,7 +8,7 @@ use std::io::Write;
 
 /// What writes an output, where there is one.
 pub(crate) fn writer_of<S: Write + Drop>(output: Option<S>) -> Option<StreamWriter<S>>
-    ensures { IsNew (⟦<StreamWriter<S> as OutBytes>⟧.progress) (is_some output) result }
+    ensures { IsNew (⟦<StreamWriter<S> as OutBytes>⟧) (is_some output) (known_if_any S.contents output) result }
 {
     match output {
         None => None,
@@ -17,7 +18,8 @@ pub(crate) fn writer_of<S: Write + Drop>(output: Option<S>) -> Option<StreamWrit
 
 /// The output of a writer, where there is one.
 pub(crate) fn output_of<S: Write + Drop>(writer: Option<StreamWriter<S>>) -> Option<S>
-    ensures { is_some result ≡ is_some writer }
+    ensures named { is_some result ≡ is_some writer }
+    ensures known { known_if_any S.contents result ≡ known_if_any (⟦<StreamWriter<S> as OutBytes>⟧.known_content) writer }
 {
     match writer {
         None => None,

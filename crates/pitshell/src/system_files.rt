@@ -80,11 +80,11 @@ impl OutputFiles for SystemFiles<'_> {
 
     type CertificateOut = Output;
 
-    ghost makes = { λ _ _ _ _. Unit {0} };
+    ghost makes = { λ _ _ _ _ _. Unit {0} };
 
     ghost spares = { λ _ _ _ _. Unit {0} };
 
-    ghost ends = { λ _ _ _ _. Unit {0} };
+    ghost ends = { λ _ _ _ _ _. Unit {0} };
 
     ghost loses = { λ _ _ _. Unit {0} };
 
