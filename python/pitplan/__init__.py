@@ -8,7 +8,8 @@
     pitplan.shells(plan, solution)              # one row a factor: tonnes, grades, strip ratio, worth, NPV
     pitplan.years(plan, solution)               # one row a case, factor and year: rock, ore, metal, cash
 
-What the subcommands write, `write_shells`, `pit`, `pushbacks`, `write_schedule`, `view`, `export`, `audit`, `scenarios`, `gather` and `verify` write too, or look at.
+What the subcommands write, `write_shells`, `pit`, `pushbacks`, `write_schedule`, `view`, `export`, `audit`, `scenarios`, `gather` and
+`verify` write too, or look at.
 
 That a shell is the smallest set of greatest worth that keeps the needs is proved of the program, for the files that it
 reads. This layer, which writes those files, is not proved; `plan.notes` says what it rounded, dropped and clipped.
