@@ -10,6 +10,7 @@ from pathlib import Path
 from typing import Any, Optional, Sequence
 
 import minelib
+import pandas as pd
 from minelib.__main__ import add_arguments as add_minelib
 
 from . import __version__, commands, exports, files, init, report, simulation
@@ -155,10 +156,7 @@ def run_command(options: argparse.Namespace, project: Project, folder: Path, pro
         print(folder)
     elif options.command == "shells":
         table = commands.write_shells(project, folder, progress, not options.no_verify)
-        columns = report.columns_of(table, project)
-        print_table([heading for _, heading, _, _ in columns], report.cells_of(table, columns))
-        tell_notes(files.read_record(folder)["notes"])
-        print(folder / commands.REPORT)
+        tell_table(table, report.columns_of(table, project), folder)
     elif options.command == "pit":
         folder = options.out or project.folder / "pit"
         table = commands.pit(project, options.factor, folder, progress, not options.no_verify)
@@ -170,17 +168,11 @@ def run_command(options: argparse.Namespace, project: Project, folder: Path, pro
     elif options.command == "pushbacks":
         folder = options.out or project.folder / "pushbacks"
         table = commands.pushbacks(project, folder, progress, not options.no_verify)
-        columns = report.columns_of_phases(table, project)
-        print_table([heading for _, heading, _, _ in columns], report.cells_of(table, columns))
-        tell_notes(files.read_record(folder)["notes"])
-        print(folder / commands.REPORT)
+        tell_table(table, report.columns_of_phases(table, project), folder)
     elif options.command == "schedule":
         folder = options.out or project.folder / "schedule"
         table = commands.write_schedule(project, folder, progress, not options.no_verify)
-        columns = report.columns_of_ways(table, project)
-        print_table([heading for _, heading, _, _ in columns], report.cells_of(table, columns))
-        tell_notes(files.read_record(folder)["notes"])
-        print(folder / commands.REPORT)
+        tell_table(table, report.columns_of_ways(table, project), folder)
         if files.read_json(folder / files.SCHEDULE_RECORD)["interrupted"]:
             raise KeyboardInterrupt
     elif options.command == "view":
@@ -189,6 +181,13 @@ def run_command(options: argparse.Namespace, project: Project, folder: Path, pro
         print(commands.export(folder, options.to, options.factor, progress))
     else:
         print(commands.audit(folder, options.factor, progress))
+
+
+def tell_table(table: pd.DataFrame, columns: report.Columns, folder: Path) -> None:
+    """An answer's table on standard output, the report's place behind it, and its notes on standard error."""
+    print_table([heading for _, heading, _, _ in columns], report.cells_of(table, columns))
+    tell_notes(files.read_record(folder)["notes"])
+    print(folder / commands.REPORT)
 
 
 def tell_verified(folder: Path) -> None:

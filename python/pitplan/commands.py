@@ -10,8 +10,8 @@ from typing import Any, Optional, Union
 import numpy as np
 import pandas as pd
 
-from . import absent, analyse, auditing, exports, files, page, phase_pictures, phases as phasing, pictures, report, run, schedule_pictures, simulation, verification
-from . import workbook, yearly, yearly_schedule as scheduling
+from . import absent, analyse, auditing, exports, files, page, phase_pictures, phases as phasing, pictures, report, run
+from . import schedule_pictures, simulation, verification, workbook, yearly, yearly_schedule as scheduling
 from .errors import PlanError
 from .phases import Phases
 from .plan import Plan, prepare as prepare_plan
@@ -196,13 +196,13 @@ def write_schedule(
 ) -> pd.DataFrame:
     """Schedules the phases of a pit by years, as `pitplan schedule` does.
 
-    Gives a table with a row a way in which that was done: by rule, and by a linear programme. Into the folder (by default schedule in the
-    project's own) it writes what `pushbacks` writes, with each block's year in blocks.csv and the ways' years in years.csv, and
-    schedule.csv, schedule.json, a workbook of the tables and pictures. An interruption while programmes are solved ends these alone:
-    schedule.json says so.
+    Gives a table with a row a way in which that was done: by rule, by a linear programme, and where it is asked for by an integer one. Into
+    the folder (by default schedule in the project's own) it writes what `pushbacks` writes, with each block's year in blocks.csv and the
+    ways' years in years.csv, and schedule.csv, schedule.json, where ore is divided into bins milling.csv, a workbook of the tables and
+    pictures. An interruption while programmes are solved ends these alone: schedule.json says so.
 
-    Raises MissingPackage without openpyxl, and PlanError where the project has no `[pushbacks]`, the pit is empty or takes too many years, and where what is written is not
-    right, unless it is not verified.
+    Raises MissingPackage without openpyxl, and PlanError where the project has no `[pushbacks]`, the pit is empty or takes too many years,
+    and where what is written is not right, unless it is not verified.
     """
     project = phasing.ending(read(project))
     target = project.folder / "schedule" if folder is None else Path(folder)

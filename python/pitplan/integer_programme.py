@@ -11,8 +11,9 @@ from typing import Optional
 import numpy as np
 from scipy.sparse import coo_matrix, csr_matrix, hstack, vstack
 
+from .highs import Programme
 from .linear_programme import Relaxed, diggable, programme_of
-from .optimiser import Programme, solve
+from .optimiser import solve
 from .phase_benches import PhaseBenches
 from .schedule_rules import Effort
 from .sequencing import HAIR, Problem

@@ -17,7 +17,8 @@ import numpy as np
 from scipy.optimize import linprog
 from scipy.sparse import coo_matrix, csr_matrix, vstack
 
-from .optimiser import Programme, solve
+from .highs import Programme
+from .optimiser import solve
 from .phase_benches import CASH, PhaseBenches
 from .schedule import year_discounts
 from .sequencing import HAIR, Limits, Problem, Sequence, by_lead, dig, leads

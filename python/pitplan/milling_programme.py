@@ -16,8 +16,9 @@ import numpy as np
 from scipy.sparse import bmat, csr_matrix, diags, eye, identity, kron
 
 from .grade_bins import GAIN, Parcels
+from .highs import Programme
 from .linear_programme import Relaxed, furthest, joined, limit_rows, order_rows, paying, sequences, yearly_rows
-from .optimiser import Programme, solve
+from .optimiser import solve
 from .phase_benches import CASH, ORE, ROCK, PhaseBenches
 from .schedule import year_discounts
 from .sequencing import Limits, Problem, by_lead, dig, leads

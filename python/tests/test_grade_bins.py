@@ -14,21 +14,12 @@ from test_pushbacks import UPRIGHT, with_phases
 from test_sequencing import benches_of, demand_diggable, problem_of
 
 import pitplan
-from pitplan import PlanError, linear_programme, load, milling_programme as mp, optimiser
+from pitplan import PlanError, load, milling_programme as mp
 from pitplan.grade_bins import Parcels, bins_of, edges_of
 from pitplan.sequencing import Limits
 from pitplan.verification import verify
 
 NAMES = ("ore_tonnes", "metal_copper", "gain")
-
-
-@pytest.fixture(scope="module", autouse=True)
-def in_this_process():
-    """Programmes are solved here, since a process takes longer to begin than a small one to be solved."""
-    with pytest.MonkeyPatch.context() as patch:
-        for module in (mp, linear_programme):
-            patch.setattr(module, "solve", lambda programme, effort=optimiser.Effort(): optimiser.optimum_of(programme, effort))
-        yield
 
 
 def test_bins_are_even_by_tonnes_as_far_as_worths_let_them():

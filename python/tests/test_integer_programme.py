@@ -14,7 +14,7 @@ from test_sequencing import THREE, benches_of, demand_diggable, problem_of, rand
 from test_yearly_schedule import PHASES
 
 import pitplan
-from pitplan import PlanError, files, integer_programme as ip, load, optimiser
+from pitplan import PlanError, files, highs, integer_programme as ip, load, optimiser
 from pitplan.schedule_rules import Effort
 from pitplan.sequencing import Limits
 from pitplan.verification import verify
@@ -24,7 +24,7 @@ from pitplan.verification import verify
 def in_this_process():
     """Programmes are solved here, since a process takes longer to begin than a small one to be solved."""
     with pytest.MonkeyPatch.context() as patch:
-        patch.setattr(ip, "solve", optimiser.optimum_of)
+        patch.setattr(ip, "solve", optimiser.here)
         patch.setattr(ip, "diggable", lambda optimum, problem: np.zeros((len(problem.benches), 0)))
         yield
 
@@ -79,7 +79,7 @@ def test_it_is_written_as_a_way_of_its_own(plan_folder):
 
 @pytest.mark.usefixtures("blank_pictures")
 def test_where_none_is_found_in_time_the_others_stand(plan_folder, monkeypatch):
-    monkeypatch.setattr(ip, "solve", lambda programme, effort: optimiser.Optimum(None, np.inf))
+    monkeypatch.setattr(ip, "solve", lambda programme, effort: highs.Optimum(None, np.inf))
     project = load(plan_folder(pillars(), PHASES + "[schedule]\nmilp = { seconds = 1 }\n"))
     assert pitplan.write_schedule(project)["way"].tolist() == ["rule", "lp"]
     assert "WARNING: the integer programme found no schedule in its time" in files.read_record(project.folder / "schedule")["notes"]

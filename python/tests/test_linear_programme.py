@@ -11,17 +11,11 @@ from conftest import ROOT
 from hypothesis import given, settings
 from hypothesis import strategies as st
 from scipy.optimize import Bounds, LinearConstraint, milp
+from scipy.sparse import csr_matrix
 from test_sequencing import THREE, amounts, benches_of, demand_diggable, pits, problem_of, random_benches
 
-from pitplan import linear_programme as lp, optimiser
+from pitplan import PlanError, highs, linear_programme as lp, optimiser
 from pitplan.sequencing import Limits, by_rule
-
-
-@pytest.fixture(autouse=True)
-def in_this_process(monkeypatch, request):
-    """Programmes are solved here, since a process takes longer to begin than a small one to be solved."""
-    if "of_its_own" not in request.node.name:
-        monkeypatch.setattr(lp, "solve", lambda programme, effort=optimiser.Effort(): optimiser.optimum_of(programme, effort))
 
 
 def solved(benches, limits, years):
@@ -178,7 +172,8 @@ def test_the_bound_is_that_of_another_solver(pit, limits, lag):
     assert bound == pytest.approx(pulp.value(problem.objective) or 0.0, rel=1e-6, abs=1e-3)
 
 
-def test_solved_in_a_process_of_its_own_the_same():
+def test_solved_in_a_process_of_its_own_the_same(monkeypatch):
+    monkeypatch.setattr(optimiser, "FEW", 0)
     benches, limits = benches_of(*THREE), Limits({"ore_tonnes": 100, "rock_tonnes": 200})
     assert lp.relaxed(problem_of(benches, limits), 3).bound == pytest.approx(800 / 1.1 + 500 / 1.21)
 
@@ -191,12 +186,22 @@ def test_an_interruption_ends_a_process_of_its_own(monkeypatch):
         begun.append(popen(["/bin/sleep", "600"], **options))
         return begun[0]
 
+    monkeypatch.setattr(optimiser, "FEW", 0)
     monkeypatch.setattr(optimiser.subprocess, "Popen", sleep)
     Timer(0.3, os.kill, (os.getpid(), signal.SIGINT)).start()
     started = time.monotonic()
     with pytest.raises(KeyboardInterrupt):
         lp.relaxed(problem_of(benches_of(*THREE), Limits({"ore_tonnes": 100})), 3)
     assert time.monotonic() - started < 30 and begun[0].wait(5) != 0
+
+
+@pytest.mark.parametrize("few", [0, 1000])
+def test_a_programme_that_cannot_be_solved_is_told(monkeypatch, few):
+    """x is at most -1 and at least 0."""
+    monkeypatch.setattr(optimiser, "FEW", few)
+    none = highs.Programme(np.ones(1), csr_matrix([[1.0]]), np.array([-1.0]), np.ones(1), np.zeros(1, dtype=bool))
+    with pytest.raises(PlanError, match="HiGHS found no schedule: .*the linear programme: .*infeasible"):
+        optimiser.solve(none)
 
 
 def test_setup_names_the_other_solver():

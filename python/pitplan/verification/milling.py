@@ -60,7 +60,8 @@ def unlike_rows(table: pd.DataFrame, rows: pd.DataFrame, of_parcel: pd.DataFrame
     slack = AMOUNT + SHARE * of_parcel["ore_tonnes"]
     wrong = (table["dug_tonnes"] - dug).abs() > slack
     wrong |= (table["milled_tonnes"] > table["dug_tonnes"] + slack) | (table[["milled_tonnes", "reclaimed_tonnes"]] < 0).any(axis=1)
-    return [f"milling.csv, year {row.year}, phase {row.phase}, bench {row.bench:.10g}, bin {row.bin}: dug or milled tonnes are wrong" for row in table[wrong].itertuples()]
+    places = [f"year {row.year}, phase {row.phase}, bench {row.bench:.10g}, bin {row.bin}" for row in table[wrong].itertuples()]
+    return [f"milling.csv, {place}: dug or milled tonnes are wrong" for place in places]
 
 
 def unlike_stock(table: pd.DataFrame, whole: pd.DataFrame, is_stocked: bool) -> list[str]:

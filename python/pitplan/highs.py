@@ -1,0 +1,86 @@
+"""Linear and integer programmes by HiGHS, which scipy has. As a program of its own it solves what `optimiser` has written in a folder:
+
+    python highs.py FOLDER
+
+So it needs nothing else of this package, whose libraries take longer to be read than most programmes to be solved.
+"""
+
+from __future__ import annotations
+
+import json
+import sys
+from dataclasses import dataclass
+from pathlib import Path
+from typing import Any, Optional
+
+import numpy as np
+from scipy.optimize import Bounds, LinearConstraint, linprog, milp
+from scipy.sparse import csr_matrix, load_npz, save_npz
+
+PROGRAMME, MATRIX, EFFORT, OPTIMUM = "programme.npz", "matrix.npz", "effort.json", "optimum.npz"
+# What scipy says of a run: done, and ended by its limit of time.
+DONE, OUT_OF_TIME = 0, 1
+
+
+@dataclass(frozen=True)
+class Programme:
+    """Most of `gain @ x` with `matrix @ x <= most` and `0 <= x <= upper`; x is whole where `whole` is true."""
+
+    gain: np.ndarray
+    matrix: csr_matrix
+    most: np.ndarray
+    upper: np.ndarray
+    whole: np.ndarray
+
+    def save(self, folder: Path) -> None:
+        np.savez(folder / PROGRAMME, gain=self.gain, most=self.most, upper=self.upper, whole=self.whole)
+        save_npz(folder / MATRIX, self.matrix)
+
+    @staticmethod
+    def load(folder: Path) -> Programme:
+        with np.load(folder / PROGRAMME) as kept:
+            return Programme(kept["gain"], load_npz(folder / MATRIX), kept["most"], kept["upper"], kept["whole"])
+
+
+@dataclass(frozen=True)
+class Optimum:
+    """What was found: the unknowns, or None where the time was up before any were, and a bound that no unknowns exceed."""
+
+    unknowns: Optional[np.ndarray]
+    bound: float
+
+
+def optimum_of(programme: Programme, gap: float, seconds: Optional[float]) -> Optimum:
+    """The optimum; of an integer programme what is within the gap, a share of its bound, or has been found in the seconds.
+
+    Raises RuntimeError where HiGHS finds nothing although its time is not up.
+    """
+    answer: Any
+    if not programme.whole.any():
+        bounds = np.column_stack([np.zeros(len(programme.upper)), programme.upper])
+        answer = linprog(-programme.gain, A_ub=programme.matrix, b_ub=programme.most, bounds=bounds, method="highs-ds")
+        if answer.status != DONE:
+            raise RuntimeError(f"the linear programme: {answer.message}")
+        return Optimum(answer.x, -float(answer.fun))
+    options = {"mip_rel_gap": gap} | ({} if seconds is None else {"time_limit": seconds})
+    answer = milp(
+        -programme.gain,
+        integrality=programme.whole.astype(int),
+        bounds=Bounds(0, programme.upper),
+        constraints=LinearConstraint(programme.matrix, -np.inf, programme.most),
+        options=options,
+    )
+    if answer.status not in (DONE, OUT_OF_TIME):
+        raise RuntimeError(f"the integer programme: {answer.message}")
+    bound = answer.mip_dual_bound
+    return Optimum(answer.x, np.inf if bound is None else -float(bound))
+
+
+def main(folder: Path) -> None:
+    found = optimum_of(Programme.load(folder), **json.loads((folder / EFFORT).read_text(encoding="ascii")))
+    unknowns = np.zeros(0) if found.unknowns is None else found.unknowns
+    np.savez(folder / OPTIMUM, unknowns=unknowns, bound=found.bound)
+
+
+if __name__ == "__main__":
+    main(Path(sys.argv[1]))
