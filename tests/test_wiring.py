@@ -118,9 +118,9 @@ def test_a_full_standard_output(mine: Mine) -> None:
     assert (ran.returncode, ran.stderr) == (1, b"error 18: write failed\n")
 
 
-@pytest.mark.parametrize("words", [SOLVE, shells()], ids=["solve", "shells"])
+@pytest.mark.parametrize("words", [SOLVE, shells(factors="1000")], ids=["solve", "shells"])
 def test_so_many_workers_are_started_as_were_asked_for(mine: Mine, shim: pathlib.Path, words: list[str]) -> None:
-    """Beside the threads that any run starts; four where no number is given."""
+    """Beside the threads that any run starts, for one solve in one sweep; four where no number is given."""
 
     def started(*more: str) -> int:
         told = mine.folder / "counts"
