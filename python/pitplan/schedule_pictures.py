@@ -17,7 +17,7 @@ from matplotlib.ticker import MaxNLocator
 from .grid import metres
 from .pictures import BEST, ORE, PLAIN, STYLE, WASTE, WORST, finish, list_of, scaled
 from .project import Metal
-from .yearly import MILL, SHOVELS
+from .yearly import FAR_ABOVE, MARGIN, MILL, SHOVELS
 from .yearly_schedule import LP, MILP, RULE, YearlySchedule, years as years_of
 
 TITLES = {RULE: "By rule", LP: "By linear programme", MILP: "By integer programme"}
@@ -120,7 +120,12 @@ def plot_tonnes(schedule: YearlySchedule, axes: Any) -> list[Axes]:
         right.plot(shown["year"], recovered(shown, metal), color=GRADE, marker="o", markersize=3.5, linewidth=1.4, label=f"{metal.name} recovered")
         right.set_ylim(0, 1.25 * most or 1.0)
         right.spines["top"].set_visible(False)
-    found[0].set_ylabel(f"rock in the year, {sign}t")
+    top = max(bar.get_y() + bar.get_height() for ax in found for bars in ax.containers for bar in bars)
+    near = [line.get_ydata().max() for line in found[0].lines if line.get_ydata().max() <= FAR_ABOVE * top]
+    for ax in found:
+        ax.set_ylim(0, MARGIN * max(top, *near, 0.0) or 1.0)
+    what = "rock" if not schedule.milling else "rock and reclaimed ore"
+    found[0].set_ylabel(f"{what} in the year, {sign}t")
     rights[-1].set_ylabel(f"{metal.name} recovered of the ore, {metal.sign}")
     # The last way's bars name a stockpile where there is one.
     drawn = [*found[-1].containers, *found[-1].lines, *rights[-1].lines]
@@ -165,7 +170,6 @@ def draw_limits(ax: Axes, schedule: YearlySchedule, count: int, unit: tuple[floa
             most = limits.of_years(max(count, 1))[:, list(limits.most).index(name)] / size
             label = f"{label}: {round(limits.most[name] / size, 3):,.12g} {sign}t a year"
             ax.plot(edges, np.append(most, most[-1]), drawstyle="steps-post", color=colour, linestyle="--", linewidth=1.3, label=label)
-    ax.set_ylim(0, 1.05 * max(ax.get_ylim()[1], 0.0))
 
 
 def write_cumulative(schedule: YearlySchedule, years: pd.DataFrame, path: Path) -> None:

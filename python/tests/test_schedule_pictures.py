@@ -66,7 +66,7 @@ def test_the_bars_of_years_are_the_ore_and_the_waste_beside_their_limits(schedul
     # A hundredth of the ore is recovered as copper.
     right = axes[0].figure.axes[2]
     assert right.lines[0].get_ydata().tolist() == pytest.approx([1, 1, 1]) and right.get_ylim()[1] > 1
-    assert axes[0].get_ylim()[1] > 200 and not axes[0].figure.axes[3].get_ylabel().isspace()
+    assert 200 < axes[0].get_ylim()[1] < 300 and not axes[0].figure.axes[3].get_ylabel().isspace()
 
 
 def test_what_is_recovered_of_a_year_without_ore_is_not_drawn(schedule):
@@ -99,6 +99,8 @@ def test_ore_from_a_stockpile_is_a_bar_of_its_own(schedule):
     assert ore == [(0, 0), (0, 25), (0, 75)] and stock == [(0, 0), (25, 25), (75, 75)]
     # By then a quarter and three quarters of the bench are dug, and stocked.
     assert waste == [(0, 125), (50, 75), (150, 0)]
+    # A year's bar may be higher than the shovels' line, since they do not reclaim.
+    assert axes[1].get_ylim()[1] > 200
     names = [text.get_text() for text in axes[0].figure.legends[0].get_texts()]
     assert names[:3] == ["ore", "ore from the stockpile", "waste or stocked"]
 
