@@ -12,7 +12,7 @@ import numpy as np
 from scipy.sparse import coo_matrix, csr_matrix, hstack, vstack
 
 from .highs import Programme
-from .linear_programme import Relaxed, diggable, programme_of
+from .linear_programme import diggable, of_unknowns, programme_of
 from .optimiser import solve
 from .phase_benches import PhaseBenches
 from .schedule_rules import Effort
@@ -64,7 +64,7 @@ def best_diggable(problem: Problem, years: int, effort: Effort) -> tuple[Optiona
     cumulative = np.maximum.accumulate(cumulative, axis=1)
     shares = np.diff(cumulative, axis=1, prepend=0.0)
     last = np.flatnonzero(shares.any(axis=0))
-    made = [diggable(Relaxed(cumulative, found.bound * unit), problem)]
+    made = [diggable(of_unknowns(problem.benches, cumulative, found.bound * unit), problem)]
     if keeps(problem, shares):
         made.append(shares[:, : last[-1] + 1 if len(last) else 0])
     return max(made, key=problem.value), found.bound * unit

@@ -37,15 +37,16 @@ SLIGHT = 1e-6
 
 @dataclass(frozen=True)
 class Relaxed:
-    """The optimum of the linear programme: the share of each bench that is dug by the end of each year, and its value in money."""
+    """The optimum of the linear programme.
+
+    cumulative  an array of benches and years: the share of each bench that is dug by the end of each year
+    bound       its value, discounted, in money
+    cash        of each year, in money
+    """
 
     cumulative: np.ndarray
     bound: float
-
-    @property
-    def shares(self) -> np.ndarray:
-        """The share of each bench that is dug in each year."""
-        return np.diff(self.cumulative, axis=1, prepend=0.0)
+    cash: np.ndarray
 
 
 def programme_of(problem: Problem, years: int) -> tuple[Programme, float]:
@@ -124,9 +125,13 @@ def relaxed(problem: Problem, years: int) -> Relaxed:
     programme, unit = programme_of(problem, years)
     found = solve(programme)
     assert found.unknowns is not None
-    cumulative = found.unknowns.reshape(len(problem.benches), years)
-    # The solver keeps to its rows but for a hair.
-    return Relaxed(np.maximum.accumulate(np.clip(cumulative, 0.0, 1.0), axis=1), found.bound * unit)
+    return of_unknowns(problem.benches, found.unknowns.reshape(len(problem.benches), years), found.bound * unit)
+
+
+def of_unknowns(benches: PhaseBenches, cumulative: np.ndarray, bound: float) -> Relaxed:
+    """The optimum of which all ore is milled as it is dug. The solver keeps to its rows but for a hair."""
+    kept = np.maximum.accumulate(np.clip(cumulative, 0.0, 1.0), axis=1)
+    return Relaxed(kept, bound, benches.of(CASH) @ np.diff(kept, axis=1, prepend=0.0))
 
 
 def sequences(optimum: Relaxed, benches: PhaseBenches) -> Iterator[Sequence]:

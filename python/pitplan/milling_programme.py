@@ -106,9 +106,7 @@ class MillingProblem:
         benches, parcels, years = self.problem.benches, self.parcels, self.years
         discounts = year_discounts(self.problem.settings, years)
         steps = discounts - np.append(discounts[1:], 0.0)
-        worth = [mining_of(benches, parcels), parcels.of(GAIN)]
-        worth += [] if self.cost is None else [parcels.of(GAIN) - self.cost * parcels.of(ORE)]
-        gain = np.concatenate([np.outer(of_whole, steps).ravel() for of_whole in worth])
+        gain = np.concatenate([np.outer(worth, steps).ravel() for worth in self.worths])
         unit = float(np.abs(gain).max(initial=0.0)) or 1.0
         rows = [*self.digging_rows(), *self.parcel_rows(), *self.mill_rows()]
         matrix, most = (joined([part[k] for part in rows]) for k in (0, 1))
@@ -159,8 +157,16 @@ class MillingProblem:
         programme, unit = self.programme
         found = solve(programme)
         assert found.unknowns is not None
-        cumulative = found.unknowns[: self.dug].reshape(-1, self.years)
-        return Relaxed(np.maximum.accumulate(np.clip(cumulative, 0.0, 1.0), axis=1), found.bound * unit)
+        cumulative = np.maximum.accumulate(np.clip(found.unknowns[: self.dug].reshape(-1, self.years), 0.0, 1.0), axis=1)
+        flows = np.diff(found.unknowns.reshape(-1, self.years), axis=1, prepend=0.0)
+        return Relaxed(cumulative, found.bound * unit, np.concatenate(self.worths) @ flows)
+
+    @property
+    def worths(self) -> list[np.ndarray]:
+        """What each bench earns that is dug, and each parcel that is milled straight, or is reclaimed, in the order of the unknowns."""
+        gain = self.parcels.of(GAIN)
+        again = [] if self.cost is None else [gain - self.cost * self.parcels.of(ORE)]
+        return [mining_of(self.problem.benches, self.parcels), gain, *again]
 
     def milling(self, dug: np.ndarray) -> Milling:
         """The best that can become of the ore of what is dug in all years. Raises KeyboardInterrupt where it is interrupted."""

@@ -3,7 +3,7 @@
 from __future__ import annotations
 
 from pathlib import Path
-from typing import Any
+from typing import Any, Optional
 
 import matplotlib
 import numpy as np
@@ -17,7 +17,7 @@ from matplotlib.ticker import MaxNLocator
 from .grid import metres
 from .pictures import BEST, ORE, PLAIN, STYLE, WASTE, WORST, finish, list_of, scaled
 from .project import Metal
-from .yearly import MILL, SHOVELS
+from .yearly import FAR_ABOVE, MARGIN, MILL, SHOVELS
 from .yearly_schedule import LP, MILP, RULE, YearlySchedule, years as years_of
 
 TITLES = {RULE: "By rule", LP: "By linear programme", MILP: "By integer programme"}
@@ -26,7 +26,7 @@ NAMES = {"worst": "worst case", RULE: "rule", LP: "linear programme", MILP: "int
 MARKED = {"marker": "o", "markersize": 3, "linewidth": 1.4}
 # The rule's line is seen where the other lies on it.
 LINES = {"worst": MARKED, RULE: {"linewidth": 5, "alpha": 0.5}, LP: MARKED, MILP: MARKED, "best": MARKED, "bound": {"linestyle": "--", "linewidth": 1.2}}
-GRADE = "#a23b8f"
+GRADE, STOCKED = "#a23b8f", "#8fb3d9"
 # The palest part of a bench is still seen.
 PALEST = 0.25
 # So many benches are named at most.
@@ -114,17 +114,23 @@ def plot_tonnes(schedule: YearlySchedule, axes: Any) -> list[Axes]:
     most = max(recovered(table, metal).max(), 0.0)
     for left, right, way in zip(found, rights, schedule.shares):
         shown = table[table["case"] == way]
-        draw_bars(left, shown, size)
+        draw_bars(left, shown, reclaimed_of(schedule, way), size)
         draw_limits(left, schedule, len(shown), (size, sign))
         left.set_title(TITLES.get(way, way))
         right.plot(shown["year"], recovered(shown, metal), color=GRADE, marker="o", markersize=3.5, linewidth=1.4, label=f"{metal.name} recovered")
         right.set_ylim(0, 1.25 * most or 1.0)
         right.spines["top"].set_visible(False)
-    found[0].set_ylabel(f"rock in the year, {sign}t")
+    top = max(bar.get_y() + bar.get_height() for ax in found for bars in ax.containers for bar in bars)
+    near = [line.get_ydata().max() for line in found[0].lines if line.get_ydata().max() <= FAR_ABOVE * top]
+    for ax in found:
+        ax.set_ylim(0, MARGIN * max(top, *near, 0.0) or 1.0)
+    what = "rock" if not schedule.milling else "rock and reclaimed ore"
+    found[0].set_ylabel(f"{what} in the year, {sign}t")
     rights[-1].set_ylabel(f"{metal.name} recovered of the ore, {metal.sign}")
-    drawn = [*found[0].containers, *found[0].lines, *rights[0].lines]
+    # The last way's bars name a stockpile where there is one.
+    drawn = [*found[-1].containers, *found[-1].lines, *rights[-1].lines]
     names = [str(handle.get_label()) for handle in drawn]
-    found[0].figure.legend(drawn, names, ncol=len(names), loc="upper center", frameon=False)
+    found[-1].figure.legend(drawn, names, ncol=len(names), loc="upper center", frameon=False)
     return found
 
 
@@ -134,10 +140,21 @@ def recovered(table: pd.DataFrame, metal: Metal) -> pd.Series:
     return table[f"metal_{metal.name}"] / ore * (100.0 if metal.unit == "percent" else 1.0)
 
 
-def draw_bars(ax: Axes, shown: pd.DataFrame, size: float) -> None:
-    ore, waste = shown["ore_tonnes"] / size, (shown["rock_tonnes"] - shown["ore_tonnes"]) / size
-    ax.bar(shown["year"], ore, 0.8, color=ORE, label="ore", linewidth=0)
-    ax.bar(shown["year"], waste, 0.8, bottom=ore, color=WASTE, label="waste", linewidth=0)
+def reclaimed_of(schedule: YearlySchedule, way: str) -> Optional[np.ndarray]:
+    """Tonnes of ore that come from the stockpile in each year; None of a way that has none."""
+    milling = schedule.milling.get(way)
+    return None if milling is None or not milling.is_stocked else milling.parcels.of("ore_tonnes") @ milling.reclaimed
+
+
+def draw_bars(ax: Axes, shown: pd.DataFrame, reclaimed: Optional[np.ndarray], size: float) -> None:
+    """Ore that is milled as it is dug, that from the stockpile, and what else is dug."""
+    from_stock = np.zeros(len(shown)) if reclaimed is None else reclaimed / size
+    milled = shown["ore_tonnes"] / size
+    rest = shown["rock_tonnes"] / size - (milled - from_stock)
+    ax.bar(shown["year"], milled - from_stock, 0.8, color=ORE, label="ore", linewidth=0)
+    if reclaimed is not None:
+        ax.bar(shown["year"], from_stock, 0.8, bottom=milled - from_stock, color=STOCKED, label="ore from the stockpile", linewidth=0)
+    ax.bar(shown["year"], rest, 0.8, bottom=milled, color=WASTE, label="waste" if reclaimed is None else "waste or stocked", linewidth=0)
     ax.xaxis.set_major_locator(MaxNLocator(integer=True))
     ax.set_xlim(0.4, float(shown["year"].max()) + 0.6)
     ax.set_xlabel("year")
@@ -153,7 +170,6 @@ def draw_limits(ax: Axes, schedule: YearlySchedule, count: int, unit: tuple[floa
             most = limits.of_years(max(count, 1))[:, list(limits.most).index(name)] / size
             label = f"{label}: {round(limits.most[name] / size, 3):,.12g} {sign}t a year"
             ax.plot(edges, np.append(most, most[-1]), drawstyle="steps-post", color=colour, linestyle="--", linewidth=1.3, label=label)
-    ax.set_ylim(0, 1.05 * max(ax.get_ylim()[1], 0.0))
 
 
 def write_cumulative(schedule: YearlySchedule, years: pd.DataFrame, path: Path) -> None:
@@ -170,8 +186,8 @@ def plot_cumulative(schedule: YearlySchedule, years: pd.DataFrame, ax: Axes) -> 
     shown = years[years["factor"] == schedule.factor]
     curves = {case: np.append(0.0, shown["discounted"][shown["case"] == case].cumsum()) for case in NAMES if case != "bound"}
     if schedule.optimum is not None:
-        flows = schedule.benches.of("cash") @ schedule.optimum.shares
-        curves["bound"] = np.append(0.0, np.cumsum(flows * schedule.discounts(len(flows))))
+        cash = schedule.optimum.cash
+        curves["bound"] = np.append(0.0, np.cumsum(cash * schedule.discounts(len(cash))))
     size, sign = scaled(max(float(np.abs(curve).max()) for curve in curves.values()))
     for case, curve in curves.items():
         if len(curve) > 1:

@@ -161,6 +161,7 @@ def test_the_bound_and_what_is_made_of_it(pits, limits, lag, cost):
     optimum = problem.relaxed()
     slack = 2e-6 * max(1.0, np.abs(benches.of("cash")).sum() + parcels.of("gain").sum())
     assert optimum.bound == pytest.approx(bound_of(problem), abs=slack)
+    assert optimum.cash @ 1.1 ** -np.arange(1.0, 6) == pytest.approx(optimum.bound, abs=slack)
     dug, milling = problem.diggable(optimum)
     unlimited = Limits({**limits.most, "ore_tonnes": 1e9}, limits.ramp_up, limits.sinking_rate)
     if dug.shape[1]:

@@ -28,7 +28,7 @@ def test_three_benches_by_hand():
     """Shovels take two benches a year and the mill one. The waste is dug with the rich ore under it, and then the poor ore."""
     benches = benches_of(*THREE)
     optimum, shares = solved(benches, Limits({"ore_tonnes": 100, "rock_tonnes": 200}), 3)
-    assert optimum.bound == pytest.approx(800 / 1.1 + 500 / 1.21)
+    assert optimum.bound == pytest.approx(800 / 1.1 + 500 / 1.21) and optimum.cash == pytest.approx([800, 500, 0])
     assert shares.tolist() == [[1, 0], [1, 0], [0, 1]]
 
 

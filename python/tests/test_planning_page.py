@@ -8,7 +8,9 @@ import pytest
 from conftest import ROOT
 
 import pitplan
+from pitplan import yearly_schedule
 from pitplan.phase_rules import PhaseRules
+from pitplan.schedule_rules import ScheduleRules
 
 PAGE = (ROOT / "docs" / "PLANNING.md").read_text(encoding="utf-8")
 EXAMPLE = ROOT / "examples" / "plan" / "project.toml"
@@ -89,6 +91,26 @@ def test_the_phases_of_the_page_are_those_of_the_example():
         assert (phase["factor"], phase["blocks"]) == (int(factor), int(blocks))
         assert [f"{phase[name] / 1000:,.1f}" for name in ("tonnes", "ore_tonnes")] == [rock, ore]
         assert [f"{phase['strip_ratio']:.2f}", f"{phase['grade_copper']:.3f}", f"{phase['worth'] / 1e6:.1f}"] == [strip, copper, worth]
+
+
+def test_the_schedule_of_the_page_is_that_of_the_example():
+    project = pitplan.load(EXAMPLE)
+    rules = ScheduleRules(lag=1, sinking_rate=8.0, ramp_up=(0.5, 1.0))
+    plain, binned = (
+        yearly_schedule.make(
+            pitplan.phases.divide(
+                pitplan.prepare(pitplan.phases.ending(replace(project, phases=PhaseRules(4, None, None, None), schedule_rules=asked)))
+            )
+        )
+        for asked in (rules, replace(rules, bins=8, rehandling=1.0))
+    )
+    ways = yearly_schedule.ways(plain).set_index("way")
+    assert f"earn {ways['value']['rule'] / 1e6:.2f} M USD by rule in {ways['years']['rule']} years" in PAGE
+    assert f"each phase {plain.lead} benches behind the one before" in PAGE and ways["value"]["lp"] == pytest.approx(ways["value"]["rule"])
+    assert f"No schedule of up to {plain.years} years earns more than {plain.optimum.bound / 1e6:.2f}, and" in PAGE
+    assert f"it finds one of {binned.value('lp') / 1e6:.2f}, below a bound of {binned.optimum.bound / 1e6:.2f}:" in PAGE
+    milling = binned.milling["lp"]
+    assert f"in year 2 it mills at once only ore of {milling.cutoffs[1]:.2f} USD a tonne or more" in PAGE
 
 
 def test_the_widths_of_the_page_are_those_of_the_example():

@@ -1,6 +1,7 @@
 """Pictures, workbook and 3D page of a yearly schedule, by what they hold."""
 
 import base64
+from dataclasses import replace
 from types import SimpleNamespace
 
 import matplotlib
@@ -11,7 +12,9 @@ from matplotlib.figure import Figure
 from test_sequencing import THREE, benches_of, problem_of
 
 from pitplan import PlanError, files, page, schedule_pictures as pictures, workbook, yearly_schedule
+from pitplan.grade_bins import Parcels
 from pitplan.linear_programme import Relaxed
+from pitplan.milling_programme import Milling
 from pitplan.project import Metal
 from pitplan.sequencing import Limits
 
@@ -29,7 +32,7 @@ def schedule():
     grid = SimpleNamespace(elevations=lambda: np.array([15.0, 5.0]))
     project = SimpleNamespace(money=SimpleNamespace(currency="USD"), metals=(METAL,))
     phases = SimpleNamespace(plan=SimpleNamespace(grid=grid, project=project), factors=(500, 1000))
-    optimum = Relaxed(np.array([[1.0, 1, 1], [0.5, 1, 1], [0, 0.5, 1]]), 990.0)
+    optimum = Relaxed(np.array([[1.0, 1, 1], [0.5, 1, 1], [0, 0.5, 1]]), 990.0, np.array([300.0, 700, 300]))
     return yearly_schedule.YearlySchedule(phases, problem, shares, 1, 3, optimum)
 
 
@@ -63,7 +66,7 @@ def test_the_bars_of_years_are_the_ore_and_the_waste_beside_their_limits(schedul
     # A hundredth of the ore is recovered as copper.
     right = axes[0].figure.axes[2]
     assert right.lines[0].get_ydata().tolist() == pytest.approx([1, 1, 1]) and right.get_ylim()[1] > 1
-    assert axes[0].get_ylim()[1] > 200 and not axes[0].figure.axes[3].get_ylabel().isspace()
+    assert 200 < axes[0].get_ylim()[1] < 300 and not axes[0].figure.axes[3].get_ylabel().isspace()
 
 
 def test_what_is_recovered_of_a_year_without_ore_is_not_drawn(schedule):
@@ -79,10 +82,27 @@ def test_curves_end_at_what_each_case_earns(schedule):
     # -200 + 500, 500 + 250 and 250, discounted at the ends of years.
     assert curves["rule"] == pytest.approx(np.cumsum([0, 300 / 1.1, 750 / 1.21, 250 / 1.331]))
     assert curves["best case"].tolist() == [0, 700, 1000] and "worst case" not in curves
-    assert curves["bound"] == pytest.approx(curves["rule"])
+    assert curves["bound"] == pytest.approx(np.cumsum([0, 300 / 1.1, 700 / 1.21, 300 / 1.331]))
     flat = [line.get_ydata()[0] for line in ax.lines if len(set(np.atleast_1d(line.get_ydata()))) == 1]
     assert 990.0 in flat
     assert len(ax.get_legend().get_texts()) == 4
+
+
+def test_ore_from_a_stockpile_is_a_bar_of_its_own(schedule):
+    """All ore of the second bench is milled a year later than it is dug by the programme."""
+    parcels = Parcels(np.array([1, 2]), np.array([1, 1]), ("ore_tonnes", "metal_copper", "gain"), np.array([[100, 1, 1100.0], [100, 1, 600]]), np.zeros(0))
+    straight, reclaimed = np.array([[0.0, 0, 0], [0, 0.25, 0.75]]), np.array([[0, 0.25, 0.75], [0, 0, 0]])
+    stocked = replace(schedule, milling={"lp": Milling(parcels, straight, reclaimed, 0.5, True)})
+    axes = pictures.plot_tonnes(stocked, Figure().subplots(1, 2))
+    assert len(axes[0].containers) == 2
+    ore, stock, waste = ([(bar.get_y(), bar.get_height()) for bar in bars] for bars in axes[1].containers)
+    assert ore == [(0, 0), (0, 25), (0, 75)] and stock == [(0, 0), (25, 25), (75, 75)]
+    # By then a quarter and three quarters of the bench are dug, and stocked.
+    assert waste == [(0, 125), (50, 75), (150, 0)]
+    # A year's bar may be higher than the shovels' line, since they do not reclaim.
+    assert axes[1].get_ylim()[1] > 200
+    names = [text.get_text() for text in axes[0].figure.legends[0].get_texts()]
+    assert names[:3] == ["ore", "ore from the stockpile", "waste or stocked"]
 
 
 @pytest.mark.parametrize("write", [pictures.write_gantt, pictures.write_tonnes])

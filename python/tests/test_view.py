@@ -80,6 +80,21 @@ def test_the_page_draws_the_ground_with_a_pit(page, tmp_path):
     assert 0.1 < background < 0.9 and ground > 0.1 and shells > 0.005
 
 
+@needs_chromium
+def test_the_page_of_a_schedule_has_a_colour_a_year(solved, tmp_path):
+    folder = files.read_folder(solved[1])
+    years = np.where(folder.blocks["factor"] > 0, 1 + folder.blocks["factor"] // 500, 0)
+    scheduled = replace(folder, blocks=folder.blocks.assign(year=years), record=folder.record | {"schedule": "lp"})
+    pages.write(tmp_path / "years.html", scheduled)
+    document = opened(tmp_path / "years.html", "show=pit&factor=1500&colour=year", "--dump-dom", f"--screenshot={tmp_path / 'years.png'}")
+    demand_drawn(document, folder.blocks, folder.blocks["factor"] > 0, (1500, 0))
+    assert '<span id="low">1</span><span id="name">year</span><span id="high">4</span>' in document
+    pixels = pytest.importorskip("matplotlib.image").imread(tmp_path / "years.png")[:, 300:, :3]
+    last = np.array(pages.model_of(scheduled)["year_colours"][-1]) / 255
+    # The top of a block has its colour in full, or 0.93 of it.
+    assert any((abs(pixels - last * light) < 0.02).all(axis=2).any() for light in (1, 0.93))
+
+
 def test_the_model_of_the_page_by_hand(solved):
     """Grades of 6, 0.9 and 0.8 per cent: a hundredth of these lie above 5.898, and 0.8 is 34.6 of 255 parts of it."""
     model = pages.model_of(files.read_folder(solved[1]))

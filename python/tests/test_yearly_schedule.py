@@ -268,6 +268,16 @@ def test_a_year_of_a_block_is_found(copied):
     assert wrong(copied) == {"years of blocks"}
 
 
+def test_a_way_that_is_shown_and_earns_less_is_found(copied):
+    told = change_told(copied)
+    other = next(name for name in told["ways"] if name != told["shown"])
+    told["ways"][told["shown"]]["value"] = told["ways"][other]["value"] - 1
+    change_told(copied, ways=told["ways"])
+    assert "years of blocks" in wrong(copied)
+    change_told(copied, shown="hand")
+    assert "years of blocks" in wrong(copied)
+
+
 def test_a_case_of_no_way_is_found(copied):
     rewrite(copied / "years.csv", lambda table: table.assign(case=table["case"].replace("rule", "hand")))
     assert wrong(copied) == {"years", "schedule value"}
