@@ -230,7 +230,7 @@ def test_the_time_of_writing_is_that_of_a_reader_who_waits(mine: Mine) -> None:
     assert told["WRITING"] == max(told.values()) > 1
 
 
-COLUMN = 40_000
+COLUMN = 32_000
 
 
 def test_the_time_of_solving_is_that_of_a_single_column(mine: Mine) -> None:
