@@ -120,7 +120,7 @@ def test_a_full_standard_output(mine: Mine) -> None:
 
 @pytest.mark.parametrize("words", [SOLVE, shells(factors="1000")], ids=["solve", "shells"])
 def test_so_many_workers_are_started_as_were_asked_for(mine: Mine, shim: pathlib.Path, words: list[str]) -> None:
-    """Beside the threads that any run starts, for one solve in one sweep; four where no number is given."""
+    """Once a sweep, beside the threads that any run starts; four where no number is given."""
 
     def started(*more: str) -> int:
         told = mine.folder / "counts"
@@ -129,8 +129,10 @@ def test_so_many_workers_are_started_as_were_asked_for(mine: Mine, shim: pathlib
         return int(told.read_text().split()[3])
 
     one = started("--workers", "1")
-    assert [started("--workers", number) - one for number in ("2", "7")] == [1, 6]
-    assert started() - one == 3
+    sweeps = started("--workers", "2") - one
+    assert sweeps > 0
+    assert [started("--workers", number) - one for number in ("4", "7")] == [3 * sweeps, 6 * sweeps]
+    assert started() - one == 3 * sweeps
 
 
 @pytest.mark.parametrize("column", ["revenue", "cost"])
