@@ -72,6 +72,13 @@ def test_a_mill_of_metal_has_its_limit_too():
     assert problem.relaxed().bound == pytest.approx(800 / 1.1 + 900 / 1.21)
 
 
+def test_a_mill_that_stands_still_in_all_years():
+    benches, parcels = two_benches()
+    problem = mp.MillingProblem(problem_of(benches, Limits({"ore_tonnes": 100}, (0.0, 0.0, 1.0))), parcels, 2, 0.5)
+    optimum = problem.relaxed()
+    assert optimum.bound == pytest.approx(0) and problem.diggable(optimum)[0].shape == (2, 0)
+
+
 parcel = st.tuples(st.sampled_from([10, 50]), st.integers(0, 400))
 bench = st.tuples(st.sampled_from([20, 100]), st.lists(parcel, max_size=2), st.integers(0, 200))
 mines = st.lists(st.tuples(st.integers(0, 1), st.lists(bench, min_size=1, max_size=3)), min_size=1, max_size=2).filter(
