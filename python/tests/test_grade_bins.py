@@ -16,7 +16,7 @@ from test_sequencing import benches_of, demand_diggable, problem_of
 import pitplan
 from pitplan import PlanError, load, milling_programme as mp
 from pitplan.grade_bins import Parcels, bins_of, edges_of
-from pitplan.sequencing import Limits
+from pitplan.sequencing import Limits, by_rule
 from pitplan.verification import verify
 
 NAMES = ("ore_tonnes", "metal_copper", "gain")
@@ -173,7 +173,10 @@ def test_the_bound_and_what_is_made_of_it(pits, limits, lag, cost):
     unlimited = Limits({**limits.most, "ore_tonnes": 1e9}, limits.ramp_up, limits.sinking_rate)
     if dug.shape[1]:
         demand_diggable(benches, unlimited, dug)
-    assert 0 <= mine_value(dug, milling, benches, parcels) <= optimum.bound + slack
+    value = mine_value(dug, milling, benches, parcels)
+    assert 0 <= value <= optimum.bound + slack
+    # Ore that is milled as it is dug, by rule, is one of the schedules that there are.
+    assert problem.problem.value(by_rule(problem.problem, 5)[0]) <= value + slack
     demand_milled(problem, dug, milling)
 
 

@@ -217,7 +217,7 @@ def looked_at(plan):
     folder = plan.project.folder
     folder.mkdir(exist_ok=True)
     record = plan.write(folder)
-    commands.write_tables(plan, solve(plan), folder)
+    commands.write_tables(commands.Answered(plan, solve(plan)), folder)
     record["shells"] = {"factors": list(plan.project.schedule.factors)}
     (folder / "prepare.json").write_text(json.dumps(record))
     return verify(folder, plan.project)
