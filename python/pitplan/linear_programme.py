@@ -77,7 +77,7 @@ def furthest(benches: PhaseBenches, limits: Limits, years: int) -> np.ndarray:
 def left_over(takes: np.ndarray, before: np.ndarray, most: np.ndarray) -> np.ndarray:
     """By bench and year the share of a bench for which a limit leaves room once all before it is through."""
     free = most - (before @ takes)[:, None] + HAIR * most
-    with np.errstate(divide="ignore"):
+    with np.errstate(divide="ignore", invalid="ignore"):
         return np.clip(np.where(takes[:, None] > 0, free / takes[:, None], np.where(free >= 0, 1.0, 0.0)), 0.0, 1.0)
 
 
@@ -101,7 +101,7 @@ def limit_rows(benches: PhaseBenches, limits: Limits, years: int) -> Iterator[tu
     """For each limit a row a year, as a share of what a year may hold."""
     takes, most = limits.amounts(benches), limits.of_years(years)
     for number in range(takes.shape[1]):
-        whole = float(most[:, number].max())
+        whole = float(most[:, number].max()) or 1.0
         yield yearly_rows(takes[:, number] / whole, years), most[:, number] / whole
     if np.isfinite(limits.sinking_rate):
         for phase in np.unique(benches.phase):

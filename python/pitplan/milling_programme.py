@@ -147,7 +147,7 @@ class MillingProblem:
         of_years = limits.of_years(self.years)
         for number, name in enumerate(limits.most):
             if name != ROCK:
-                whole = float(of_years[:, number].max())
+                whole = float(of_years[:, number].max()) or 1.0
                 milled = yearly_rows(self.parcels.of(name) / whole, self.years)
                 parts = [csr_matrix((self.years, self.dug)), *[milled] * self.kinds]
                 yield csr_matrix(bmat([parts])), of_years[:, number] / whole

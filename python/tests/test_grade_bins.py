@@ -16,7 +16,7 @@ from test_sequencing import benches_of, demand_diggable, problem_of
 import pitplan
 from pitplan import PlanError, load, milling_programme as mp
 from pitplan.grade_bins import Parcels, bins_of, edges_of
-from pitplan.sequencing import Limits
+from pitplan.sequencing import Limits, by_rule
 from pitplan.verification import verify
 
 NAMES = ("ore_tonnes", "metal_copper", "gain")
@@ -70,6 +70,13 @@ def test_a_mill_of_metal_has_its_limit_too():
     limits = Limits({"ore_tonnes": 300, "metal_copper": 1}, sinking_rate=1.0)
     problem = mp.MillingProblem(problem_of(benches, limits), parcels, 2, None)
     assert problem.relaxed().bound == pytest.approx(800 / 1.1 + 900 / 1.21)
+
+
+def test_a_mill_that_stands_still_in_all_years():
+    benches, parcels = two_benches()
+    problem = mp.MillingProblem(problem_of(benches, Limits({"ore_tonnes": 100}, (0.0, 0.0, 1.0))), parcels, 2, 0.5)
+    optimum = problem.relaxed()
+    assert optimum.bound == pytest.approx(0) and problem.diggable(optimum)[0].shape == (2, 0)
 
 
 parcel = st.tuples(st.sampled_from([10, 50]), st.integers(0, 400))
@@ -166,7 +173,10 @@ def test_the_bound_and_what_is_made_of_it(pits, limits, lag, cost):
     unlimited = Limits({**limits.most, "ore_tonnes": 1e9}, limits.ramp_up, limits.sinking_rate)
     if dug.shape[1]:
         demand_diggable(benches, unlimited, dug)
-    assert 0 <= mine_value(dug, milling, benches, parcels) <= optimum.bound + slack
+    value = mine_value(dug, milling, benches, parcels)
+    assert 0 <= value <= optimum.bound + slack
+    # Ore that is milled as it is dug, by rule, is one of the schedules that there are.
+    assert problem.problem.value(by_rule(problem.problem, 5)[0]) <= value + slack
     demand_milled(problem, dug, milling)
 
 

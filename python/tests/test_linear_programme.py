@@ -56,6 +56,12 @@ def test_what_does_not_pay_is_left():
     assert optimum.bound == pytest.approx(5 / 1.1) and shares.tolist() == [[1], [1]]
 
 
+def test_a_mill_that_stands_still_in_all_years():
+    """Nothing is dug, since waste alone costs."""
+    optimum, shares = solved(benches_of(*THREE), Limits({"ore_tonnes": 100}, (0.0, 0.0, 1.0)), 2)
+    assert optimum.bound == pytest.approx(0) and shares.shape == (3, 0)
+
+
 def statement(benches, limits, years):
     """The same programme stated anew, by what is dug in a year: gains, rows of (coefficients, most), and the greatest cumulative share.
 
