@@ -25,7 +25,9 @@ class Cells:
     processed  the least factor at which the cell is processed; 0: never
     ore        whether it is processed at the price as given, once it is dug
     worth      its worth at the price as given, once it is dug, in money
-    content    tonnes times grade of each metal
+    tonnes     of rock
+    feed       tonnes that come to the mill, if it is processed
+    content    tonnes times grade of each metal in these
     """
 
     factor: np.ndarray
@@ -33,6 +35,7 @@ class Cells:
     ore: np.ndarray
     worth: np.ndarray
     tonnes: np.ndarray
+    feed: np.ndarray
     content: dict[str, np.ndarray]
 
 
@@ -46,10 +49,10 @@ def cells_of(plan: Plan, solution: Solution) -> Cells:
         processed = np.where(values.pays, factor, 0)
     gain = np.where(values.pays, values.revenue - values.processing, 0)
     content = {
-        metal.name: values.tonnes * plan.grid.spread(plan.table[metal.column].to_numpy())
+        metal.name: values.undiluted * plan.grid.spread(plan.table[metal.column].to_numpy())
         for metal in plan.project.metals
     }
-    return Cells(factor, processed, values.pays, (gain - values.mining) / MILLION, values.tonnes, content)
+    return Cells(factor, processed, values.pays, (gain - values.mining) / MILLION, values.tonnes, values.feed, content)
 
 
 def blocks(plan: Plan, solution: Solution) -> pd.DataFrame:
@@ -66,7 +69,7 @@ def blocks(plan: Plan, solution: Solution) -> pd.DataFrame:
 def shells(plan: Plan, solution: Solution) -> pd.DataFrame:
     """One row a factor.
 
-    factor per mille; blocks (with rock) in the pit; tonnes, ore_tonnes, waste_tonnes; strip_ratio (waste to ore);
+    factor per mille; blocks (with rock) in the pit; tonnes, ore_tonnes (that come to the mill), waste_tonnes (the rest); strip_ratio;
     processed_tonnes at the factor's own price; grade_NAME of the ore in its column's unit, metal_NAME recovered of it
     (tonnes, or grams); worth, npv_best, npv_worst in money and years (of the best case) at the price as given;
     worth_at_factor, exact (Decimal), as the program answers it. Raises PlanError where it takes too many years.
@@ -100,7 +103,7 @@ def benches_of(plan: Plan, cells: Cells) -> Benches:
     _, _, level = plan.grid.indices(inside)
     piece = np.searchsorted(factors, cells.factor[inside]) * levels + level
     ore = cells.ore[inside]
-    flows = {"rock_tonnes": cells.tonnes[inside], "ore_tonnes": np.where(ore, cells.tonnes[inside], 0.0)}
+    flows = {"rock_tonnes": cells.tonnes[inside], "ore_tonnes": np.where(ore, cells.feed[inside], 0.0)}
     flows |= {f"metal_{name}": np.where(ore, metal[inside], 0.0) for name, metal in plan.values.metal.items()}
     flows["cash"] = cells.worth[inside]
     count = len(factors) * levels
@@ -113,14 +116,14 @@ def benches_of(plan: Plan, cells: Cells) -> Benches:
 def amounts(plan: Plan, cells: Cells) -> pd.DataFrame:
     """One row a factor: tonnes, grades and worth of its pit, without time."""
     pit, ore, content = cells.factor, np.where(cells.ore, cells.factor, 0), cells.content
-    tonnes, ore_tonnes = within(plan, pit, cells.tonnes), within(plan, ore, cells.tonnes)
+    tonnes, ore_tonnes = within(plan, pit, cells.tonnes), within(plan, ore, cells.feed)
     columns = {
         "blocks": within(plan, pit, cells.tonnes > 0).astype(np.int64),
         "tonnes": tonnes,
         "ore_tonnes": ore_tonnes,
         "waste_tonnes": tonnes - ore_tonnes,
         "strip_ratio": ratio(tonnes - ore_tonnes, ore_tonnes),
-        "processed_tonnes": within(plan, cells.processed, cells.tonnes),
+        "processed_tonnes": within(plan, cells.processed, cells.feed),
     }
     for metal in plan.project.metals:
         columns[f"grade_{metal.name}"] = ratio(within(plan, ore, content[metal.name]), ore_tonnes)

@@ -4,6 +4,10 @@ A block's first node is mining it: a cost, and no revenue. A block that holds me
 the revenue of its metal, and the cost of processing and selling, and it needs the first. So at each price factor the
 program processes a mined block exactly where that pays, and the cut-off moves with the price. With a fixed cut-off
 there is one node a block, and what is ore is settled at the reference price.
+
+Of a block that is processed a share is lost in mining and rock of grade 0 comes with the rest: what comes to the mill is
+its feed, by which processing, grades and the mill's years count. The rock that dilutes is that of other blocks, so that
+rock in all stays as the table has it. A royalty on revenue is taken off it, so that it scales with the price too.
 """
 
 from __future__ import annotations
@@ -20,7 +24,8 @@ from .errors import PlanError
 from .exact import Exact, Rounding
 from .fixed import Settled
 from .grid import MOST_BLOCKS, Grid
-from .project import GRADE_UNITS, ByRock, Metal, Money, Project
+from .money_rules import GRADE_UNITS, ByCode, ByRegion, Metal, Money
+from .project import Project
 from .table import HEADER_ROWS, at_row
 
 MILLIONTHS = 6
@@ -37,10 +42,11 @@ class Values:
     """What each cell costs and yields, in millionths of the currency at the reference price; arrays of one a cell.
 
     mining      cost of mining the block
-    revenue     price of its recovered metal; 0 where none is
-    processing  cost of processing it and of selling its metal; 0 where the revenue is 0
+    revenue     price of its recovered metal, less the royalty on it; 0 where none is
+    processing  cost of processing it and of selling its metal, and the royalty a tonne; 0 where the revenue is 0
     ore         ids of the blocks with a revenue, rising
     tonnes, metal   for reports: tonnes of rock, and the recovered quantity of each metal
+    feed, undiluted tonnes that come to the mill if it is processed, and these without the rock that dilutes them
     cutoff      "moving" or "fixed"
     first_level the level below which each costs more to mine, by `mining_cost_per_level`
     """
@@ -51,6 +57,8 @@ class Values:
     ore: np.ndarray
     tonnes: np.ndarray
     metal: dict[str, np.ndarray]
+    feed: np.ndarray
+    undiluted: np.ndarray
     cutoff: str
     roundings: dict[str, Rounding]
     notes: tuple[str, ...]
@@ -93,30 +101,55 @@ class Values:
 
 
 @dataclass(frozen=True)
+class Feed:
+    """What comes to the mill of each row, if it is processed.
+
+    undiluted  tonnes of the block itself
+    tonnes_of  tonnes that come with each of these, itself among them: 1.05 with 5 % of rock of grade 0
+    """
+
+    undiluted: Exact
+    tonnes_of: Exact
+
+    @property
+    def tonnes(self) -> Exact:
+        return self.undiluted.times(self.tonnes_of)
+
+
+@dataclass(frozen=True)
 class Rows:
-    """The table's rows while they are weighed: a rock's code and exact tonnes of each."""
+    """The table's rows while they are weighed, with the exact tonnes of each."""
 
     frame: pd.DataFrame
     grid: Grid
     project: Project
     source: str
-    rock: np.ndarray
     tonnes: Exact
 
     def every(self, value: Decimal) -> Exact:
         return Exact.of(value, len(self.frame))
 
-    def by_rock(self, price: ByRock, needed: np.ndarray, key: str) -> Exact:
-        """One number a row by its rock. Raises PlanError where a row in `needed` is of a rock that has none."""
-        if not isinstance(price, dict):
+    def codes(self, column: Optional[str]) -> np.ndarray:
+        return self.frame[column].to_numpy() if column else np.full(len(self.frame), "")
+
+    @property
+    def rock(self) -> np.ndarray:
+        return self.codes(self.project.table.rock)
+
+    def by_code(self, price: ByCode, needed: np.ndarray, key: str) -> Exact:
+        """One number a row by its rock or its region. Raises PlanError where a row in `needed` is of one that has none."""
+        if isinstance(price, Decimal):
             return self.every(price)
-        codes, inverse = np.unique(self.rock, return_inverse=True)
+        name, column, by_code = "rock", self.project.table.rock, price
+        if isinstance(price, ByRegion):
+            name, column, by_code = "region", self.project.table.region, price.values
+        codes, inverse = np.unique(self.codes(column), return_inverse=True)
         for number, code in enumerate(codes):
             lacking = needed & (inverse == number)
-            if code not in price and lacking.any():
-                column = self.project.table.rock or "rock"
-                raise at_row(self.source, int(lacking.argmax()), column, f'[money] {key} names no rock "{code}"')
-        table = Exact.of_decimals([price.get(code, Decimal(0)) for code in codes])
+            if code not in by_code and lacking.any():
+                why = f'[money] {key} names no {name} "{code}"'
+                raise at_row(self.source, int(lacking.argmax()), column or name, why)
+        table = Exact.of_decimals([by_code.get(code, Decimal(0)) for code in codes])
         return Exact(table.whole[inverse], table.places)
 
     def mining(self, first_level: int) -> Exact:
@@ -129,13 +162,22 @@ class Rows:
         else:
             steps = whole_numbers(np.maximum(level - first_level, 0))
             deeper = Exact(steps, 0).times(self.every(money.mining_cost_per_level))
-        return self.tonnes.times(self.by_rock(money.mining_cost, solid, "mining_cost").plus(deeper))
+        return self.tonnes.times(self.by_code(money.mining_cost, solid, "mining_cost").plus(deeper))
 
-    def recovered(self, metal: Metal) -> Exact:
+    def feed(self) -> Feed:
+        """What comes to the mill of each row. Raises PlanError where a row with metal is of a code without a number."""
+        money, some = self.project.money, np.zeros(len(self.frame), dtype=bool)
+        for metal in self.project.metals:
+            some |= self.frame[metal.column].to_numpy() > 0
+        some &= np.array(self.tonnes.whole > 0, dtype=bool)
+        undiluted = self.tonnes.times(self.by_code(money.mining_recovery, some, "mining_recovery"))
+        return Feed(undiluted, self.every(Decimal(1)).plus(self.by_code(money.dilution, some, "dilution")))
+
+    def recovered(self, metal: Metal, feed: Feed) -> Exact:
         """The quantity of a metal that is recovered: tonnes, or grams where the grade is in grams a tonne."""
         grade = Exact.of_floats(self.frame[metal.column].to_numpy()).times(self.every(GRADE_UNITS[metal.unit]))
         nowhere = np.zeros(len(self.frame), dtype=bool)
-        return self.tonnes.times(grade).times(self.by_rock(metal.recovery, nowhere, "recovery"))
+        return feed.undiluted.times(grade).times(self.by_code(metal.recovery, nowhere, "recovery"))
 
     def millionths(self, value: Exact, name: str) -> tuple[np.ndarray, Rounding]:
         """int64 millionths, rounded to the decimals that the project keeps. Raises PlanError from 10^11 on."""
@@ -158,21 +200,21 @@ def values_of(
 
     Raises PlanError where a rock has no cost, an amount is 10^11 or more, or there are too many nodes.
     """
-    rock = frame[project.table.rock].to_numpy() if project.table.rock else np.full(len(frame), "")
-    rows = Rows(frame, grid, project, source, rock, Exact.of_floats(frame[project.table.tonnes].to_numpy()))
-    metal = {m.name: rows.recovered(m) for m in project.metals}
+    rows = Rows(frame, grid, project, source, Exact.of_floats(frame[project.table.tonnes].to_numpy()))
+    costs, feed = project.money, rows.feed()
+    metal = {m.name: rows.recovered(m, feed) for m in project.metals}
     revenue = selling = rows.every(Decimal(0))
     for m in project.metals:
-        revenue = revenue.plus(metal[m.name].times(rows.every(m.price)))
+        revenue = revenue.plus(metal[m.name].times(rows.every(m.price * (1 - costs.royalty))))
         selling = selling.plus(metal[m.name].times(rows.every(m.selling_cost)))
     yields = np.array(revenue.whole > 0, dtype=bool)
-    treatment = rows.tonnes.times(rows.by_rock(project.money.processing_cost, yields, "processing_cost"))
-    amounts = {"revenue": revenue, "processing cost": treatment.plus(selling)}
+    a_tonne = rows.by_code(costs.processing_cost, yields, "processing_cost").plus(rows.every(costs.royalty_per_tonne))
+    amounts = {"revenue": revenue, "processing cost": feed.tonnes.times(a_tonne).plus(selling)}
     kept = {name: rows.millionths(value, name) for name, value in amounts.items()}
     pays = grid.spread(kept["revenue"][0] > kept["processing cost"][0], False)
     first = first_level(project, grid, pays, needed)
     kept["mining cost"] = rows.millionths(rows.mining(first), "mining cost")
-    return spread_values(rows, metal, kept, first)
+    return spread_values(rows, Mill(feed, metal), kept, first)
 
 
 def first_level(project: Project, grid: Grid, pays: np.ndarray, needed: Optional[Needed]) -> int:
@@ -199,7 +241,15 @@ def added_cost(money: Money, elevation: float) -> Decimal:
     return pairs[-1][1]
 
 
-def spread_values(rows: Rows, metal: dict[str, Exact], kept: dict[str, tuple[np.ndarray, Rounding]], first: int) -> Values:
+@dataclass(frozen=True)
+class Mill:
+    """What comes to the mill of each row, and the quantity of each metal that is recovered of it."""
+
+    feed: Feed
+    metal: dict[str, Exact]
+
+
+def spread_values(rows: Rows, mill: Mill, kept: dict[str, tuple[np.ndarray, Rounding]], first: int) -> Values:
     """From one value a row of the table to one a cell. Raises PlanError where there are too many nodes."""
     grid, cutoff = rows.grid, rows.project.money.cutoff
     revenue, tonnes = kept["revenue"][0], rows.tonnes.floats()
@@ -216,10 +266,12 @@ def spread_values(rows: Rows, metal: dict[str, Exact], kept: dict[str, tuple[np.
         processing=grid.spread(np.where(revenue > 0, kept["processing cost"][0], 0)),
         ore=ore,
         tonnes=grid.spread(tonnes),
-        metal={name: grid.spread(amounts.floats()) for name, amounts in metal.items()},
+        metal={name: grid.spread(amounts.floats()) for name, amounts in mill.metal.items()},
+        feed=grid.spread(mill.feed.tonnes.floats()),
+        undiluted=grid.spread(mill.feed.undiluted.floats()),
         cutoff=cutoff,
         roundings={name: rounding for name, (_, rounding) in kept.items()},
-        notes=(*grade_notes(rows), *rock_notes(rows.project, rows.rock, tonnes > 0)),
+        notes=(*grade_notes(rows), *rock_notes(rows.project, rows.rock, tonnes > 0), *feed_notes(rows.project)),
         first_level=first,
     )
 
@@ -245,6 +297,30 @@ def grade_notes(rows: Rows) -> list[str]:
                 f'WARNING: the mean grade of {metal.name}, where there is any, is {some.mean():.4g} {metal.sign}: is the unit "{metal.unit}" right?'
             )
     return notes
+
+
+def feed_notes(project: Project) -> list[str]:
+    """What of a block comes to the mill, and what is owed for it, where the project says anything of it."""
+    money, notes = project.money, []
+    if money.mining_recovery != 1 or money.dilution != 0:
+        recovery, dilution = said_of(money.mining_recovery), said_of(money.dilution)
+        notes.append(
+            f"of the tonnes of ore there come to the mill {recovery} (mining recovery), and with each of these {dilution} of "
+            "grade 0 (dilution); ore tonnes, grades and processing cost are those of what comes to the mill"
+        )
+    if money.royalty:
+        notes.append(f"a royalty of {(100 * money.royalty).normalize():f} % is taken off the revenue of every block, at every factor")
+    if money.royalty_per_tonne:
+        notes.append(f"a royalty of {money.royalty_per_tonne:f} {money.currency} a tonne of ore is part of the processing cost")
+    return notes
+
+
+def said_of(value: ByCode) -> str:
+    """One number, or those of all codes."""
+    if isinstance(value, Decimal):
+        return f"{value:f}"
+    by_code = value.values if isinstance(value, ByRegion) else value
+    return ", ".join(f"{number:f} of {code}" for code, number in by_code.items())
 
 
 def rock_notes(project: Project, rock: np.ndarray, solid: np.ndarray) -> list[str]:

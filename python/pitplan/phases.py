@@ -196,7 +196,7 @@ def table(phases: Phases) -> pd.DataFrame:
     """
     plan, cells = phases.plan, analyse.cells_of(phases.plan, phases.solution)
     ore = np.where(cells.ore, phases.phase, 0)
-    tonnes, ore_tonnes = added(phases.phase, cells.tonnes, phases), added(ore, cells.tonnes, phases)
+    tonnes, ore_tonnes = added(phases.phase, cells.tonnes, phases), added(ore, cells.feed, phases)
     columns = {
         "phase": np.arange(1, len(phases.factors) + 1),
         "factor": np.array(phases.factors),

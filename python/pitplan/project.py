@@ -10,19 +10,14 @@ from pathlib import Path
 from typing import Optional, Union
 
 from .errors import PlanError
+from .money_rules import ByRegion, Metal, Money, read_metal, read_money
 from .phase_rules import PhaseRules, read_phases
 from .schedule_rules import ScheduleRules, read_schedule_rules
 from .section import Section
 
-# A price or a cost: one for every rock, or one for each rock by its code.
-ByRock = Union[Decimal, dict[str, Decimal]]
-
 REFERENCE_FACTOR = 1000
 GREATEST_FACTOR = 100_000
 MOST_FACTORS = 1_000
-GRADE_UNITS = {"percent": Decimal("0.01"), "fraction": Decimal(1), "gram_per_tonne": Decimal(1)}
-METAL_UNITS = {"percent": "t", "fraction": "t", "gram_per_tonne": "g"}
-GRADE_SIGNS = {"percent": "%", "fraction": "t/t", "gram_per_tonne": "g/t"}
 PATTERNS = ("1:5", "1:9")
 DISCOUNTINGS = ("continuous", "end_of_year", "mid_year")
 MOST_LEVELS = 40
@@ -69,47 +64,6 @@ class GridRules:
 
     size: Optional[tuple[float, float, float]]
     tolerance: float
-
-
-@dataclass(frozen=True)
-class Metal:
-    """What is sold: its grade column, and price and selling cost for a tonne of metal (for gram_per_tonne, a gram)."""
-
-    name: str
-    column: str
-    unit: str
-    price: Decimal
-    selling_cost: Decimal
-    recovery: ByRock
-
-    @property
-    def sign(self) -> str:
-        """The grade's unit as it is written: %, g/t or t/t."""
-        return GRADE_SIGNS[self.unit]
-
-    @property
-    def quantity(self) -> str:
-        """The unit in which the metal is counted: t, or g where the grade is in grams a tonne."""
-        return METAL_UNITS[self.unit]
-
-
-@dataclass(frozen=True)
-class Money:
-    """Costs a tonne, how many decimals of the currency are kept, and whether the cut-off moves with the price.
-
-    mining_cost_per_level     more a tonne for each level below the one that holds the reference
-    mining_cost_reference     an elevation in metres; None: the top of the highest block that any ore needs
-    mining_cost_by_elevation  pairs of an elevation in metres and what mining costs more there, a tonne; rising
-    """
-
-    currency: str
-    mining_cost: ByRock
-    mining_cost_per_level: Decimal
-    mining_cost_reference: Optional[Decimal]
-    mining_cost_by_elevation: tuple[tuple[Decimal, Decimal], ...]
-    processing_cost: ByRock
-    decimals: int
-    cutoff: str
 
 
 @dataclass(frozen=True)
@@ -256,9 +210,12 @@ def read_title(top: Section, default: str) -> str:
 def demand_agreement(project: Project) -> None:
     """Refuses sections that each are right and do not fit together."""
     path = project.path
-    priced = [project.money.mining_cost, project.money.processing_cost, *(metal.recovery for metal in project.metals)]
+    money = project.money
+    priced = [money.mining_cost, money.processing_cost, money.mining_recovery, money.dilution, *(metal.recovery for metal in project.metals)]
     if project.table.rock is None and any(isinstance(price, dict) for price in priced):
         raise PlanError(f"{path}: [table] rock: is missing, and prices or recoveries are given by rock")
+    if project.table.region is None and any(isinstance(price, ByRegion) for price in priced):
+        raise PlanError(f"{path}: [table] region: is missing, and mining recovery or dilution is given by region")
     if project.table.density and not project.table.volume and project.grid.size is None:
         raise PlanError(f"{path}: [grid] size: is missing, by which a density gives tonnes, unless [table] names a volume")
     names = [metal.name for metal in project.metals]
@@ -333,50 +290,6 @@ def read_grid(section: Section) -> GridRules:
     )
     section.finish()
     return rules
-
-
-def read_money(section: Section) -> Money:
-    money = Money(
-        currency=section.text("currency", "USD"),
-        mining_cost=section.by_rock("mining_cost"),
-        mining_cost_per_level=section.number("mining_cost_per_level", Decimal(0), least=0),
-        mining_cost_reference=section.number("mining_cost_reference") if section.has("mining_cost_reference") else None,
-        mining_cost_by_elevation=read_by_elevation(section),
-        processing_cost=section.by_rock("processing_cost"),
-        decimals=section.whole("decimals", 6, 0, 6),
-        cutoff=section.choice("cutoff", ("moving", "fixed"), "moving"),
-    )
-    section.finish()
-    if money.mining_cost_reference is not None and not section.has("mining_cost_per_level"):
-        raise section.wrong("mining_cost_reference", "says from where on mining_cost_per_level is added, which is missing")
-    if money.mining_cost_by_elevation and section.has("mining_cost_per_level"):
-        raise section.wrong("mining_cost_by_elevation", "give it or mining_cost_per_level, not both")
-    return money
-
-
-def read_by_elevation(section: Section) -> tuple[tuple[Decimal, Decimal], ...]:
-    """Pairs of elevation and added cost, by rising elevation."""
-    if not section.has("mining_cost_by_elevation"):
-        return ()
-    pairs = sorted(section.pairs("mining_cost_by_elevation", "elevation, cost a tonne"))
-    if any(cost < 0 for _, cost in pairs):
-        raise section.wrong("mining_cost_by_elevation", "a cost may not be negative")
-    if len({elevation for elevation, _ in pairs}) < len(pairs):
-        raise section.wrong("mining_cost_by_elevation", "an elevation is named twice")
-    return tuple(pairs)
-
-
-def read_metal(section: Section) -> Metal:
-    metal = Metal(
-        name=section.text("name"),
-        column=section.text("column"),
-        unit=section.choice("unit", tuple(GRADE_UNITS), None),
-        price=section.number("price", least=0),
-        selling_cost=section.number("selling_cost", Decimal(0), least=0),
-        recovery=section.by_rock("recovery", most=1),
-    )
-    section.finish()
-    return metal
 
 
 def read_slopes(section: Section) -> Slopes:

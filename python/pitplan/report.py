@@ -10,8 +10,9 @@ from typing import Any
 import pandas as pd
 from jinja2 import Environment, FileSystemLoader, select_autoescape
 
+from .money_rules import Metal
 from .pictures import scaled
-from .project import Metal, Project
+from .project import Project
 
 TEMPLATES = Environment(
     loader=FileSystemLoader(Path(__file__).parent / "templates"),

@@ -13,7 +13,9 @@ import pandas as pd
 
 from .. import table as tables
 from ..errors import PlanError
-from ..project import GRADE_UNITS, AbsentRock, Project, Wall, load
+from ..money_rules import GRADE_UNITS
+from ..project import AbsentRock, Project, Wall, load
+from .feed import by_code
 
 # In place of a factor: a cell that is not dug at any, and one where there is nothing to dig.
 UNDUG, NOTHING = 2**30, 0
@@ -93,18 +95,23 @@ class Answer:
         return self.record["grid"]["origin"][2] - np.arange(self.shape[0]) * self.size[2]
 
     @cached_property
+    def undiluted(self) -> np.ndarray:
+        """Tonnes of each block itself that come to the mill, if it is processed."""
+        return self.tonnes * by_code(self.project.money.mining_recovery, self.rows, self.project.table)
+
+    @cached_property
+    def feed(self) -> np.ndarray:
+        """Tonnes that come to the mill of each block, if it is processed."""
+        return self.undiluted * (1 + by_code(self.project.money.dilution, self.rows, self.project.table))
+
+    @cached_property
     def quantities(self) -> dict[str, np.ndarray]:
         """By metal, what is recovered of each block, if it is processed: tonnes, or grams."""
-        columns, found = self.project.table, {}
+        found = {}
         for metal in self.project.metals:
-            share = metal.recovery
-            if isinstance(share, dict):
-                rock = self.rows[columns.rock].astype(str)
-                recovery = rock.map({code: float(it) for code, it in share.items()}).fillna(0.0).to_numpy()
-            else:
-                recovery = np.full(len(self.rows), float(share))
+            recovery = by_code(metal.recovery, self.rows, self.project.table)
             grades = self.rows[metal.column].to_numpy()
-            found[metal.name] = self.tonnes * grades * float(GRADE_UNITS[metal.unit]) * recovery
+            found[metal.name] = self.undiluted * grades * float(GRADE_UNITS[metal.unit]) * recovery
         return found
 
     @cached_property

@@ -5,17 +5,17 @@ from __future__ import annotations
 import math
 from dataclasses import dataclass
 from decimal import ROUND_HALF_EVEN, Decimal
-from typing import Union
 
 import numpy as np
 
-from ..project import GRADE_UNITS
+from ..money_rules import GRADE_UNITS
+from ..project import Project
 from .answer import TOLD, UNDUG, Answer, Rule, rule
+from .feed import by_code, of_code
 from .walls import needed_by
 
 SAMPLE = 10_000
 NAMES = ("mining_cost", "revenue", "processing_cost")
-Price = Union[Decimal, dict[str, Decimal]]
 
 
 def verify(answer: Answer) -> Rule:
@@ -65,10 +65,6 @@ def highest_needed(answer: Answer) -> float:
     return answer.found["highest"]
 
 
-def of_rock(price: Price, rock: str) -> Decimal:
-    return price.get(rock, Decimal(0)) if isinstance(price, dict) else price
-
-
 def more_for_depth(answer: Answer, elevation: float) -> Decimal:
     """What mining a tonne costs more for the depth of a block's centre, in metres of elevation."""
     money = answer.project.money
@@ -86,49 +82,64 @@ def more_for_depth(answer: Answer, elevation: float) -> Decimal:
 
 
 @dataclass(frozen=True)
+class Costs:
+    """What blocks of one rock and region have in common: mining cost of a tonne without what depth adds, processing cost of a tonne, and
+    the shares that are told of metals and tonnes."""
+
+    mining: Decimal
+    processing: Decimal
+    mining_recovery: Decimal
+    dilution: Decimal
+    recoveries: list[Decimal]
+
+    @staticmethod
+    def of(project: Project, rock: str, region: str) -> Costs:
+        money = project.money
+        told = (money.mining_cost, money.processing_cost, money.mining_recovery, money.dilution)
+        recoveries = [of_code(metal.recovery, rock, region) for metal in project.metals]
+        return Costs(*(of_code(value, rock, region) for value in told), recoveries)
+
+
+@dataclass(frozen=True)
 class Exactly:
     """The table's numbers as they are needed to weigh a block by decimals.
 
-    rocks   by code: mining cost of a tonne without what depth adds, processing cost of a tonne, and recovery of each metal
+    codes   of each block, of rock and region
+    costs   by these codes
     depths  what mining a tonne costs more, by level from the top
     """
 
     answer: Answer
     tonnes: list[float]
     grades: list[list[float]]
-    rock: list[str]
-    rocks: dict[str, tuple[Decimal, Decimal, list[Decimal]]]
+    codes: list[tuple[str, str]]
+    costs: dict[tuple[str, str], Costs]
     level: list[int]
     depths: list[Decimal]
 
     @staticmethod
     def of(answer: Answer) -> "Exactly":
         project, columns = answer.project, answer.project.table
-        rock = answer.rows[columns.rock].astype(str).tolist() if columns.rock else [""] * len(answer.rows)
-        prices = {
-            code: (
-                of_rock(project.money.mining_cost, code),
-                of_rock(project.money.processing_cost, code),
-                [of_rock(metal.recovery, code) for metal in project.metals],
-            )
-            for code in set(rock)
-        }
+        named = [answer.rows[name].astype(str).tolist() if name else [""] * len(answer.rows) for name in (columns.rock, columns.region)]
+        codes = list(zip(*named))
+        costs = {code: Costs.of(project, *code) for code in set(codes)}
         grades = [answer.rows[metal.column].tolist() for metal in project.metals]
         depths = [more_for_depth(answer, z) for z in answer.elevations]
-        return Exactly(answer, answer.tonnes.tolist(), grades, rock, prices, answer.cells[0].tolist(), depths)
+        return Exactly(answer, answer.tonnes.tolist(), grades, codes, costs, answer.cells[0].tolist(), depths)
 
     def amounts(self, row: int) -> tuple[Decimal, Decimal, Decimal]:
         """Mining cost, revenue and processing cost of a block."""
         project, tonnes = self.answer.project, Decimal(repr(self.tonnes[row]))
-        mining_cost, processing_cost, recoveries = self.rocks[self.rock[row]]
-        mining = tonnes * (mining_cost + self.depths[self.level[row]])
+        costs = self.costs[self.codes[row]]
+        mining = tonnes * (costs.mining + self.depths[self.level[row]])
         revenue = selling = Decimal(0)
-        for metal, grades, recovery in zip(project.metals, self.grades, recoveries):
-            quantity = tonnes * Decimal(repr(grades[row])) * GRADE_UNITS[metal.unit] * recovery
+        for metal, grades, recovery in zip(project.metals, self.grades, costs.recoveries):
+            quantity = tonnes * costs.mining_recovery * Decimal(repr(grades[row])) * GRADE_UNITS[metal.unit] * recovery
             revenue += quantity * metal.price
             selling += quantity * metal.selling_cost
         unit = Decimal(1).scaleb(-project.money.decimals)
-        amounts = (mining, revenue, tonnes * processing_cost + selling)
+        processing = tonnes * costs.mining_recovery * (1 + costs.dilution) * (costs.processing + project.money.royalty_per_tonne)
+        amounts = (mining, revenue - revenue * project.money.royalty, processing + selling)
         mining, revenue, processing = (amount.quantize(unit, ROUND_HALF_EVEN) for amount in amounts)
         return mining, revenue, processing if revenue else Decimal(0)
 
@@ -148,20 +159,13 @@ def near(answer: Answer) -> tuple[list[str], int]:
 
 def by_floats(answer: Answer) -> tuple[np.ndarray, np.ndarray, np.ndarray]:
     """Mining cost, revenue, and cost of processing and selling of each block, as floats that are not rounded."""
-    project, columns = answer.project, answer.project.table
-    rock = answer.rows[columns.rock].astype(str) if columns.rock else None
-
-    def by_rock(price: Price) -> np.ndarray:
-        if not isinstance(price, dict):
-            return np.full(len(answer.rows), float(price))
-        assert rock is not None
-        return rock.map({name: float(value) for name, value in price.items()}).fillna(0.0).to_numpy()
-
+    project, money, columns = answer.project, answer.project.money, answer.project.table
     deeper = np.array([float(more_for_depth(answer, z)) for z in answer.elevations])
-    mining = answer.tonnes * (by_rock(project.money.mining_cost) + deeper[answer.cells[0]])
+    mining = answer.tonnes * (by_code(money.mining_cost, answer.rows, columns) + deeper[answer.cells[0]])
     revenue, selling = np.zeros(len(answer.rows)), np.zeros(len(answer.rows))
     for metal in project.metals:
         quantity = answer.quantities[metal.name]
-        revenue += quantity * float(metal.price)
+        revenue += quantity * float(metal.price) * (1 - float(money.royalty))
         selling += quantity * float(metal.selling_cost)
-    return mining, revenue, answer.tonnes * by_rock(project.money.processing_cost) + selling
+    a_tonne = by_code(money.processing_cost, answer.rows, columns) + float(money.royalty_per_tonne)
+    return mining, revenue, answer.feed * a_tonne + selling

@@ -41,19 +41,19 @@ def sums(answer: Answer, factor: int) -> dict[str, float]:
     inside = within(answer, factor)
     ore, tonnes = inside & answer.ore, answer.tonnes
     processed = answer.said["process_factor"].to_numpy()
-    of_ore, of_all = tonnes[ore].sum(), tonnes[inside].sum()
+    of_ore, of_all = answer.feed[ore].sum(), tonnes[inside].sum()
     found = {
         "blocks": np.count_nonzero(inside & (tonnes > 0)),
         "tonnes": of_all,
         "ore_tonnes": of_ore,
-        "waste_tonnes": tonnes[inside & ~answer.ore].sum(),
+        "waste_tonnes": tonnes[inside & ~answer.ore].sum() + (tonnes - answer.feed)[ore].sum(),
         "strip_ratio": (of_all - of_ore) / of_ore if of_ore else np.nan,
-        "processed_tonnes": tonnes[(processed > 0) & (processed <= factor)].sum(),
+        "processed_tonnes": answer.feed[(processed > 0) & (processed <= factor)].sum(),
         "worth": answer.worths[inside].sum(),
     }
     for metal in answer.project.metals:
-        grades = answer.rows[metal.column].to_numpy()
-        found[f"grade_{metal.name}"] = np.average(grades[ore], weights=tonnes[ore]) if of_ore else np.nan
+        content = answer.undiluted[ore] @ answer.rows[metal.column].to_numpy()[ore]
+        found[f"grade_{metal.name}"] = content / of_ore if of_ore else np.nan
         found[f"metal_{metal.name}"] = answer.quantities[metal.name][ore].sum()
     return {name: float(amount) for name, amount in found.items()}
 

@@ -66,7 +66,7 @@ def verify_npv(answer: Answer) -> Rule:
 def flows_of(answer: Answer) -> pd.DataFrame:
     """Rock, ore, cash, and cash without signs, of each shell's part of each level."""
     rock, cash = answer.tonnes, answer.worths
-    frame = pd.DataFrame({"rock": rock, "ore": np.where(answer.ore, rock, 0.0), "cash": cash, "gross": np.abs(cash)})
+    frame = pd.DataFrame({"rock": rock, "ore": np.where(answer.ore, answer.feed, 0.0), "cash": cash, "gross": np.abs(cash)})
     frame = frame.assign(factor=answer.said["factor"].to_numpy(), level=answer.cells[0])
     return frame[frame["factor"] > 0].groupby(["factor", "level"]).sum()
 

@@ -1,0 +1,140 @@
+"""What `[money]` and `[[metals]]` of a project say: prices, costs, and what of a block comes to the mill and is sold."""
+
+from __future__ import annotations
+
+from dataclasses import dataclass
+from decimal import Decimal
+from typing import Optional, Union
+
+from .section import Section
+
+# A price or a cost: one for every rock, or one for each rock by its code.
+ByRock = Union[Decimal, dict[str, Decimal]]
+
+GRADE_UNITS = {"percent": Decimal("0.01"), "fraction": Decimal(1), "gram_per_tonne": Decimal(1)}
+METAL_UNITS = {"percent": "t", "fraction": "t", "gram_per_tonne": "g"}
+GRADE_SIGNS = {"percent": "%", "fraction": "t/t", "gram_per_tonne": "g/t"}
+
+
+@dataclass(frozen=True)
+class ByRegion:
+    """A number for each region, by its code."""
+
+    values: dict[str, Decimal]
+
+
+# One for every block, or for each rock or each region.
+ByCode = Union[Decimal, dict[str, Decimal], ByRegion]
+
+
+@dataclass(frozen=True)
+class Metal:
+    """What is sold: its grade column, and price and selling cost for a tonne of metal (for gram_per_tonne, a gram)."""
+
+    name: str
+    column: str
+    unit: str
+    price: Decimal
+    selling_cost: Decimal
+    recovery: ByRock
+
+    @property
+    def sign(self) -> str:
+        """The grade's unit as it is written: %, g/t or t/t."""
+        return GRADE_SIGNS[self.unit]
+
+    @property
+    def quantity(self) -> str:
+        """The unit in which the metal is counted: t, or g where the grade is in grams a tonne."""
+        return METAL_UNITS[self.unit]
+
+
+@dataclass(frozen=True)
+class Money:
+    """Costs a tonne, how many decimals of the currency are kept, and whether the cut-off moves with the price.
+
+    mining_cost_per_level     more a tonne for each level below the one that holds the reference
+    mining_cost_reference     an elevation in metres; None: the top of the highest block that any ore needs
+    mining_cost_by_elevation  pairs of an elevation in metres and what mining costs more there, a tonne; rising
+    mining_recovery           the share of a block's tonnes that comes to the mill, where it is ore
+    dilution                  tonnes of grade 0 that come with each of these
+    royalty                   a share of the revenue
+    royalty_per_tonne         of what comes to the mill
+    """
+
+    currency: str
+    mining_cost: ByRock
+    mining_cost_per_level: Decimal
+    mining_cost_reference: Optional[Decimal]
+    mining_cost_by_elevation: tuple[tuple[Decimal, Decimal], ...]
+    processing_cost: ByRock
+    decimals: int
+    cutoff: str
+    mining_recovery: ByCode = Decimal(1)
+    dilution: ByCode = Decimal(0)
+    royalty: Decimal = Decimal(0)
+    royalty_per_tonne: Decimal = Decimal(0)
+
+
+def read_money(section: Section) -> Money:
+    money = Money(
+        currency=section.text("currency", "USD"),
+        mining_cost=section.by_rock("mining_cost"),
+        mining_cost_per_level=section.number("mining_cost_per_level", Decimal(0), least=0),
+        mining_cost_reference=section.number("mining_cost_reference") if section.has("mining_cost_reference") else None,
+        mining_cost_by_elevation=read_by_elevation(section),
+        processing_cost=section.by_rock("processing_cost"),
+        decimals=section.whole("decimals", 6, 0, 6),
+        cutoff=section.choice("cutoff", ("moving", "fixed"), "moving"),
+        mining_recovery=read_by_code(section, "mining_recovery", Decimal(1), most=1),
+        dilution=read_by_code(section, "dilution", Decimal(0)),
+        royalty=section.number("royalty", Decimal(0), least=0),
+        royalty_per_tonne=section.number("royalty_per_tonne", Decimal(0), least=0),
+    )
+    section.finish()
+    if money.mining_cost_reference is not None and not section.has("mining_cost_per_level"):
+        raise section.wrong("mining_cost_reference", "says from where on mining_cost_per_level is added, which is missing")
+    if money.mining_cost_by_elevation and section.has("mining_cost_per_level"):
+        raise section.wrong("mining_cost_by_elevation", "give it or mining_cost_per_level, not both")
+    if money.royalty >= 1:
+        raise section.wrong("royalty", f"{money.royalty} is a share of the revenue, such as 0.03 for 3 %")
+    return money
+
+
+def read_by_code(section: Section, key: str, default: Decimal, most: Optional[int] = None) -> ByCode:
+    """A number for all blocks, by rock, or as `{ region = { CODE = number } }` by region."""
+    if not section.has(key):
+        return default
+    value = section.get(key)
+    if not isinstance(value, dict) or not isinstance(value.get("region"), dict):
+        return section.by_rock(key, most)
+    inner = section.section(key)
+    by_region = inner.by_rock("region", most)
+    inner.finish()
+    assert isinstance(by_region, dict)
+    return ByRegion(by_region)
+
+
+def read_by_elevation(section: Section) -> tuple[tuple[Decimal, Decimal], ...]:
+    """Pairs of elevation and added cost, by rising elevation."""
+    if not section.has("mining_cost_by_elevation"):
+        return ()
+    pairs = sorted(section.pairs("mining_cost_by_elevation", "elevation, cost a tonne"))
+    if any(cost < 0 for _, cost in pairs):
+        raise section.wrong("mining_cost_by_elevation", "a cost may not be negative")
+    if len({elevation for elevation, _ in pairs}) < len(pairs):
+        raise section.wrong("mining_cost_by_elevation", "an elevation is named twice")
+    return tuple(pairs)
+
+
+def read_metal(section: Section) -> Metal:
+    metal = Metal(
+        name=section.text("name"),
+        column=section.text("column"),
+        unit=section.choice("unit", tuple(GRADE_UNITS), None),
+        price=section.number("price", least=0),
+        selling_cost=section.number("selling_cost", Decimal(0), least=0),
+        recovery=section.by_rock("recovery", most=1),
+    )
+    section.finish()
+    return metal
