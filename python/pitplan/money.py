@@ -20,12 +20,14 @@ from typing import Callable, Optional
 import numpy as np
 import pandas as pd
 
+from . import recoveries
 from .errors import PlanError
 from .exact import Exact, Rounding
 from .fixed import Settled
 from .grid import MOST_BLOCKS, Grid
-from .money_rules import GRADE_UNITS, ByCode, ByRegion, Metal, Money
+from .money_rules import GRADE_UNITS, ByCode, ByRegion, Curve, Metal, Money
 from .project import Project
+from .recoveries import Head
 from .table import HEADER_ROWS, at_row
 
 MILLIONTHS = 6
@@ -175,9 +177,13 @@ class Rows:
 
     def recovered(self, metal: Metal, feed: Feed) -> Exact:
         """The quantity of a metal that is recovered: tonnes, or grams where the grade is in grams a tonne."""
-        grade = Exact.of_floats(self.frame[metal.column].to_numpy()).times(self.every(GRADE_UNITS[metal.unit]))
-        nowhere = np.zeros(len(self.frame), dtype=bool)
-        return feed.undiluted.times(grade).times(self.by_code(metal.recovery, nowhere, "recovery"))
+        grade, nowhere = Exact.of_floats(self.frame[metal.column].to_numpy()), np.zeros(len(self.frame), dtype=bool)
+        share = recoveries.of_rows(metal.recovery, self.rock, Head(grade, feed.tonnes_of))
+        if metal.fixed_tail:
+            tail = self.by_code(metal.fixed_tail, nowhere, "fixed_tail").times(feed.tonnes_of)
+            left = grade.minus(tail)
+            grade = Exact(np.maximum(left.whole, 0), left.places)
+        return feed.undiluted.times(grade).times(self.every(GRADE_UNITS[metal.unit])).times(share)
 
     def millionths(self, value: Exact, name: str) -> tuple[np.ndarray, Rounding]:
         """int64 millionths, rounded to the decimals that the project keeps. Raises PlanError from 10^11 on."""
@@ -271,7 +277,7 @@ def spread_values(rows: Rows, mill: Mill, kept: dict[str, tuple[np.ndarray, Roun
         undiluted=grid.spread(mill.feed.undiluted.floats()),
         cutoff=cutoff,
         roundings={name: rounding for name, (_, rounding) in kept.items()},
-        notes=(*grade_notes(rows), *rock_notes(rows.project, rows.rock, tonnes > 0), *feed_notes(rows.project)),
+        notes=(*grade_notes(rows), *rock_notes(rows.project, rows.rock, tonnes > 0), *feed_notes(rows.project), *recovery_notes(rows, mill.feed)),
         first_level=first,
     )
 
@@ -313,6 +319,31 @@ def feed_notes(project: Project) -> list[str]:
     if money.royalty_per_tonne:
         notes.append(f"a royalty of {money.royalty_per_tonne:f} {money.currency} a tonne of ore is part of the processing cost")
     return notes
+
+
+def recovery_notes(rows: Rows, feed: Feed) -> list[str]:
+    """How recoveries go by grade, and what is lost as a fixed tail."""
+    notes = []
+    for metal in rows.project.metals:
+        of_rocks = metal.recovery if isinstance(metal.recovery, dict) else {"": metal.recovery}
+        notes += [curve_note(rows, feed, metal, rock) for rock, share in of_rocks.items() if isinstance(share, Curve)]
+        if metal.fixed_tail:
+            notes.append(f"of each tonne that comes to the mill {said_of(metal.fixed_tail)} {metal.sign} of {metal.name} are lost, whatever it holds")
+    return notes
+
+
+def curve_note(rows: Rows, feed: Feed, metal: Metal, rock: str) -> str:
+    """That a recovery goes by grade, of a rock or, where that has no name, of all, and how many blocks lie beyond the grades named."""
+    curve = metal.recovery[rock] if isinstance(metal.recovery, dict) else metal.recovery
+    assert isinstance(curve, Curve)
+    least, most = float(curve.points[0][0]), float(curve.points[-1][0])
+    grades = rows.frame[metal.column].to_numpy() / feed.tonnes_of.floats()
+    mine = (grades > 0) & ((rows.rock == rock) | (not isinstance(metal.recovery, dict)))
+    beyond = np.count_nonzero(mine & ((grades < least) | (grades > most)))
+    return (
+        f"recovery of {metal.name}{f' of {rock}' if rock else ''} goes by the grade at the mill; {beyond:,} of {np.count_nonzero(mine):,} "
+        f"blocks lie beyond {least:g} to {most:g} {metal.sign}, and have the recovery there"
+    )
 
 
 def said_of(value: ByCode) -> str:

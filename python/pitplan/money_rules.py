@@ -4,7 +4,7 @@ from __future__ import annotations
 
 from dataclasses import dataclass
 from decimal import Decimal
-from typing import Optional, Union
+from typing import Any, Optional, Union
 
 from .section import Section
 
@@ -28,15 +28,31 @@ ByCode = Union[Decimal, dict[str, Decimal], ByRegion]
 
 
 @dataclass(frozen=True)
+class Curve:
+    """Pairs of a grade, in the metal's unit, and the recovery there: by rising grade, and recoveries do not fall."""
+
+    points: tuple[tuple[Decimal, Decimal], ...]
+
+
+# One recovery for every grade, or one by grade.
+Recovery = Union[Decimal, Curve]
+
+
+@dataclass(frozen=True)
 class Metal:
-    """What is sold: its grade column, and price and selling cost for a tonne of metal (for gram_per_tonne, a gram)."""
+    """What is sold: its grade column, and price and selling cost for a tonne of metal (for gram_per_tonne, a gram).
+
+    recovery    the share that is recovered of what comes to the mill, less the fixed tail; one, or by rock
+    fixed_tail  the grade, in the column's unit, of what is lost of each tonne that comes to the mill, whatever it holds
+    """
 
     name: str
     column: str
     unit: str
     price: Decimal
     selling_cost: Decimal
-    recovery: ByRock
+    recovery: Union[Recovery, dict[str, Recovery]]
+    fixed_tail: ByRock = Decimal(0)
 
     @property
     def sign(self) -> str:
@@ -134,7 +150,33 @@ def read_metal(section: Section) -> Metal:
         unit=section.choice("unit", tuple(GRADE_UNITS), None),
         price=section.number("price", least=0),
         selling_cost=section.number("selling_cost", Decimal(0), least=0),
-        recovery=section.by_rock("recovery", most=1),
+        recovery=read_recovery(section),
+        fixed_tail=section.by_rock("fixed_tail") if section.has("fixed_tail") else Decimal(0),
     )
     section.finish()
     return metal
+
+
+def read_recovery(section: Section) -> Union[Recovery, dict[str, Recovery]]:
+    """A share, or pairs of grade and share; one, or by rock."""
+    value = section.get("recovery")
+    if isinstance(value, dict):
+        return {rock: as_recovery(section, of_rock) for rock, of_rock in value.items()}
+    return as_recovery(section, value)
+
+
+def as_recovery(section: Section, value: Any) -> Recovery:
+    if not isinstance(value, list):
+        recovery = section.as_number("recovery", value)
+        if not 0 <= recovery <= 1:
+            raise section.wrong("recovery", "must lie from 0 to 1")
+        return recovery
+    points = tuple(sorted(section.as_pairs("recovery", value, "grade, recovery")))
+    grades, recoveries = zip(*points)
+    if grades[0] < 0 or min(recoveries) < 0 or max(recoveries) > 1:
+        raise section.wrong("recovery", "grades may not be negative, and recoveries must lie from 0 to 1")
+    if len(set(grades)) < len(grades):
+        raise section.wrong("recovery", "a grade is named twice")
+    if list(recoveries) != sorted(recoveries):
+        raise section.wrong("recovery", "falls as the grade rises")
+    return Curve(points)

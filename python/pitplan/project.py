@@ -211,7 +211,8 @@ def demand_agreement(project: Project) -> None:
     """Refuses sections that each are right and do not fit together."""
     path = project.path
     money = project.money
-    priced = [money.mining_cost, money.processing_cost, money.mining_recovery, money.dilution, *(metal.recovery for metal in project.metals)]
+    priced = [money.mining_cost, money.processing_cost, money.mining_recovery, money.dilution]
+    priced += [share for metal in project.metals for share in (metal.recovery, metal.fixed_tail)]
     if project.table.rock is None and any(isinstance(price, dict) for price in priced):
         raise PlanError(f"{path}: [table] rock: is missing, and prices or recoveries are given by rock")
     if project.table.region is None and any(isinstance(price, ByRegion) for price in priced):

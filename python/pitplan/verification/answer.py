@@ -15,7 +15,7 @@ from .. import table as tables
 from ..errors import PlanError
 from ..money_rules import GRADE_UNITS
 from ..project import AbsentRock, Project, Wall, load
-from .feed import by_code
+from .feed import by_code, recovered
 
 # In place of a factor: a cell that is not dug at any, and one where there is nothing to dig.
 UNDUG, NOTHING = 2**30, 0
@@ -109,9 +109,7 @@ class Answer:
         """By metal, what is recovered of each block, if it is processed: tonnes, or grams."""
         found = {}
         for metal in self.project.metals:
-            recovery = by_code(metal.recovery, self.rows, self.project.table)
-            grades = self.rows[metal.column].to_numpy()
-            found[metal.name] = self.undiluted * grades * float(GRADE_UNITS[metal.unit]) * recovery
+            found[metal.name] = self.undiluted * recovered(metal, self.rows, self.project) * float(GRADE_UNITS[metal.unit])
         return found
 
     @cached_property

@@ -5,13 +5,14 @@ from __future__ import annotations
 import math
 from dataclasses import dataclass
 from decimal import ROUND_HALF_EVEN, Decimal
+from fractions import Fraction
 
 import numpy as np
 
-from ..money_rules import GRADE_UNITS
+from ..money_rules import GRADE_UNITS, Metal
 from ..project import Project
 from .answer import TOLD, UNDUG, Answer, Rule, rule
-from .feed import by_code, of_code
+from .feed import at_grade, by_code, of_code
 from .walls import needed_by
 
 SAMPLE = 10_000
@@ -84,20 +85,25 @@ def more_for_depth(answer: Answer, elevation: float) -> Decimal:
 @dataclass(frozen=True)
 class Costs:
     """What blocks of one rock and region have in common: mining cost of a tonne without what depth adds, processing cost of a tonne, and
-    the shares that are told of metals and tonnes."""
+    the shares that are told of tonnes."""
 
+    rock: str
     mining: Decimal
     processing: Decimal
     mining_recovery: Decimal
     dilution: Decimal
-    recoveries: list[Decimal]
 
     @staticmethod
     def of(project: Project, rock: str, region: str) -> Costs:
         money = project.money
         told = (money.mining_cost, money.processing_cost, money.mining_recovery, money.dilution)
-        recoveries = [of_code(metal.recovery, rock, region) for metal in project.metals]
-        return Costs(*(of_code(value, rock, region) for value in told), recoveries)
+        return Costs(rock, *(of_code(value, rock, region) for value in told))
+
+    def recovered(self, metal: Metal, grade: Decimal) -> Decimal:
+        """The grade that is recovered of each tonne of the block itself that comes to the mill."""
+        of_rock = metal.recovery.get(self.rock, Decimal(0)) if isinstance(metal.recovery, dict) else metal.recovery
+        share = at_grade(of_rock, Fraction(grade) / Fraction(1 + self.dilution))
+        return max(grade - of_code(metal.fixed_tail, self.rock, "") * (1 + self.dilution), Decimal(0)) * share
 
 
 @dataclass(frozen=True)
@@ -133,8 +139,9 @@ class Exactly:
         costs = self.costs[self.codes[row]]
         mining = tonnes * (costs.mining + self.depths[self.level[row]])
         revenue = selling = Decimal(0)
-        for metal, grades, recovery in zip(project.metals, self.grades, costs.recoveries):
-            quantity = tonnes * costs.mining_recovery * Decimal(repr(grades[row])) * GRADE_UNITS[metal.unit] * recovery
+        for metal, grades in zip(project.metals, self.grades):
+            grade = costs.recovered(metal, Decimal(repr(grades[row])))
+            quantity = tonnes * costs.mining_recovery * grade * GRADE_UNITS[metal.unit]
             revenue += quantity * metal.price
             selling += quantity * metal.selling_cost
         unit = Decimal(1).scaleb(-project.money.decimals)
