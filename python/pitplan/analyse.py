@@ -1,4 +1,4 @@
-"""Numbers for each shell. All are at the price as given (factor 1000) but for `worth_at_factor`.
+"""Numbers for each shell. All are at the price as given (factor 1000) but for `worth_at_factor`, and for what has the money of years.
 
 When a pit is dug, and what it is worth discounted, is told by `schedule`.
 """
@@ -10,7 +10,7 @@ from dataclasses import dataclass
 import numpy as np
 import pandas as pd
 
-from . import schedule as schedules
+from . import schedule as schedules, yearly_money
 from .plan import MILLION, Plan
 from .project import REFERENCE_FACTOR, Schedule
 from .run import Solution
@@ -71,12 +71,13 @@ def shells(plan: Plan, solution: Solution) -> pd.DataFrame:
 
     factor per mille; blocks (with rock) in the pit; tonnes, ore_tonnes (that come to the mill), waste_tonnes (the rest); strip_ratio;
     processed_tonnes at the factor's own price; grade_NAME of the ore in its column's unit, metal_NAME recovered of it
-    (tonnes, or grams); worth, npv_best, npv_worst in money and years (of the best case) at the price as given;
+    (tonnes, or grams); worth in money at the price as given; npv_best, npv_worst and years (of the best case), by the money of years;
     worth_at_factor, exact (Decimal), as the program answers it. Raises PlanError where it takes too many years.
     """
     cells, settings = cells_of(plan, solution), plan.project.schedule
     benches = benches_of(plan, cells)
-    best, worst = schedules.best_case(benches, settings), schedules.worst_case(benches, settings)
+    money = yearly_money.of_project(plan.project)
+    best, worst = schedules.best_case(benches, settings, money), schedules.worst_case(benches, settings, money)
     table = amounts(plan, cells)
     table.insert(0, "factor", settings.factors)
     table["npv_best"] = [years.npv for years in best]
@@ -90,10 +91,12 @@ def years(plan: Plan, solution: Solution) -> pd.DataFrame:
     """One row a case, a factor whose pit is not empty, and a year.
 
     case best or worst; factor per mille; year from 1; rock_tonnes and, of these, ore_tonnes; metal_NAME recovered (tonnes,
-    or grams); cash, and discounted, the same as it counts for NPV, in money. All at the price as given. Raises PlanError
-    where it takes too many years.
+    or grams); fixed_cost and capital, where the project has any; cash after these, and discounted, the same as it counts for
+    NPV, in money. What is ore is so at the price as given, and so is cash unless years have prices of their own. Raises
+    PlanError where it takes too many years.
     """
-    return schedules.table_of(benches_of(plan, cells_of(plan, solution)), plan.project.schedule)
+    money = yearly_money.of_project(plan.project)
+    return schedules.table_of(benches_of(plan, cells_of(plan, solution)), plan.project.schedule, money)
 
 
 def benches_of(plan: Plan, cells: Cells) -> Benches:

@@ -11,6 +11,8 @@ from .section import Section
 # A price or a cost: one for every rock, or one for each rock by its code.
 ByRock = Union[Decimal, dict[str, Decimal]]
 
+# So many years are counted at most.
+MOST_YEARS = 1_000
 GRADE_UNITS = {"percent": Decimal("0.01"), "fraction": Decimal(1), "gram_per_tonne": Decimal(1)}
 METAL_UNITS = {"percent": "t", "fraction": "t", "gram_per_tonne": "g"}
 GRADE_SIGNS = {"percent": "%", "fraction": "t/t", "gram_per_tonne": "g/t"}
@@ -44,6 +46,7 @@ class Metal:
 
     recovery    the share that is recovered of what comes to the mill, less the fixed tail; one, or by rock
     fixed_tail  the grade, in the column's unit, of what is lost of each tonne that comes to the mill, whatever it holds
+    prices      of each year from the first, in years and schedules, the last one staying; none: the price, as in the worth of blocks
     """
 
     name: str
@@ -53,6 +56,7 @@ class Metal:
     selling_cost: Decimal
     recovery: Union[Recovery, dict[str, Recovery]]
     fixed_tail: ByRock = Decimal(0)
+    prices: tuple[Decimal, ...] = ()
 
     @property
     def sign(self) -> str:
@@ -76,6 +80,8 @@ class Money:
     dilution                  tonnes of grade 0 that come with each of these
     royalty                   a share of the revenue
     royalty_per_tonne         of what comes to the mill
+    fixed_cost_per_year       in years and schedules alone
+    capital                   pairs of a year, from 1, and what is spent at its start, in years and schedules alone
     """
 
     currency: str
@@ -90,6 +96,8 @@ class Money:
     dilution: ByCode = Decimal(0)
     royalty: Decimal = Decimal(0)
     royalty_per_tonne: Decimal = Decimal(0)
+    fixed_cost_per_year: Decimal = Decimal(0)
+    capital: tuple[tuple[int, Decimal], ...] = ()
 
 
 def read_money(section: Section) -> Money:
@@ -106,6 +114,8 @@ def read_money(section: Section) -> Money:
         dilution=read_by_code(section, "dilution", Decimal(0)),
         royalty=section.number("royalty", Decimal(0), least=0),
         royalty_per_tonne=section.number("royalty_per_tonne", Decimal(0), least=0),
+        fixed_cost_per_year=section.number("fixed_cost_per_year", Decimal(0), least=0),
+        capital=read_capital(section),
     )
     section.finish()
     if money.mining_cost_reference is not None and not section.has("mining_cost_per_level"):
@@ -143,6 +153,16 @@ def read_by_elevation(section: Section) -> tuple[tuple[Decimal, Decimal], ...]:
     return tuple(pairs)
 
 
+def read_capital(section: Section) -> tuple[tuple[int, Decimal], ...]:
+    """Pairs of a year and an amount, by rising year."""
+    if not section.has("capital"):
+        return ()
+    pairs = sorted(section.pairs("capital", "year, amount"))
+    if any(year != int(year) or not 1 <= year <= MOST_YEARS or amount < 0 for year, amount in pairs):
+        raise section.wrong("capital", f"years are whole, from 1 to {MOST_YEARS:,}, and amounts may not be negative")
+    return tuple((int(year), amount) for year, amount in pairs)
+
+
 def read_metal(section: Section) -> Metal:
     metal = Metal(
         name=section.text("name"),
@@ -152,9 +172,23 @@ def read_metal(section: Section) -> Metal:
         selling_cost=section.number("selling_cost", Decimal(0), least=0),
         recovery=read_recovery(section),
         fixed_tail=section.by_rock("fixed_tail") if section.has("fixed_tail") else Decimal(0),
+        prices=read_prices(section),
     )
     section.finish()
     return metal
+
+
+def read_prices(section: Section) -> tuple[Decimal, ...]:
+    """A price for each year from the first."""
+    if not section.has("prices"):
+        return ()
+    value = section.get("prices")
+    if not isinstance(value, list) or not value:
+        raise section.wrong("prices", "must be a list of prices, one a year, such as [8000, 8200]; the last one stays")
+    prices = tuple(section.as_number("prices", item) for item in value)
+    if min(prices) < 0:
+        raise section.wrong("prices", "may not be negative")
+    return prices
 
 
 def read_recovery(section: Section) -> Union[Recovery, dict[str, Recovery]]:

@@ -10,7 +10,7 @@ from typing import Any, Optional, Union
 import numpy as np
 import pandas as pd
 
-from . import absent, files, fixed as fixing, grid as grids, money, summary as summaries, table as tables, trim, walls as laying
+from . import absent, files, fixed as fixing, grid as grids, money, summary as summaries, table as tables, trim, walls as laying, yearly_money
 from .errors import PlanError
 from .files import Needs, Pairs
 from .fixed import NOTHING, FixedBlocks, Settled
@@ -278,6 +278,7 @@ def notes_of(plan: Plan) -> list[str]:
         notes.append(f"for their sake {dug:,} blocks are dug in every pit and {left:,} in none")
     if plan.project.schedule.reference_added:
         notes.append("factor 1000, the price as given, was added to the factors")
+    notes += yearly_money.notes(plan.project)
     for name, rounding in plan.values.roundings.items():
         if rounding.changed:
             notes.append(

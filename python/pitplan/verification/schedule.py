@@ -14,6 +14,7 @@ import pandas as pd
 
 from . import milling, years
 from .answer import TOLD, Answer, Rule, rule
+from .money_of_years import capital, more_by_prices, most_premium
 
 CENT, SLIGHT = 0.01, 1e-6
 # The last places that schedule.csv keeps of amounts and of shares.
@@ -100,6 +101,8 @@ def verify_amounts(ways: list[Way], told: dict[str, Any], sums: pd.DataFrame, mi
         if way.name in told["bins"]:
             amounts, more, wrong = milling.amounts(way.answer, rows, amounts, told["bins"][way.name])
             slack, differences = slack + more, [*differences, *wrong]
+        amounts["cash"] += more_by_prices(way.answer.project, amounts.assign(year=rows["year"]))
+        slack["cash"] += AMOUNT * most_premium(way.answer.project)
         for name in sums.columns:
             expected = amounts[name]
             off = (rows[name] - expected).abs() > slack[name] + 1e-9 * expected.abs()
@@ -172,7 +175,8 @@ def verify_value(ways: list[Way], told: dict[str, Any], sums: pd.DataFrame) -> R
         off = (rows["discounted"] - present).abs() > 2 * AMOUNT + 1e-9 * present.abs()
         differences += [f"{place(row)}: discounted {row.discounted:.10g} for {present[row.Index]:.10g}" for row in rows[off].itertuples()]
         left = sums["rock_tonnes"].sum() - rows["rock_tonnes"].sum()
-        expected = {"value": rows["discounted"].sum(), "years": way.last, "left_tonnes": left}
+        costs = sum(present_costs(way.answer, year) for year in range(1, way.last + 1))
+        expected = {"value": rows["discounted"].sum() - costs, "years": way.last, "left_tonnes": left}
         for name, amount in expected.items():
             if abs(way.said[name] - amount) > CENT + AMOUNT * len(rows) + 1e-9 * abs(amount):
                 differences.append(f"{way.name}: {name} {way.said[name]:.12g} for {amount:.12g}")
@@ -194,6 +198,12 @@ def discount(answer: Answer, year: int) -> float:
     return (1 + settings.rate) ** -(year - (0.5 if settings.discounting == "mid_year" else 0.0))
 
 
+def present_costs(answer: Answer, year: int) -> float:
+    """Fixed cost and capital of a whole year, as they are worth at the start."""
+    of_year = float(answer.project.money.fixed_cost_per_year) * discount(answer, year)
+    return of_year + capital(answer.project, year) * (1 + answer.project.schedule.rate) ** -(year - 1)
+
+
 def unlike_years(way: Way, factor: int) -> list[str]:
     """What years.csv says of a way, and is not the sum of its rows."""
     assert way.answer.years is not None
@@ -202,10 +212,23 @@ def unlike_years(way: Way, factor: int) -> list[str]:
     if said.index.tolist() != list(range(1, way.last + 1)):
         return [*found, f"{way.name}: years {said.index.tolist()} for 1 to {way.last}"]
     for name in [name for name in said.columns if name not in ("case", "factor")]:
-        total = way.rows.groupby("year")[name].sum().reindex(said.index, fill_value=0.0)
+        total = of_years(way, name, said.index)
         off = (said[name] - total).abs() > CENT + AMOUNT * len(way.rows) + 1e-9 * total.abs()
         found += [f"{way.name}, year {year}: {name} {said[name][year]:.12g} for {total[year]:.12g}" for year in said.index[off]]
     return found
+
+
+def of_years(way: Way, name: str, years: pd.Index) -> pd.Series:
+    """What an amount of years.csv should be by year: the sum of the schedule's rows, and what years cost."""
+    project = way.answer.project
+    fixed = pd.Series(float(project.money.fixed_cost_per_year), index=years)
+    spent = pd.Series([capital(project, int(year)) for year in years], index=years, dtype=float)
+    if name in ("fixed_cost", "capital"):
+        return fixed if name == "fixed_cost" else spent
+    total = way.rows.groupby("year")[name].sum().reindex(years, fill_value=0.0)
+    if name == "cash":
+        return total - fixed - spent
+    return total - [present_costs(way.answer, int(year)) for year in years] if name == "discounted" else total
 
 
 def verify_years_of_blocks(ways: list[Way], told: dict[str, Any], sums: pd.DataFrame) -> Rule:
