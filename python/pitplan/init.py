@@ -245,7 +245,7 @@ def doubts(model: Model) -> list[str]:
     if model.form.decimal == ",":
         said.append("decimals are written with a comma")
     if has_several_sizes(model):
-        said.append("WARNING: blocks are of several sizes, and sub-blocks are refused: reblock first")
+        said.append("WARNING: blocks are of several sizes, and sub-blocks need [table] reblock")
     if empty_fields(model):
         said.append(f"WARNING: {empty_fields(model):,} tonnes or grades are empty, and taken as 0")
     used = {guess.column for group in (columns.centres, columns.sizes, columns.named) for guess in group.values()}

@@ -10,7 +10,7 @@ from typing import Any, Optional, Union
 import numpy as np
 import pandas as pd
 
-from . import absent, files, fixed as fixing, grid as grids, money, summary as summaries, table as tables, trim, walls as laying, yearly_money
+from . import absent, files, fixed as fixing, grid as grids, money, reblock, summary as summaries, table as tables, trim, walls as laying, yearly_money
 from .errors import PlanError
 from .files import Needs, Pairs
 from .fixed import NOTHING, FixedBlocks, Settled
@@ -206,9 +206,10 @@ def prepare(
     source = str(project.table.file) if table is None else "table"
     with progress.step(f"reading {source}"):
         checked = tables.read(project) if table is None else tables.checked(table, project)
-        frame = checked.frame
     with progress.step("laying the grid"):
-        bare = grids.of_table(frame, project, source)
+        checked, laid = reblock.of_table(checked, project)
+        frame, source = checked.frame, checked.source
+        bare = grids.of_table(frame, laid, source)
         summary = summaries.of_table(checked, bare, project)
         frame, grid = absent.with_rows(frame, bare, project)
     progress.lines(summary)

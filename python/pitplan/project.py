@@ -33,12 +33,25 @@ class AbsentRock:
 
 
 @dataclass(frozen=True)
+class Reblock:
+    """Of what rows blocks are put together: so many blocks each way, or all that lie in blocks of a size, from a corner on, in metres.
+
+    Counts and sizes are east, north and up; the corner is x, y, z at the west, the south and the floor of some block.
+    """
+
+    counts: Optional[tuple[int, int, int]]
+    size: Optional[tuple[float, float, float]] = None
+    corner: Optional[tuple[float, float, float]] = None
+
+
+@dataclass(frozen=True)
 class TableColumns:
     """Where the table is, which of its columns say what, and what lies where it has no row: "refuse", "air" or a rock.
 
     tonnes   the column of tonnes, or what the product of density and volume is called
     density  a column of tonnes a cubic metre, where the table has no tonnes
     volume   a column of cubic metres; without it a block has the grid's size
+    reblock  of what rows blocks are put together; None: each row is a block
     """
 
     file: Path
@@ -56,6 +69,7 @@ class TableColumns:
     encoding: str
     empty: str
     absent: Union[str, AbsentRock]
+    reblock: Optional[Reblock] = None
 
 
 @dataclass(frozen=True)
@@ -219,6 +233,8 @@ def demand_agreement(project: Project) -> None:
         raise PlanError(f"{path}: [table] region: is missing, and mining recovery or dilution is given by region")
     if project.table.density and not project.table.volume and project.grid.size is None:
         raise PlanError(f"{path}: [grid] size: is missing, by which a density gives tonnes, unless [table] names a volume")
+    if project.table.reblock and project.scenarios:
+        raise PlanError(f"{path}: [table] reblock: is not done of [scenarios]: give a table that is reblocked")
     names = [metal.name for metal in project.metals]
     if len(set(names)) < len(names):
         raise PlanError(f"{path}: two [[metals]] have one name")
@@ -249,6 +265,7 @@ def read_table(section: Section, folder: Path) -> TableColumns:
         encoding=read_encoding(section),
         empty=section.choice("empty", ("refuse", "zero"), "refuse"),
         absent=read_absent(section),
+        reblock=read_reblock(section),
     )
     section.finish()
     if columns.density and section.has("tonnes"):
@@ -279,6 +296,23 @@ def read_absent(section: Section) -> Union[str, AbsentRock]:
     absent = AbsentRock(tonnes, rock.optional_text("rock") or "", rock.optional_text("region") or "")
     rock.finish()
     return absent
+
+
+def read_reblock(section: Section) -> Optional[Reblock]:
+    if not section.has("reblock"):
+        return None
+    if isinstance(section.data["reblock"], dict):
+        inner = section.section("reblock")
+        (east, north, up), (x, y, z) = inner.numbers("size", 3), inner.numbers("corner", 3)
+        inner.finish()
+        if min(east, north, up) <= 0:
+            raise inner.wrong("size", "a block's size is above 0")
+        return Reblock(None, (east, north, up), (x, y, z))
+    counts = section.numbers("reblock", 3)
+    if any(count != int(count) or count < 1 for count in counts) or max(counts) == 1:
+        raise section.wrong("reblock", "must be whole numbers of blocks east, north and up, such as [2, 2, 1], or a size and a corner")
+    east, north, up = map(int, counts)
+    return Reblock((east, north, up))
 
 
 def read_grid(section: Section) -> GridRules:

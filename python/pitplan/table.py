@@ -243,8 +243,12 @@ def demand_ids(frame: pd.DataFrame, name: Optional[str], source: str) -> None:
 
 
 def called(frame: pd.DataFrame, project: Project, row: int) -> str:
-    """What a planner calls the block of a row, counted from 0: by its id, where there is one, and the file's row."""
+    """What a planner calls the block of a row, counted from 0: by its id, where there is one, and the file's row, or where rows are put
+    together by its centre."""
     name, place = project.table.id, row + HEADER_ROWS
+    if project.table.reblock:
+        x, y, z = (f"{frame[axis].iloc[row]:.10g}" for axis in (project.table.x, project.table.y, project.table.z))
+        return f"the block at {x}, {y}, {z}"
     return f"block {frame[name].iloc[row]} (row {place})" if name else f"the block of row {place}"
 
 

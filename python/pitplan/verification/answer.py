@@ -16,6 +16,7 @@ from ..errors import PlanError
 from ..money_rules import GRADE_UNITS
 from ..project import AbsentRock, Project, Wall, load
 from .feed import by_code, recovered
+from .put_together import written_rows
 
 # In place of a factor: a cell that is not dug at any, and one where there is nothing to dig.
 UNDUG, NOTHING = 2**30, 0
@@ -58,6 +59,7 @@ class Answer:
     found   what was told of it before, by name
     phases  of `pitplan pushbacks` phases.csv, by phase; `said` has each block's phase then
     schedule  of `pitplan schedule` schedule.csv; `said` has each block's year then
+    parts   where rows are put together to blocks the table's rows; `rows` are then the answer's own, which hold them
     """
 
     folder: Path
@@ -73,6 +75,7 @@ class Answer:
     found: dict[str, Any] = field(default_factory=dict)
     phases: Optional[pd.DataFrame] = None
     schedule: Optional[pd.DataFrame] = None
+    parts: Optional[pd.DataFrame] = None
 
     @property
     def shape(self) -> tuple[int, int, int]:
@@ -201,33 +204,44 @@ def read_shells(folder: Path, record: dict[str, Any], project: Project, written:
     """The answer of `pitplan shells`, `pitplan pushbacks` or `pitplan schedule`."""
     shells = pd.read_csv(folder / "shells.csv", dtype={"worth_at_factor": str}).set_index("factor")
     years = pd.read_csv(folder / "years.csv") if (folder / "years.csv").exists() else None
-    rows, known, order = beside(tables.read(project).frame, written, project, record["grid"], "blocks.csv")
+    frame, parts = rows_of(project, written, record["grid"])
+    rows, known, order = beside(frame, written, project, record["grid"], "blocks.csv")
     phases = pd.read_csv(folder / "phases.csv").set_index("phase") if "phases" in record else None
     schedule = pd.read_csv(folder / "schedule.csv") if "schedule" in record else None
     more = [*([PHASE] if phases is not None else []), *([YEAR] if schedule is not None else [])]
     said, factors = written[[*SAID, *more]].iloc[order].reset_index(drop=True), tuple(record["shells"]["factors"])
-    return Answer(folder, project, rows, known, said, shells, years, record, factors, phases=phases, schedule=schedule)
+    return Answer(folder, project, rows, known, said, shells, years, record, factors, phases=phases, schedule=schedule, parts=parts)
+
+
+def rows_of(project: Project, written: pd.DataFrame, grid: dict[str, Any]) -> tuple[pd.DataFrame, Optional[pd.DataFrame]]:
+    """A row a block of the table, and where its rows are put together to blocks these rows. Raises PlanError as `beside` does."""
+    frame = tables.read(project).frame
+    if project.table.reblock is None:
+        return frame, None
+    own = written.rename(columns={own_name(name): name for name in frame.columns})
+    return written_rows(frame, own.loc[:, ~own.columns.duplicated(keep="last")], project, grid), frame
 
 
 def read_pits(folder: Path, record: dict[str, Any], project: Project, written: pd.DataFrame) -> Answer:
     """The two answers of `pitplan pit`: that which keeps to the fixed blocks, and in it the one that does not."""
     pits = pd.read_csv(folder / "pits.csv", dtype={"worth_at_factor": str})
     kept, free = (pits[pits["fixed_blocks"] == name].set_index("factor") for name in ("kept", "free"))
-    rows, known, order = beside(tables.read(project).frame, written, project, record["grid"], "blocks.csv")
+    frame, parts = rows_of(project, written, record["grid"])
+    rows, known, order = beside(frame, written, project, record["grid"], "blocks.csv")
     said = written[[*SAID, *FREE]].iloc[order].reset_index(drop=True)
     other = said.assign(**{name: said[f"free_{name}"] for name in ("factor", "process_factor")})
     factors = tuple(record["factors"])
     alone = Answer(folder, replace(project, fixed=None), rows, known, other, free, None, record, factors)
-    return Answer(folder, project, rows, known, said, kept, None, record, factors, alone)
+    return Answer(folder, project, rows, known, said, kept, None, record, factors, alone, parts=parts)
 
 
 def read_blocks(path: Path, project: Project, said: Optional[tuple[str, ...]] = None) -> pd.DataFrame:
-    """The centres and those of these columns that the file has; every column where none are named, or where rows may stand for cells that
-    the table has none of."""
+    """The centres and those of these columns that the file has; every column where none are named, where rows may stand for cells that the
+    table has none of, or where they are put together."""
     columns = project.table
     codes = {own_name(name): str for name in (columns.id, columns.rock, columns.region) if name}
     wanted = {*(said or ()), *(own_name(name) for name in (columns.x, columns.y, columns.z))}
-    is_whole = said is None or isinstance(columns.absent, AbsentRock)
+    is_whole = said is None or isinstance(columns.absent, AbsentRock) or columns.reblock is not None
     usecols = None if is_whole else wanted.__contains__
     return pd.read_csv(path, dtype=codes, keep_default_na=False, na_values={}, float_precision="round_trip", usecols=usecols)
 
