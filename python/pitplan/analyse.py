@@ -27,6 +27,7 @@ class Cells:
     worth      its worth at the price as given, once it is dug, in money
     tonnes     of rock
     feed       tonnes that come to the mill, if it is processed
+    best       the number of the process that is worth most at the price as given
     content    tonnes times grade of each metal in these
     """
 
@@ -36,6 +37,7 @@ class Cells:
     worth: np.ndarray
     tonnes: np.ndarray
     feed: np.ndarray
+    best: np.ndarray
     content: dict[str, np.ndarray]
 
 
@@ -44,7 +46,9 @@ def cells_of(plan: Plan, solution: Solution) -> Cells:
     factor = solution.entry[:count]
     processed = np.zeros(count, dtype=np.int32)
     if values.cutoff == "moving":
-        processed[values.processed] = solution.entry[count:]
+        # The first step of a block, whose others come in later.
+        block, first = np.unique(values.processed, return_index=True)
+        processed[block] = solution.entry[count:][first]
     else:
         processed = np.where(values.pays, factor, 0)
     gain = np.where(values.pays, values.revenue - values.processing, 0)
@@ -52,17 +56,20 @@ def cells_of(plan: Plan, solution: Solution) -> Cells:
         metal.name: values.undiluted * plan.grid.spread(plan.table[metal.column].to_numpy())
         for metal in plan.project.metals
     }
-    return Cells(factor, processed, values.pays, (gain - values.mining) / MILLION, values.tonnes, values.feed, content)
+    return Cells(factor, processed, values.pays, (gain - values.mining) / MILLION, values.tonnes, values.feed, values.best, content)
 
 
 def blocks(plan: Plan, solution: Solution) -> pd.DataFrame:
     """`plan.blocks` with `factor`, the least factor whose pit holds the block (0: none), and `process_factor`, the least
-    at which it is processed (0: never); per mille."""
+    at which it is processed (0: never), per mille; and of several processes `process`, that at the price as given ("": none)."""
     cells = cells_of(plan, solution)
     frame = plan.blocks
     ids = frame["id"].to_numpy()
     frame["factor"] = cells.factor[ids]
     frame["process_factor"] = cells.processed[ids]
+    if plan.project.processes:
+        names = np.array([*(process.name for process in plan.project.processes), ""], dtype=object)
+        frame["process"] = names[np.where(cells.ore, cells.best, -1)[ids]]
     return frame
 
 
@@ -70,7 +77,7 @@ def shells(plan: Plan, solution: Solution) -> pd.DataFrame:
     """One row a factor.
 
     factor per mille; blocks (with rock) in the pit; tonnes, ore_tonnes (that come to the mill), waste_tonnes (the rest); strip_ratio;
-    processed_tonnes at the factor's own price; grade_NAME of the ore in its column's unit, metal_NAME recovered of it
+    processed_tonnes at the factor's own price; ore_tonnes_NAME of each of several processes; grade_NAME of the ore in its column's unit, metal_NAME recovered of it
     (tonnes, or grams); worth in money at the price as given; npv_best, npv_worst and years (of the best case), by the money of years;
     worth_at_factor, exact (Decimal), as the program answers it. Raises PlanError where it takes too many years.
     """
@@ -107,6 +114,7 @@ def benches_of(plan: Plan, cells: Cells) -> Benches:
     piece = np.searchsorted(factors, cells.factor[inside]) * levels + level
     ore = cells.ore[inside]
     flows = {"rock_tonnes": cells.tonnes[inside], "ore_tonnes": np.where(ore, cells.feed[inside], 0.0)}
+    flows |= {name: feed[inside] for name, feed in feeds_of(plan, cells).items()}
     flows |= {f"metal_{name}": np.where(ore, metal[inside], 0.0) for name, metal in plan.values.metal.items()}
     flows["cash"] = cells.worth[inside]
     count = len(factors) * levels
@@ -114,6 +122,14 @@ def benches_of(plan: Plan, cells: Cells) -> Benches:
     benches = Benches(factors, tuple(flows), sums.reshape(len(factors), levels, len(flows)))
     schedules.demand_few_years(benches, plan.project)
     return benches
+
+
+def feeds_of(plan: Plan, cells: Cells) -> dict[str, np.ndarray]:
+    """Of several processes the tonnes that come to each, by the name of the amount, of each cell that is ore; else nothing."""
+    return {
+        f"ore_tonnes_{process.name}": np.where(cells.ore & (cells.best == number), cells.feed, 0.0)
+        for number, process in enumerate(plan.project.processes)
+    }
 
 
 def amounts(plan: Plan, cells: Cells) -> pd.DataFrame:
@@ -128,6 +144,7 @@ def amounts(plan: Plan, cells: Cells) -> pd.DataFrame:
         "strip_ratio": ratio(tonnes - ore_tonnes, ore_tonnes),
         "processed_tonnes": within(plan, cells.processed, cells.feed),
     }
+    columns |= {name: within(plan, pit, feed) for name, feed in feeds_of(plan, cells).items()}
     for metal in plan.project.metals:
         columns[f"grade_{metal.name}"] = ratio(within(plan, ore, content[metal.name]), ore_tonnes)
         columns[f"metal_{metal.name}"] = within(plan, ore, plan.values.metal[metal.name])

@@ -13,8 +13,9 @@ rock in all stays as the table has it. A royalty on revenue is taken off it, so 
 from __future__ import annotations
 
 import math
-from dataclasses import dataclass
+from dataclasses import dataclass, replace
 from decimal import Decimal
+from functools import cached_property
 from typing import Callable, Optional
 
 import numpy as np
@@ -26,7 +27,8 @@ from .exact import Exact, Rounding
 from .fixed import Settled
 from .grid import MOST_BLOCKS, Grid
 from .money_rules import GRADE_UNITS, ByCode, ByRegion, Curve, Metal, Money
-from .project import Project
+from .processes import Steps, Way, best_way, steps_of, worth
+from .project import REFERENCE_FACTOR, Project
 from .recoveries import Head
 from .table import HEADER_ROWS, at_row
 
@@ -44,32 +46,61 @@ class Values:
     """What each cell costs and yields, in millionths of the currency at the reference price; arrays of one a cell.
 
     mining      cost of mining the block
-    revenue     price of its recovered metal, less the royalty on it; 0 where none is
-    processing  cost of processing it and of selling its metal, and the royalty a tonne; 0 where the revenue is 0
-    ore         ids of the blocks with a revenue, rising
-    tonnes, metal   for reports: tonnes of rock, and the recovered quantity of each metal
+    ways        what it yields and costs in each process: the price of its recovered metal, less the royalty on it, and the cost of
+                processing it and of selling its metal, with the royalty a tonne; both 0 where it yields nothing
+    best        the number of the process that is worth most at the reference price
+    tonnes      of rock, for reports
     feed, undiluted tonnes that come to the mill if it is processed, and these without the rock that dilutes them
     cutoff      "moving" or "fixed"
     first_level the level below which each costs more to mine, by `mining_cost_per_level`
     """
 
     mining: np.ndarray
-    revenue: np.ndarray
-    processing: np.ndarray
-    ore: np.ndarray
+    ways: tuple[Way, ...]
+    best: np.ndarray
     tonnes: np.ndarray
-    metal: dict[str, np.ndarray]
     feed: np.ndarray
     undiluted: np.ndarray
     cutoff: str
     roundings: dict[str, Rounding]
     notes: tuple[str, ...]
     first_level: int
+    shared: Optional[np.ndarray] = None
+
+    @cached_property
+    def revenue(self) -> np.ndarray:
+        """That of the best process."""
+        return np.choose(self.best, [way.revenue for way in self.ways])
+
+    @cached_property
+    def processing(self) -> np.ndarray:
+        """The cost of the best process."""
+        return np.choose(self.best, [way.cost for way in self.ways])
+
+    @cached_property
+    def metal(self) -> dict[str, np.ndarray]:
+        """The quantity of each metal that the best process recovers."""
+        return {name: np.choose(self.best, [way.metal[name] for way in self.ways]) for name in self.ways[0].metal}
+
+    @property
+    def ore(self) -> np.ndarray:
+        """Ids of the blocks with a revenue in some process, rising."""
+        return np.flatnonzero(np.any([way.revenue > 0 for way in self.ways], axis=0))
+
+    @cached_property
+    def steps(self) -> Steps:
+        """The nodes for processing. Scenarios share their blocks, since one file of needs serves all: in some they are worth nothing."""
+        if self.cutoff != "moving":
+            return Steps(*[np.zeros(0, dtype=np.int64)] * 4)
+        if len(self.ways) > 1:
+            return steps_of(self.ways)
+        block = self.ore if self.shared is None else self.shared
+        return Steps(block, np.zeros(len(block), dtype=np.int64), self.revenue[block], self.processing[block])
 
     @property
     def processed(self) -> np.ndarray:
-        """Ids of the blocks that have a node of their own for processing, rising."""
-        return self.ore if self.cutoff == "moving" else self.ore[:0]
+        """The block of each node for processing: rising, and as often as it has steps."""
+        return self.steps.block
 
     @property
     def pays(self) -> np.ndarray:
@@ -80,8 +111,7 @@ class Values:
         """Revenue and cost in millionths of every node: the cells, then the processing nodes."""
         if self.cutoff == "moving":
             nothing = np.zeros_like(self.mining)
-            revenue = np.concatenate([nothing, self.revenue[self.ore]])
-            return revenue, np.concatenate([self.mining, self.processing[self.ore]])
+            return np.concatenate([nothing, self.steps.revenue]), np.concatenate([self.mining, self.steps.cost])
         return np.where(self.pays, self.revenue, 0), self.mining + np.where(self.pays, self.processing, 0)
 
     def nodes_of_rest(self, settled: Settled) -> tuple[np.ndarray, np.ndarray]:
@@ -95,11 +125,26 @@ class Values:
 
     def greatest_value(self, factor: int) -> np.ndarray:
         """The most that each cell can be worth at a factor, in billionths: less than 0 where it cannot pay for itself."""
-        revenue, cost = factor * self.revenue.astype(object), 1000 * self.processing.astype(object)
-        gain = revenue - cost
         if self.cutoff == "fixed":
-            return np.where(self.pays, gain, 0) - 1000 * self.mining.astype(object)
-        return np.maximum(gain, 0) - 1000 * self.mining.astype(object)
+            gain = np.where(self.pays, factor * self.revenue.astype(object) - 1000 * self.processing.astype(object), 0)
+        else:
+            gain = np.maximum(np.max([worth(way, factor) for way in self.ways], axis=0), 0)
+        return gain - 1000 * self.mining.astype(object)
+
+
+@dataclass(frozen=True)
+class Weighed:
+    """What each row yields and costs in one process, in millionths, with what was rounded of it, and the metals that are recovered."""
+
+    revenue: np.ndarray
+    cost: np.ndarray
+    metal: dict[str, Exact]
+    roundings: dict[str, Rounding]
+
+    def way(self, name: str, grid: Grid) -> Way:
+        """From one value a row of the table to one a cell."""
+        metal = {metal: grid.spread(amounts.floats()) for metal, amounts in self.metal.items()}
+        return Way(name, grid.spread(self.revenue), grid.spread(np.where(self.revenue > 0, self.cost, 0)), metal)
 
 
 @dataclass(frozen=True)
@@ -185,6 +230,20 @@ class Rows:
             grade = Exact(np.maximum(left.whole, 0), left.places)
         return feed.undiluted.times(grade).times(self.every(GRADE_UNITS[metal.unit])).times(share)
 
+    def weighed(self, feed: Feed) -> Weighed:
+        """What the project's own process yields and costs. Raises PlanError where a rock has no cost, or an amount is 10^11 or more."""
+        costs, metals = self.project.money, self.project.metals
+        metal = {m.name: self.recovered(m, feed) for m in metals}
+        revenue = selling = self.every(Decimal(0))
+        for m in metals:
+            revenue = revenue.plus(metal[m.name].times(self.every(m.price * (1 - costs.royalty))))
+            selling = selling.plus(metal[m.name].times(self.every(m.selling_cost)))
+        yields = np.array(revenue.whole > 0, dtype=bool)
+        a_tonne = self.by_code(costs.processing_cost, yields, "processing_cost").plus(self.every(costs.royalty_per_tonne))
+        amounts = {"revenue": revenue, "processing cost": feed.tonnes.times(a_tonne).plus(selling)}
+        (gain, first), (cost, second) = (self.millionths(value, name) for name, value in amounts.items())
+        return Weighed(gain, cost, metal, dict(zip(amounts, (first, second))))
+
     def millionths(self, value: Exact, name: str) -> tuple[np.ndarray, Rounding]:
         """int64 millionths, rounded to the decimals that the project keeps. Raises PlanError from 10^11 on."""
         decimals = self.project.money.decimals
@@ -207,20 +266,43 @@ def values_of(
     Raises PlanError where a rock has no cost, an amount is 10^11 or more, or there are too many nodes.
     """
     rows = Rows(frame, grid, project, source, Exact.of_floats(frame[project.table.tonnes].to_numpy()))
-    costs, feed = project.money, rows.feed()
-    metal = {m.name: rows.recovered(m, feed) for m in project.metals}
-    revenue = selling = rows.every(Decimal(0))
-    for m in project.metals:
-        revenue = revenue.plus(metal[m.name].times(rows.every(m.price * (1 - costs.royalty))))
-        selling = selling.plus(metal[m.name].times(rows.every(m.selling_cost)))
-    yields = np.array(revenue.whole > 0, dtype=bool)
-    a_tonne = rows.by_code(costs.processing_cost, yields, "processing_cost").plus(rows.every(costs.royalty_per_tonne))
-    amounts = {"revenue": revenue, "processing cost": feed.tonnes.times(a_tonne).plus(selling)}
-    kept = {name: rows.millionths(value, name) for name, value in amounts.items()}
-    pays = grid.spread(kept["revenue"][0] > kept["processing cost"][0], False)
+    feed = rows.feed()
+    weighed = [replace(rows, project=way).weighed(feed) for way in project.ways]
+    names = [process.name for process in project.processes] or [""]
+    ways = tuple(it.way(name, grid) for it, name in zip(weighed, names))
+    best = best_way(ways, REFERENCE_FACTOR)
+    pays = np.choose(best, [way.revenue for way in ways]) > np.choose(best, [way.cost for way in ways])
     first = first_level(project, grid, pays, needed)
-    kept["mining cost"] = rows.millionths(rows.mining(first), "mining cost")
-    return spread_values(rows, Mill(feed, metal), kept, first)
+    mining, rounding = rows.millionths(rows.mining(first), "mining cost")
+    roundings = {title(what, name): done for it, name in zip(weighed, names) for what, done in it.roundings.items()}
+    values = Values(
+        mining=grid.spread(mining),
+        ways=ways,
+        best=best,
+        tonnes=grid.spread(rows.tonnes.floats()),
+        feed=grid.spread(feed.tonnes.floats()),
+        undiluted=grid.spread(feed.undiluted.floats()),
+        cutoff=project.money.cutoff,
+        roundings={**roundings, "mining cost": rounding},
+        notes=notes_of(rows, feed),
+        first_level=first,
+    )
+    demand_few_nodes(values, grid)
+    return values
+
+
+def title(what: str, process: str) -> str:
+    return f"{what} of {process}" if process else what
+
+
+def demand_few_nodes(values: Values, grid: Grid) -> None:
+    """Raises PlanError where there are too many nodes."""
+    nodes = grid.count + len(values.processed)
+    if nodes > MOST_BLOCKS:
+        raise PlanError(
+            f"{grid.count:,} blocks and {len(values.processed):,} processing nodes are {nodes:,} nodes, and the program takes at most "
+            f'{MOST_BLOCKS:,}: give a smaller model, or [money] cutoff = "fixed"'
+        )
 
 
 def first_level(project: Project, grid: Grid, pays: np.ndarray, needed: Optional[Needed]) -> int:
@@ -247,41 +329,6 @@ def added_cost(money: Money, elevation: float) -> Decimal:
     return pairs[-1][1]
 
 
-@dataclass(frozen=True)
-class Mill:
-    """What comes to the mill of each row, and the quantity of each metal that is recovered of it."""
-
-    feed: Feed
-    metal: dict[str, Exact]
-
-
-def spread_values(rows: Rows, mill: Mill, kept: dict[str, tuple[np.ndarray, Rounding]], first: int) -> Values:
-    """From one value a row of the table to one a cell. Raises PlanError where there are too many nodes."""
-    grid, cutoff = rows.grid, rows.project.money.cutoff
-    revenue, tonnes = kept["revenue"][0], rows.tonnes.floats()
-    ore = np.sort(grid.rows[revenue > 0])
-    nodes = grid.count + (len(ore) if cutoff == "moving" else 0)
-    if nodes > MOST_BLOCKS:
-        raise PlanError(
-            f"{grid.count:,} blocks and {len(ore):,} processing nodes are {nodes:,} nodes, and the program takes at most "
-            f'{MOST_BLOCKS:,}: give a smaller model, or [money] cutoff = "fixed"'
-        )
-    return Values(
-        mining=grid.spread(kept["mining cost"][0]),
-        revenue=grid.spread(revenue),
-        processing=grid.spread(np.where(revenue > 0, kept["processing cost"][0], 0)),
-        ore=ore,
-        tonnes=grid.spread(tonnes),
-        metal={name: grid.spread(amounts.floats()) for name, amounts in mill.metal.items()},
-        feed=grid.spread(mill.feed.tonnes.floats()),
-        undiluted=grid.spread(mill.feed.undiluted.floats()),
-        cutoff=cutoff,
-        roundings={name: rounding for name, (_, rounding) in kept.items()},
-        notes=(*grade_notes(rows), *rock_notes(rows.project, rows.rock, tonnes > 0), *feed_notes(rows.project), *recovery_notes(rows, mill.feed)),
-        first_level=first,
-    )
-
-
 def whole_numbers(values: np.ndarray) -> np.ndarray:
     """The same numbers as Python's own, which have no limit of size."""
     return np.asarray(values, dtype=np.int64).astype(object)
@@ -303,6 +350,16 @@ def grade_notes(rows: Rows) -> list[str]:
                 f'WARNING: the mean grade of {metal.name}, where there is any, is {some.mean():.4g} {metal.sign}: is the unit "{metal.unit}" right?'
             )
     return notes
+
+
+def notes_of(rows: Rows, feed: Feed) -> tuple[str, ...]:
+    """Warnings of grades, and what a planner should know of rocks, of what comes to the mill, and of recoveries."""
+    solid, project = np.array(rows.tonnes.whole > 0, dtype=bool), rows.project
+    notes = [*grade_notes(rows), *feed_notes(project)]
+    for process, way in zip([process.name for process in project.processes] or [""], project.ways):
+        of_way = [*rock_notes(way, rows.rock, solid), *recovery_notes(replace(rows, project=way), feed)]
+        notes += [f"{process}: {note}" for note in of_way] if process else of_way
+    return tuple(notes)
 
 
 def feed_notes(project: Project) -> list[str]:

@@ -2,6 +2,7 @@
 
 from __future__ import annotations
 
+import re
 from dataclasses import dataclass
 from decimal import Decimal
 from typing import Any, Optional, Union
@@ -70,6 +71,17 @@ class Metal:
 
 
 @dataclass(frozen=True)
+class Process:
+    """One of several ways to treat ore: what it costs a tonne, the recovery of each metal that it recovers, and the tonnes that it takes in
+    a year."""
+
+    name: str
+    cost: ByRock
+    recovery: dict[str, Union[Recovery, dict[str, Recovery]]]
+    per_year: float
+
+
+@dataclass(frozen=True)
 class Money:
     """Costs a tonne, how many decimals of the currency are kept, and whether the cut-off moves with the price.
 
@@ -100,14 +112,16 @@ class Money:
     capital: tuple[tuple[int, Decimal], ...] = ()
 
 
-def read_money(section: Section) -> Money:
+def read_money(section: Section, has_processes: bool = False) -> Money:
+    if has_processes and section.has("processing_cost"):
+        raise section.wrong("processing_cost", "give the cost of each of the [[processes]], not this")
     money = Money(
         currency=section.text("currency", "USD"),
         mining_cost=section.by_rock("mining_cost"),
         mining_cost_per_level=section.number("mining_cost_per_level", Decimal(0), least=0),
         mining_cost_reference=section.number("mining_cost_reference") if section.has("mining_cost_reference") else None,
         mining_cost_by_elevation=read_by_elevation(section),
-        processing_cost=section.by_rock("processing_cost"),
+        processing_cost=Decimal(0) if has_processes else section.by_rock("processing_cost"),
         decimals=section.whole("decimals", 6, 0, 6),
         cutoff=section.choice("cutoff", ("moving", "fixed"), "moving"),
         mining_recovery=read_by_code(section, "mining_recovery", Decimal(1), most=1),
@@ -163,14 +177,17 @@ def read_capital(section: Section) -> tuple[tuple[int, Decimal], ...]:
     return tuple((int(year), amount) for year, amount in pairs)
 
 
-def read_metal(section: Section) -> Metal:
+def read_metal(section: Section, has_processes: bool = False) -> Metal:
+    for key in ("recovery", "fixed_tail") if has_processes else ():
+        if section.has(key):
+            raise section.wrong(key, "give the recoveries of each of the [[processes]], not this")
     metal = Metal(
         name=section.text("name"),
         column=section.text("column"),
         unit=section.choice("unit", tuple(GRADE_UNITS), None),
         price=section.number("price", least=0),
         selling_cost=section.number("selling_cost", Decimal(0), least=0),
-        recovery=read_recovery(section),
+        recovery=Decimal(0) if has_processes else read_recovery(section, "recovery"),
         fixed_tail=section.by_rock("fixed_tail") if section.has("fixed_tail") else Decimal(0),
         prices=read_prices(section),
     )
@@ -191,26 +208,41 @@ def read_prices(section: Section) -> tuple[Decimal, ...]:
     return prices
 
 
-def read_recovery(section: Section) -> Union[Recovery, dict[str, Recovery]]:
+def read_process(section: Section) -> Process:
+    name = section.text("name")
+    if not re.fullmatch(r"\w[\w-]*", name):
+        raise section.wrong("name", f'"{name}" is not one word of letters, digits, _ and -, as columns are named by it')
+    by_metal = section.section("recovery")
+    process = Process(
+        name=name,
+        cost=section.by_rock("cost"),
+        recovery={metal: read_recovery(by_metal, metal) for metal in by_metal.data},
+        per_year=float(section.number("per_year", least=1)),
+    )
+    section.finish()
+    return process
+
+
+def read_recovery(section: Section, key: str) -> Union[Recovery, dict[str, Recovery]]:
     """A share, or pairs of grade and share; one, or by rock."""
-    value = section.get("recovery")
+    value = section.get(key)
     if isinstance(value, dict):
-        return {rock: as_recovery(section, of_rock) for rock, of_rock in value.items()}
-    return as_recovery(section, value)
+        return {rock: as_recovery(section, key, of_rock) for rock, of_rock in value.items()}
+    return as_recovery(section, key, value)
 
 
-def as_recovery(section: Section, value: Any) -> Recovery:
+def as_recovery(section: Section, key: str, value: Any) -> Recovery:
     if not isinstance(value, list):
-        recovery = section.as_number("recovery", value)
+        recovery = section.as_number(key, value)
         if not 0 <= recovery <= 1:
-            raise section.wrong("recovery", "must lie from 0 to 1")
+            raise section.wrong(key, "must lie from 0 to 1")
         return recovery
-    points = tuple(sorted(section.as_pairs("recovery", value, "grade, recovery")))
+    points = tuple(sorted(section.as_pairs(key, value, "grade, recovery")))
     grades, recoveries = zip(*points)
     if grades[0] < 0 or min(recoveries) < 0 or max(recoveries) > 1:
-        raise section.wrong("recovery", "grades may not be negative, and recoveries must lie from 0 to 1")
+        raise section.wrong(key, "grades may not be negative, and recoveries must lie from 0 to 1")
     if len(set(grades)) < len(grades):
-        raise section.wrong("recovery", "a grade is named twice")
+        raise section.wrong(key, "a grade is named twice")
     if list(recoveries) != sorted(recoveries):
-        raise section.wrong("recovery", "falls as the grade rises")
+        raise section.wrong(key, "falls as the grade rises")
     return Curve(points)

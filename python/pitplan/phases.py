@@ -206,6 +206,7 @@ def table(phases: Phases) -> pd.DataFrame:
         "waste_tonnes": tonnes - ore_tonnes,
         "strip_ratio": analyse.ratio(tonnes - ore_tonnes, ore_tonnes),
     }
+    columns |= {name: added(phases.phase, feed, phases) for name, feed in analyse.feeds_of(plan, cells).items()}
     for metal in plan.project.metals:
         columns[f"grade_{metal.name}"] = analyse.ratio(added(ore, cells.content[metal.name], phases), ore_tonnes)
         columns[f"metal_{metal.name}"] = added(ore, plan.values.metal[metal.name], phases)

@@ -27,6 +27,7 @@ OWN_COLUMNS = (
     *("id", "mining_cost", "revenue", "processing_cost", "factor", "process_factor", "free_factor", "free_process_factor"),
     "phase",
     "year",
+    "process",
 )
 
 
@@ -78,12 +79,16 @@ class Plan:
 
     @property
     def blocks(self) -> pd.DataFrame:
-        """One row a block of the table, by the program's id: the planner's columns, and costs and revenue in money."""
+        """One row a block of the table, by the program's id: the planner's columns, and costs and revenue in money, of several
+        processes those of the best at the price as given and those of each."""
         ids = self.grid.rows
         frame = self.table.rename(columns=shown_name)
         frame.insert(0, "id", ids)
         for name in ("mining", "revenue", "processing"):
             frame[name if name == "revenue" else f"{name}_cost"] = getattr(self.values, name)[ids] / MILLION
+        for way in self.values.ways if self.project.processes else ():
+            frame[f"revenue_{way.name}"] = way.revenue[ids] / MILLION
+            frame[f"processing_cost_{way.name}"] = way.cost[ids] / MILLION
         return frame.sort_values("id").reset_index(drop=True)
 
     @property
@@ -260,7 +265,9 @@ def notes_of(plan: Plan) -> list[str]:
     notes = [f"{count:,} blocks lie on a grid of {columns} x {rows} x {levels} = {grid.count:,} cells"]
     notes += absent.notes(plan.table, grid, plan.project)
     if plan.values.cutoff == "moving":
-        notes.append(f"{len(plan.values.ore):,} blocks have a node for processing: the cut-off moves with the price")
+        steps = len(plan.values.processed) - len(plan.values.ore)
+        more = f", and {steps:,} nodes more for processes that are better from a greater price on" if plan.project.processes else ""
+        notes.append(f"{len(plan.values.ore):,} blocks have a node for processing: the cut-off moves with the price{more}")
     else:
         notes.append("the cut-off is fixed at the price as given, whatever the factor")
     if plan.filled:

@@ -4,13 +4,13 @@ from __future__ import annotations
 
 import codecs
 import tomllib
-from dataclasses import dataclass
+from dataclasses import dataclass, replace
 from decimal import Decimal
 from pathlib import Path
 from typing import Optional, Union
 
 from .errors import PlanError
-from .money_rules import ByRegion, Metal, Money, read_metal, read_money
+from .money_rules import ByRegion, Metal, Money, Process, read_metal, read_money, read_process
 from .phase_rules import PhaseRules, read_phases
 from .schedule_rules import ScheduleRules, read_schedule_rules
 from .section import Section
@@ -128,7 +128,10 @@ class FixedRules:
 @dataclass(frozen=True)
 class Schedule:
     """Price factors in per mille, and what discounting needs: a yearly rate, yearly capacities in tonnes, and the moment that
-    cash is discounted from: that when it flows, or the end or the middle of its year."""
+    cash is discounted from: that when it flows, or the end or the middle of its year.
+
+    per_process  the yearly capacity of each of several processes, of which `ore_per_year` is the sum then
+    """
 
     factors: tuple[int, ...]
     chosen: Optional[int]
@@ -137,6 +140,7 @@ class Schedule:
     rock_per_year: Optional[float]
     discounting: str
     reference_added: bool
+    per_process: tuple[float, ...] = ()
 
 
 @dataclass(frozen=True)
@@ -170,6 +174,16 @@ class Project:
     fixed: Optional[FixedRules] = None
     phases: Optional[PhaseRules] = None
     schedule_rules: Optional[ScheduleRules] = None
+    processes: tuple[Process, ...] = ()
+
+    @property
+    def ways(self) -> tuple[Project, ...]:
+        """The project with each of its processes alone, as if it were the only one; itself where it names none."""
+        return tuple(self.of_process(process) for process in self.processes) or (self,)
+
+    def of_process(self, process: Process) -> Project:
+        metals = tuple(replace(metal, recovery=process.recovery.get(metal.name, Decimal(0))) for metal in self.metals)
+        return replace(self, money=replace(self.money, processing_cost=process.cost), metals=metals, processes=())
 
 
 def load(path: Union[str, Path], original: Optional[Path] = None) -> Project:
@@ -192,20 +206,22 @@ def load(path: Union[str, Path], original: Optional[Path] = None) -> Project:
 def of_data(data: dict, path: Path) -> Project:
     top = Section(str(path), "", data)
     output = top.section("output", optional=True)
+    processes = tuple(read_process(section) for section in top.sections("processes")) if top.has("processes") else ()
     project = Project(
         path=path,
         title=read_title(top, path.parent.name or "plan"),
         table=read_table(top.section("table"), path.parent),
         grid=read_grid(top.section("grid", optional=True)),
-        money=read_money(top.section("money")),
-        metals=tuple(read_metal(section) for section in top.sections("metals")),
+        money=read_money(top.section("money"), bool(processes)),
+        metals=tuple(read_metal(section, bool(processes)) for section in top.sections("metals")),
         slopes=read_slopes(top.section("slopes")),
-        schedule=read_schedule(top.section("shells")),
+        schedule=read_schedule(top.section("shells"), processes),
         folder=path.parent / output.text("folder", "plan"),
         scenarios=read_scenarios(top.section("scenarios"), path.parent) if top.has("scenarios") else None,
         fixed=read_fixed(top.section("fixed"), path.parent) if top.has("fixed") else None,
         phases=read_phases(top.section("pushbacks"), GREATEST_FACTOR) if top.has("pushbacks") else None,
         schedule_rules=read_schedule_rules(top.section("schedule")) if top.has("schedule") else None,
+        processes=processes,
     )
     output.finish()
     top.finish()
@@ -225,8 +241,9 @@ def demand_agreement(project: Project) -> None:
     """Refuses sections that each are right and do not fit together."""
     path = project.path
     money = project.money
-    priced = [money.mining_cost, money.processing_cost, money.mining_recovery, money.dilution]
-    priced += [share for metal in project.metals for share in (metal.recovery, metal.fixed_tail)]
+    priced = [money.mining_cost, money.mining_recovery, money.dilution]
+    for way in project.ways:
+        priced += [way.money.processing_cost, *(share for metal in way.metals for share in (metal.recovery, metal.fixed_tail))]
     if project.table.rock is None and any(isinstance(price, dict) for price in priced):
         raise PlanError(f"{path}: [table] rock: is missing, and prices or recoveries are given by rock")
     if project.table.region is None and any(isinstance(price, ByRegion) for price in priced):
@@ -235,6 +252,7 @@ def demand_agreement(project: Project) -> None:
         raise PlanError(f"{path}: [grid] size: is missing, by which a density gives tonnes, unless [table] names a volume")
     if project.table.reblock and project.scenarios:
         raise PlanError(f"{path}: [table] reblock: is not done of [scenarios]: give a table that is reblocked")
+    demand_processes_agree(project)
     names = [metal.name for metal in project.metals]
     if len(set(names)) < len(names):
         raise PlanError(f"{path}: two [[metals]] have one name")
@@ -246,6 +264,23 @@ def demand_agreement(project: Project) -> None:
         for name in named:
             if name not in names:
                 raise PlanError(f"{path}: [scenarios] names {name}, which is none of the [[metals]] {', '.join(names)}")
+
+
+def demand_processes_agree(project: Project) -> None:
+    """Refuses processes of one name or of metals that there are not, and what does not go with several."""
+    path, names = project.path, [process.name for process in project.processes]
+    metals = [metal.name for metal in project.metals]
+    if len(set(names)) < len(names):
+        raise PlanError(f"{path}: two [[processes]] have one name")
+    for process in project.processes:
+        for name in process.recovery:
+            if name not in metals:
+                raise PlanError(f"{path}: [[processes]] {process.name} recovers {name}, which is none of the [[metals]] {', '.join(metals)}")
+    if names and project.scenarios:
+        raise PlanError(f"{path}: [scenarios] are solved with one process: leave out [[processes]]")
+    rules = project.schedule_rules
+    if names and rules and (rules.bins is not None or rules.ore_per_year is not None):
+        raise PlanError(f"{path}: [schedule] bins and ore_per_year are of one process: leave them out, or [[processes]]")
 
 
 def read_table(section: Section, folder: Path) -> TableColumns:
@@ -361,7 +396,7 @@ def read_wall(section: Section) -> Wall:
     return wall
 
 
-def read_schedule(section: Section) -> Schedule:
+def read_schedule(section: Section, processes: tuple[Process, ...] = ()) -> Schedule:
     asked = section.factors("factors", GREATEST_FACTOR)
     factors = tuple(sorted({*asked, REFERENCE_FACTOR}))
     if len(factors) > MOST_FACTORS:
@@ -373,7 +408,8 @@ def read_schedule(section: Section) -> Schedule:
         factors=factors,
         chosen=chosen,
         rate=read_rate(section),
-        ore_per_year=float(section.number("ore_per_year", least=1)),
+        ore_per_year=sum(it.per_year for it in processes) if processes else float(section.number("ore_per_year", least=1)),
+        per_process=tuple(process.per_year for process in processes),
         rock_per_year=float(section.number("rock_per_year", least=1)) if section.has("rock_per_year") else None,
         discounting=section.choice("discounting", DISCOUNTINGS, DISCOUNTINGS[0]),
         reference_added=REFERENCE_FACTOR not in asked,

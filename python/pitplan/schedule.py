@@ -32,7 +32,7 @@ class Benches:
     """What each factor's shell adds to the shell before, bench by bench from the top.
 
     factors  per mille, rising
-    names    of the amounts: rock_tonnes, ore_tonnes, metal_NAME of each metal, and last cash, in money
+    names    of the amounts: rock_tonnes, ore_tonnes, ore_tonnes_NAME of each of several processes, metal_NAME of each metal, and last cash, in money
     amounts  an array of factors, benches and names
     """
 
@@ -113,6 +113,8 @@ def mean_discount(start: np.ndarray, end: np.ndarray, rate: float) -> np.ndarray
 def lasting(amounts: np.ndarray, settings: Schedule) -> np.ndarray:
     """How long pieces last, in years."""
     years = amounts[..., ORE] / settings.ore_per_year
+    for number, capacity in enumerate(settings.per_process):
+        years = np.maximum(years, amounts[..., ORE + 1 + number] / capacity)
     if settings.rock_per_year is not None:
         years = np.maximum(years, amounts[..., ROCK] / settings.rock_per_year)
     return years

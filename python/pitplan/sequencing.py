@@ -23,7 +23,7 @@ class Limits:
     """What a year may hold.
 
     most          by name the most of an amount; of ore once the mill runs in full
-    ramp_up       shares of the mill's tonnes in the first years; the last one stays
+    ramp_up       shares of the tonnes of mill and processes in the first years; the last one stays
     sinking_rate  the most benches by which a phase sinks; infinite where there is no limit
     """
 
@@ -34,7 +34,7 @@ class Limits:
     def of_year(self, number: int) -> np.ndarray:
         """The limited amounts of a year, numbered from 1."""
         of_mill = self.ramp_up[min(number, len(self.ramp_up)) - 1]
-        return np.array([most * of_mill if name == ORE else most for name, most in self.most.items()], dtype=float)
+        return np.array([most * of_mill if name.startswith(ORE) else most for name, most in self.most.items()], dtype=float)
 
     def of_years(self, count: int) -> np.ndarray:
         """An array of years, from the first, and limited amounts."""
@@ -50,6 +50,7 @@ def limits_of(project: Project, rules: ScheduleRules) -> Limits:
     rock = rules.rock_per_year or project.schedule.rock_per_year
     most = {ORE: rules.ore_per_year or project.schedule.ore_per_year}
     most |= {} if rock is None else {ROCK: rock}
+    most |= {f"{ORE}_{process.name}": process.per_year for process in project.processes}
     most |= {f"metal_{name}": amount for name, amount in rules.metal_per_year.items()}
     return Limits(most, rules.ramp_up, np.inf if rules.sinking_rate is None else rules.sinking_rate)
 

@@ -24,6 +24,8 @@ UNDUG, NOTHING = 2**30, 0
 TOLD = 10
 # The columns of blocks.csv that are the answer's.
 SAID = ("id", "mining_cost", "revenue", "processing_cost", "factor", "process_factor")
+# Of several processes that of each block at the price as given, "" where it is waste; there are amounts of each process then.
+PROCESS = "process"
 # Those that `pitplan pit` writes besides, of the pit that keeps to no fixed blocks.
 FREE = ("free_factor", "free_process_factor")
 # Those that `pitplan pushbacks` and `pitplan schedule` write besides.
@@ -111,9 +113,28 @@ class Answer:
     def quantities(self) -> dict[str, np.ndarray]:
         """By metal, what is recovered of each block, if it is processed: tonnes, or grams."""
         found = {}
-        for metal in self.project.metals:
-            found[metal.name] = self.undiluted * recovered(metal, self.rows, self.project) * float(GRADE_UNITS[metal.unit])
+        for number, metal in enumerate(self.project.metals):
+            grades = [recovered(way.metals[number], self.rows, way) for way in self.project.ways]
+            found[metal.name] = self.undiluted * np.choose(self.process, grades) * float(GRADE_UNITS[metal.unit])
         return found
+
+    @cached_property
+    def process(self) -> np.ndarray:
+        """The number of each block's process at the price as given, as blocks.csv says; 0 where there is one alone or none."""
+        names = [process.name for process in self.project.processes]
+        return self.said[PROCESS].map({name: k for k, name in enumerate(names)}).fillna(0).to_numpy(dtype=np.int64) if names else np.zeros(len(self.rows), np.int64)
+
+    @cached_property
+    def feeds(self) -> dict[str, np.ndarray]:
+        """Of several processes the tonnes of ore that come to each, by the name of the amount."""
+        names = [process.name for process in self.project.processes]
+        return {f"ore_tonnes_{name}": np.where(self.ore & (self.process == k), self.feed, 0.0) for k, name in enumerate(names)}
+
+    @property
+    def amounts_of_ways(self) -> list[tuple[str, str]]:
+        """The columns of revenue and of processing cost of each process; of one alone the only ones there are."""
+        names = [process.name for process in self.project.processes]
+        return [(f"revenue_{name}", f"processing_cost_{name}") for name in names] or [("revenue", "processing_cost")]
 
     @cached_property
     def ore(self) -> np.ndarray:
@@ -192,12 +213,19 @@ def read(folder: Path, project: Optional[Project] = None) -> Answer:
     try:
         record = json.loads((folder / "prepare.json").read_text(encoding="utf-8"))
         project = project or load(folder / record["project"])
-        written = read_blocks(folder / "blocks.csv", project, (*SAID, *FREE, PHASE, YEAR))
+        written = read_blocks(folder / "blocks.csv", project, (*said_of(project), *FREE, PHASE, YEAR))
         return read_shells(folder, record, project, written) if "shells" in record else read_pits(folder, record, project, written)
     except OSError as error:
         raise PlanError(f"{error.filename}: cannot be read: run pitplan shells first") from error
     except (ValueError, KeyError) as error:
         raise PlanError(f"{folder}: is no folder that pitplan shells or pit has written: {error}") from error
+
+
+def said_of(project: Project) -> tuple[str, ...]:
+    """The columns of blocks.csv that are the answer's to a project."""
+    if not project.processes:
+        return SAID
+    return (*SAID, PROCESS, *(f"{name}_{process.name}" for process in project.processes for name in ("revenue", "processing_cost")))
 
 
 def read_shells(folder: Path, record: dict[str, Any], project: Project, written: pd.DataFrame) -> Answer:
@@ -209,7 +237,7 @@ def read_shells(folder: Path, record: dict[str, Any], project: Project, written:
     phases = pd.read_csv(folder / "phases.csv").set_index("phase") if "phases" in record else None
     schedule = pd.read_csv(folder / "schedule.csv") if "schedule" in record else None
     more = [*([PHASE] if phases is not None else []), *([YEAR] if schedule is not None else [])]
-    said, factors = written[[*SAID, *more]].iloc[order].reset_index(drop=True), tuple(record["shells"]["factors"])
+    said, factors = written[[*said_of(project), *more]].iloc[order].reset_index(drop=True), tuple(record["shells"]["factors"])
     return Answer(folder, project, rows, known, said, shells, years, record, factors, phases=phases, schedule=schedule, parts=parts)
 
 
@@ -228,7 +256,7 @@ def read_pits(folder: Path, record: dict[str, Any], project: Project, written: p
     kept, free = (pits[pits["fixed_blocks"] == name].set_index("factor") for name in ("kept", "free"))
     frame, parts = rows_of(project, written, record["grid"])
     rows, known, order = beside(frame, written, project, record["grid"], "blocks.csv")
-    said = written[[*SAID, *FREE]].iloc[order].reset_index(drop=True)
+    said = written[[*said_of(project), *FREE]].iloc[order].reset_index(drop=True)
     other = said.assign(**{name: said[f"free_{name}"] for name in ("factor", "process_factor")})
     factors = tuple(record["factors"])
     alone = Answer(folder, replace(project, fixed=None), rows, known, other, free, None, record, factors)
@@ -248,7 +276,7 @@ def read_blocks(path: Path, project: Project, said: Optional[tuple[str, ...]] = 
 
 def own_name(column: str) -> str:
     """A column of the planner's, as blocks.csv names it."""
-    return f"planner_{column}" if column in (*SAID, *FREE, PHASE, YEAR) else column
+    return f"planner_{column}" if column in (*SAID, *FREE, PHASE, YEAR, PROCESS) else column
 
 
 def beside(

@@ -3,7 +3,7 @@
 from __future__ import annotations
 
 import math
-from dataclasses import dataclass
+from dataclasses import dataclass, replace
 from decimal import ROUND_HALF_EVEN, Decimal
 from fractions import Fraction
 
@@ -11,30 +11,49 @@ import numpy as np
 
 from ..money_rules import GRADE_UNITS, Metal
 from ..project import Project
-from .answer import TOLD, UNDUG, Answer, Rule, rule
+from .answer import PROCESS, TOLD, UNDUG, Answer, Rule, rule
 from .feed import at_grade, by_code, of_code
 from .walls import needed_by
 
 SAMPLE = 10_000
-NAMES = ("mining_cost", "revenue", "processing_cost")
+MINING = "mining_cost"
 
 
 def verify(answer: Answer) -> Rule:
     """Each amount of blocks.csv is the product of the table's and the project's numbers, rounded once."""
     chosen = sample(answer)
-    differences, count = near(answer)
+    parts = [replace(answer, project=way) for way in answer.project.ways]
+    found = [near(part, names) for part, names in zip(parts, answer.amounts_of_ways)]
+    differences, count = [said for told, _ in found for said in told], sum(count for _, count in found)
     if not count:
-        differences = not_exact(answer, chosen)
+        differences = [said for part, names in zip(parts, answer.amounts_of_ways) for said in not_exact(part, chosen, names)]
+        differences += unlike_best(answer) if answer.project.processes else []
         count = len(differences)
     return rule("money", f"costs and revenue of all blocks are right, and exactly so for {len(chosen):,}", differences, count)
 
 
-def not_exact(answer: Answer, chosen: np.ndarray) -> list[str]:
+def unlike_best(answer: Answer) -> list[str]:
+    """Blocks whose process, or its revenue and cost, are not those of the process that is worth most at the price as given."""
+    names = [process.name for process in answer.project.processes]
+    unit = 10**answer.project.money.decimals
+    told = [np.rint(answer.said[list(pair)].to_numpy() * unit).astype(np.int64) for pair in answer.amounts_of_ways]
+    gains = np.stack([amounts[:, 0] - amounts[:, 1] for amounts in told])
+    # Of several that are worth as much it is the one of least revenue.
+    tied = gains == gains.max(axis=0)
+    best = np.where(tied, np.stack([amounts[:, 0] for amounts in told]), np.iinfo(np.int64).max).argmin(axis=0)
+    of_best = np.stack(told)[best, np.arange(len(best))]
+    said = np.rint(answer.said[["revenue", "processing_cost"]].to_numpy() * unit).astype(np.int64)
+    expected = np.where(gains.max(axis=0) > 0, np.array(names, dtype=object)[best], "")
+    off = np.flatnonzero((said != of_best).any(axis=1) | (answer.said[PROCESS].to_numpy() != expected))
+    return [f"{answer.called(row)}: process {answer.said[PROCESS].iloc[row]!r} for {expected[row]!r}, or its amounts" for row in off]
+
+
+def not_exact(answer: Answer, chosen: np.ndarray, names: tuple[str, str]) -> list[str]:
     """What differs by anything at all, of these rows, by decimals."""
     read, differences = Exactly.of(answer), []
-    told = [answer.said[name].to_numpy() for name in NAMES]
+    told = [answer.said[name].to_numpy() for name in (MINING, *names)]
     for row in chosen.tolist():
-        for name, column, amount in zip(NAMES, told, read.amounts(row)):
+        for name, column, amount in zip((MINING, *names), told, read.amounts(row)):
             said = column[row]
             if not math.isclose(float(amount), said, rel_tol=1e-15):
                 differences.append(f"{answer.called(row)}: {name} {said:.10g} for {amount}")
@@ -151,12 +170,12 @@ class Exactly:
         return mining, revenue, processing if revenue else Decimal(0)
 
 
-def near(answer: Answer) -> tuple[list[str], int]:
+def near(answer: Answer, names: tuple[str, str]) -> tuple[list[str], int]:
     """What differs by more than a rounding, of all blocks, by floats: the first ten of each name, and how many there are."""
     mining, revenue, processing = by_floats(answer)
-    processing = np.where(answer.said["revenue"] > 0, processing, 0.0)
+    processing = np.where(answer.said[names[0]] > 0, processing, 0.0)
     unit, differences, count = 10.0**-answer.project.money.decimals, [], 0
-    for name, amounts in zip(NAMES, (mining, revenue, processing)):
+    for name, amounts in zip((MINING, *names), (mining, revenue, processing)):
         said = answer.said[name].to_numpy()
         off = np.flatnonzero(np.abs(said - amounts) > 0.51 * unit + 1e-12 * np.abs(amounts))
         differences += [f"{answer.called(row)}: {name} {said[row]:.10g} for {amounts[row]:.10g}" for row in off[:TOLD]]

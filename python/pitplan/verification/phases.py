@@ -99,6 +99,7 @@ def of_blocks(answer: Answer, mine: np.ndarray, ore: np.ndarray) -> dict[str, fl
         "strip_ratio": (of_all - of_ore) / of_ore if of_ore else np.nan,
         "worth": answer.worths[mine].sum(),
     }
+    found |= {name: feed[mine].sum() for name, feed in answer.feeds.items()}
     for metal in answer.project.metals:
         content = answer.undiluted[ore] @ answer.rows[metal.column].to_numpy()[ore]
         found[f"grade_{metal.name}"] = content / of_ore if of_ore else np.nan

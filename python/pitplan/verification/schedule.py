@@ -86,6 +86,7 @@ def ways_of(answer: Answer, told: dict[str, Any]) -> tuple[list[str], list[Way]]
 def sums_of_benches(answer: Answer) -> pd.DataFrame:
     """By phase and level what the blocks add up to, of benches that hold rock."""
     columns = {"rock_tonnes": answer.tonnes, "ore_tonnes": np.where(answer.ore, answer.feed, 0.0), "cash": answer.worths}
+    columns |= answer.feeds
     columns |= {f"metal_{name}": np.where(answer.ore, metal, 0.0) for name, metal in answer.quantities.items()}
     frame = pd.DataFrame(columns | {"phase": answer.said["phase"].to_numpy(), "level": answer.cells[0]})
     return frame[(frame["phase"] > 0) & (frame["rock_tonnes"] > 0)].groupby(["phase", "level"]).sum()
@@ -141,6 +142,8 @@ def limits_of(way: Way) -> Iterator[tuple[str, float, float]]:
     ore, rock = (rules and rules.ore_per_year) or shells.ore_per_year, (rules and rules.rock_per_year) or shells.rock_per_year
     yield "ore_tonnes", ore, CENT
     yield "rock_tonnes", rock or math.inf, CENT
+    for process in way.answer.project.processes:
+        yield f"ore_tonnes_{process.name}", process.per_year, CENT
     for name, most in (rules.metal_per_year if rules else {}).items():
         yield f"metal_{name}", most, CENT
 
@@ -154,7 +157,7 @@ def verify_limits(ways: list[Way]) -> Rule:
         by_year = way.rows.groupby("year")
         for name, most, slack in limits_of(way):
             for year, amount in by_year[name].sum().items():
-                share = ramp_up[min(int(year), len(ramp_up)) - 1] if name == "ore_tonnes" else 1.0
+                share = ramp_up[min(int(year), len(ramp_up)) - 1] if name.startswith("ore_tonnes") else 1.0
                 if amount > most * share * (1 + 1e-8) + slack:
                     differences.append(f"{way.name}, year {year}: {name} {amount:.10g} above {most * share:.10g}")
         sunk = way.rows.groupby(["phase", "year"])["share"].sum()

@@ -30,7 +30,9 @@ def verify(answer: Answer) -> Rule:
 
 def over_capacity(answer: Answer, years: pd.DataFrame) -> list[str]:
     schedule, found = answer.project.schedule, []
-    for name, most in (("ore_tonnes", schedule.ore_per_year), ("rock_tonnes", schedule.rock_per_year or math.inf)):
+    limits = {"ore_tonnes": schedule.ore_per_year, "rock_tonnes": schedule.rock_per_year or math.inf}
+    limits |= {f"ore_tonnes_{process.name}": process.per_year for process in answer.project.processes}
+    for name, most in limits.items():
         over = years[years[name] > most * (1 + 1e-9) + CENT]
         found += [f"{row.case} case of factor {row.factor}, year {row.year}: {name} {getattr(row, name):.10g} above {most:.10g}" for row in over.itertuples()]
     return found
@@ -40,7 +42,7 @@ def unlike_sums(answer: Answer, case: str, factor: int, years: pd.DataFrame) -> 
     """What the years of a factor do not add up to."""
     shell, found = answer.shells.loc[factor], []
     pairs = {"rock_tonnes": "tonnes", "ore_tonnes": "ore_tonnes", "cash": "worth", "discounted": f"npv_{case}"}
-    pairs |= {f"metal_{metal.name}": f"metal_{metal.name}" for metal in answer.project.metals}
+    pairs |= {name: name for name in (*answer.feeds, *(f"metal_{metal.name}" for metal in answer.project.metals))}
     # Of cash the part that blocks are worth; a metal's last place is worth so much.
     plain = years.assign(cash=years["cash"] + costs_told(years) - more_by_prices(answer.project, years))
     last_place = 5e-4 * (1 + most_premium(answer.project))
@@ -95,7 +97,7 @@ def flows_of(answer: Answer) -> pd.DataFrame:
     """Rock, ore, metals, cash, and cash without signs, of each shell's part of each level."""
     rock, cash = answer.tonnes, answer.worths
     frame = pd.DataFrame({"rock": rock, "ore": np.where(answer.ore, answer.feed, 0.0), "cash": cash, "gross": np.abs(cash)})
-    frame = frame.assign(**{f"metal_{name}": np.where(answer.ore, metal, 0.0) for name, metal in answer.quantities.items()})
+    frame = frame.assign(**answer.feeds, **{f"metal_{name}": np.where(answer.ore, metal, 0.0) for name, metal in answer.quantities.items()})
     frame = frame.assign(factor=answer.said["factor"].to_numpy(), level=answer.cells[0])
     return frame[frame["factor"] > 0].groupby(["factor", "level"]).sum()
 
@@ -103,6 +105,8 @@ def flows_of(answer: Answer) -> pd.DataFrame:
 def lasting(pieces: pd.DataFrame, answer: Answer) -> np.ndarray:
     schedule = answer.project.schedule
     milled = (pieces["ore"] / schedule.ore_per_year).to_numpy()
+    for process in answer.project.processes:
+        milled = np.maximum(milled, pieces[f"ore_tonnes_{process.name}"].to_numpy() / process.per_year)
     return milled if schedule.rock_per_year is None else np.maximum(milled, (pieces["rock"] / schedule.rock_per_year).to_numpy())
 
 
