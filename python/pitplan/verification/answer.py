@@ -196,6 +196,8 @@ class Answer:
         """Over how many levels the needs of a wall entry reach."""
         if wall.pattern:
             return 1
+        if wall.steps:
+            return max(up for _, _, up in wall.steps)
         number = self.project.slopes.walls.index(wall)
         return int(self.record["walls"][number].get("levels", self.project.slopes.levels))
 
