@@ -12,6 +12,8 @@ from .project import GridRules, Project, TableColumns
 from .table import at_row
 
 MOST_BLOCKS = 4_194_304
+# Of a grid of up to so many cells blocks are put together, or what no shell can reach is left out.
+MOST_CELLS = 64_000_000
 # Up to this share of the rows may lie off the grid that the others make: these are named then.
 FEW = 0.01
 
@@ -90,12 +92,12 @@ class Axis:
 
 def of_table(frame: pd.DataFrame, project: Project, source: str = "table", any_size: bool = False) -> Grid:
     """The grid of a checked table. Raises PlanError where a centre lies off it, a cell stands twice, or it is too large for the program,
-    unless it may have any size."""
+    or where it may have any size for this computer."""
     columns, rules = project.table, project.grid
     axes = [axis_of(frame, name, k, rules, source) for k, name in enumerate((columns.x, columns.y, columns.z))]
     east, north, up = axes
     count = east.count * north.count * up.count
-    if count > MOST_BLOCKS and not any_size:
+    if count > (MOST_CELLS if any_size else MOST_BLOCKS):
         raise PlanError(f"{source}: the grid has {count:,} cells, and the program takes at most {MOST_BLOCKS:,} blocks")
     cells = ((up.count - 1 - up.place) * north.count + north.place) * east.count + east.place
     demand_once(cells, frame, columns, source)

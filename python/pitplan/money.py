@@ -291,6 +291,19 @@ def values_of(
     return values
 
 
+def greatest_gains(frame: pd.DataFrame, project: Project, source: str) -> np.ndarray:
+    """Whether each row of a checked table pays for its processing at the greatest factor, or at the price as given. Raises PlanError as
+    `values_of` does."""
+    factor = max(project.schedule.factors[-1], REFERENCE_FACTOR)
+    nowhere = Grid((1, 1, 1), (0.0, 0.0, 0.0), (1.0, 1.0, 1.0), np.zeros(len(frame), dtype=np.int64))
+    rows = Rows(frame, nowhere, project, source, Exact.of_floats(frame[project.table.tonnes].to_numpy()))
+    feed, found = rows.feed(), np.zeros(len(frame), dtype=bool)
+    for way in project.ways:
+        weighed = replace(rows, project=way).weighed(feed)
+        found |= np.array(factor * weighed.revenue.astype(object) > 1000 * weighed.cost.astype(object), dtype=bool)
+    return found
+
+
 def title(what: str, process: str) -> str:
     return f"{what} of {process}" if process else what
 

@@ -10,7 +10,7 @@ from typing import Any, Optional, Union
 import numpy as np
 import pandas as pd
 
-from . import absent, files, fixed as fixing, grid as grids, money, reblock, summary as summaries, table as tables, trim, walls as laying, yearly_money
+from . import absent, files, fixed as fixing, grid as grids, money, reach, reblock, summary as summaries, table as tables, trim, walls as laying, yearly_money
 from .errors import PlanError
 from .files import Needs, Pairs
 from .fixed import NOTHING, FixedBlocks, Settled
@@ -18,6 +18,7 @@ from .grid import Grid
 from .money import Values
 from .progress import Progress, silent
 from .project import Project, load
+from .reach import Model
 from .walls import Walls
 
 MOST_PAIRS = 67_108_864
@@ -214,17 +215,22 @@ def prepare(
     with progress.step("laying the grid"):
         checked, laid = reblock.of_table(checked, project)
         frame, source = checked.frame, checked.source
-        bare = grids.of_table(frame, laid, source)
+        bare = grids.of_table(frame, laid, source, any_size=True)
         summary = summaries.of_table(checked, bare, project)
         frame, grid = absent.with_rows(frame, bare, project)
     progress.lines(summary)
     with progress.step("laying the walls"):
         region = laying.regions_of(frame, grid, project.table.region)
         walls = laying.walls_of(region, grid, project.slopes)
+    model, dropped = Model(frame, grid, region, source), []
+    if reach.is_too_large(model, project):
+        with progress.step("leaving out what no shell can reach"):
+            model, note = reach.left(model, walls, project)
+            walls, dropped = laying.walls_of(model.region, model.grid, project.slopes), [note]
     with progress.step("weighing the blocks"):
-        plan = plan_of(project, frame, grid, walls, source)
+        plan = plan_of(project, model.frame, model.grid, walls, model.source)
     plan.filled, plan.summary = checked.filled, summary
-    plan.notes = [*checked.notes, *notes_of(plan)]
+    plan.notes = [*checked.notes, *dropped, *notes_of(plan)]
     return plan
 
 

@@ -152,7 +152,7 @@ def test_blocks_that_lie_elsewhere_are_found(solved_hill, monkeypatch, metres):
 
 def test_a_table_that_is_too_large_by_itself(plan_folder, monkeypatch):
     monkeypatch.setattr(pitplan.grid, "MOST_BLOCKS", 200)
-    with pytest.raises(PlanError, match="the grid has 858 cells, and the program takes at most 200 blocks"):
+    with pytest.raises(PlanError, match="the grid has 858 cells, of which shells may reach 858, and the program takes at most 200 blocks"):
         pitplan.prepare(plan_folder(hill(), PROJECT))
     plan = pitplan.prepare(plan_folder(hill(), PROJECT, ('file = "blocks.csv"', 'file = "blocks.csv"\nreblock = [2, 2, 2]')))
     assert plan.grid.shape == (3, 6, 7)

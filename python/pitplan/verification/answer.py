@@ -62,6 +62,7 @@ class Answer:
     phases  of `pitplan pushbacks` phases.csv, by phase; `said` has each block's phase then
     schedule  of `pitplan schedule` schedule.csv; `said` has each block's year then
     parts   where rows are put together to blocks the table's rows; `rows` are then the answer's own, which hold them
+    beyond  the table's rows that lie beyond the answer's grid, where some do
     """
 
     folder: Path
@@ -78,6 +79,7 @@ class Answer:
     phases: Optional[pd.DataFrame] = None
     schedule: Optional[pd.DataFrame] = None
     parts: Optional[pd.DataFrame] = None
+    beyond: Optional[pd.DataFrame] = None
 
     @property
     def shape(self) -> tuple[int, int, int]:
@@ -235,12 +237,13 @@ def read_shells(folder: Path, record: dict[str, Any], project: Project, written:
     shells = pd.read_csv(folder / "shells.csv", dtype={"worth_at_factor": str}).set_index("factor")
     years = pd.read_csv(folder / "years.csv") if (folder / "years.csv").exists() else None
     frame, parts = rows_of(project, written, record["grid"])
+    frame, beyond = divided(frame, project, record["grid"])
     rows, known, order = beside(frame, written, project, record["grid"], "blocks.csv")
     phases = pd.read_csv(folder / "phases.csv").set_index("phase") if "phases" in record else None
     schedule = pd.read_csv(folder / "schedule.csv") if "schedule" in record else None
     more = [*([PHASE] if phases is not None else []), *([YEAR] if schedule is not None else [])]
     said, factors = written[[*said_of(project), *more]].iloc[order].reset_index(drop=True), tuple(record["shells"]["factors"])
-    return Answer(folder, project, rows, known, said, shells, years, record, factors, phases=phases, schedule=schedule, parts=parts)
+    return Answer(folder, project, rows, known, said, shells, years, record, factors, phases=phases, schedule=schedule, parts=parts, beyond=beyond)
 
 
 def rows_of(project: Project, written: pd.DataFrame, grid: dict[str, Any]) -> tuple[pd.DataFrame, Optional[pd.DataFrame]]:
@@ -257,12 +260,24 @@ def read_pits(folder: Path, record: dict[str, Any], project: Project, written: p
     pits = pd.read_csv(folder / "pits.csv", dtype={"worth_at_factor": str})
     kept, free = (pits[pits["fixed_blocks"] == name].set_index("factor") for name in ("kept", "free"))
     frame, parts = rows_of(project, written, record["grid"])
+    frame, beyond = divided(frame, project, record["grid"])
     rows, known, order = beside(frame, written, project, record["grid"], "blocks.csv")
     said = written[[*said_of(project), *FREE]].iloc[order].reset_index(drop=True)
     other = said.assign(**{name: said[f"free_{name}"] for name in ("factor", "process_factor")})
     factors = tuple(record["factors"])
     alone = Answer(folder, replace(project, fixed=None), rows, known, other, free, None, record, factors)
-    return Answer(folder, project, rows, known, said, kept, None, record, factors, alone, parts=parts)
+    return Answer(folder, project, rows, known, said, kept, None, record, factors, alone, parts=parts, beyond=beyond)
+
+
+def divided(frame: pd.DataFrame, project: Project, grid: dict[str, Any]) -> tuple[pd.DataFrame, Optional[pd.DataFrame]]:
+    """The rows that lie in a grid, and where there are such those that lie beyond it."""
+    columns = project.table
+    east, north, up = np.rint((frame[[columns.x, columns.y, columns.z]].to_numpy() - grid["origin"]) / grid["size"]).T
+    levels, rows, width = grid["shape"]
+    inside = (east >= 0) & (east < width) & (north >= 0) & (north < rows) & (up <= 0) & (up > -levels)
+    if inside.all():
+        return frame, None
+    return frame[inside].reset_index(drop=True), frame[~inside].reset_index(drop=True)
 
 
 def read_blocks(path: Path, project: Project, said: Optional[tuple[str, ...]] = None) -> pd.DataFrame:

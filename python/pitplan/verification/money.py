@@ -185,13 +185,19 @@ def near(answer: Answer, names: tuple[str, str]) -> tuple[list[str], int]:
 
 def by_floats(answer: Answer) -> tuple[np.ndarray, np.ndarray, np.ndarray]:
     """Mining cost, revenue, and cost of processing and selling of each block, as floats that are not rounded."""
-    project, money, columns = answer.project, answer.project.money, answer.project.table
+    money, columns = answer.project.money, answer.project.table
     deeper = np.array([float(more_for_depth(answer, z)) for z in answer.elevations])
     mining = answer.tonnes * (by_code(money.mining_cost, answer.rows, columns) + deeper[answer.cells[0]])
+    return mining, *gains_by_floats(answer)
+
+
+def gains_by_floats(answer: Answer) -> tuple[np.ndarray, np.ndarray]:
+    """Revenue, and cost of processing and selling of each block, as floats that are not rounded."""
+    project, money, columns = answer.project, answer.project.money, answer.project.table
     revenue, selling = np.zeros(len(answer.rows)), np.zeros(len(answer.rows))
     for metal in project.metals:
         quantity = answer.quantities[metal.name]
         revenue += quantity * float(metal.price) * (1 - float(money.royalty))
         selling += quantity * float(metal.selling_cost)
     a_tonne = by_code(money.processing_cost, answer.rows, columns) + float(money.royalty_per_tonne)
-    return mining, revenue, answer.feed * a_tonne + selling
+    return revenue, answer.feed * a_tonne + selling
