@@ -3,7 +3,6 @@
 from __future__ import annotations
 
 import codecs
-import gzip
 import json
 import os
 from dataclasses import dataclass
@@ -17,7 +16,7 @@ from .errors import PlanError
 from .guesses import PRECIOUS, Columns, MetalGuess, columns_of
 from .summary import Axis, Grade, mean_of, not_used
 from .table import has_decimal_commas, read_columns
-from .table_format import NAMES, TableFormat, guessed_separator
+from .table_format import NAMES, UNREADABLE, TableFormat, guessed_separator, opened, unreadable
 
 TEMPLATES = Path(__file__).resolve().parent / "templates"
 SEEN = 1 << 20
@@ -82,10 +81,10 @@ def numbers_where_all_are(frame: pd.DataFrame) -> pd.DataFrame:
 def encoding_of(file: Path) -> str:
     """What the text's mark says; else UTF-8 where it is that, and else the one of Western Windows."""
     try:
-        with gzip.open(file) if file.suffix == ".gz" else open(file, "rb") as text:
+        with opened(file) as text:
             seen = text.read(SEEN)
-    except (OSError, EOFError) as error:
-        raise PlanError(f"{file}: cannot be read: {getattr(error, 'strerror', None) or error}") from error
+    except UNREADABLE as error:
+        raise unreadable(file, error) from error
     for mark, name in MARKS.items():
         if seen.startswith(mark):
             return name
