@@ -60,7 +60,7 @@ WRITTEN = {
     *SCHEDULE_PICTURES.values(),
     WORKBOOK,
 }
-WRITTEN |= {PIT_MODEL, PITS}
+WRITTEN |= {PIT_MODEL, PITS, *(exports.name_of(kind, REFERENCE_FACTOR) for kind in exports.WRITERS)}
 
 
 def read(project: Source) -> Project:
@@ -398,8 +398,11 @@ def view(folder: Place, progress: Progress = silent) -> Path:
 def export(folder: Place, kind: str, factor: int = REFERENCE_FACTOR, progress: Progress = silent) -> Path:
     """Writes the shells of a folder that `write_shells` has written for other programs; gives the file's path.
 
-    `csv` and `vti` hold the shells of all factors, and `dxf` the outline of one at each level, in metres. The factor is in per mille.
-    Raises PlanError where the folder has no shells or not this factor, or the kind is another, and MissingPackage without a library.
+    `table` is the planner's own table, row by row, with each block's factors, phase and year behind it; `csv` and `vti` hold the shells of
+    all factors, and `dxf` the outline of one at each level, in metres. The factor is in per mille.
+
+    Raises PlanError where the folder has no shells or not this factor, the kind is another, or what is written is not right, and
+    MissingPackage without a library.
     """
     if kind not in exports.WRITERS:
         raise PlanError(f"{kind} is none of {', '.join(exports.WRITERS)}")
@@ -407,6 +410,8 @@ def export(folder: Place, kind: str, factor: int = REFERENCE_FACTOR, progress: P
     target = result.path / exports.name_of(kind, factor)
     with progress.step(f"writing {target.name}"), files.staged_file(target) as path:
         exports.WRITERS[kind](path, result, factor)
+        if kind == "table":
+            verification.demand([verification.verify_table(result.path, path)])
     return target
 
 

@@ -1,4 +1,4 @@
-"""The shells for other programs: CSV for any, VTK image data for ParaView, and DXF for drawing programs."""
+"""The shells for other programs: the planner's own table or CSV for any, VTK image data for ParaView, and DXF for drawing programs."""
 
 from __future__ import annotations
 
@@ -7,18 +7,25 @@ from typing import Callable
 
 import numpy as np
 
-from .files import Folder
+from . import planned_table
 from .errors import PlanError
+from .files import Folder
 from .grid import Grid
 from .outlines import rings
 from .packages import load
 
 Writer = Callable[[Path, Folder, int], None]
+PLANNED = "table.csv"
 
 
 def name_of(kind: str, factor: int) -> str:
     """The file's name: a table and image data hold all factors, a drawing one."""
-    return f"pit-{factor}.dxf" if kind == "dxf" else f"pit.{kind}"
+    return {"dxf": f"pit-{factor}.dxf", "table": PLANNED}.get(kind, f"pit.{kind}")
+
+
+def write_table(path: Path, folder: Folder, factor: int) -> None:
+    """The planner's table, row by row, with what was found of each block behind it; `factor` is not looked at."""
+    planned_table.write(path, folder)
 
 
 def write_csv(path: Path, folder: Folder, factor: int) -> None:
@@ -73,4 +80,4 @@ def write_dxf(path: Path, folder: Folder, factor: int) -> None:
     drawing.saveas(path)
 
 
-WRITERS: dict[str, Writer] = {"csv": write_csv, "vti": write_vti, "dxf": write_dxf}
+WRITERS: dict[str, Writer] = {"table": write_table, "csv": write_csv, "vti": write_vti, "dxf": write_dxf}
