@@ -1,4 +1,4 @@
-"""The command line: `pitplan init | prepare | shells | pit | pushbacks | schedule | verify | view | export | audit | scenarios | convert`, and what these need."""
+"""The command line: `pitplan init | prepare | shells | pit | pushbacks | schedule | sensitivity | verify | view | export | audit | scenarios | convert`, and what these need."""
 
 from __future__ import annotations
 
@@ -13,7 +13,7 @@ import minelib
 import pandas as pd
 from minelib.__main__ import add_arguments as add_minelib
 
-from . import __version__, commands, exports, files, init, report, simulation
+from . import __version__, commands, exports, files, init, report, simulation, varied_cases
 from .errors import PlanError
 from .progress import Progress, on_standard_error, silent
 from .project import REFERENCE_FACTOR, Project, load
@@ -34,6 +34,7 @@ def parser() -> argparse.ArgumentParser:
         "pit": "solve the pit of one factor with the project's fixed blocks and without them, and compare the two",
         "pushbacks": "divide the pit of one factor into phases, and write tables, pictures and the report",
         "schedule": "schedule the phases of a pit by years, and write tables, pictures and the report",
+        "sensitivity": "tell how much the pit that is shown hangs on prices, costs, recovery, slopes and capacity, by tables and pictures",
         "view": "write a page that shows the shells in 3D (libjs-three)",
         "export": "write the shells for other programs",
         "audit": "write a folder by which others can check one shell",
@@ -45,13 +46,13 @@ def parser() -> argparse.ArgumentParser:
         sub.add_argument("--quiet", action="store_true", help="tell no progress on standard error")
         if name == "export":
             sub.add_argument("--to", required=True, choices=tuple(exports.WRITERS))
-        if name in ("pit", "pushbacks", "schedule", "shells"):
+        if name in ("pit", "pushbacks", "schedule", "sensitivity", "shells"):
             sub.add_argument("--no-verify", action="store_true", help="leave out the second look at every number")
         if name in ("pit", "export", "audit"):
             is_needed = name == "audit"
             kind = positive if name == "pit" else int
             sub.add_argument("--factor", type=kind, required=is_needed, default=None if is_needed else REFERENCE_FACTOR)
-    text = "look a second time at the numbers of a folder that shells, pit, pushbacks, schedule, scenarios or gather has written"
+    text = "look a second time at the numbers of a folder that shells, pit, pushbacks, schedule, sensitivity, scenarios or gather has written"
     subs.add_parser("verify", help=text, description=text).add_argument("folder", type=Path, help="the folder of the plan or the scenarios")
     add_scenarios(subs)
     text = "write other people's files as the program's"
@@ -175,6 +176,12 @@ def run_command(options: argparse.Namespace, project: Project, folder: Path, pro
         tell_table(table, report.columns_of_ways(table, project), folder)
         if files.read_json(folder / files.SCHEDULE_RECORD)["interrupted"]:
             raise KeyboardInterrupt
+    elif options.command == "sensitivity":
+        folder = options.out or project.folder / "sensitivity"
+        table = commands.sensitivity(project, folder, progress, not options.no_verify)
+        columns = report.columns_of_cases(table, project)
+        print_table([heading for _, heading, _, _ in columns], report.cells_of(report.of_cases(table), columns))
+        print(folder / varied_cases.TABLE)
     elif options.command == "view":
         print(commands.view(folder, progress))
     elif options.command == "export":

@@ -11,7 +11,7 @@ import numpy as np
 import pandas as pd
 
 from . import absent, analyse, auditing, exports, files, page, phase_pictures, phases as phasing, pictures, report, run
-from . import schedule_pictures, simulation, verification, workbook, yearly, yearly_schedule as scheduling
+from . import schedule_pictures, sensitivity_pictures, simulation, varied_cases as varying, verification, workbook, yearly, yearly_schedule as scheduling
 from .errors import PlanError
 from .phases import Phases
 from .plan import Plan, prepare as prepare_plan
@@ -60,7 +60,7 @@ WRITTEN = {
     *SCHEDULE_PICTURES.values(),
     WORKBOOK,
 }
-WRITTEN |= {PIT_MODEL, PITS, *(exports.name_of(kind, REFERENCE_FACTOR) for kind in exports.WRITERS)}
+WRITTEN |= {PIT_MODEL, PITS, varying.TABLE, varying.RECORD, sensitivity_pictures.TORNADO, sensitivity_pictures.SPIDER, *(exports.name_of(kind, REFERENCE_FACTOR) for kind in exports.WRITERS)}
 
 
 def read(project: Source) -> Project:
@@ -382,6 +382,35 @@ def facts_of(record: dict[str, Any], drawn: dict[str, Path]) -> dict[str, Any]:
         "files": {**record["inputs"], **record["files"]},
         "program": record["shells"]["program"],
     }
+
+
+def sensitivity(
+    project: Source, folder: Optional[Place] = None, progress: Progress = silent, verifies: bool = True
+) -> pd.DataFrame:
+    """Tells how much the pit that is shown hangs on single numbers, as `pitplan sensitivity` does.
+
+    Gives a table with a row a case. Into the folder (by default sensitivity in the project's own) it writes this table, the blocks, pictures
+    and the record sensitivity.json, and meanwhile each answer into cases: what is there is not solved again. Raises PlanError where the
+    input or a share is not usable, and where what is written is not right, unless it is not verified.
+    """
+    project = read(project)
+    target = project.folder / "sensitivity" if folder is None else Path(folder)
+    demand_apart(project, target)
+    found = varying.solve(project, target, progress)
+    table = varying.table(found)
+    with files.staged(target, varying.RECORD) as stage:
+        record = varying.record(found, os.path.relpath(project.path, target))
+        varying.write_tables(found, table, stage)
+        files.write_json(stage / varying.RECORD, record)
+        if verifies:
+            with progress.step("verifying"):
+                rules = verification.verify_sensitivity(stage, target)
+            verification.demand(rules)
+            record["verified"] = [f"{rule.name}: {rule.holds}" for rule in rules]
+        with progress.step("drawing"):
+            sensitivity_pictures.write_all(table, varying.rules_of(found.project).pairs, project.money.currency, stage)
+        files.write_json(stage / varying.RECORD, record)
+    return table
 
 
 def view(folder: Place, progress: Progress = silent) -> Path:

@@ -4,7 +4,7 @@ from __future__ import annotations
 
 import codecs
 import tomllib
-from dataclasses import dataclass
+from dataclasses import dataclass, replace
 from decimal import Decimal
 from pathlib import Path
 from typing import Optional, Union
@@ -13,6 +13,7 @@ from .errors import PlanError
 from .phase_rules import PhaseRules, read_phases
 from .schedule_rules import ScheduleRules, read_schedule_rules
 from .section import Section
+from .sensitivity_rules import SensitivityRules, read_sensitivity
 
 # A price or a cost: one for every rock, or one for each rock by its code.
 ByRock = Union[Decimal, dict[str, Decimal]]
@@ -202,6 +203,7 @@ class Project:
     fixed: Optional[FixedRules] = None
     phases: Optional[PhaseRules] = None
     schedule_rules: Optional[ScheduleRules] = None
+    sensitivity: Optional[SensitivityRules] = None
 
 
 def load(path: Union[str, Path], original: Optional[Path] = None) -> Project:
@@ -239,6 +241,9 @@ def of_data(data: dict, path: Path) -> Project:
         phases=read_phases(top.section("pushbacks"), GREATEST_FACTOR) if top.has("pushbacks") else None,
         schedule_rules=read_schedule_rules(top.section("schedule")) if top.has("schedule") else None,
     )
+    if top.has("sensitivity"):
+        metals = tuple(metal.name for metal in project.metals)
+        project = replace(project, sensitivity=read_sensitivity(top.section("sensitivity"), metals))
     output.finish()
     top.finish()
     demand_agreement(project)

@@ -28,7 +28,7 @@ from typing import Optional
 
 from ..errors import PlanError
 from ..project import Project
-from . import absent, answer as answers, fixed, money, phases, planned_table, scenarios, schedule, sums, walls, years
+from . import absent, answer as answers, fixed, money, phases, planned_table, scenarios, schedule, sensitivity, sums, walls, years
 from .answer import TOLD, Answer, Rule, rule
 
 OF_PITS = (walls.verify, sums.verify, sums.verify_worth, years.verify)
@@ -65,8 +65,15 @@ def verify_free(kept: Answer, free: Answer) -> Rule:
     return rule("free", holds, [*differences, *lost], sum(rule_of.count for rule_of in found) + len(lost))
 
 
+def verify_sensitivity(written: Path, folder: Path) -> list[Rule]:
+    """What was looked at of a sensitivity whose tables are in `written` and whose answers are in `folder`. Raises PlanError as `verify`."""
+    return sensitivity.verify(written, folder)
+
+
 def verify_folder(folder: Path) -> list[Rule]:
-    """What was looked at in a folder of scenarios, or else of a plan. Raises PlanError as `verify` of either does."""
+    """What was looked at in a folder of scenarios, of a sensitivity, or else of a plan. Raises PlanError as `verify` of either does."""
+    if (folder / "sensitivity.json").is_file():
+        return verify_sensitivity(folder, folder)
     return scenarios.verify(folder) if (folder / "scenarios.json").is_file() else verify(folder)
 
 
