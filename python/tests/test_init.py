@@ -109,6 +109,11 @@ def test_centres_without_a_name_are_told_by_their_steps():
     assert "steps" in found.centres["x"].why
 
 
+def test_texts_and_names_without_a_letter_are_no_grades():
+    table = rows(3, 3, 3, cu=lambda i, j, k: 0.5 * k).assign(**{"Au class": "rich", "1": 0.5})
+    assert [metal.column for metal in guesses.columns_of(table).metals] == ["cu"]
+
+
 @pytest.mark.parametrize(
     ("values", "is_one"),
     [

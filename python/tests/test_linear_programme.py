@@ -190,11 +190,11 @@ def test_an_interruption_ends_a_process_of_its_own(monkeypatch):
 
     def sleep(arguments, **options):
         begun.append(popen(["/bin/sleep", "600"], **options))
+        Timer(0.3, os.kill, (os.getpid(), signal.SIGINT)).start()
         return begun[0]
 
     monkeypatch.setattr(optimiser, "FEW", 0)
     monkeypatch.setattr(optimiser.subprocess, "Popen", sleep)
-    Timer(0.3, os.kill, (os.getpid(), signal.SIGINT)).start()
     started = time.monotonic()
     with pytest.raises(KeyboardInterrupt):
         lp.relaxed(problem_of(benches_of(*THREE), Limits({"ore_tonnes": 100})), 3)
