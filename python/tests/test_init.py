@@ -132,8 +132,10 @@ def test_centres_have_few_numbers_at_equal_steps(values, is_one):
 
 
 def test_ore_a_year_is_by_taylors_rule(tmp_path):
-    """16 Mt of ore last 0.2 * 16,000,000^(1/4) = 12.65 years: 1,265,000 t a year, by two digits 1,300,000."""
-    table = rows(8, 8, 4, cu=lambda i, j, k: 2.0 if k == 1 else 0.0, tonnes=lambda i, j, k: 250_000)
+    """16 Mt of ore last 0.2 * 16,000,000^(1/4) = 12.65 years: 1,265,000 t a year, by two digits 1,300,000.
+
+    Of a tonne with 0.16 % of copper 85 % at 9000 USD are 12.24 USD, which is more than the 12 for processing; of 0.15 % they are 11.48."""
+    table = rows(8, 8, 4, cu=lambda i, j, k: 0.16 if k == 1 else 0.15, tonnes=lambda i, j, k: 250_000)
     table.to_csv(tmp_path / "m.csv", index=False)
     init.write(tmp_path / "m.csv", tmp_path / "project.toml")
     assert load(tmp_path / "project.toml").schedule.ore_per_year == 1_300_000
