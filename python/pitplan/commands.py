@@ -60,7 +60,7 @@ WRITTEN = {
     *SCHEDULE_PICTURES.values(),
     WORKBOOK,
 }
-WRITTEN |= {PIT_MODEL, PITS, varying.TABLE, varying.RECORD, sensitivity_pictures.TORNADO, sensitivity_pictures.SPIDER, *(exports.name_of(kind, REFERENCE_FACTOR) for kind in exports.WRITERS)}
+WRITTEN |= {PIT_MODEL, PITS, *varying.WRITTEN, *sensitivity_pictures.WRITTEN, *exports.WRITTEN}
 
 
 def read(project: Source) -> Project:
@@ -253,14 +253,15 @@ def write_answer(answered: Answered, record: dict[str, Any], writing: Writing) -
     if answered.schedule is not None:
         record["schedule"] = answered.schedule.shown
     note_verified(plan, record, stage, writing.verifies, progress)
-    with progress.step("drawing"):
+    formats = project.pictures.formats if project.pictures else ()
+    with progress.step("drawing"), pictures.also_as(formats):
         draw(plan, solution, table, chosen, stage)
         yearly.write_years(years, project, chosen, stage / PICTURES["years"])
         drawn = PICTURES | draw_phases(answered, years, stage)
     if answered.schedule is not None:
         with progress.step("writing the workbook"):
             workbook.write(stage / WORKBOOK, sheets_of(answered, table, years))
-    finish(plan, record, [*written(plan), *([PIT_MODEL] if project.fixed else []), *tables_of(answered), *drawn.values()], stage)
+    finish(plan, record, [*written(plan), *([PIT_MODEL] if project.fixed else []), *tables_of(answered), *pictures.files_of(drawn, formats)], stage)
     facts = facts_of(record, {name: stage / file for name, file in drawn.items()})
     if phases is not None:
         facts |= {"phases": report.table_of(phasing.table(phases), report.columns_of_phases, project)}
@@ -320,6 +321,7 @@ def demand_apart(project: Project, folder: Path) -> None:
 
 
 def write_prepared(plan: Plan, stage: Path, progress: Progress) -> dict[str, Any]:
+    pictures.demand_within(plan)
     with progress.step("writing blocks and needs"):
         return plan.write(stage)
 

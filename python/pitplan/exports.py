@@ -81,3 +81,5 @@ def write_dxf(path: Path, folder: Folder, factor: int) -> None:
 
 
 WRITERS: dict[str, Writer] = {"table": write_table, "csv": write_csv, "vti": write_vti, "dxf": write_dxf}
+# Those that hold all factors.
+WRITTEN = tuple(name_of(kind, 0) for kind in WRITERS if kind != "dxf")

@@ -11,6 +11,7 @@ from typing import Optional, Union
 
 from .errors import PlanError
 from .phase_rules import PhaseRules, read_phases
+from .picture_rules import PictureRules, read_pictures
 from .schedule_rules import ScheduleRules, read_schedule_rules
 from .section import Section
 from .sensitivity_rules import SensitivityRules, read_sensitivity
@@ -204,6 +205,7 @@ class Project:
     phases: Optional[PhaseRules] = None
     schedule_rules: Optional[ScheduleRules] = None
     sensitivity: Optional[SensitivityRules] = None
+    pictures: Optional[PictureRules] = None
 
 
 def load(path: Union[str, Path], original: Optional[Path] = None) -> Project:
@@ -241,9 +243,11 @@ def of_data(data: dict, path: Path) -> Project:
         phases=read_phases(top.section("pushbacks"), GREATEST_FACTOR) if top.has("pushbacks") else None,
         schedule_rules=read_schedule_rules(top.section("schedule")) if top.has("schedule") else None,
     )
+    metals = tuple(metal.name for metal in project.metals)
     if top.has("sensitivity"):
-        metals = tuple(metal.name for metal in project.metals)
         project = replace(project, sensitivity=read_sensitivity(top.section("sensitivity"), metals))
+    if top.has("pictures"):
+        project = replace(project, pictures=read_pictures(top.section("pictures"), metals))
     output.finish()
     top.finish()
     demand_agreement(project)

@@ -17,7 +17,7 @@ from matplotlib.ticker import FuncFormatter
 
 from .pictures import STYLE, finish, scaled
 
-TORNADO, SPIDER = "tornado.png", "spider.png"
+WRITTEN = TORNADO, SPIDER = "tornado.png", "spider.png"
 LESS, MORE = "#c0504d", "#1f3f6e"
 COLOURS = ("#0072b2", "#d55e00", "#009e73", "#aa4499", "#b58900", "#555555", "#56b4e9", "#8b0000", "#6b8e23", "#000000")
 MARKS = ("o", "s", "^", "D", "v", "P", "X", "<", ">", "*")

@@ -24,6 +24,7 @@ from .simulation.folder import key_of
 from .varied import Change, given, varied
 
 TABLE, RECORD, CASES = "sensitivity.csv", "sensitivity.json", "cases"
+WRITTEN = (TABLE, RECORD)
 # What the pit as given earns at a case's numbers.
 KEPT = ("worth", "npv_best", "npv_worst", "years")
 WHOLE = ("blocks",)
