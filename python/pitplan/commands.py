@@ -429,8 +429,8 @@ def view(folder: Place, progress: Progress = silent) -> Path:
 def export(folder: Place, kind: str, factor: int = REFERENCE_FACTOR, progress: Progress = silent) -> Path:
     """Writes the shells of a folder that `write_shells` has written for other programs; gives the file's path.
 
-    `table` is the planner's own table, row by row, with each block's factors, phase and year behind it; `csv` and `vti` hold the shells of
-    all factors, and `dxf` the outline of one at each level, in metres. The factor is in per mille.
+    `table` is the planner's own table, row by row, with each block's factors, phase and year behind it; `xlsx` all tables; `csv`, `vti`
+    and `vtu` hold the shells of all factors, and `dxf` the outline of one at each level, in metres. The factor is in per mille.
 
     Raises PlanError where the folder has no shells or not this factor, the kind is another, or what is written is not right, and
     MissingPackage without a library.
