@@ -257,7 +257,11 @@ def test_ore_that_is_reclaimed_before_it_is_stocked_is_found(written):
             table.loc[late, "year"] = 1
             table.to_csv(written / name, index=False)
         found = [text for rule in verify(written) for text in rule.differences]
-        assert any("more is reclaimed of phase" in text for text in found)
+        # Of three levels the lowest has its centre 20 m below the first, at 25 m.
+        early = pd.read_csv(written / "milling.csv").query("reclaimed_tonnes > 0")
+        places = {f"phase {row.phase}, level {(25 - row.bench) / 10:.0f}, bin {row.bin}" for row in early.itertuples()}
+        said = {text.partition(" of ")[2] for text in found if "more is reclaimed" in text}
+        assert said == {f"{place} than is stocked" for place in places} and len(said) > 0
     finally:
         for name, text in kept.items():
             (written / name).write_text(text)
