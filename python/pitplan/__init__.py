@@ -21,7 +21,7 @@ Functions write what the subcommands do, by default into the project's own folde
     cases = pitplan.sensitivity("project.toml")            # one row a case: a number more or less by a share
     found = pitplan.scenarios("project.toml")              # found.probability, found.table, found.quantiles; found.notes
 
-`Request` says where and how scenarios are solved; `gather(folder)` gathers what others have solved.
+`Request` says where and how scenarios are solved, and `Where` on which Dask cases are; `gather(folder)` gathers what others have solved.
 
 Functions `plot_...` draw on axes of your own, which they give back, and leave matplotlib's backend as it is: those of `pitplan.pictures`
 take a table of shells, or `pictures.scene_of(plan, solution)`; those of `pitplan.phase_pictures` its
@@ -39,6 +39,7 @@ from .plan import Plan, prepare
 from .project import Project, load
 from .run import Solution, solve
 from .simulation import Request, ScenarioResult
+from .simulation.on_dask import Where
 from .verification import Rule
 
 __version__ = "0.1.0"
@@ -54,6 +55,7 @@ __all__ = [
     "Rule",
     "ScenarioResult",
     "Solution",
+    "Where",
     "audit",
     "blocks",
     "export",

@@ -17,6 +17,7 @@ from . import __version__, commands, exports, files, init, report, simulation, v
 from .errors import PlanError
 from .progress import Progress, on_standard_error, silent
 from .project import REFERENCE_FACTOR, Project, load
+from .simulation.on_dask import Where
 from .verification import demand
 
 # As a shell has it: 128 and the signal's number.
@@ -48,6 +49,10 @@ def parser() -> argparse.ArgumentParser:
             sub.add_argument("--to", required=True, choices=tuple(exports.WRITERS))
         if name in ("pit", "pushbacks", "schedule", "sensitivity", "shells"):
             sub.add_argument("--no-verify", action="store_true", help="leave out the second look at every number")
+        if name == "sensitivity":
+            text = "local (processes, by Dask) or tcp://host:port (a Dask scheduler; default: here, one case after the other)"
+            sub.add_argument("--on", type=scheduler_of, metavar="WHERE", help=text)
+            sub.add_argument("--workers", type=positive, help="processes of local (default: one for each processor)")
         if name in ("pit", "export", "audit"):
             is_needed = name == "audit"
             kind = positive if name == "pit" else int
@@ -98,6 +103,12 @@ def where_of(text: str) -> str:
     if text in ("local", "slurm", "parallel") or "://" in text:
         return text
     raise argparse.ArgumentTypeError(f"{text} is none of local, tcp://host:port, slurm, parallel")
+
+
+def scheduler_of(text: str) -> str:
+    if text == "local" or "://" in text:
+        return text
+    raise argparse.ArgumentTypeError(f"{text} is none of local, tcp://host:port")
 
 
 def positive(text: str) -> int:
@@ -178,7 +189,8 @@ def run_command(options: argparse.Namespace, project: Project, folder: Path, pro
             raise KeyboardInterrupt
     elif options.command == "sensitivity":
         folder = options.out or project.folder / "sensitivity"
-        table = commands.sensitivity(project, folder, progress, not options.no_verify)
+        where = Where(options.on, options.workers) if options.on else None
+        table = commands.sensitivity(project, folder, where, progress, not options.no_verify)
         columns = report.columns_of_cases(table, project)
         print_table([heading for _, heading, _, _ in columns], report.cells_of(report.of_cases(table), columns))
         print(folder / varied_cases.TABLE)

@@ -18,6 +18,7 @@ from .plan import Plan, prepare as prepare_plan
 from .progress import Progress, silent
 from .project import REFERENCE_FACTOR, Project, load
 from .simulation import Request, ScenarioResult
+from .simulation.on_dask import Where
 from .verification import Rule
 from .yearly_schedule import YearlySchedule
 
@@ -387,7 +388,7 @@ def facts_of(record: dict[str, Any], drawn: dict[str, Path]) -> dict[str, Any]:
 
 
 def sensitivity(
-    project: Source, folder: Optional[Place] = None, progress: Progress = silent, verifies: bool = True
+    project: Source, folder: Optional[Place] = None, where: Optional[Where] = None, progress: Progress = silent, verifies: bool = True
 ) -> pd.DataFrame:
     """Tells how much the pit that is shown hangs on single numbers, as `pitplan sensitivity` does.
 
@@ -398,7 +399,7 @@ def sensitivity(
     project = read(project)
     target = project.folder / "sensitivity" if folder is None else Path(folder)
     demand_apart(project, target)
-    found = varying.solve(project, target, progress)
+    found = varying.solve(project, target, where, progress)
     table = varying.table(found)
     with files.staged(target, varying.RECORD) as stage:
         record = varying.record(found, os.path.relpath(project.path, target))

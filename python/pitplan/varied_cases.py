@@ -16,10 +16,12 @@ import numpy as np
 import pandas as pd
 
 from . import analyse, files, run, table as tables
+from .packages import load
 from .plan import Plan, prepare
 from .progress import Progress, silent
 from .project import Project
 from .sensitivity_rules import SensitivityRules
+from .simulation import on_dask
 from .simulation.folder import key_of
 from .varied import Change, given, varied
 
@@ -88,27 +90,57 @@ def cases_of(rules: SensitivityRules) -> list[Case]:
     return [Case(), *singles, *beside, *both]
 
 
-def solve(project: Project, folder: Path, progress: Progress = silent) -> Sensitivity:
-    """Solves the cases that have no answer in the folder yet, and writes each answer as it is found.
+@dataclass(frozen=True)
+class Asked:
+    """What every case is made of: the project with the factors up to the shown one, its table, and the pit as given, once it is found."""
 
-    Raises PlanError where the table or a case cannot be planned with, and ProgramError where the program refuses.
+    project: Project
+    frame: pd.DataFrame
+    as_given: Found | None = None
+
+
+def solve(project: Project, folder: Path, where: on_dask.Where | None, progress: Progress = silent) -> Sensitivity:
+    """Solves the cases that have no answer in the folder yet, one after the other or where it is said, and writes each answer as it is
+    found.
+
+    Raises PlanError where the table or a case cannot be planned with, ProgramError where the program refuses, and MissingPackage without
+    Dask where it is asked for.
     """
     frame = tables.read(project).frame
     plan = prepare(project, frame, progress)
     solution = run.solve(plan, progress=progress)
     factor = analyse.chosen_factor(analyse.shells(plan, solution), project.schedule)
-    project = up_to(project, factor)
+    asked = Asked(up_to(project, factor), frame)
     begun = {"project": files.hash_of(project.path), "inputs": hashes_of(project), "program": run.identity()["sha256"], "factor": factor}
     cases = cases_of(rules_of(project))
     keys = {case: key_of({**begun, "changes": [[name, str(share)] for name, share in case.changes]}) for case in cases}
-    answers: dict[Case, Found] = {}
-    for number, case in enumerate(cases, 1):
-        path = folder / CASES / f"{keys[case]}.npz"
-        if not path.is_file():
-            with progress.step(f"{number} of {len(cases)}: {case.label}"):
-                write(path, find(case, project, frame, answers.get(Case())))
-        answers[case] = read(path)
-    return Sensitivity(project, plan, factor, answers, keys)
+    paths = {case: folder / CASES / f"{keys[case]}.npz" for case in cases}
+    if not paths[Case()].is_file():
+        answer(Case(), asked, paths[Case()])
+    asked = replace(asked, as_given=read(paths[Case()]))
+    missing = {case: path for case, path in paths.items() if not path.is_file()}
+    if where is None:
+        for number, (case, path) in enumerate(missing.items(), 1):
+            with progress.step(f"{number} of {len(missing)}: {case.label}"):
+                answer(case, asked, path)
+    elif missing:
+        over_dask(missing, asked, where, progress)
+    return Sensitivity(asked.project, plan, factor, {case: read(path) for case, path in paths.items()}, keys)
+
+
+def answer(case: Case, asked: Asked, path: Path) -> None:
+    """Finds a case's answer and writes it."""
+    write(path, find(case, asked))
+
+
+def over_dask(missing: dict[Case, Path], asked: Asked, where: on_dask.Where, progress: Progress) -> None:
+    """Each case as a task of its own, tried again where its worker is lost. Raises PlanError as the case does."""
+    distributed = load("distributed", on_dask.PACKAGE, "sensitivity --on local or a Dask scheduler")
+    with progress.step(f"solving {len(missing):,} cases"), on_dask.client_of(distributed, where) as client:
+        shared = client.scatter(asked, broadcast=True)
+        tasks = [client.submit(answer, case, shared, path.resolve(), pure=False, retries=on_dask.RETRIES) for case, path in missing.items()]
+        for task in distributed.as_completed(tasks):
+            task.result()
 
 
 def up_to(project: Project, factor: int) -> Project:
@@ -125,13 +157,13 @@ def hashes_of(project: Project) -> dict[str, str]:
     return {str(path): files.hash_of(path) for path in named}
 
 
-def find(case: Case, project: Project, frame: pd.DataFrame, as_given: Found | None) -> Found:
+def find(case: Case, asked: Asked) -> Found:
     """The pit of a case, and what the pit as given, where there is one, earns in it."""
-    plan = prepare(varied(project, case.changes), frame)
+    plan = prepare(varied(asked.project, case.changes), asked.frame)
     solution = run.solve(plan)
     row = of_last(analyse.shells(plan, solution))
     entry = solution.entry[: plan.grid.count]
-    kept = entry if as_given is None else as_given.entry
+    kept = entry if asked.as_given is None else asked.as_given.entry
     nodes = np.concatenate([kept, np.zeros(len(plan.values.processed), dtype=kept.dtype)])
     earned = of_last(analyse.shells(plan, replace(solution, entry=nodes)))
     row |= {f"kept_{name}": np.nan if case.moves_walls else earned[name] for name in KEPT}

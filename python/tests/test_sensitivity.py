@@ -9,7 +9,7 @@ import pytest
 from conftest import PROJECT, rows
 from matplotlib.figure import Figure
 
-from pitplan import PlanError, commands, load, run, sensitivity_pictures, varied, varied_cases
+from pitplan import PlanError, Where, commands, load, run, sensitivity_pictures, varied, varied_cases
 from pitplan.cli import main
 from pitplan.verification import verify_folder
 
@@ -191,6 +191,24 @@ def test_files_and_what_the_command_line_tells(small, capsys, monkeypatch, undra
     assert "in 25 cases: " in capsys.readouterr().out
     assert main(["sensitivity", str(path), "--quiet", "--no-verify"]) == 0
     assert json.loads((folder / "sensitivity.json").read_text())["verified"] == []
+
+
+def test_cases_over_dask_are_those_of_one_after_the_other(small, capsys):
+    pytest.importorskip("distributed")
+    path = small('by = [-0.1, 0.1]\nvary = ["price", "capacity"]')
+    assert main(["sensitivity", str(path), "--quiet", "--on", "local", "--workers", "1", "--out", str(path.parent / "dask")]) == 0
+    commands.sensitivity(path, path.parent / "one", verifies=False)
+    assert (path.parent / "dask" / "sensitivity.csv").read_bytes() == (path.parent / "one" / "sensitivity.csv").read_bytes()
+    assert len(list((path.parent / "dask" / "cases").iterdir())) == 5
+    path.write_text(path.read_text().replace("[-0.1, 0.1]", "[-0.9999]"))
+    with pytest.raises(PlanError, match="are the capacities in tonnes a year"):
+        commands.sensitivity(path, path.parent / "dask", Where("local", 1))
+
+
+def test_cases_are_solved_here_or_over_dask_alone(small, capsys):
+    with pytest.raises(SystemExit):
+        main(["sensitivity", str(small()), "--on", "slurm"])
+    assert "slurm is none of local, tcp://host:port" in capsys.readouterr().err
 
 
 @pytest.mark.parametrize(
