@@ -10,7 +10,7 @@ from matplotlib.patheffects import withStroke
 from .grid import Grid, metres
 from .outlines import edges
 
-MOST_CONTOURS_NAMED = 6
+MOST_CONTOURS, MOST_CONTOURS_NAMED = 20, 6
 # The share of a map's width that a scale bar has at most.
 MOST_OF_MAP = 0.25
 HALO = [withStroke(linewidth=2.2, foreground="white")]
@@ -47,19 +47,24 @@ def mark_sections(ax: Axes, grid: Grid, north_of: float, east_of: float) -> None
         ax.annotate(name, at, xytext=shift, ha="center", **words)
 
 
-def contours(ax: Axes, grid: Grid, floor: np.ndarray) -> None:
-    """A line round all that is dug down to each bench's floor or deeper, some with their elevation; `floor` has for each row and column the
-    elevation of the pit's floor in metres, nan where there is none."""
+def contours(ax: Axes, grid: Grid, floor: np.ndarray) -> int:
+    """Lines round all that is dug down to a bench's floor or deeper, some with their elevation; gives how many benches are between two.
+
+    floor  for each row and column the elevation of the pit's floor in metres, nan where there is none
+    """
     west, _, south, _, _, _ = grid.extent()
     size = np.array(grid.size[:2])
     benches = np.unique(floor[np.isfinite(floor)])[::-1]
-    step = -(-len(benches) // MOST_CONTOURS_NAMED)
-    for number, height in enumerate(benches):
+    step = max(-(-len(benches) // MOST_CONTOURS), 1)
+    drawn = benches[::step]
+    named = max(-(-len(drawn) // MOST_CONTOURS_NAMED), 1)
+    for number, height in enumerate(drawn):
         with np.errstate(invalid="ignore"):
             lines = edges(floor <= height) * size + (west, south)
         ax.add_collection(LineCollection(lines, colors="black", linewidths=0.5 if number else 1.3))
-        if number % step == 0:
+        if number % named == 0:
             # To the north-east and the south-west by turns, where names keep apart and off the sections.
             middles = lines.mean(axis=1)
-            x, y = middles[(middles.sum(axis=1) * (1 if number // step % 2 else -1)).argmax()]
+            x, y = middles[(middles.sum(axis=1) * (1 if number // named % 2 else -1)).argmax()]
             ax.text(x, y, metres(height), ha="center", va="center", fontsize=7, path_effects=HALO)
+    return step

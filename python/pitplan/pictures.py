@@ -305,9 +305,9 @@ def plot_floor(scene: Scene, ax: Axes) -> Axes:
     deepest = np.where(scene.dug, level, -1).max(axis=0)
     floor = np.where(deepest >= 0, top - (deepest + 1) * scene.grid.size[2], np.nan)
     image = ax.imshow(floor, extent=(west, east, south, north), cmap="cividis", **MAP)
-    ax.set_title(f"Floor of the pit at factor {scene.chosen}, elevation in m")
+    between = contours(ax, scene.grid, floor) * scene.grid.size[2]
+    ax.set_title(f"Floor at factor {scene.chosen}, elevation in m, a line each {metres(between)} m")
     ax.figure.colorbar(image, ax=ax, shrink=0.85)
-    contours(ax, scene.grid, floor)
     x, y, _ = scene.grid.centres(np.array(scene.section_row * scene.grid.shape[2] + scene.section_column))
     mark_sections(ax, scene.grid, float(y), float(x))
     mark_map(ax, scene.grid)

@@ -54,6 +54,7 @@ def test_a_map_has_a_bar_of_a_quarter_at_most_and_an_arrow_upwards():
 def test_contours_go_round_what_is_dug_to_each_bench():
     """Nine columns are dug to 90 m or deeper, and one of them to 80."""
     axes = drawn(lambda ax: pictures.plot_floor(scene(), ax))
+    assert axes.get_title() == "Floor at factor 1000, elevation in m, a line each 10 m"
     high, low = (np.array(lines.get_segments()) for lines in axes.collections)
     assert len(high) == 12 and len(low) == 4
     assert (high[..., 0].min(), high[..., 0].max(), high[..., 1].min(), high[..., 1].max()) == (430_075, 430_150, 6_512_040, 6_512_100)
@@ -64,11 +65,20 @@ def test_contours_go_round_what_is_dug_to_each_bench():
     assert names["80"] in [(430_125, 6_512_070), (430_112.5, 6_512_080)]
 
 
-def test_of_many_contours_six_have_a_name_at_most():
-    deep = np.arange(20.0).reshape(4, 5)
-    high = Grid((20, 4, 5), (5.0, 5.0, 95.0), (10.0, 10.0, 1.0), np.arange(400))
-    axes = drawn(lambda ax: map_marks.contours(ax, high, deep))
-    assert len(axes.collections) == 20 and [text.get_text() for text in axes.texts] == ["19", "15", "11", "7", "3"]
+@pytest.mark.parametrize(
+    ("benches", "step", "lines", "names"), [(20, 1, 20, ["19", "15", "11", "7", "3"]), (21, 2, 11, ["20", "16", "12", "8", "4", "0"]), (6, 1, 6, list("543210"))]
+)
+def test_of_many_benches_some_have_a_line_and_some_of_these_a_name(benches, step, lines, names):
+    deep = np.arange(float(benches))[None]
+    high = Grid((benches, 1, benches), (5.0, 5.0, 95.0), (10.0, 10.0, 1.0), np.arange(benches**2))
+    axes = Figure().subplots()
+    assert map_marks.contours(axes, high, deep) == step
+    assert len(axes.collections) == lines and [text.get_text() for text in axes.texts] == names
+
+
+def test_a_pit_that_is_empty_has_no_contours():
+    axes = Figure().subplots()
+    assert map_marks.contours(axes, grid(), np.full((5, 6), np.nan)) == 1 and not axes.collections
 
 
 def test_the_lines_of_sections_are_where_they_go():
