@@ -246,6 +246,16 @@ def test_a_way_above_a_bound_is_found(copied, name):
     assert wrong(copied) == {"schedule value"}
 
 
+def test_what_the_rule_leaves_is_found(copied):
+    """It digs all there is, unless so many years are given; a linear programme may leave what does not pay."""
+    rewrite(copied / "schedule.csv", lambda table: table[table.duplicated("way", keep="last")])
+    said = [text for rule in verify(copied) if rule.name == "schedule value" for text in rule.differences]
+    assert sum(" leaves " in text for text in said) == 1 and any(text.startswith("rule leaves ") for text in said)
+    project = copied.parents[1] / "project.toml"
+    project.write_text(project.read_text().replace("[schedule]", "[schedule]\nyears = 50"))
+    assert not any(" leaves " in text for rule in verify(copied) for text in rule.differences)
+
+
 def test_cash_that_is_discounted_otherwise_is_found(copied):
     rewrite(copied / "schedule.csv", with_more("discounted", 1))
     assert "schedule value" in wrong(copied)
