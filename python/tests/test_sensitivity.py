@@ -137,6 +137,21 @@ def test_a_case_is_the_project_with_this_number_written_there(plan_folder, tmp_p
     assert table.loc[1, "npv"] != table.loc[0, "npv"]
 
 
+def test_fixed_blocks_hold_in_every_case_and_ore_may_be_settled(plan_folder):
+    """A block at the corner must be dug and the last column may not be; with ore as it is at the price as given of each case."""
+    table = rows(9, 8, 4, **RICH, must=lambda i, j, k: int((i, j, k) == (0, 0, 3)), never=lambda i, j, k: int(i == 8))
+    words = '\n[fixed]\nforced = "must"\nbarred = "never"\n[sensitivity]\nby = [-0.1]\n'
+    path = plan_folder(table, PROJECT + words, *MORE, ("processing_cost = 10\n", 'processing_cost = 10\ncutoff = "fixed"\n'))
+    found = commands.sensitivity(path)
+    shells = commands.write_shells(path, verifies=False).set_index("factor")
+    assert found.loc[0, ["blocks", "worth"]].tolist() == pytest.approx(shells.loc[1000, ["blocks", "worth"]].tolist())
+    folder = path.parent / "plan" / "sensitivity"
+    blocks, record = pd.read_csv(folder / "blocks.csv"), json.loads((folder / "sensitivity.json").read_text())
+    for case in record["cases"]:
+        entry = np.load(folder / "cases" / f"{case['key']}.npz")["entry"][blocks["id"]]
+        assert (entry[blocks["must"] == 1] == 500).all() and not entry[blocks["never"] == 1].any()
+
+
 def test_costs_by_elevation_and_walls_by_azimuth(plan_folder, tmp_path):
     walls = ("[slopes]\nlevels = 3\n", "[slopes]\nlevels = 3\n"), ('pattern = "1:5"', "azimuths = [[0, 40], [180, 50]]")
     money = ("mining_cost = 2\n", "mining_cost = 2\nmining_cost_by_elevation = [[5, 2], [35, 0]]\n"), ("rate = 0.1", "rate = 0.1\nchosen = 1000")
