@@ -13,7 +13,7 @@ import minelib
 import pandas as pd
 from minelib.__main__ import add_arguments as add_minelib
 
-from . import __version__, commands, exports, files, init, report, simulation, varied_cases
+from . import __version__, commands, exports, files, init, report, sensitivity_files, simulation
 from .errors import PlanError
 from .progress import Progress, on_standard_error, silent
 from .project import REFERENCE_FACTOR, Project, load
@@ -193,7 +193,7 @@ def run_command(options: argparse.Namespace, project: Project, folder: Path, pro
         table = commands.sensitivity(project, folder, where, progress, not options.no_verify)
         columns = report.columns_of_cases(table, project)
         print_table([heading for _, heading, _, _ in columns], report.cells_of(report.of_cases(table), columns))
-        print(folder / varied_cases.TABLE)
+        print(folder / sensitivity_files.TABLE)
     elif options.command == "view":
         print(commands.view(folder, progress))
     elif options.command == "export":

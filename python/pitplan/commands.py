@@ -11,7 +11,7 @@ import numpy as np
 import pandas as pd
 
 from . import absent, analyse, auditing, exports, files, page, phase_pictures, phases as phasing, pictures, report, run
-from . import schedule_pictures, sensitivity_pictures, simulation, varied_cases as varying, verification, workbook, yearly, yearly_schedule as scheduling
+from . import schedule_pictures, sensitivity_files, sensitivity_pictures, simulation, varied_cases, verification, workbook, yearly, yearly_schedule as scheduling
 from .errors import PlanError
 from .phases import Phases
 from .plan import Plan, prepare as prepare_plan
@@ -61,7 +61,7 @@ WRITTEN = {
     *SCHEDULE_PICTURES.values(),
     WORKBOOK,
 }
-WRITTEN |= {PIT_MODEL, PITS, *varying.WRITTEN, *sensitivity_pictures.WRITTEN, *exports.WRITTEN}
+WRITTEN |= {PIT_MODEL, PITS, *sensitivity_files.WRITTEN, *sensitivity_pictures.WRITTEN, *exports.WRITTEN}
 
 
 def read(project: Source) -> Project:
@@ -399,21 +399,7 @@ def sensitivity(
     project = read(project)
     target = project.folder / "sensitivity" if folder is None else Path(folder)
     demand_apart(project, target)
-    found = varying.solve(project, target, where, progress)
-    table = varying.table(found)
-    with files.staged(target, varying.RECORD) as stage:
-        record = varying.record(found, os.path.relpath(project.path, target))
-        varying.write_tables(found, table, stage)
-        files.write_json(stage / varying.RECORD, record)
-        if verifies:
-            with progress.step("verifying"):
-                rules = verification.verify_sensitivity(stage, target)
-            verification.demand(rules)
-            record["verified"] = [f"{rule.name}: {rule.holds}" for rule in rules]
-        with progress.step("drawing"):
-            sensitivity_pictures.write_all(table, varying.rules_of(found.project).pairs, project.money.currency, stage)
-        files.write_json(stage / varying.RECORD, record)
-    return table
+    return sensitivity_files.write(varied_cases.solve(project, target, where, progress), target, progress, verifies)
 
 
 def view(folder: Place, progress: Progress = silent) -> Path:

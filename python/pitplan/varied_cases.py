@@ -25,8 +25,7 @@ from .simulation import on_dask
 from .simulation.folder import key_of
 from .varied import Change, given, varied
 
-TABLE, RECORD, CASES = "sensitivity.csv", "sensitivity.json", "cases"
-WRITTEN = (TABLE, RECORD)
+CASES = "cases"
 # What the pit as given earns at a case's numbers.
 KEPT = ("worth", "npv_best", "npv_worst", "years")
 WHOLE = ("blocks",)
@@ -202,37 +201,3 @@ def table(found: Sensitivity) -> pd.DataFrame:
     order = [name for name in frame if name not in (*kept, "npv")]
     at = order.index("npv_best")
     return frame[[*order[:at], "npv", *order[at:], *kept]]
-
-
-def record(found: Sensitivity, project: str) -> dict[str, Any]:
-    """What was asked and by what, for the second look; `project` is the place of the project as told from the folder."""
-    return {
-        "project": project,
-        "title": found.project.title,
-        "program": run.identity(),
-        "inputs": {path.name: files.hash_of(path) for path in (found.project.path, found.project.table.file)},
-        "grid": found.plan.record_of_grid(),
-        "factor": found.factor,
-        "cases": [
-            {"changes": [[name, str(share)] for name, share in case.changes], "key": found.keys[case], "walls": answer.walls}
-            for case, answer in found.answers.items()
-        ],
-        "verified": [],
-    }
-
-
-def write_tables(found: Sensitivity, cases: pd.DataFrame, stage: Path) -> None:
-    """sensitivity.csv, and blocks.csv with the factor of each block in the pits of the project as given."""
-    blocks = found.plan.blocks
-    blocks["factor"] = found.answers[Case()].entry[blocks["id"].to_numpy()]
-    blocks.to_csv(stage / files.TABLE, index=False)
-    shown(cases).to_csv(stage / TABLE, index=False)
-
-
-def shown(cases: pd.DataFrame) -> pd.DataFrame:
-    """Sums to a thousandth, grades, ratios and years to a millionth."""
-    result = cases.copy()
-    for name in result.columns:
-        if result[name].dtype == np.float64 and name not in ("share", "second_share"):
-            result[name] = result[name].round(6 if name.startswith("grade_") or name.endswith(("ratio", "years")) else 3) + 0.0
-    return result
