@@ -288,6 +288,12 @@ def test_a_way_that_is_shown_and_earns_less_is_found(copied):
     assert "years of blocks" in wrong(copied)
 
 
+def test_great_amounts_are_right_too(plan_folder):
+    """Billions, of which a float holds no thousandths of a cent, at the price as given a millionfold."""
+    table, folder = scheduled(plan_folder, text=PHASES.replace("price = 8000", "price = 8_123_456_789.123"))
+    assert table["value"].min() > 1e9 and wrong(folder) == set()
+
+
 def test_a_case_of_no_way_is_found(copied):
     rewrite(copied / "years.csv", lambda table: table.assign(case=table["case"].replace("rule", "hand")))
     assert wrong(copied) == {"years", "schedule value"}
