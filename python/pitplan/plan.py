@@ -47,6 +47,7 @@ class Plan:
     summary what the table holds: extents, tonnes, grades with units, and columns that say nothing
     fixed   blocks that must be dug, and blocks that may not be
     settled what is dug and what is left for their sake; None where the project has no `[fixed]`
+    left_out how many rows of the table no shell can reach, of a model too large for the program
     """
 
     project: Project
@@ -61,6 +62,7 @@ class Plan:
     summary: list[str] = field(default_factory=list)
     fixed: FixedBlocks = NOTHING
     settled: Optional[Settled] = None
+    left_out: int = 0
 
     def __repr__(self) -> str:
         """A few lines, since the blocks themselves are thousands."""
@@ -171,6 +173,7 @@ class Plan:
             "cells_without_a_row": self.grid.count - len(self.table),
             "of_these_not_above_the_highest_of_their_column": len(absent.unknown_cells(self.grid)),
             "greatest_shift_of_a_centre": greatest_shift(self.table, self.grid, self.project),
+            **({"rows_left_out": self.left_out} if self.left_out else {}),
         }
 
     def notes_of_needs(self, pairs: Pairs) -> list[str]:
@@ -229,7 +232,7 @@ def prepare(
             walls, dropped = laying.walls_of(model.region, model.grid, project.slopes), [note]
     with progress.step("weighing the blocks"):
         plan = plan_of(project, model.frame, model.grid, walls, model.source)
-    plan.filled, plan.summary = checked.filled, summary
+    plan.filled, plan.summary, plan.left_out = checked.filled, summary, len(frame) - len(model.frame)
     plan.notes = [*checked.notes, *dropped, *notes_of(plan)]
     return plan
 

@@ -13,8 +13,10 @@ from typing import Optional, Union
 from .errors import PlanError
 from .money_rules import ByRegion, Metal, Money, Process, read_metal, read_money, read_process
 from .phase_rules import PhaseRules, read_phases
+from .picture_rules import PictureRules, read_pictures
 from .schedule_rules import ScheduleRules, read_schedule_rules
 from .section import Section
+from .sensitivity_rules import SensitivityRules, read_sensitivity
 
 REFERENCE_FACTOR = 1000
 GREATEST_FACTOR = 100_000
@@ -196,6 +198,8 @@ class Project:
     phases: Optional[PhaseRules] = None
     schedule_rules: Optional[ScheduleRules] = None
     processes: tuple[Process, ...] = ()
+    sensitivity: Optional[SensitivityRules] = None
+    pictures: Optional[PictureRules] = None
 
     @property
     def ways(self) -> tuple[Project, ...]:
@@ -244,6 +248,11 @@ def of_data(data: dict, path: Path) -> Project:
         schedule_rules=read_schedule_rules(top.section("schedule")) if top.has("schedule") else None,
         processes=processes,
     )
+    metals = tuple(metal.name for metal in project.metals)
+    if top.has("sensitivity"):
+        project = replace(project, sensitivity=read_sensitivity(top.section("sensitivity"), metals))
+    if top.has("pictures"):
+        project = replace(project, pictures=read_pictures(top.section("pictures"), metals))
     output.finish()
     top.finish()
     demand_agreement(project)
@@ -297,8 +306,9 @@ def demand_processes_agree(project: Project) -> None:
         for name in process.recovery:
             if name not in metals:
                 raise PlanError(f"{path}: [[processes]] {process.name} recovers {name}, which is none of the [[metals]] {', '.join(metals)}")
-    if names and project.scenarios:
-        raise PlanError(f"{path}: [scenarios] are solved with one process: leave out [[processes]]")
+    for section, there in (("[scenarios] are", project.scenarios), ("[sensitivity] is", project.sensitivity)):
+        if names and there:
+            raise PlanError(f"{path}: {section} solved with one process: leave out [[processes]]")
     rules = project.schedule_rules
     if names and rules and (rules.bins is not None or rules.ore_per_year is not None):
         raise PlanError(f"{path}: [schedule] bins and ore_per_year are of one process: leave them out, or [[processes]]")

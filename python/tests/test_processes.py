@@ -217,6 +217,7 @@ def test_phases_and_schedules_keep_to_the_capacities(plan_folder, blank_pictures
         ([*WITH, ("{ copper = 0.4 }", "{ gold = 0.4 }")], r"\[\[processes\]\] leach recovers gold, which is none of the \[\[metals\]\] copper"),
         ([*WITH, ("[shells]", "[pushbacks]\ncount = 2\n[schedule]\nbins = 2\n[shells]")], r"\[schedule\] bins and ore_per_year are of one process"),
         ([*WITH, ("[shells]", '[scenarios]\ncolumns = { copper = "cu*" }\n[shells]')], r"\[scenarios\] are solved with one process"),
+        ([*WITH, ("[shells]", "[sensitivity]\nby = [0.1]\n[shells]")], r"\[sensitivity\] is solved with one process"),
     ],
 )
 def test_what_is_wrong_is_named(plan_folder, changes, said):

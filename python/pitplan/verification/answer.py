@@ -270,12 +270,18 @@ def read_pits(folder: Path, record: dict[str, Any], project: Project, written: p
 
 
 def divided(frame: pd.DataFrame, project: Project, grid: dict[str, Any]) -> tuple[pd.DataFrame, Optional[pd.DataFrame]]:
-    """The rows that lie in a grid, and where there are such those that lie beyond it."""
+    """The rows that lie in a grid, and where there are such those that lie beyond it.
+
+    Raises PlanError where these are not as many as were left out.
+    """
     columns = project.table
     east, north, up = np.rint((frame[[columns.x, columns.y, columns.z]].to_numpy() - grid["origin"]) / grid["size"]).T
     levels, rows, width = grid["shape"]
     inside = (east >= 0) & (east < width) & (north >= 0) & (north < rows) & (up <= 0) & (up > -levels)
-    if inside.all():
+    beyond = np.count_nonzero(~inside)
+    if beyond != grid.get("rows_left_out", 0):
+        raise PlanError(f"blocks.csv: {beyond:,} blocks of the table are not in it: has the table changed since?")
+    if not beyond:
         return frame, None
     return frame[inside].reset_index(drop=True), frame[~inside].reset_index(drop=True)
 
