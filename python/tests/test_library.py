@@ -179,7 +179,8 @@ def test_the_words_name_the_pair():
         pitshell.solve(TWO, np.array([[1, 1]]))
 
 
-def test_the_header_is_c(tmp_path):
+@pytest.mark.parametrize("watch", [[], ["-fsanitize=address"]])
+def test_the_header_is_c(tmp_path, watch):
     source = tmp_path / "main.c"
     source.write_text(
         """#include <pitshell.h>
@@ -224,7 +225,7 @@ int main(void) {
     )
     program = tmp_path / "main"
     build = TOP / "build"
-    subprocess.run(["cc", "-Wall", "-Wextra", "-Werror", "-I", TOP / "include", source, build / "libpitshell.so", f"-Wl,-rpath,{build}", "-o", program], check=True)
+    subprocess.run(["cc", *watch, "-Wall", "-Wextra", "-Werror", "-I", TOP / "include", source, build / "libpitshell.so", f"-Wl,-rpath,{build}", "-o", program], check=True)
     assert subprocess.run([program]).returncode == 0
 
 
