@@ -20,6 +20,7 @@ import sys
 import tempfile
 from typing import NamedTuple
 
+from clone import keep_only
 from crates import TOP, in_order
 
 BENDS = TOP / "tools" / "bent_definitions.txt"
@@ -61,6 +62,7 @@ def copy_crate(folder: pathlib.Path, crate: str) -> None:
         shutil.copytree(TOP / "crates" / name, folder / "crates" / name)
     shutil.copy(TOP / "crates.txt", folder)
     shutil.copy(TOP / "HANDLES", folder)
+    keep_only(folder, set(in_order(crate)))
 
 
 def told(bend: Bend) -> str:
@@ -77,12 +79,15 @@ def told(bend: Bend) -> str:
     said = ran.stdout + ran.stderr
     if ran.returncode == 0:
         return "PROVED"
+    if "logic=not-proved" not in said:
+        return f"NOT TRIED: {said.strip().splitlines()[-1][:120]}"
     errors = re.findall(r"^\./(\S+?):\d+:\d+: error: (.*)$", said, re.MULTILINE)
     scope = [it for it in errors if it[0].startswith("specs/")]
     if scope:
         return f"NOT TRIED: {scope[0][1][:120]}"
     where = "" if bend.crate == bend.home == CRATE else f"crates/{bend.crate}/"
-    return f"refused in {where}{errors[0][0]}" if errors else f"refused: {said.strip().splitlines()[-1][:120]}"
+    open_goals = re.findall(r"^note: (src/\S+?):\d+:\d+: it is not proved", said, re.MULTILINE)
+    return f"refused in {where}{(errors[0][0] if errors else open_goals[0] if open_goals else 'a proof')}"
 
 
 def main() -> int:
