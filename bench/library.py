@@ -1,7 +1,8 @@
-"""The library on arrays beside the program on text that numpy wrote, on the same mines, each step timed.
+"""The library on arrays beside the program on text, on the same mines, each step timed: a pit, for which numpy writes the text; and nested
+pits at 12 factors, for which the program's files are there.
 
-Arrays are ready in memory when the clock starts; the pit as a bool array stops it. Memory is what a process of its own takes
-at most, before and after; for the way by text that of Python alone, without the program's.
+Arrays are ready in memory when the clock starts; the answer as arrays, or the program's as text, stops it. Memory is what a process of
+its own takes at most, before and after; for the ways by text that of Python alone, without the program's.
 """
 
 import json
@@ -10,6 +11,7 @@ import subprocess
 import sys
 import tempfile
 import time
+from decimal import Decimal
 from pathlib import Path
 
 import numpy as np
@@ -20,7 +22,7 @@ sys.path.insert(0, str(ROOT / "python"))
 
 def arrays_of(mine: Mine) -> Path:
     """The arrays of a mine's files, kept beside them."""
-    kept = mine.model.with_suffix(".npz")
+    kept = mine.model.with_suffix(".arrays.npz")
     if not kept.exists():
         lines = mine.model.read_text().splitlines()[4:]
         values = np.array([round(float(line.split()[1]) * 100) * 10_000 for line in lines], dtype=np.int64)
@@ -31,7 +33,9 @@ def arrays_of(mine: Mine) -> Path:
             counts[int(fields[0])] = int(fields[1])
             needs.append(np.array(fields[2:], dtype=np.int32))
         indptr = np.concatenate([[0], np.cumsum(counts)]).astype(np.int32)
-        np.savez(kept, values=values, indptr=indptr, indices=np.concatenate(needs))
+        money = np.loadtxt(mine.blocks, usecols=(4, 5))
+        revenues, costs = np.rint(money * 1e6).astype(np.int64).T
+        np.savez(kept, values=values, indptr=indptr, indices=np.concatenate(needs), revenues=revenues, costs=costs)
     return kept
 
 
@@ -106,13 +110,42 @@ def by_program(mine, program: str) -> dict:
     }
 
 
+def nested_by_library(mine) -> dict:
+    import pitshell
+
+    before = peak()
+    clock = Clock()
+    rows, money = (mine["indptr"], mine["indices"]), (np.ascontiguousarray(mine[name]) for name in ("revenues", "costs"))
+    found = pitshell.shells(*money, rows, FACTORS, millionths=True)
+    clock.step("shells")
+    taken = clock.taken()
+    blocks = [int(np.count_nonzero(found.first <= number)) for number in range(len(FACTORS))]
+    return {**taken, "before": before, "peak": peak(), "worth": [str(worth.normalize()) for worth in found.worths], "blocks": blocks}
+
+
+def nested_by_program(kept: str, program: str) -> dict:
+    stem = kept.removesuffix(".arrays.npz")
+    words = [program, "shells", "--blocks", f"{stem}.blocks", "--prec", f"{stem}.prec", "--revenue", "0", "--cost", "1", "--factors"]
+    before = peak()
+    clock = Clock()
+    said = subprocess.run([*words, ",".join(map(str, FACTORS))], stdout=subprocess.PIPE, check=True).stdout
+    clock.step("program, with reading")
+    lines = [line.split() for line in said.split(b"\n", 3 + len(FACTORS))[3 : 3 + len(FACTORS)]]
+    worths = [str(Decimal(fields[2].decode()).normalize()) for fields in lines]
+    return {**clock.taken(), "before": before, "peak": peak(), "worth": worths, "blocks": [int(fields[1]) for fields in lines]}
+
+
 def child(way: str, kept: str, program: str) -> None:
+    if way == WAYS[3]:
+        print(json.dumps(nested_by_program(kept, program)))
+        return
     with np.load(kept) as file:
         mine = {name: file[name] for name in file.files}
-    print(json.dumps(by_library(mine) if way == WAYS[0] else by_program(mine, program)))
+    print(json.dumps(by_library(mine) if way == WAYS[0] else nested_by_library(mine) if way == WAYS[2] else by_program(mine, program)))
 
 
-WAYS = ("library", "text and program")
+FACTORS = range(100, 1201, 100)
+WAYS = ("library", "text and program", "library, nested", "program, nested")
 
 
 def run(way: str, kept: Path, program: Path) -> dict:
@@ -132,11 +165,11 @@ def main(words: list[str]) -> None:
             kept, answers = arrays_of(mine_of(blocks, slopes)), set()
             for way in WAYS:
                 rounds = [run(way, kept, given.bin) for _ in range(given.runs)]
-                answers |= {(it["worth"], it["blocks"]) for it in rounds}
+                answers |= {(way in WAYS[2:], str(it["worth"]), str(it["blocks"])) for it in rounds}
                 least = min(rounds, key=lambda it: sum(it["steps"].values()))
                 steps = ", ".join(f"{name} {took:.2f}" for name, took in least["steps"].items())
                 whole = sum(least["steps"].values())
                 lines.append(f"| {slopes} | {blocks:,} | {way} | {whole:.2f} | {least['processor']:.2f} | {steps} | {least['before']} | {least['peak']} |")
-            if len(answers) != 1:
+            if len(answers) != 2:
                 raise SystemExit(f"the answers differ at {blocks} blocks with slopes {slopes}: {answers}")
     keep("library", "The library on arrays beside the program on text", given.bin, lines)
