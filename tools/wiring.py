@@ -62,12 +62,19 @@ def misplaced(exchange: Exchange) -> str:
     return ""
 
 
+def share_words(one: Exchange, other: Exchange) -> bool:
+    """Whether what one exchanges stands in what the other does."""
+    olds = [(first, second) for first, _ in one.change for second, _ in other.change]
+    return one.file == other.file and any(first in second or second in first for first, second in olds)
+
+
 def rounds(exchanges: list[Exchange]) -> list[list[Exchange]]:
-    """The exchanges in as few rounds as come of putting each into the first that it shares no feature with."""
+    """The exchanges in as few rounds as come of putting each into the first with which it shares no feature and no words."""
     found: list[tuple[set[str], list[Exchange]]] = []
     for exchange in exchanges:
         features = set(exchange.features.split())
-        place = next((it for it in found if not features & it[0] and "all" not in features | it[0]), None)
+        free = [it for it in found if not features & it[0] and "all" not in features | it[0]]
+        place = next((it for it in free if not any(share_words(exchange, other) for other in it[1])), None)
         if place is None:
             found.append((set(features), [exchange]))
         else:
