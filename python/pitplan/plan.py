@@ -47,6 +47,7 @@ class Plan:
     summary what the table holds: extents, tonnes, grades with units, and columns that say nothing
     fixed   blocks that must be dug, and blocks that may not be
     settled what is dug and what is left for their sake; None where the project has no `[fixed]`
+    left_out how many blocks of the table are none of the plan's, since no shell can reach them
     """
 
     project: Project
@@ -61,6 +62,7 @@ class Plan:
     summary: list[str] = field(default_factory=list)
     fixed: FixedBlocks = NOTHING
     settled: Optional[Settled] = None
+    left_out: int = 0
 
     def __repr__(self) -> str:
         """A few lines, since the blocks themselves are thousands."""
@@ -140,7 +142,7 @@ class Plan:
         project = self.project
         return {
             "title": project.title,
-            "table": {"file": self.source, "rows": len(self.table), "fields_filled_with_0": self.filled},
+            "table": {"file": self.source, "rows": len(self.table), "left_out": self.left_out, "fields_filled_with_0": self.filled},
             "grid": self.record_of_grid(),
             "money": {
                 "cutoff": self.values.cutoff,
@@ -222,14 +224,15 @@ def prepare(
     with progress.step("laying the walls"):
         region = laying.regions_of(frame, grid, project.table.region)
         walls = laying.walls_of(region, grid, project.slopes)
-    model, dropped = Model(frame, grid, region, source), []
+    whole = model = Model(frame, grid, region, source, len(checked.frame))
+    dropped: list[str] = []
     if reach.is_too_large(model, project):
         with progress.step("leaving out what no shell can reach"):
-            model, note = reach.left(model, walls, project)
+            model, note = reach.left(whole, walls, project)
             walls, dropped = laying.walls_of(model.region, model.grid, project.slopes), [note]
     with progress.step("weighing the blocks"):
         plan = plan_of(project, model.frame, model.grid, walls, model.source)
-    plan.filled, plan.summary = checked.filled, summary
+    plan.filled, plan.summary, plan.left_out = checked.filled, summary, whole.known - model.known
     plan.notes = [*checked.notes, *dropped, *notes_of(plan)]
     return plan
 
