@@ -7,8 +7,9 @@ A change is a comparison turned or its edge moved, a sign, a whole number, `and`
 that the seed draws among all of python/pitplan. What stands on other lines does not alter whether a change is drawn. The modules that
 draw pictures (PICTURES) are left out, since most of their numbers are looks: widths, sizes of type, colours. --pictures draws
 among these alone, and asks for no share. The tests are those of python/tests but for the library's. They run once without a change,
-by which is known what tests run each line; on a change these run, the quick ones first, until one fails. A line that no test runs is
-not seen. The status is 1 where fewer than 95 of 100 are seen, and 2 where a test fails without a change.
+by which is known what tests run each line; on a change these run, the quick ones first, until one fails, in a fork of a process that
+has read the libraries (tools/warm_tests.py). A line that no test runs is not seen. The status is 1 where fewer than 95 of 100 are seen,
+and 2 where a test fails without a change.
 
 --results writes what is not seen. What the file says of a change already, behind the dash, is kept.
 """
@@ -19,8 +20,6 @@ import os
 import pathlib
 import queue
 import re
-import signal
-import subprocess
 import sys
 import tempfile
 from collections.abc import Iterable, Iterator
@@ -31,9 +30,11 @@ import line_coverage
 from changes_of_meaning import Change, changes, drawn
 from crates import TOP
 from line_coverage import Lines
+from warm_tests import Runner
 
 LAYER = pathlib.Path("python") / "pitplan"
-PICTURES = {LAYER / "pictures.py", LAYER / "schedule_pictures.py", LAYER / "yearly.py", LAYER / "simulation" / "pictures.py"}
+DRAWING = ("pictures.py", "schedule_pictures.py", "sensitivity_pictures.py", "map_marks.py", "yearly.py", "simulation/pictures.py")
+PICTURES = {LAYER / name for name in DRAWING}
 WANTED = 0.95
 # A change may make a program take all the memory or all the time that it is given.
 MOST_BYTES = 4 << 30
@@ -42,11 +43,22 @@ QUICK = 0.5
 HEAD = "# Planted changes that no test sees\n\nWritten by `tools/planted_changes.py`; why each is harmless is written by hand.\n"
 
 
+class Copy(NamedTuple):
+    """A copy of the repository, and what runs tests in it."""
+
+    folder: pathlib.Path
+    runner: Runner
+
+    def fails(self, tests: list[str]) -> bool:
+        """Whether one of the tests fails here, or they do not end."""
+        words = ["-q", "-x", "-p", "no:cacheprovider", "-p", "first_failure", f"--basetemp={self.folder.parent / 'tests'}", *tests]
+        return self.runner.status(words, MOST_SECONDS) != 0
+
+
 class Trial(NamedTuple):
-    """What changes are tried with: which tests run what, the environment of the tests, and copies that nobody uses at the moment."""
+    """What changes are tried with: which tests run what, and copies that nobody uses at the moment."""
 
     lines: Lines
-    environment: dict[str, str]
     copies: queue.SimpleQueue
 
     def in_order(self, tests: Iterable[str]) -> list[str]:
@@ -61,8 +73,8 @@ class Trial(NamedTuple):
             return False
         copy = self.copies.get()
         try:
-            with planted(copy, change):
-                return fails(self.in_order(tests), copy, self.environment)
+            with planted(copy.folder, change):
+                return copy.fails(self.in_order(tests))
         finally:
             self.copies.put(copy)
 
@@ -70,7 +82,7 @@ class Trial(NamedTuple):
         """Whether a test fails without a change, in the order and within the limits in which changes are tried."""
         copy = self.copies.get()
         try:
-            return fails(self.in_order(self.lines.seconds), copy, self.environment)
+            return copy.fails(self.in_order(self.lines.seconds))
         finally:
             self.copies.put(copy)
 
@@ -94,27 +106,14 @@ def write(path: pathlib.Path, text: str) -> None:
         compiled.unlink()
 
 
-def fails(tests: list[str], copy: pathlib.Path, environment: dict[str, str]) -> bool:
-    """Whether one of the tests fails in a copy, or they do not end."""
-    words = ["prlimit", f"--data={MOST_BYTES}", "/usr/bin/python3", "-m", "pytest", "-q", "-x", "-p", "no:cacheprovider", "-p", "first_failure"]
-    words += [f"--basetemp={copy.parent / 'tests'}", *tests]
-    there = {**environment, "PYTHONPATH": str(copy / "tools")}
-    ran = subprocess.Popen(words, cwd=copy, env=there, stdout=subprocess.DEVNULL, stderr=subprocess.DEVNULL, start_new_session=True)
+@contextlib.contextmanager
+def warm(folder: pathlib.Path, environment: dict[str, str]) -> Iterator[Copy]:
+    """A copy whose tests run in forks of one process."""
+    runner = Runner(folder, {**environment, "PYTHONPATH": str(folder / "tools")}, MOST_BYTES)
     try:
-        return ran.wait(MOST_SECONDS) != 0
-    except subprocess.TimeoutExpired:
-        return True
+        yield Copy(folder, runner)
     finally:
-        stop(ran)
-
-
-def stop(ran: subprocess.Popen) -> None:
-    """Ends what the tests have begun and left."""
-    try:
-        os.killpg(ran.pid, signal.SIGKILL)
-    except ProcessLookupError:
-        pass
-    ran.wait()
+        runner.end()
 
 
 @contextlib.contextmanager
@@ -127,9 +126,9 @@ def trial(jobs: int) -> Iterator[Trial | None]:
         notes = stack.enter_context(tempfile.TemporaryDirectory(prefix="pitshell-"))
         lines = line_coverage.run(first, pathlib.Path(notes), environment)
         copies: queue.SimpleQueue = queue.SimpleQueue()
-        for copy in others:
-            copies.put(copy)
-        yield None if lines is None else Trial(lines, environment, copies)
+        for folder in others:
+            copies.put(stack.enter_context(warm(folder, environment)))
+        yield None if lines is None else Trial(lines, copies)
 
 
 def survivors(seed: int, sample: list[Change], tried: Trial, jobs: int) -> list[Change]:

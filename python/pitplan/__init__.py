@@ -12,32 +12,34 @@ Functions write what the subcommands do, by default into the project's own folde
 
     table = pitplan.write_shells("project.toml", "out")    # as pitplan shells, verified: one row a factor
     pitplan.view("out")                                    # the path of view.html
-    pitplan.export("out", "csv")                           # that of pit.csv; or "vti", or "dxf" with a factor
+    pitplan.export("out", "csv")                           # that of pit.csv; or "table", "xlsx", "vti", "vtu", or "dxf" with a factor
     pitplan.audit("out", 800)                              # that of a folder by which others can check the shell
     rules = pitplan.verify("out")                          # each with what holds, differences, and their count
     pits = pitplan.pit("project.toml", 1000)               # a row with the fixed blocks and one without
     phases = pitplan.pushbacks("project.toml")             # one row a phase
     ways = pitplan.write_schedule("project.toml")          # one row a way: rule and lp
+    cases = pitplan.sensitivity("project.toml")            # one row a case: a number more or less by a share
     found = pitplan.scenarios("project.toml")              # found.probability, found.table, found.quantiles; found.notes
 
-`Request` says where and how scenarios are solved; `gather(folder)` gathers what others have solved.
+`Request` says where and how scenarios are solved, and `Where` on which Dask cases are; `gather(folder)` gathers what others have solved.
 
 Functions `plot_...` draw on axes of your own, which they give back, and leave matplotlib's backend as it is: those of `pitplan.pictures`
 take a table of shells, or `pictures.scene_of(plan, solution)`; those of `pitplan.phase_pictures` its
 `scene_of(pitplan.phases.divide(plan))`; `pitplan.yearly.plot_years` a table of years; and those of `pitplan.simulation.pictures`
-`found.likely(1000)` or `found.table`.
+`found.likely(1000)` or `found.table`; those of `pitplan.sensitivity_pictures` a table of cases.
 
 That a shell is the smallest set of greatest worth that keeps the needs is proved of the program, for the files that it
 reads. This layer, which writes those files, is not proved; `plan.notes` says what it rounded, dropped and clipped.
 """
 
 from .analyse import blocks, shells, years
-from .commands import audit, export, gather, pit, pushbacks, scenarios, verify, view, write_schedule, write_shells
+from .commands import audit, export, gather, pit, pushbacks, scenarios, sensitivity, verify, view, write_schedule, write_shells
 from .errors import BudgetUsedUp, MissingPackage, PlanError, ProgramError
 from .plan import Plan, prepare
 from .project import Project, load
 from .run import Solution, solve
 from .simulation import Request, ScenarioResult
+from .simulation.on_dask import Where
 from .verification import Rule
 
 __version__ = "0.1.0"
@@ -53,6 +55,7 @@ __all__ = [
     "Rule",
     "ScenarioResult",
     "Solution",
+    "Where",
     "audit",
     "blocks",
     "export",
@@ -62,6 +65,7 @@ __all__ = [
     "prepare",
     "pushbacks",
     "scenarios",
+    "sensitivity",
     "shells",
     "solve",
     "verify",

@@ -1,4 +1,4 @@
-"""The command line: `pitplan init | prepare | shells | pit | pushbacks | schedule | verify | view | export | audit | scenarios | convert`, and what these need."""
+"""The command line: `pitplan init | prepare | shells | pit | pushbacks | schedule | sensitivity | verify | view | export | audit | scenarios | convert`, and what these need."""
 
 from __future__ import annotations
 
@@ -13,10 +13,11 @@ import minelib
 import pandas as pd
 from minelib.__main__ import add_arguments as add_minelib
 
-from . import __version__, commands, exports, files, init, report, simulation
+from . import __version__, commands, exports, files, init, report, sensitivity_files, simulation
 from .errors import PlanError
 from .progress import Progress, on_standard_error, silent
 from .project import REFERENCE_FACTOR, Project, load
+from .simulation.on_dask import Where
 from .verification import demand
 
 # As a shell has it: 128 and the signal's number.
@@ -34,6 +35,7 @@ def parser() -> argparse.ArgumentParser:
         "pit": "solve the pit of one factor with the project's fixed blocks and without them, and compare the two",
         "pushbacks": "divide the pit of one factor into phases, and write tables, pictures and the report",
         "schedule": "schedule the phases of a pit by years, and write tables, pictures and the report",
+        "sensitivity": "tell how much the pit that is shown hangs on prices, costs, recovery, slopes and capacity, by tables and pictures",
         "view": "write a page that shows the shells in 3D (libjs-three)",
         "export": "write the shells for other programs",
         "audit": "write a folder by which others can check one shell",
@@ -45,13 +47,17 @@ def parser() -> argparse.ArgumentParser:
         sub.add_argument("--quiet", action="store_true", help="tell no progress on standard error")
         if name == "export":
             sub.add_argument("--to", required=True, choices=tuple(exports.WRITERS))
-        if name in ("pit", "pushbacks", "schedule", "shells"):
+        if name in ("pit", "pushbacks", "schedule", "sensitivity", "shells"):
             sub.add_argument("--no-verify", action="store_true", help="leave out the second look at every number")
+        if name == "sensitivity":
+            text = "local (processes, by Dask) or tcp://host:port (a Dask scheduler; default: here, one case after the other)"
+            sub.add_argument("--on", type=scheduler_of, metavar="WHERE", help=text)
+            sub.add_argument("--workers", type=positive, help="processes of local (default: one for each processor)")
         if name in ("pit", "export", "audit"):
             is_needed = name == "audit"
             kind = positive if name == "pit" else int
             sub.add_argument("--factor", type=kind, required=is_needed, default=None if is_needed else REFERENCE_FACTOR)
-    text = "look a second time at the numbers of a folder that shells, pit, pushbacks, schedule, scenarios or gather has written"
+    text = "look a second time at the numbers of a folder that shells, pit, pushbacks, schedule, sensitivity, scenarios or gather has written"
     subs.add_parser("verify", help=text, description=text).add_argument("folder", type=Path, help="the folder of the plan or the scenarios")
     add_scenarios(subs)
     text = "write other people's files as the program's"
@@ -97,6 +103,12 @@ def where_of(text: str) -> str:
     if text in ("local", "slurm", "parallel") or "://" in text:
         return text
     raise argparse.ArgumentTypeError(f"{text} is none of local, tcp://host:port, slurm, parallel")
+
+
+def scheduler_of(text: str) -> str:
+    if text == "local" or "://" in text:
+        return text
+    raise argparse.ArgumentTypeError(f"{text} is none of local, tcp://host:port")
 
 
 def positive(text: str) -> int:
@@ -175,6 +187,13 @@ def run_command(options: argparse.Namespace, project: Project, folder: Path, pro
         tell_table(table, report.columns_of_ways(table, project), folder)
         if files.read_json(folder / files.SCHEDULE_RECORD)["interrupted"]:
             raise KeyboardInterrupt
+    elif options.command == "sensitivity":
+        folder = options.out or project.folder / "sensitivity"
+        where = Where(options.on, options.workers) if options.on else None
+        table = commands.sensitivity(project, folder, where, progress, not options.no_verify)
+        columns = report.columns_of_cases(table, project)
+        print_table([heading for _, heading, _, _ in columns], report.cells_of(report.of_cases(table), columns))
+        print(folder / sensitivity_files.TABLE)
     elif options.command == "view":
         print(commands.view(folder, progress))
     elif options.command == "export":

@@ -11,13 +11,14 @@ import numpy as np
 import pandas as pd
 
 from . import absent, analyse, auditing, exports, files, page, phase_pictures, phases as phasing, pictures, report, run
-from . import schedule_pictures, simulation, verification, workbook, yearly, yearly_schedule as scheduling
+from . import schedule_pictures, sensitivity_files, sensitivity_pictures, simulation, varied_cases, verification, workbook, yearly, yearly_schedule as scheduling
 from .errors import PlanError
 from .phases import Phases
 from .plan import Plan, prepare as prepare_plan
 from .progress import Progress, silent
 from .project import REFERENCE_FACTOR, Project, load
 from .simulation import Request, ScenarioResult
+from .simulation.on_dask import Where
 from .verification import Rule
 from .yearly_schedule import YearlySchedule
 
@@ -60,7 +61,7 @@ WRITTEN = {
     *SCHEDULE_PICTURES.values(),
     WORKBOOK,
 }
-WRITTEN |= {PIT_MODEL, PITS}
+WRITTEN |= {PIT_MODEL, PITS, *sensitivity_files.WRITTEN, *sensitivity_pictures.WRITTEN, *exports.WRITTEN}
 
 
 def read(project: Source) -> Project:
@@ -253,14 +254,15 @@ def write_answer(answered: Answered, record: dict[str, Any], writing: Writing) -
     if answered.schedule is not None:
         record["schedule"] = answered.schedule.shown
     note_verified(plan, record, stage, writing.verifies, progress)
-    with progress.step("drawing"):
+    formats = project.pictures.formats if project.pictures else ()
+    with progress.step("drawing"), pictures.also_as(formats):
         draw(plan, solution, table, chosen, stage)
         yearly.write_years(years, project, chosen, stage / PICTURES["years"])
         drawn = PICTURES | draw_phases(answered, years, stage)
     if answered.schedule is not None:
         with progress.step("writing the workbook"):
             workbook.write(stage / WORKBOOK, sheets_of(answered, table, years))
-    finish(plan, record, [*written(plan), *([PIT_MODEL] if project.fixed else []), *tables_of(answered), *drawn.values()], stage)
+    finish(plan, record, [*written(plan), *([PIT_MODEL] if project.fixed else []), *tables_of(answered), *pictures.files_of(drawn, formats)], stage)
     facts = facts_of(record, {name: stage / file for name, file in drawn.items()})
     if phases is not None:
         facts |= {"phases": report.table_of(phasing.table(phases), report.columns_of_phases, project)}
@@ -320,6 +322,7 @@ def demand_apart(project: Project, folder: Path) -> None:
 
 
 def write_prepared(plan: Plan, stage: Path, progress: Progress) -> dict[str, Any]:
+    pictures.demand_within(plan)
     with progress.step("writing blocks and needs"):
         return plan.write(stage)
 
@@ -384,6 +387,21 @@ def facts_of(record: dict[str, Any], drawn: dict[str, Path]) -> dict[str, Any]:
     }
 
 
+def sensitivity(
+    project: Source, folder: Optional[Place] = None, where: Optional[Where] = None, progress: Progress = silent, verifies: bool = True
+) -> pd.DataFrame:
+    """Tells how much the pit that is shown hangs on single numbers, as `pitplan sensitivity` does.
+
+    Gives a table with a row a case. Into the folder (by default sensitivity in the project's own) it writes this table, the blocks, pictures
+    and the record sensitivity.json, and meanwhile each answer into cases: what is there is not solved again. Raises PlanError where the
+    input or a share is not usable, and where what is written is not right, unless it is not verified.
+    """
+    project = read(project)
+    target = project.folder / "sensitivity" if folder is None else Path(folder)
+    demand_apart(project, target)
+    return sensitivity_files.write(varied_cases.solve(project, target, where, progress), target, progress, verifies)
+
+
 def view(folder: Place, progress: Progress = silent) -> Path:
     """Writes view.html, a page that shows the shells in 3D, into a folder that `write_shells` has written; gives its path.
 
@@ -398,8 +416,11 @@ def view(folder: Place, progress: Progress = silent) -> Path:
 def export(folder: Place, kind: str, factor: int = REFERENCE_FACTOR, progress: Progress = silent) -> Path:
     """Writes the shells of a folder that `write_shells` has written for other programs; gives the file's path.
 
-    `csv` and `vti` hold the shells of all factors, and `dxf` the outline of one at each level, in metres. The factor is in per mille.
-    Raises PlanError where the folder has no shells or not this factor, or the kind is another, and MissingPackage without a library.
+    `table` is the planner's own table, row by row, with each block's factors, phase and year behind it; `xlsx` all tables; `csv`, `vti`
+    and `vtu` hold the shells of all factors, and `dxf` the outline of one at each level, in metres. The factor is in per mille.
+
+    Raises PlanError where the folder has no shells or not this factor, the kind is another, or what is written is not right, and
+    MissingPackage without a library.
     """
     if kind not in exports.WRITERS:
         raise PlanError(f"{kind} is none of {', '.join(exports.WRITERS)}")
@@ -407,6 +428,8 @@ def export(folder: Place, kind: str, factor: int = REFERENCE_FACTOR, progress: P
     target = result.path / exports.name_of(kind, factor)
     with progress.step(f"writing {target.name}"), files.staged_file(target) as path:
         exports.WRITERS[kind](path, result, factor)
+        if kind == "table":
+            verification.demand([verification.verify_table(result.path, path)])
     return target
 
 

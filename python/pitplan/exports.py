@@ -1,4 +1,5 @@
-"""The shells for other programs: CSV for any, VTK image data for ParaView, and DXF for drawing programs."""
+"""The shells for other programs: the planner's own table or CSV for any, a workbook of all tables for spreadsheets, VTK image data or cells
+for ParaView, and DXF for drawing programs."""
 
 from __future__ import annotations
 
@@ -6,19 +7,31 @@ from pathlib import Path
 from typing import Callable
 
 import numpy as np
+import pandas as pd
 
-from .files import Folder
+from . import files, planned_table, workbook
 from .errors import PlanError
+from .files import Folder
 from .grid import Grid
 from .outlines import rings
 from .packages import load
 
 Writer = Callable[[Path, Folder, int], None]
+PLANNED = "table.csv"
+# The tables of a folder, each a sheet of the workbook by its name.
+SHEETS = (files.SHELLS, files.YEARS, files.PHASES, files.SCHEDULE, files.MILLING)
+# The corners of a cell as VTK counts them in a voxel: steps east, north and up.
+CORNERS = np.array([(x, y, z) for z in (0, 1) for y in (0, 1) for x in (0, 1)])
 
 
 def name_of(kind: str, factor: int) -> str:
     """The file's name: a table and image data hold all factors, a drawing one."""
-    return f"pit-{factor}.dxf" if kind == "dxf" else f"pit.{kind}"
+    return {"dxf": f"pit-{factor}.dxf", "table": PLANNED}.get(kind, f"pit.{kind}")
+
+
+def write_table(path: Path, folder: Folder, factor: int) -> None:
+    """The planner's table, row by row, with what was found of each block behind it; `factor` is not looked at."""
+    planned_table.write(path, folder)
 
 
 def write_csv(path: Path, folder: Folder, factor: int) -> None:
@@ -55,6 +68,41 @@ def write_image(path: Path, grid: Grid, cells: dict[str, np.ndarray]) -> None:
         raise PlanError(f"{path}: cannot be written")
 
 
+def write_vtu(path: Path, folder: Folder, factor: int) -> None:
+    """The blocks with rock as VTK cells, in metres, with `factor` and all numbers of blocks.csv; for all factors."""
+    vtk = load("vtk", "python3-vtk9", "a .vtu file")
+    numpy_support = load("vtk.util.numpy_support", "python3-vtk9", "a .vtu file")
+    grid, blocks = folder.grid, folder.blocks[folder.blocks[folder.record["tonnes"]] > 0]
+    levels, rows, columns = grid.shape
+    column, row, level = grid.indices(blocks["id"].to_numpy())
+    corners = np.stack([column, row, levels - 1 - level], axis=1)[:, None] + CORNERS
+    used, at = np.unique((corners[..., 2] * (rows + 1) + corners[..., 1]) * (columns + 1) + corners[..., 0], return_inverse=True)
+    steps = np.stack([used % (columns + 1), used // (columns + 1) % (rows + 1), used // ((columns + 1) * (rows + 1))], axis=1)
+    west, _, south, _, floor, _ = grid.extent()
+    points, cells = vtk.vtkPoints(), vtk.vtkCellArray()
+    points.SetData(numpy_support.numpy_to_vtk((west, south, floor) + steps * grid.size, deep=True))
+    each = np.arange(0, 8 * len(blocks) + 1, 8, dtype=np.int64)
+    cells.SetData(*(numpy_support.numpy_to_vtkIdTypeArray(part.ravel().astype(np.int64), deep=True) for part in (each, at)))
+    mesh = vtk.vtkUnstructuredGrid()
+    mesh.SetPoints(points)
+    mesh.SetCells(vtk.VTK_VOXEL, cells)
+    for name in blocks.select_dtypes("number").columns:
+        array = numpy_support.numpy_to_vtk(blocks[name].to_numpy(), deep=True)
+        array.SetName(name)
+        mesh.GetCellData().AddArray(array)
+    writer = vtk.vtkXMLUnstructuredGridWriter()
+    writer.SetFileName(str(path))
+    writer.SetInputData(mesh)
+    if not writer.Write():
+        raise PlanError(f"{path}: cannot be written")
+
+
+def write_xlsx(path: Path, folder: Folder, factor: int) -> None:
+    """The tables of the folder as a workbook, a sheet each; `factor` is not looked at."""
+    there = [folder.path / name for name in SHEETS if name in folder.record["files"]]
+    workbook.write(path, {table.stem: pd.read_csv(table) for table in there})
+
+
 def write_dxf(path: Path, folder: Folder, factor: int) -> None:
     """The outline of the pit at each level's floor, as closed 3D polylines in metres, a layer a level."""
     ezdxf = load("ezdxf", "python3-ezdxf", "export --to dxf")
@@ -73,4 +121,6 @@ def write_dxf(path: Path, folder: Folder, factor: int) -> None:
     drawing.saveas(path)
 
 
-WRITERS: dict[str, Writer] = {"csv": write_csv, "vti": write_vti, "dxf": write_dxf}
+WRITERS: dict[str, Writer] = {"table": write_table, "csv": write_csv, "xlsx": write_xlsx, "vti": write_vti, "vtu": write_vtu, "dxf": write_dxf}
+# Those that hold all factors.
+WRITTEN = tuple(name_of(kind, 0) for kind in WRITERS if kind != "dxf")

@@ -6,7 +6,9 @@ it did not ask for."""
 
 from __future__ import annotations
 
-from collections.abc import Callable
+from collections.abc import Callable, Iterator
+from contextlib import contextmanager
+from contextvars import ContextVar
 from dataclasses import dataclass
 from functools import partial
 from pathlib import Path
@@ -25,7 +27,9 @@ from matplotlib.ticker import MaxNLocator
 from . import analyse
 from .errors import PlanError
 from .grid import Grid, metres
+from .map_marks import contours, mark_map, mark_sections
 from .outlines import edges
+from .picture_rules import PictureRules
 from .plan import Plan
 from .project import Metal
 from .run import Solution
@@ -42,6 +46,9 @@ STYLE = {
     "axes.formatter.useoffset": False,
     "axes.formatter.limits": (-6, 9),
 }
+# In what formats pictures are written besides PNG, and what these would tell of the library and the day.
+ALSO: ContextVar[tuple[str, ...]] = ContextVar("ALSO", default=())
+UNDATED: dict[str, dict[str, None]] = {"pdf": {"Creator": None, "Producer": None, "CreationDate": None}, "svg": {"Date": None, "Creator": None}}
 MOST_TICKS = 11
 MOST_COORDINATES = 6
 # Rows are shown from the bottom of the picture up, each cell as it is.
@@ -65,7 +72,8 @@ class Scene:
 
     factor  the least factor whose pit holds the cell; 0: none
     solid   whether there is rock
-    grade   the first metal's
+    grade   the metal's
+    rules   which levels and sections are shown
     """
 
     grid: Grid
@@ -74,6 +82,16 @@ class Scene:
     grade: np.ndarray
     metal: Metal
     chosen: int
+    rules: PictureRules = PictureRules()
+
+    @property
+    def section_row(self) -> int:
+        """The row of blocks along which a section goes: that of the asked northing, else that in which most of the pit lies."""
+        return busiest(self.dug, 1) if self.rules.north is None else place_of(self.rules.north, self.grid, 1)
+
+    @property
+    def section_column(self) -> int:
+        return busiest(self.dug, 2) if self.rules.east is None else place_of(self.rules.east, self.grid, 0)
 
     @property
     def dug(self) -> np.ndarray:
@@ -106,7 +124,8 @@ class Scene:
 
 def scene_of(plan: Plan, solution: Solution, chosen: Optional[int] = None) -> Scene:
     """What plans and sections of a plan's shells show; the chosen factor, in per mille, is by default that of the report."""
-    first, grid = plan.project.metals[0], plan.grid
+    rules, grid = plan.project.pictures or PictureRules(), plan.grid
+    first = next(metal for metal in plan.project.metals if rules.metal in (None, metal.name))
     cells = analyse.cells_of(plan, solution)
     return Scene(
         grid=grid,
@@ -115,7 +134,28 @@ def scene_of(plan: Plan, solution: Solution, chosen: Optional[int] = None) -> Sc
         grade=grid.cube(grid.spread(plan.table[first.column].to_numpy())),
         metal=first,
         chosen=analyse.chosen_factor(analyse.shells(plan, solution), plan.project.schedule) if chosen is None else chosen,
+        rules=rules,
     )
+
+
+def demand_within(plan: Plan) -> None:
+    """Raises PlanError where `[pictures]` names a level or a section beyond the model."""
+    rules = plan.project.pictures or PictureRules()
+    west, east, south, north, floor, top = plan.grid.extent()
+    asked = (("levels", rules.levels, floor, top), ("north", (rules.north,), south, north), ("east", (rules.east,), west, east))
+    for key, values, least, most in asked:
+        for value in values:
+            if value is not None and not least <= value <= most:
+                where = f"beyond the model, from {metres(least)} to {metres(most)} m"
+                raise PlanError(f"{plan.project.path}: [pictures] {key}: {metres(value)} is {where}")
+
+
+def place_of(coordinate: float, grid: Grid, axis: int) -> int:
+    """The column from the west (axis 0), row from the south (1) or level from the top (2) that holds a coordinate in metres; of two that
+    meet there the second."""
+    west, _, south, _, _, top = grid.extent()
+    steps = ((coordinate - west) / grid.size[0], (coordinate - south) / grid.size[1], (top - coordinate) / grid.size[2])[axis]
+    return min(int(steps), grid.shape[2 - axis] - 1)
 
 
 def list_of(axes: Any, count: int) -> list[Axes]:
@@ -191,14 +231,15 @@ def draw_worth(axis: Axes, table: pd.DataFrame, currency: str) -> None:
 
 
 def write_plans(scene: Scene, path: Path) -> None:
-    write_maps(scene.grid, partial(plot_plans, scene), path)
+    write_maps(scene.grid, partial(plot_plans, scene), path, 1 + len(levels_to_show(scene)))
 
 
 def plot_plans(scene: Scene, axes: Any) -> list[Axes]:
-    """The depth of the chosen pit, and the shells on three of its levels, on four axes, which it gives."""
-    first, *others = found = list_of(axes, 4)
+    """The depth of the chosen pit, and the shells on some of its levels, by default three, on axes for each, which it gives."""
+    levels = levels_to_show(scene)
+    first, *others = found = list_of(axes, 1 + len(levels))
     plot_floor(scene, first)
-    for ax, number in zip(others, levels_to_show(scene)):
+    for ax, number in zip(others, levels):
         plot_level(scene, number, ax)
     return found
 
@@ -215,11 +256,11 @@ def plot_sections(scene: Scene, axes: Any) -> list[Axes]:
     """A section from west to east and one from south to north through the chosen pit, on four axes, which it gives: of each the shells,
     and the grades."""
     found = list_of(axes, 4)
-    row, column = busiest(scene.dug, 1), busiest(scene.dug, 2)
+    row, column = scene.section_row, scene.section_column
     x, y, _ = scene.grid.centres(np.array(row * scene.grid.shape[2] + column))
     cuts = (
-        (scene.from_west_to_east(row), f"west to east at north {metres(y)}", "east"),
-        (scene.from_south_to_north(column), f"south to north at east {metres(x)}", "north"),
+        (scene.from_west_to_east(row), f"west to east (A) at north {metres(y)}", "east"),
+        (scene.from_south_to_north(column), f"south to north (B) at east {metres(x)}", "north"),
     )
     for (plane, where, label), left, right in zip(cuts, found[::2], found[1::2]):
         plot_shells(scene, plane, left).set_title(f"Shells, {where}")
@@ -237,31 +278,39 @@ def name_axes(axis: Axes, across: str, up: str) -> None:
     axis.xaxis.set_major_locator(MaxNLocator(MOST_COORDINATES, steps=[1, 2, 2.5, 5, 10]))
 
 
-def write_maps(grid: Grid, plot: Callable[[list[Axes]], object], path: Path) -> None:
-    """Writes a picture of four maps of the grid, which `plot` draws on their axes."""
+def write_maps(grid: Grid, plot: Callable[[list[Axes]], object], path: Path, count: int = 4) -> None:
+    """Writes a picture of so many maps of the grid, which `plot` draws on their axes."""
     with matplotlib.rc_context(STYLE):
         west, east, south, north, _, _ = grid.extent()
-        figure, axes = panels(east - west, north - south)
+        figure, axes = panels(east - west, north - south, count)
         plot(axes)
         finish(figure, path)
 
 
-def panels(wide: float, high: float) -> tuple[Figure, list[Axes]]:
-    """A figure of two by two maps in the ground's proportions, and its axes."""
-    share = min(max(high / wide, 0.3), 1.3)
-    figure = Figure(figsize=(12, 9.4 * share + 1.5), constrained_layout=True)
-    return figure, list(figure.subplots(2, 2).flat)
+def panels(wide: float, high: float, count: int = 4) -> tuple[Figure, list[Axes]]:
+    """A figure of maps in the ground's proportions, two beside each other, and its axes."""
+    share, lines = min(max(high / wide, 0.3), 1.3), -(-count // 2)
+    figure = Figure(figsize=(12, lines * (4.7 * share + 0.75)), constrained_layout=True)
+    axes = list(figure.subplots(lines, 2, squeeze=False).flat)
+    for ax in axes[count:]:
+        ax.set_axis_off()
+    return figure, axes[:count]
 
 
 def plot_floor(scene: Scene, ax: Axes) -> Axes:
-    """The elevation of the chosen pit's floor, in metres, on the map; gives `ax`."""
+    """The elevation of the chosen pit's floor, in metres, on the map, with contours of its benches and the lines of the sections; gives
+    `ax`."""
     west, east, south, north, _, top = scene.grid.extent()
     level = np.arange(scene.grid.shape[0])[:, None, None]
     deepest = np.where(scene.dug, level, -1).max(axis=0)
     floor = np.where(deepest >= 0, top - (deepest + 1) * scene.grid.size[2], np.nan)
     image = ax.imshow(floor, extent=(west, east, south, north), cmap="cividis", **MAP)
-    ax.set_title(f"Floor of the pit at factor {scene.chosen}, elevation in m")
+    between = contours(ax, scene.grid, floor) * scene.grid.size[2]
+    ax.set_title(f"Floor at factor {scene.chosen}, elevation in m, a line each {metres(between)} m")
     ax.figure.colorbar(image, ax=ax, shrink=0.85)
+    x, y, _ = scene.grid.centres(np.array(scene.section_row * scene.grid.shape[2] + scene.section_column))
+    mark_sections(ax, scene.grid, float(y), float(x))
+    mark_map(ax, scene.grid)
     name_axes(ax, "east", "north")
     return ax
 
@@ -271,6 +320,7 @@ def plot_level(scene: Scene, number: int, ax: Axes) -> Axes:
     top, height = scene.grid.extent()[5], scene.grid.size[2]
     plot_shells(scene, scene.level(number), ax)
     ax.set_title(f"Shells on the level {metres(top - (number + 1) * height)} to {metres(top - number * height)} m")
+    mark_map(ax, scene.grid)
     name_axes(ax, "east", "north")
     return ax
 
@@ -322,7 +372,9 @@ def colour_bar(image: AxesImage, axis: Axes, scene: Scene) -> None:
 
 
 def levels_to_show(scene: Scene) -> list[int]:
-    """Three levels of the chosen pit: near its top, in its middle and near its floor."""
+    """The levels that are asked for, else three of the chosen pit: near its top, in its middle and near its floor."""
+    if scene.rules.levels:
+        return [place_of(elevation, scene.grid, 2) for elevation in scene.rules.levels]
     used = np.flatnonzero(scene.dug.any(axis=(1, 2)))
     if not len(used):
         used = np.arange(scene.grid.shape[0])
@@ -335,6 +387,24 @@ def busiest(dug: np.ndarray, axis: int) -> int:
     return int(dug.sum(axis=others).argmax()) if dug.any() else dug.shape[axis] // 2
 
 
+@contextmanager
+def also_as(formats: tuple[str, ...]) -> Iterator[None]:
+    """Pictures that are written meanwhile are written in these formats too, beside the PNG."""
+    before = ALSO.set(formats)
+    try:
+        yield
+    finally:
+        ALSO.reset(before)
+
+
+def files_of(drawn: dict[str, str], formats: tuple[str, ...]) -> list[str]:
+    """The names of pictures, in every format that they are written in."""
+    return [str(Path(name).with_suffix(f".{kind}")) for name in drawn.values() for kind in ("png", *formats)]
+
+
 def finish(figure: Figure, path: Path) -> None:
-    # Without the library's version in it, the same plan gives the same bytes.
+    # Without the library's version and the day in it, the same plan gives the same bytes.
     figure.savefig(path, metadata={"Software": None})
+    with matplotlib.rc_context({"svg.hashsalt": "pitplan"}):
+        for name in ALSO.get():
+            figure.savefig(path.with_suffix(f".{name}"), metadata=UNDATED[name])

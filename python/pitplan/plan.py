@@ -47,7 +47,7 @@ class Plan:
     summary what the table holds: extents, tonnes, grades with units, and columns that say nothing
     fixed   blocks that must be dug, and blocks that may not be
     settled what is dug and what is left for their sake; None where the project has no `[fixed]`
-    left_out how many blocks of the table are none of the plan's, since no shell can reach them
+    left_out how many rows of the table no shell can reach, of a model too large for the program
     """
 
     project: Project
@@ -142,7 +142,7 @@ class Plan:
         project = self.project
         return {
             "title": project.title,
-            "table": {"file": self.source, "rows": len(self.table), "left_out": self.left_out, "fields_filled_with_0": self.filled},
+            "table": {"file": self.source, "rows": len(self.table), "fields_filled_with_0": self.filled},
             "grid": self.record_of_grid(),
             "money": {
                 "cutoff": self.values.cutoff,
@@ -173,6 +173,7 @@ class Plan:
             "cells_without_a_row": self.grid.count - len(self.table),
             "of_these_not_above_the_highest_of_their_column": len(absent.unknown_cells(self.grid)),
             "greatest_shift_of_a_centre": greatest_shift(self.table, self.grid, self.project),
+            **({"rows_left_out": self.left_out} if self.left_out else {}),
         }
 
     def notes_of_needs(self, pairs: Pairs) -> list[str]:

@@ -12,8 +12,10 @@ from typing import Optional, Union
 from .errors import PlanError
 from .money_rules import ByRegion, Metal, Money, Process, read_metal, read_money, read_process
 from .phase_rules import PhaseRules, read_phases
+from .picture_rules import PictureRules, read_pictures
 from .schedule_rules import ScheduleRules, read_schedule_rules
 from .section import Section
+from .sensitivity_rules import SensitivityRules, read_sensitivity
 from .wall_rules import Slopes, read_slopes
 
 REFERENCE_FACTOR = 1000
@@ -153,6 +155,8 @@ class Project:
     phases: Optional[PhaseRules] = None
     schedule_rules: Optional[ScheduleRules] = None
     processes: tuple[Process, ...] = ()
+    sensitivity: Optional[SensitivityRules] = None
+    pictures: Optional[PictureRules] = None
 
     @property
     def ways(self) -> tuple[Project, ...]:
@@ -201,6 +205,11 @@ def of_data(data: dict, path: Path) -> Project:
         schedule_rules=read_schedule_rules(top.section("schedule")) if top.has("schedule") else None,
         processes=processes,
     )
+    metals = tuple(metal.name for metal in project.metals)
+    if top.has("sensitivity"):
+        project = replace(project, sensitivity=read_sensitivity(top.section("sensitivity"), metals))
+    if top.has("pictures"):
+        project = replace(project, pictures=read_pictures(top.section("pictures"), metals))
     output.finish()
     top.finish()
     demand_agreement(project)

@@ -92,6 +92,31 @@ def columns_of_ways(table: pd.DataFrame, project: Project) -> Columns:
     ]
 
 
+def of_cases(table: pd.DataFrame) -> pd.DataFrame:
+    """A table of a sensitivity with each case in words, and by how much its net present value differs from that of the first."""
+    cases = [
+        ", ".join(f"{name.replace('_', ' ')} {100 * share:+g} %" for name, share in ((one, by), (other, also)) if name) or "as given"
+        for one, by, other, also in zip(table["number"], table["share"], table["second"], table["second_share"])
+    ]
+    return table.assign(case=cases, change=table["npv"] - table["npv"].iloc[0])
+
+
+def columns_of_cases(table: pd.DataFrame, project: Project) -> Columns:
+    """What is shown of a sensitivity, as `columns_of` of shells."""
+    money, sign = scaled(float(table["npv"].abs().max()))
+    tonnes, of_tonnes = scaled(float(table["tonnes"].max()))
+    currency = f"{sign} {project.money.currency}".strip()
+    return [
+        ("case", "case", 1.0, 0),
+        ("npv", f"NPV, {currency}", money, 2),
+        ("change", f"change, {currency}", money, 2),
+        ("tonnes", f"rock, {of_tonnes}t", tonnes, 2),
+        ("ore_tonnes", f"ore, {of_tonnes}t", tonnes, 2),
+        ("worth", f"worth, {currency}", money, 2),
+        ("years", "years", 1.0, 1),
+    ]
+
+
 def table_of(table: pd.DataFrame, columns_of: Callable[[pd.DataFrame, Project], Columns], project: Project) -> dict[str, Any]:
     """The headings and the rows of a table of the page."""
     columns = columns_of(table, project)
@@ -110,7 +135,7 @@ def cells_of(table: pd.DataFrame, columns: Columns) -> list[list[str]]:
     """The table as texts; a dash where a number is not defined."""
 
     def cell(row: pd.Series, name: str, size: float, places: int) -> str:
-        if name == "way":
+        if name in ("way", "case"):
             return str(row[name])
         if name in ("phase", "factor"):
             return str(int(row[name]))

@@ -17,13 +17,13 @@ PLAIN = ("factor", "year", "phase", "bench", "pieces", "least_width", "process_f
 
 def demand_library() -> None:
     """Raises MissingPackage without openpyxl."""
-    load("openpyxl", "python3-openpyxl", "a workbook of a schedule")
+    load("openpyxl", "python3-openpyxl", "a workbook")
 
 
 def write(path: Path, sheets: dict[str, pd.DataFrame]) -> None:
     """One sheet a table, by its name, with a header that stays in view. Raises MissingPackage without openpyxl."""
-    openpyxl = load("openpyxl", "python3-openpyxl", "a workbook of a schedule")
-    styles = load("openpyxl.styles", "python3-openpyxl", "a workbook of a schedule")
+    openpyxl = load("openpyxl", "python3-openpyxl", "a workbook")
+    styles = load("openpyxl.styles", "python3-openpyxl", "a workbook")
     book = openpyxl.Workbook()
     book.remove(book.active)
     for name, table in sheets.items():

@@ -2,6 +2,7 @@
 
 import io
 import shutil
+import signal
 import sys
 from contextlib import redirect_stderr, redirect_stdout
 from dataclasses import dataclass
@@ -16,6 +17,8 @@ sys.path.insert(0, str(ROOT / "python"))
 
 settings.register_profile("plan", deadline=None, max_examples=40, derandomize=True, database=None)
 settings.load_profile("plan")
+# Some tests interrupt themselves, and what a shell has put behind is deaf to that.
+signal.signal(signal.SIGINT, signal.default_int_handler)
 
 PROJECT = """
 title = "Test hill"

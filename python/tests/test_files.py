@@ -171,6 +171,43 @@ def test_vti_is_read_back_by_vtk_cell_by_cell(solved):
         assert factor[place] == block.factor
 
 
+def test_vtu_has_a_cell_a_block_of_rock_where_the_block_lies(plan_folder):
+    """Of a hill in which the block b2-0-1 is air: it has no tonnes."""
+    vtk = pytest.importorskip("vtk")
+    from vtk.util.numpy_support import vtk_to_numpy
+
+    path = plan_folder(rows(4, 3, 2, **ORE, tonnes=lambda i, j, k: 100 * int((i, j, k) != (2, 0, 1))))
+    commands.write_shells(path, verifies=False)
+    reader = vtk.vtkXMLUnstructuredGridReader()
+    reader.SetFileName(str(commands.export(path.parent / "plan", "vtu")))
+    reader.Update()
+    mesh = reader.GetOutput()
+    blocks = pd.read_csv(path.parent / "plan" / "blocks.csv")
+    blocks = blocks[blocks["tonnes"] > 0].reset_index(drop=True)
+    assert mesh.GetNumberOfCells() == len(blocks) == 23 and mesh.GetNumberOfPoints() == 5 * 4 * 3
+    for number, block in blocks.iterrows():
+        sides = [block.x - 5, block.x + 5, block.y - 5, block.y + 5, block.z - 5, block.z + 5]
+        assert list(mesh.GetCell(number).GetBounds()) == sides and mesh.GetCellType(number) == vtk.VTK_VOXEL
+    quality = vtk.vtkCellSizeFilter()
+    quality.SetInputData(mesh)
+    quality.Update()
+    assert np.allclose(vtk_to_numpy(quality.GetOutput().GetCellData().GetArray("Volume")), 1000)
+    for name in ("factor", "tonnes", "mining_cost"):
+        assert vtk_to_numpy(mesh.GetCellData().GetArray(name)).tolist() == blocks[name].tolist()
+
+
+def test_a_workbook_has_all_tables_of_the_folder(solved):
+    openpyxl = pytest.importorskip("openpyxl")
+    _, folder = solved
+    book = openpyxl.load_workbook(commands.export(folder, "xlsx"))
+    assert book.sheetnames == ["shells", "years"]
+    for name in book.sheetnames:
+        table = pd.read_csv(folder / f"{name}.csv")
+        head, *lines = ([cell.value for cell in row] for row in book[name])
+        assert head == list(table.columns) and len(lines) == len(table) > 2
+        assert [line[:4] for line in lines] == table.iloc[:, :4].values.tolist()
+
+
 def test_dxf_has_the_area_of_the_pit_on_each_level(solved):
     ezdxf = pytest.importorskip("ezdxf")
     _, folder = solved

@@ -17,7 +17,7 @@ import pitplan
 from pitplan import PlanError, load, milling_programme as mp
 from pitplan.grade_bins import Parcels, bins_of, edges_of
 from pitplan.sequencing import Limits, by_rule
-from pitplan.verification import verify
+from pitplan.verification import milling, verify
 
 NAMES = ("ore_tonnes", "metal_copper", "gain")
 
@@ -257,10 +257,25 @@ def test_ore_that_is_reclaimed_before_it_is_stocked_is_found(written):
             table.loc[late, "year"] = 1
             table.to_csv(written / name, index=False)
         found = [text for rule in verify(written) for text in rule.differences]
-        assert any("more is reclaimed of phase" in text for text in found)
+        # Of three levels the lowest has its centre 20 m below the first, at 25 m.
+        early = pd.read_csv(written / "milling.csv").query("reclaimed_tonnes > 0")
+        places = {f"phase {row.phase}, level {(25 - row.bench) / 10:.0f}, bin {row.bin}" for row in early.itertuples()}
+        said = {text.partition(" of ")[2] for text in found if "more is reclaimed" in text}
+        assert said == {f"{place} than is stocked" for place in places} and len(said) > 0
     finally:
         for name, text in kept.items():
             (written / name).write_text(text)
+
+
+def test_what_is_reclaimed_is_stocked_the_year_before_by_hand():
+    """Of 10 t each of which 4 are milled at once: 6 reclaimed a year later, in the same year, and 7."""
+    place = {"phase": [2, 2, 3, 4, 4], "level": [0, 0, 5, 1, 1], "bin": [1, 1, 2, 1, 1], "year": [1, 2, 1, 1, 2]}
+    tonnes = {"dug_tonnes": [10, 0, 10, 10, 0], "milled_tonnes": [4, 0, 4, 4, 0], "reclaimed_tonnes": [0, 6, 6, 0, 7]}
+    table = pd.DataFrame(place | tonnes).astype({name: float for name in tonnes})
+    whole = table.groupby(["phase", "level", "bin"])[["dug_tonnes"]].sum().set_axis(["ore_tonnes"], axis=1)
+    said = milling.unlike_stock(table, whole, True)
+    assert said == [f"milling.csv: more is reclaimed of phase {at} than is stocked" for at in ("3, level 5, bin 2", "4, level 1, bin 1")]
+    assert milling.unlike_stock(table, whole, False) == ["ore is reclaimed, and there is no stockpile"]
 
 
 @pytest.mark.parametrize(

@@ -110,6 +110,36 @@ def test_centres_without_a_name_are_told_by_their_steps():
 
 
 @pytest.mark.parametrize(
+    ("name", "mean", "unit", "why"),
+    [
+        ("AU", 1.5, "gram_per_tonne", "unit as is usual for this metal"),
+        ("AU", 45.0, "gram_per_tonne", "unit as is usual for this metal"),
+        ("CU", 40.0, "percent", "unit as is usual for this metal"),
+        ("CU", 40.5, "gram_per_tonne", "unit by its values"),
+        ("FE", 75.0, "percent", "unit as is usual for this metal"),
+        ("FE", 75.5, "gram_per_tonne", "unit by its values"),
+    ],
+)
+def test_the_unit_of_a_name_that_tells_none(name, mean, unit, why):
+    """By the metal, or by the mean of the grades above 0 where it is more than a per cent could be."""
+    guess = guesses.metal_of(pd.DataFrame({name: [0.0, mean - 1, mean + 1]}), name)
+    assert (guess.unit, guess.why) == (unit, why)
+
+
+@pytest.mark.parametrize(("headings", "column", "count"), [(SURPAC, "tonnes", 3), (DATAMINE, "density", 4), (VULCAN, "volume", 4)])
+def test_what_makes_tonnes_is_counted_where_it_is_empty(tmp_path, headings, column, count):
+    more = {**INCREMENTS, "density": lambda i, j, k: 2.5, "volume": lambda i, j, k: 1000.0, "tonnes": lambda i, j, k: 2500.0}
+    exported(tmp_path / "m.csv", headings, **{**more, column: lambda i, j, k: float("nan") if (i, j) == (0, 0) and k < count else 2.5})
+    told = init.write(tmp_path / "m.csv", tmp_path / "project.toml")
+    assert f"WARNING: {count} tonnes or grades are empty, and taken as 0" in told
+
+
+def test_texts_and_names_without_a_letter_are_no_grades():
+    table = rows(3, 3, 3, cu=lambda i, j, k: 0.5 * k).assign(**{"Au class": "rich", "1": 0.5})
+    assert [metal.column for metal in guesses.columns_of(table).metals] == ["cu"]
+
+
+@pytest.mark.parametrize(
     ("values", "is_one"),
     [
         ([0, 0, 10, 10, 20, 20], True),
@@ -127,8 +157,10 @@ def test_centres_have_few_numbers_at_equal_steps(values, is_one):
 
 
 def test_ore_a_year_is_by_taylors_rule(tmp_path):
-    """16 Mt of ore last 0.2 * 16,000,000^(1/4) = 12.65 years: 1,265,000 t a year, by two digits 1,300,000."""
-    table = rows(8, 8, 4, cu=lambda i, j, k: 2.0 if k == 1 else 0.0, tonnes=lambda i, j, k: 250_000)
+    """16 Mt of ore last 0.2 * 16,000,000^(1/4) = 12.65 years: 1,265,000 t a year, by two digits 1,300,000.
+
+    Of a tonne with 0.16 % of copper 85 % at 9000 USD are 12.24 USD, which is more than the 12 for processing; of 0.15 % they are 11.48."""
+    table = rows(8, 8, 4, cu=lambda i, j, k: 0.16 if k == 1 else 0.15, tonnes=lambda i, j, k: 250_000)
     table.to_csv(tmp_path / "m.csv", index=False)
     init.write(tmp_path / "m.csv", tmp_path / "project.toml")
     assert load(tmp_path / "project.toml").schedule.ore_per_year == 1_300_000

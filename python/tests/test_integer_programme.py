@@ -63,6 +63,13 @@ def test_a_phase_that_sinks_too_fast_does_not_keep_to_the_rules():
     assert not ip.keeps(problem, np.array([[1, 0], [0.6, 0.4], [1, 0]]))
 
 
+def test_phases_sink_each_by_itself():
+    """Of three phases each digs its one bench in the same year."""
+    benches = benches_of(*((phase, 0, 100, 100, 500) for phase in (1, 2, 3)))
+    problem = problem_of(benches, Limits({"ore_tonnes": 1000}, sinking_rate=1.5))
+    assert ip.keeps(problem, np.ones((3, 1)))
+
+
 @pytest.mark.usefixtures("blank_pictures")
 def test_it_is_written_as_a_way_of_its_own(plan_folder):
     project = load(plan_folder(pillars(), PHASES + "[schedule]\nmilp = { gap = 0.001, seconds = 60 }\n"))

@@ -178,6 +178,14 @@ def test_the_bound_is_that_of_another_solver(pit, limits, lag):
     assert bound == pytest.approx(pulp.value(problem.objective) or 0.0, rel=1e-6, abs=1e-3)
 
 
+def test_orders_have_what_the_optimum_digs_by_its_last_year():
+    """The ore comes in the last year, and the second phase is left; each order has the waste before its ore."""
+    benches = benches_of(*THREE)
+    optimum = lp.Relaxed(np.array([[1.0, 1], [0, 1], [0, 0]]), 0.0, benches.of("cash"))
+    orders = [sequence.order.tolist() for sequence in lp.sequences(optimum, benches)]
+    assert len(orders) > 3 and all(order == [0, 1] for order in orders)
+
+
 def test_solved_in_a_process_of_its_own_the_same(monkeypatch):
     monkeypatch.setattr(optimiser, "FEW", 0)
     benches, limits = benches_of(*THREE), Limits({"ore_tonnes": 100, "rock_tonnes": 200})
@@ -190,11 +198,11 @@ def test_an_interruption_ends_a_process_of_its_own(monkeypatch):
 
     def sleep(arguments, **options):
         begun.append(popen(["/bin/sleep", "600"], **options))
+        Timer(0.3, os.kill, (os.getpid(), signal.SIGINT)).start()
         return begun[0]
 
     monkeypatch.setattr(optimiser, "FEW", 0)
     monkeypatch.setattr(optimiser.subprocess, "Popen", sleep)
-    Timer(0.3, os.kill, (os.getpid(), signal.SIGINT)).start()
     started = time.monotonic()
     with pytest.raises(KeyboardInterrupt):
         lp.relaxed(problem_of(benches_of(*THREE), Limits({"ore_tonnes": 100})), 3)

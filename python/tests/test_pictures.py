@@ -196,8 +196,8 @@ def test_plans_and_sections_have_coordinates_in_full(monkeypatch):
         demand_plain_coordinates(figure)
         titles = [axis.get_title(loc="left") for axis in figure.axes]
     # Row 10 from 6512012.5 by 25 m, and column 12 from 430010 by 20 m.
-    assert titles[0] == "Shells, west to east at north 6512262.5"
-    assert titles[2] == "Shells, south to north at east 430250"
+    assert titles[0] == "Shells, west to east (A) at north 6512262.5"
+    assert titles[2] == "Shells, south to north (B) at east 430250"
 
 
 @pytest.mark.parametrize("draw", [phase_pictures.write_plans, phase_pictures.write_sections])

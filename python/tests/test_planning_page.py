@@ -3,6 +3,7 @@
 import re
 import shutil
 from dataclasses import replace
+from decimal import Decimal
 
 import pytest
 from conftest import ROOT
@@ -11,6 +12,7 @@ import pitplan
 from pitplan import yearly_schedule
 from pitplan.phase_rules import PhaseRules
 from pitplan.schedule_rules import ScheduleRules
+from pitplan.sensitivity_rules import SensitivityRules
 
 PAGE = (ROOT / "docs" / "PLANNING.md").read_text(encoding="utf-8")
 EXAMPLE = ROOT / "examples" / "plan" / "project.toml"
@@ -129,3 +131,13 @@ def test_the_widths_of_the_page_are_those_of_the_example():
     cost, worth = after["cost_of_width"].iloc[-1], before["worth"].sum() / 1e6
     assert f"worth {cost:,.0f} USD less by it, of {worth:.1f} million" in PAGE
     assert many["blocks"][2] == 3 and "0 earlier" in note and "0 never" in note
+
+
+def test_the_sensitivity_of_the_page_is_that_of_the_example(tmp_path, monkeypatch):
+    monkeypatch.setattr("pitplan.sensitivity_pictures.write_all", lambda *given: None)
+    project = pitplan.load(EXAMPLE)
+    rules = SensitivityRules((Decimal("-0.2"), Decimal("-0.1")), ("price", "slopes"))
+    table = pitplan.sensitivity(replace(project, sensitivity=rules), tmp_path, verifies=False)
+    npv = {(row.number, row.share): f"{row.npv / 1e6:.1f}" for row in table.itertuples()}
+    said = re.search(r"Of the example's ([\d.]+) M USD a price that is 20 % less leaves ([\d.]+), and walls of a tenth less angle ([\d.]+)\.", PAGE)
+    assert said.groups() == (npv["", 0.0], npv["price", -0.2], npv["slopes", -0.1])

@@ -242,6 +242,28 @@ def test_a_phase_of_a_factor_that_was_not_asked_for_is_found(divided, copied):
     assert rule.name == "phase of blocks" and "was not asked for" in rule.differences[0]
 
 
+@pytest.mark.parametrize(
+    ("asked", "said"),
+    [
+        ("count = 3\nlast = 400", "the last phase is of factor {last} for 400"),
+        ("count = 2", "3 phases for 2"),
+        ("factors = [1, 400]", "the last phase is of factor {last} for 400"),
+    ],
+)
+def test_phases_that_the_project_does_not_ask_for_are_found(copied, asked, said):
+    path = copied.parent.parent / "project.toml"
+    path.write_text(path.read_text().replace("count = 3", asked))
+    (rule,) = wrong(copied).values()
+    last = pd.read_csv(copied / "phases.csv")["factor"].max()
+    assert rule.name == "phase of blocks" and said.format(last=last) in rule.differences
+
+
+def test_phases_of_a_project_that_asks_for_none_are_found(copied):
+    path = copied.parent.parent / "project.toml"
+    path.write_text(path.read_text().replace("[pushbacks]\ncount = 3\n", ""))
+    assert wrong(copied)["phase of blocks"].differences == ("the project asks for no phases",)
+
+
 def test_nothing_is_written_where_a_phase_is_wrong(plan_folder, monkeypatch):
     """All blocks of the last phase in the first."""
     whole = phases.blocks

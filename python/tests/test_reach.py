@@ -154,7 +154,7 @@ def test_a_table_that_has_changed_where_it_was_left_out_is_found(plan_folder, fe
     file = path.parent / "blocks.csv"
     table = pd.read_csv(file)
     table[table["name"] != "b20-15-7"].to_csv(file, index=False)
-    with pytest.raises(PlanError, match="blocks of the table for .* were left out: has the table changed since"):
+    with pytest.raises(PlanError, match="blocks of the table are not in it: has the table changed since"):
         verify(path.parent / "plan")
 
 

@@ -246,6 +246,16 @@ def test_a_way_above_a_bound_is_found(copied, name):
     assert wrong(copied) == {"schedule value"}
 
 
+def test_what_the_rule_leaves_is_found(copied):
+    """It digs all there is, unless so many years are given; a linear programme may leave what does not pay."""
+    rewrite(copied / "schedule.csv", lambda table: table[table.duplicated("way", keep="last")])
+    said = [text for rule in verify(copied) if rule.name == "schedule value" for text in rule.differences]
+    assert sum(" leaves " in text for text in said) == 1 and any(text.startswith("rule leaves ") for text in said)
+    project = copied.parents[1] / "project.toml"
+    project.write_text(project.read_text().replace("[schedule]", "[schedule]\nyears = 50"))
+    assert not any(" leaves " in text for rule in verify(copied) for text in rule.differences)
+
+
 def test_cash_that_is_discounted_otherwise_is_found(copied):
     rewrite(copied / "schedule.csv", with_more("discounted", 1))
     assert "schedule value" in wrong(copied)
@@ -276,6 +286,12 @@ def test_a_way_that_is_shown_and_earns_less_is_found(copied):
     assert "years of blocks" in wrong(copied)
     change_told(copied, shown="hand")
     assert "years of blocks" in wrong(copied)
+
+
+def test_great_amounts_are_right_too(plan_folder):
+    """Billions, of which a float holds no thousandths of a cent, at the price as given a millionfold."""
+    table, folder = scheduled(plan_folder, text=PHASES.replace("price = 8000", "price = 8_123_456_789.123"))
+    assert table["value"].min() > 1e9 and wrong(folder) == set()
 
 
 def test_a_case_of_no_way_is_found(copied):

@@ -17,6 +17,7 @@ of the program, for the files that it was given; here is looked whether these sa
 - the table of shells adds up, and the program's worth of each shell is that of its blocks to the last digit that blocks.csv holds;
 - no year exceeds a capacity, the years add up to their shell, and both net present values follow from its benches;
 - of `pit`, both rows of pits.csv are right in all this, and the pit without fixed blocks is worth no less;
+- a table that was written back has the planner's own rows and fields, and of each block what blocks.csv says;
 - phases are closed under the whole cones, hold what must be dug in phase 1 and what may not be in none, add up, and are as wide as
   asked, which is counted anew by sums over squares.
 """
@@ -29,7 +30,8 @@ from typing import Optional
 
 from ..errors import PlanError
 from ..project import Project
-from . import absent, answer as answers, fixed, money, phases, reach, reblocked, scenarios, schedule, sums, walls, years
+from . import absent, answer as answers, fixed, money, phases, planned_table, reach, reblocked, scenarios, schedule, sensitivity, sums
+from . import walls, years
 from .answer import TOLD, Answer, Rule, rule
 
 OF_PITS = (walls.verify, sums.verify, sums.verify_worth, years.verify)
@@ -46,7 +48,13 @@ def verify(folder: Path, project: Optional[Project] = None) -> list[Rule]:
     more += [reach.verify(answer)] if answer.beyond is not None else []
     more += [verify_free(answer, answer.free)] if answer.free else []
     more += phases.verify(answer) if answer.phases is not None else []
+    more += [planned_table.verify(answer, folder / planned_table.NAME)] if (folder / planned_table.NAME).exists() else []
     return [*(check(answer) for check in CHECKS), *more, *(schedule.verify(answer) if answer.schedule is not None else [])]
+
+
+def verify_table(folder: Path, path: Path) -> Rule:
+    """Whether a table that is written back, at `path`, is right by the folder's answer. Raises PlanError as `verify` does."""
+    return planned_table.verify(answers.read(folder), path)
 
 
 def verify_free(kept: Answer, free: Answer) -> Rule:
@@ -62,8 +70,15 @@ def verify_free(kept: Answer, free: Answer) -> Rule:
     return rule("free", holds, [*differences, *lost], sum(rule_of.count for rule_of in found) + len(lost))
 
 
+def verify_sensitivity(written: Path, folder: Path) -> list[Rule]:
+    """What was looked at of a sensitivity whose tables are in `written` and whose answers are in `folder`. Raises PlanError as `verify`."""
+    return sensitivity.verify(written, folder)
+
+
 def verify_folder(folder: Path) -> list[Rule]:
-    """What was looked at in a folder of scenarios, or else of a plan. Raises PlanError as `verify` of either does."""
+    """What was looked at in a folder of scenarios, of a sensitivity, or else of a plan. Raises PlanError as `verify` of either does."""
+    if (folder / "sensitivity.json").is_file():
+        return verify_sensitivity(folder, folder)
     return scenarios.verify(folder) if (folder / "scenarios.json").is_file() else verify(folder)
 
 

@@ -239,7 +239,7 @@ def read_shells(folder: Path, record: dict[str, Any], project: Project, written:
     """The answer of `pitplan shells`, `pitplan pushbacks` or `pitplan schedule`."""
     shells = pd.read_csv(folder / "shells.csv", dtype={"worth_at_factor": str}).set_index("factor")
     years = pd.read_csv(folder / "years.csv") if (folder / "years.csv").exists() else None
-    frame, parts, beyond = rows_of(project, written, record)
+    frame, parts, beyond = rows_of(project, written, record["grid"])
     rows, known, order = beside(frame, written, project, record["grid"], "blocks.csv")
     phases = pd.read_csv(folder / "phases.csv").set_index("phase") if "phases" in record else None
     schedule = pd.read_csv(folder / "schedule.csv") if "schedule" in record else None
@@ -249,24 +249,24 @@ def read_shells(folder: Path, record: dict[str, Any], project: Project, written:
 
 
 def rows_of(
-    project: Project, written: pd.DataFrame, record: dict[str, Any]
+    project: Project, written: pd.DataFrame, grid: dict[str, Any]
 ) -> tuple[pd.DataFrame, Optional[pd.DataFrame], Optional[pd.DataFrame]]:
     """A row a block of the table that lies in the answer's grid; where its rows are put together to blocks these rows; and where some were
     left out the blocks beyond the grid. Raises PlanError as `beside` does."""
     frame = tables.read(project).frame
     if project.table.reblock is None:
-        inside, beyond = divided(frame, project, record)
+        inside, beyond = divided(frame, project, grid)
         return inside, None, beyond
-    inside, beyond = divided(together(frame, project, record["grid"]), project, record)
+    inside, beyond = divided(together(frame, project, grid), project, grid)
     own = written.rename(columns={own_name(name): name for name in frame.columns})
-    return written_rows(inside, own.loc[:, ~own.columns.duplicated(keep="last")], project, record["grid"]), frame, beyond
+    return written_rows(inside, own.loc[:, ~own.columns.duplicated(keep="last")], project, grid), frame, beyond
 
 
 def read_pits(folder: Path, record: dict[str, Any], project: Project, written: pd.DataFrame) -> Answer:
     """The two answers of `pitplan pit`: that which keeps to the fixed blocks, and in it the one that does not."""
     pits = pd.read_csv(folder / "pits.csv", dtype={"worth_at_factor": str})
     kept, free = (pits[pits["fixed_blocks"] == name].set_index("factor") for name in ("kept", "free"))
-    frame, parts, beyond = rows_of(project, written, record)
+    frame, parts, beyond = rows_of(project, written, record["grid"])
     rows, known, order = beside(frame, written, project, record["grid"], "blocks.csv")
     said = written[[*said_of(project), *FREE]].iloc[order].reset_index(drop=True)
     other = said.assign(**{name: said[f"free_{name}"] for name in ("factor", "process_factor")})

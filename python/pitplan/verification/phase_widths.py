@@ -58,9 +58,11 @@ def room_of(answer: Answer) -> np.ndarray:
 
 
 def too_narrow(answer: Answer, cube: np.ndarray, room: np.ndarray, number: int) -> tuple[list[str], int]:
-    """Blocks of a phase that lie in no rectangle of the widths asked for: the first ten, and how many there are."""
+    """Blocks of a phase that lie in no rectangle of the widths asked for: the first ten, and how many there are. That a project asks for
+    no phases at all is told elsewhere."""
     asked, wrong = answer.project.phases, np.zeros(answer.shape, dtype=bool)
-    assert asked is not None
+    if asked is None:
+        return [], 0
     for wide, there in ((asked.width, cube == number), (asked.bottom, (cube > 0) & (cube <= number))):
         if wide is not None:
             covered = np.stack([cells_in(level, blocks_across(answer, wide)) for level in there | room])

@@ -63,15 +63,18 @@ def written_rows(expected: pd.DataFrame, written: pd.DataFrame, project: Project
     return written.iloc[at][list(expected.columns)].reset_index(drop=True)
 
 
-def divided(frame: pd.DataFrame, project: Project, record: dict[str, Any]) -> tuple[pd.DataFrame, Optional[pd.DataFrame]]:
-    """The rows that lie in the grid, and those beyond it, where the record says that some were left out. Raises PlanError where these are
-    not as many as it says."""
-    columns, grid, count = project.table, record["grid"], record["table"].get("left_out", 0)
-    if not count:
-        return frame, None
+def divided(frame: pd.DataFrame, project: Project, grid: dict[str, Any]) -> tuple[pd.DataFrame, Optional[pd.DataFrame]]:
+    """The rows that lie in a grid, and where there are such those that lie beyond it.
+
+    Raises PlanError where these are not as many as were left out.
+    """
+    columns = project.table
     east, north, up = np.rint((frame[[columns.x, columns.y, columns.z]].to_numpy() - grid["origin"]) / grid["size"]).T
     levels, rows, width = grid["shape"]
     inside = (east >= 0) & (east < width) & (north >= 0) & (north < rows) & (up <= 0) & (up > -levels)
-    if np.count_nonzero(~inside) != count:
-        raise PlanError(f"blocks.csv: {np.count_nonzero(~inside):,} blocks of the table for {count:,} were left out: has the table changed since?")
+    beyond = np.count_nonzero(~inside)
+    if beyond != grid.get("rows_left_out", 0):
+        raise PlanError(f"blocks.csv: {beyond:,} blocks of the table are not in it: has the table changed since?")
+    if not beyond:
+        return frame, None
     return frame[inside].reset_index(drop=True), frame[~inside].reset_index(drop=True)

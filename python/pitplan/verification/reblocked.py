@@ -20,7 +20,7 @@ def verify(answer: Answer) -> Rule:
     """Blocks lie where the project puts them, and each holds its rows: tonnes, grades, rock, region, and what is fixed."""
     parts, said = answer.parts, answer.rows
     assert parts is not None
-    expected = divided(together(parts, answer.project, answer.record["grid"]), answer.project, answer.record)[0].reset_index(drop=True)
+    expected = divided(together(parts, answer.project, answer.record["grid"]), answer.project, answer.record["grid"])[0].reset_index(drop=True)
     differences = unlike_grid(parts, answer.project, answer.record["grid"])
     columns, count = answer.project.table, len(differences)
     if len(expected) != answer.known:

@@ -20,6 +20,7 @@ from ..project import Project
 from . import absent, fixed, money, sums, walls
 from .answer import TOLD, Answer, Rule, rule
 from .simulated import QUANTILES, SCENARIOS, Scenario, Simulated, Told, prices_of, read
+from .weighing import gains, weighed
 
 # So many scenarios are looked at block by block.
 SAMPLE = 10
@@ -92,7 +93,7 @@ class Verification:
         found: dict[str, list[Rule]] = {name: [] for name in OF_EACH}
         for scenario in self.sample:
             whole = self.of_scenario(scenario)
-            dug = self.weighed(whole)
+            dug = weighed(whole)
             worth = rule("worth", "", sums.unlike_worth(dug))
             for it in (walls.verify(whole), fixed.verify(whole), sums.verify(dug), worth):
                 told = tuple(f"{scenario.label}: {difference}" for difference in it.differences)
@@ -120,16 +121,6 @@ class Verification:
     def with_grades(self, grades: np.ndarray) -> pd.DataFrame:
         metals = self.folder.project.metals
         return self.folder.rows.assign(**{metal.column: grades[:, number] for number, metal in enumerate(metals)})
-
-    def weighed(self, whole: Answer) -> Answer:
-        """The blocks that are dug at any factor, with exact costs and revenue."""
-        dug = (whole.said["factor"] > 0).to_numpy()
-        part = replace(whole, rows=whole.rows[dug].reset_index(drop=True), said=whole.said[dug].reset_index(drop=True))
-        exactly = money.Exactly.of(part)
-        amounts = [[float(amount) for amount in exactly.amounts(row)] for row in range(len(part.rows))]
-        frame = pd.DataFrame(amounts, columns=[money.MINING, "revenue", "processing_cost"], dtype=np.float64)
-        part = replace(part, said=pd.concat([part.said, frame], axis=1))
-        return replace(part, said=part.said.assign(process_factor=sums.first_processed(part)))
 
     @cached_property
     def reference(self) -> Decimal:
@@ -195,16 +186,6 @@ def joined(name: str, holds: str, found: list[Rule]) -> Rule:
 def in_pits(answer: Told, factors: int) -> np.ndarray:
     """A truth for each block and factor: whether the factor's pit holds the block."""
     return (answer.places[:, None] > 0) & (answer.places[:, None] <= np.arange(1, factors + 1))
-
-
-def gains(answer: Answer) -> pd.DataFrame:
-    """Revenue and processing cost of each block: by floats, and exactly where these are close to one another."""
-    _, revenue, processing = money.by_floats(answer)
-    unit = 10.0**-answer.project.money.decimals
-    exactly = money.Exactly.of(answer)
-    for row in np.flatnonzero((revenue > 0) & (np.abs(revenue - processing) <= 2 * unit + 1e-9 * revenue)).tolist():
-        revenue[row], processing[row] = (float(amount) for amount in exactly.amounts(row)[1:])
-    return answer.said.assign(revenue=revenue, processing_cost=np.where(revenue > 0, processing, 0.0))
 
 
 def unlike_rows(folder: Simulated, tables: list[tuple[Scenario, pd.DataFrame]]) -> list[str]:

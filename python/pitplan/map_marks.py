@@ -1,0 +1,70 @@
+"""What makes a map of a picture: where north is, how long so many metres are, where sections go, and contours of benches with elevations."""
+
+from __future__ import annotations
+
+import numpy as np
+from matplotlib.axes import Axes
+from matplotlib.collections import LineCollection
+from matplotlib.patheffects import withStroke
+
+from .grid import Grid, metres
+from .outlines import edges
+
+MOST_CONTOURS, MOST_CONTOURS_NAMED = 20, 6
+# The share of a map's width that a scale bar has at most.
+MOST_OF_MAP = 0.25
+HALO = [withStroke(linewidth=2.2, foreground="white")]
+SECTION = "#b03060"
+
+
+def mark_map(ax: Axes, grid: Grid) -> None:
+    """An arrow to the north and a scale bar."""
+    west, east, south, north, _, _ = grid.extent()
+    arrow = {"arrowstyle": "-|>", "color": "black", "linewidth": 1.3, "shrinkA": 0, "shrinkB": 0}
+    at = {"xycoords": "axes fraction", "textcoords": "axes fraction", "ha": "center", "va": "top", "fontsize": 9, "fontweight": "bold"}
+    ax.annotate("N", xy=(0.955, 0.975), xytext=(0.955, 0.875), arrowprops=arrow, path_effects=HALO, **at)
+    long = nice_length(MOST_OF_MAP * (east - west))
+    left, low = west + 0.04 * (east - west), south + 0.05 * (north - south)
+    ax.plot([left, left + long], [low, low], color="black", linewidth=3, solid_capstyle="butt", path_effects=HALO)
+    words = {"ha": "center", "va": "bottom", "fontsize": 8, "path_effects": HALO, "textcoords": "offset points"}
+    ax.annotate(f"{long:,.10g} m", (left + long / 2, low), xytext=(0, 3), **words)
+
+
+def nice_length(most: float) -> float:
+    """The greatest of 1, 2 and 5 times a power of ten that is not above the most."""
+    power = 10.0 ** np.floor(np.log10(most))
+    return float(max(step * power for step in (1, 2, 5) if step * power <= most * (1 + 1e-9)))
+
+
+def mark_sections(ax: Axes, grid: Grid, north_of: float, east_of: float) -> None:
+    """Lines along which sections go, with letters at their ends: A from west to east, B from south to north."""
+    west, east, south, north, _, _ = grid.extent()
+    look = {"color": SECTION, "linewidth": 1.1, "linestyle": (0, (6, 3))}
+    ax.plot([west, east], [north_of, north_of], **look)
+    ax.plot([east_of, east_of], [south, north], **look)
+    words = {"color": SECTION, "fontsize": 9, "fontweight": "bold", "path_effects": HALO, "textcoords": "offset points"}
+    for name, at, shift in (("A", (west, north_of), (7, 3)), ("A'", (east, north_of), (-9, 3)), ("B", (east_of, south), (6, 4)), ("B'", (east_of, north), (7, -11))):
+        ax.annotate(name, at, xytext=shift, ha="center", **words)
+
+
+def contours(ax: Axes, grid: Grid, floor: np.ndarray) -> int:
+    """Lines round all that is dug down to a bench's floor or deeper, some with their elevation; gives how many benches are between two.
+
+    floor  for each row and column the elevation of the pit's floor in metres, nan where there is none
+    """
+    west, _, south, _, _, _ = grid.extent()
+    size = np.array(grid.size[:2])
+    benches = np.unique(floor[np.isfinite(floor)])[::-1]
+    step = max(-(-len(benches) // MOST_CONTOURS), 1)
+    drawn = benches[::step]
+    named = max(-(-len(drawn) // MOST_CONTOURS_NAMED), 1)
+    for number, height in enumerate(drawn):
+        with np.errstate(invalid="ignore"):
+            lines = edges(floor <= height) * size + (west, south)
+        ax.add_collection(LineCollection(lines, colors="black", linewidths=0.5 if number else 1.3))
+        if number % named == 0:
+            # To the north-east and the south-west by turns, where names keep apart and off the sections.
+            middles = lines.mean(axis=1)
+            x, y = middles[(middles.sum(axis=1) * (1 if number // named % 2 else -1)).argmax()]
+            ax.text(x, y, metres(height), ha="center", va="center", fontsize=7, path_effects=HALO)
+    return step

@@ -1,0 +1,58 @@
+"""The planner's own table with what was found of each block beside it: the same rows in the same order, each field as it stands there."""
+
+from __future__ import annotations
+
+from pathlib import Path
+
+import pandas as pd
+
+from . import grid as grids, table as tables
+from .errors import PlanError
+from .files import Folder, hash_of
+from .plan import shown_name
+from .project import Project, load
+from .table_format import TableFormat, format_of, names_in_header
+
+# What blocks.csv has of a block's pits, phase and year, in this order; each where the folder has it.
+FOUND = ("factor", "process_factor", "phase", "year")
+# What is read as UTF-8, with a byte-order mark or without, is written without.
+WRITTEN_AS = {"utf-8-sig": "utf-8"}
+
+
+def write(path: Path, folder: Folder) -> None:
+    """The table in its own format, with the columns FOUND of its blocks behind the planner's.
+
+    A column of the planner's with such a name is called planner_NAME, as in blocks.csv. Raises PlanError where the project or its table
+    cannot be read or has changed since the folder was written.
+    """
+    project = project_of(folder)
+    if project.table.reblock:
+        raise PlanError(f"{project.path}: [table] reblock: rows are put together to blocks, so that there is none a block: export them as csv")
+    frame, form = as_text(project.table.file, project)
+    cells = grids.of_table(tables.read(project).frame, project, str(project.table.file)).rows
+    blocks = folder.blocks.set_index("id")
+    for name in FOUND:
+        if name in blocks:
+            frame[name] = blocks[name].reindex(cells).to_numpy()
+    frame.to_csv(path, sep=form.separator, index=False, encoding=WRITTEN_AS.get(form.encoding, form.encoding))
+
+
+def project_of(folder: Folder) -> Project:
+    """The project that the folder was made of. Raises PlanError where it, or its table, is not what it was."""
+    project = load(folder.path / folder.record["project"])
+    for path in (project.path, project.table.file):
+        try:
+            is_same = folder.record["inputs"].get(path.name) == hash_of(path)
+        except OSError as error:
+            raise PlanError(f"{path}: cannot be read: {error.strerror}") from error
+        if not is_same:
+            raise PlanError(f"{path}: has changed since {folder.path} was written: run pitplan again")
+    return project
+
+
+def as_text(file: Path, project: Project) -> tuple[pd.DataFrame, TableFormat]:
+    """Every column of the table as texts, by the names that a plan gives them, and the table's format."""
+    form = format_of(file, project.table)
+    frame = tables.read_columns(file, form, tables.read_header(file, form), [])
+    frame.columns = pd.Index([shown_name(name) if name in FOUND else name for name in names_in_header(file, form)])
+    return frame, form

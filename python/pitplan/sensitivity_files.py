@@ -1,0 +1,69 @@
+"""The files of a sensitivity: its table and record, the blocks, and pictures, looked at a second time before they are kept."""
+
+from __future__ import annotations
+
+import os
+from pathlib import Path
+from typing import Any
+
+import numpy as np
+import pandas as pd
+
+from . import files, run, sensitivity_pictures, verification
+from .progress import Progress
+from .varied_cases import Case, Sensitivity, rules_of, table
+
+WRITTEN = TABLE, RECORD = "sensitivity.csv", "sensitivity.json"
+
+
+def write(found: Sensitivity, folder: Path, progress: Progress, verifies: bool) -> pd.DataFrame:
+    """Writes everything into the folder in which the answers are; gives the table. Raises PlanError where what is written is not right,
+    unless it is not verified."""
+    cases, project = table(found), found.project
+    with files.staged(folder, RECORD) as stage:
+        told = record(found, os.path.relpath(project.path, folder))
+        write_tables(found, cases, stage)
+        files.write_json(stage / RECORD, told)
+        if verifies:
+            with progress.step("verifying"):
+                rules = verification.verify_sensitivity(stage, folder)
+            verification.demand(rules)
+            told["verified"] = [f"{rule.name}: {rule.holds}" for rule in rules]
+        with progress.step("drawing"):
+            sensitivity_pictures.write_all(cases, rules_of(project).pairs, project.money.currency, stage)
+        files.write_json(stage / RECORD, told)
+    return cases
+
+
+def record(found: Sensitivity, project: str) -> dict[str, Any]:
+    """What was asked and by what, for the second look; `project` is the place of the project as told from the folder."""
+    return {
+        "project": project,
+        "title": found.project.title,
+        "program": run.identity(),
+        "inputs": {path.name: files.hash_of(path) for path in (found.project.path, found.project.table.file)},
+        "grid": found.plan.record_of_grid(),
+        "factor": found.factor,
+        "cases": [
+            {"changes": [[name, str(share)] for name, share in case.changes], "key": found.keys[case], "walls": answer.walls}
+            for case, answer in found.answers.items()
+        ],
+        "verified": [],
+    }
+
+
+def write_tables(found: Sensitivity, cases: pd.DataFrame, stage: Path) -> None:
+    """sensitivity.csv, and blocks.csv with the factor of each block in the pits of the project as given."""
+    blocks = found.plan.blocks
+    blocks["factor"] = found.answers[Case()].entry[blocks["id"].to_numpy()]
+    blocks.to_csv(stage / files.TABLE, index=False)
+    shown(cases).to_csv(stage / TABLE, index=False)
+
+
+def shown(cases: pd.DataFrame) -> pd.DataFrame:
+    """Sums to a thousandth, grades, ratios and years to a millionth."""
+    result = cases.copy()
+    for name in result.columns:
+        if result[name].dtype == np.float64 and name not in ("share", "second_share"):
+            result[name] = result[name].round(6 if name.startswith("grade_") or name.endswith(("ratio", "years")) else 3) + 0.0
+    return result

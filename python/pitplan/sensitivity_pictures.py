@@ -1,0 +1,132 @@
+"""The pictures of a sensitivity: what each number moves at its outermost shares, and share by share, and pairs of numbers as grids.
+
+Each `plot_` function draws on axes that it is given, which it gives back, and each `write_` function writes a file by it. All take a table
+as `pitplan.sensitivity` gives it.
+"""
+
+from __future__ import annotations
+
+from pathlib import Path
+
+import matplotlib
+import numpy as np
+import pandas as pd
+from matplotlib.axes import Axes
+from matplotlib.figure import Figure
+from matplotlib.ticker import FuncFormatter
+
+from .pictures import STYLE, finish, scaled
+
+WRITTEN = TORNADO, SPIDER = "tornado.png", "spider.png"
+LESS, MORE = "#c0504d", "#1f3f6e"
+COLOURS = ("#0072b2", "#d55e00", "#009e73", "#aa4499", "#b58900", "#555555", "#56b4e9", "#8b0000", "#6b8e23", "#000000")
+MARKS = ("o", "s", "^", "D", "v", "P", "X", "<", ">", "*")
+PER_CENT = FuncFormatter(lambda share, _: f"{100 * share:+.0f} %" if share else "0")
+
+
+def write_all(table: pd.DataFrame, pairs: tuple[tuple[str, str], ...], currency: str, folder: Path) -> None:
+    """The tornado, the spider, and a grid a pair."""
+    write_tornado(table, currency, folder / TORNADO)
+    write_spider(table, currency, folder / SPIDER)
+    for pair in pairs:
+        write_grid(table, pair, currency, folder / f"grid-{pair[0]}-{pair[1]}.png".replace(" ", "-"))
+
+
+def singles(table: pd.DataFrame) -> dict[str, pd.Series]:
+    """By number its net present values by share, rising, the project as given at share 0 among them."""
+    alone, as_given = table[(table["number"] != "") & (table["second"] == "")], float(table["npv"].iloc[0])
+    return {
+        str(name): pd.concat([rows.set_index("share")["npv"], pd.Series({0.0: as_given})]).sort_index()
+        for name, rows in alone.groupby("number", sort=False)
+    }
+
+
+def spoken(name: str) -> str:
+    """A number's name in words."""
+    return name.replace("_", " ")
+
+
+def write_tornado(table: pd.DataFrame, currency: str, path: Path) -> None:
+    with matplotlib.rc_context(STYLE):
+        figure = Figure(figsize=(9, 1.6 + 0.5 * max(len(singles(table)), 2)), constrained_layout=True)
+        plot_tornado(table, currency, figure.subplots())
+        finish(figure, path)
+
+
+def plot_tornado(table: pd.DataFrame, currency: str, axes: Axes) -> Axes:
+    """A bar to each side for the least and the greatest share of each number, the one that moves most on top."""
+    curves, base = singles(table), float(table["npv"].iloc[0])
+    size, sign = scaled(float(table["npv"].abs().max()))
+    order = sorted(curves, key=lambda name: np.ptp([curves[name].iloc[0], base, curves[name].iloc[-1]]))
+    for place, name in enumerate(order):
+        for share, npv, colour in ((c.index[k], c.iloc[k], (LESS, MORE)[k]) for c in (curves[name],) for k in (0, -1) if c.index[k]):
+            axes.barh(place, (npv - base) / size, left=base / size, height=0.62, color=colour, linewidth=0)
+            at_left = npv < base
+            words = {"ha": "right" if at_left else "left", "va": "center", "fontsize": 8, "textcoords": "offset points"}
+            axes.annotate(PER_CENT(share), (npv / size, place), xytext=(-4 if at_left else 4, 0), **words)
+    axes.axvline(base / size, color="black", linewidth=0.9)
+    axes.set_yticks(range(len(order)), [spoken(name) for name in order])
+    axes.set_xlabel(f"NPV, {sign} {currency} (mean of best and worst case; as given {base / size:,.1f})".replace(",  ", ", "))
+    axes.margins(x=0.14)
+    axes.spines[["left", "right", "top"]].set_visible(False)
+    axes.tick_params(axis="y", length=0)
+    return axes
+
+
+def write_spider(table: pd.DataFrame, currency: str, path: Path) -> None:
+    with matplotlib.rc_context(STYLE):
+        figure = Figure(figsize=(9, 5), constrained_layout=True)
+        plot_spider(table, currency, figure.subplots())
+        finish(figure, path)
+
+
+def plot_spider(table: pd.DataFrame, currency: str, axes: Axes) -> Axes:
+    """A curve of net present value by share for each number, through the project as given."""
+    curves, (size, sign) = singles(table), scaled(float(table["npv"].abs().max()))
+    for number, (name, curve) in enumerate(curves.items()):
+        look = {"color": COLOURS[number % len(COLOURS)], "marker": MARKS[number % len(MARKS)], "markersize": 4.5, "linewidth": 1.5}
+        axes.plot(curve.index, curve / size, label=spoken(name), **look)
+    axes.axvline(0, color="black", linewidth=0.8)
+    axes.set_xticks(sorted({share for curve in curves.values() for share in curve.index}))
+    axes.xaxis.set_major_formatter(PER_CENT)
+    axes.set_xlabel("share by which the number is more or less")
+    axes.set_ylabel(f"NPV, {sign} {currency} (mean of best and worst case)".replace(",  ", ", "))
+    axes.legend(loc="center left", bbox_to_anchor=(1.02, 0.5), frameon=False)
+    return axes
+
+
+def grid_of(table: pd.DataFrame, one: str, other: str) -> pd.DataFrame:
+    """The net present values of a pair: a row a share of the first, rising, a column a share of the second, and both as given among them."""
+    pair = table[(table["number"] == one) & (table["second"] == other)]
+    grid = pair.pivot(index="share", columns="second_share", values="npv")
+    curves = singles(table)
+    grid[0.0], grid.loc[0.0] = curves[one].reindex(grid.index), curves[other].reindex([*grid.columns, 0.0])
+    return grid.sort_index().sort_index(axis=1)
+
+
+def write_grid(table: pd.DataFrame, pair: tuple[str, str], currency: str, path: Path) -> None:
+    with matplotlib.rc_context(STYLE):
+        wide, high = grid_of(table, *pair).shape[::-1]
+        figure = Figure(figsize=(2.6 + 0.95 * wide, 1.6 + 0.55 * high), constrained_layout=True)
+        plot_grid(table, pair, currency, figure.subplots())
+        finish(figure, path)
+
+
+def plot_grid(table: pd.DataFrame, pair: tuple[str, str], currency: str, axes: Axes) -> Axes:
+    """The net present value for each share of two numbers, written and as colours; the project as given has a frame."""
+    grid = grid_of(table, *pair)
+    size, sign = scaled(float(grid.abs().max().max()))
+    amounts, base = grid.to_numpy() / size, float(table["npv"].iloc[0]) / size
+    reach = max(float(np.abs(amounts - base).max()), 1e-12)
+    axes.imshow(amounts, cmap="RdBu", vmin=base - 1.6 * reach, vmax=base + 1.6 * reach, origin="lower", aspect="auto")
+    for (row, column), amount in np.ndenumerate(amounts):
+        axes.text(column, row, f"{amount:,.1f}", ha="center", va="center", fontsize=9)
+    row, column = grid.index.get_loc(0.0), grid.columns.get_loc(0.0)
+    axes.add_patch(matplotlib.patches.Rectangle((column - 0.5, row - 0.5), 1, 1, fill=False, edgecolor="black", linewidth=1.6))
+    axes.set_yticks(range(len(grid.index)), [PER_CENT(share) for share in grid.index])
+    axes.set_xticks(range(len(grid.columns)), [PER_CENT(share) for share in grid.columns])
+    axes.set_ylabel(spoken(pair[0]))
+    axes.set_xlabel(spoken(pair[1]))
+    axes.set_title(f"NPV, {sign} {currency}".replace(",  ", ", "))
+    axes.grid(False)
+    return axes

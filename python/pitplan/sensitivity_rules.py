@@ -1,0 +1,71 @@
+"""What `[sensitivity]` of a project says: by which shares numbers go up and down, which, and which two together."""
+
+from __future__ import annotations
+
+from dataclasses import dataclass
+from decimal import Decimal
+
+from .section import Section
+
+NAMES = ("price", "mining_cost", "processing_cost", "selling_cost", "recovery", "slopes", "capacity")
+# Those that may be one metal's alone, as "price copper".
+OF_METALS = ("price", "selling_cost", "recovery")
+SHARES = (Decimal("-0.2"), Decimal("-0.1"), Decimal("0.1"), Decimal("0.2"))
+MOST_SHARES = 20
+
+
+@dataclass(frozen=True)
+class SensitivityRules:
+    """Shares by which a number is more or less than the project says, rising, without 0; which numbers are varied, each by itself; and
+    pairs that are varied together. Without names those are varied that the project gives."""
+
+    by: tuple[Decimal, ...] = SHARES
+    vary: tuple[str, ...] = ()
+    pairs: tuple[tuple[str, str], ...] = ()
+
+
+def read_sensitivity(section: Section, metals: tuple[str, ...]) -> SensitivityRules:
+    """The section's rules; `metals` are the names that may follow one. Raises PlanError, with the key, where one is wrong."""
+    rules = SensitivityRules(
+        by=read_shares(section),
+        vary=tuple(named(section, "vary", name, metals) for name in section.names("vary") or ()),
+        pairs=read_pairs(section, metals),
+    )
+    section.finish()
+    if len(set(rules.vary)) < len(rules.vary):
+        raise section.wrong("vary", "names a number twice")
+    return rules
+
+
+def read_shares(section: Section) -> tuple[Decimal, ...]:
+    if not section.has("by"):
+        return SHARES
+    value = section.get("by")
+    if not isinstance(value, list) or not value or len(value) > MOST_SHARES:
+        raise section.wrong("by", f"must be a list of up to {MOST_SHARES} shares, such as [-0.1, 0.1] for 10 % less and more")
+    shares = sorted(section.as_number("by", item) for item in value)
+    if any(not -1 < share <= 10 or share == 0 for share in shares) or len(set(shares)) < len(shares):
+        raise section.wrong("by", "shares are above -1 and up to 10, none is 0, and each stands once")
+    return tuple(shares)
+
+
+def read_pairs(section: Section, metals: tuple[str, ...]) -> tuple[tuple[str, str], ...]:
+    if not section.has("pairs"):
+        return ()
+    value = section.get("pairs")
+    if not isinstance(value, list) or any(not isinstance(pair, list) or len(pair) != 2 for pair in value):
+        raise section.wrong("pairs", 'must be a list of pairs of names, such as [["price", "mining_cost"]]')
+    pairs = tuple((named(section, "pairs", one, metals), named(section, "pairs", other, metals)) for one, other in value)
+    for one, other in pairs:
+        if one.partition(" ")[0] == other.partition(" ")[0] and (" " not in one or " " not in other or one == other):
+            raise section.wrong("pairs", f"{one} and {other} are not two numbers")
+    return pairs
+
+
+def named(section: Section, key: str, name: object, metals: tuple[str, ...]) -> str:
+    """A name that is known, or raises PlanError."""
+    kind, _, metal = str(name).partition(" ")
+    if kind in NAMES and (not metal or (kind in OF_METALS and metal in metals)):
+        return str(name)
+    of_metals = " or of one metal, as ".join((", ".join(OF_METALS), f'"price {metals[0]}"'))
+    raise section.wrong(key, f'"{name}" is none of {", ".join(NAMES)}; {of_metals}')

@@ -1,0 +1,126 @@
+"""A project with some of its numbers more or less, by shares of what they are."""
+
+from __future__ import annotations
+
+from dataclasses import replace
+from decimal import Decimal
+from typing import Callable, Union
+
+from .errors import PlanError
+from .money_rules import ByRock, Curve, Metal, Process, Recovery
+from .project import Project
+
+# A number's name, as `[sensitivity]` gives it, and a share: 0.1 for a tenth more.
+Change = tuple[str, Decimal]
+Recoveries = Union[Recovery, dict[str, Recovery]]
+STEEPEST, FLATTEST = 90.0, 1.0
+
+
+def varied(project: Project, changes: tuple[Change, ...]) -> Project:
+    """The project with these changes; a recovery ends at 1. Raises PlanError where a wall angle leaves 1 to 90 degrees."""
+    for name, share in changes:
+        kind, _, metal = name.partition(" ")
+        project = VARIED[kind](project, 1 + share, metal)
+    return project
+
+
+def times(price: ByRock, by: Decimal) -> ByRock:
+    return {rock: amount * by for rock, amount in price.items()} if isinstance(price, dict) else price * by
+
+
+def recovered(recovery: Recoveries, by: Decimal) -> Recoveries:
+    """Recoveries of all rocks and grades; no more than all of the metal is recovered."""
+    if isinstance(recovery, dict):
+        return {rock: of_rock(part, by) for rock, part in recovery.items()}
+    return of_rock(recovery, by)
+
+
+def of_rock(recovery: Recovery, by: Decimal) -> Recovery:
+    whole = Decimal(1)
+    if isinstance(recovery, Curve):
+        return Curve(tuple((grade, min(share * by, whole)) for grade, share in recovery.points))
+    return min(recovery * by, whole)
+
+
+def with_metals(project: Project, name: str, change: Callable[[Metal], Metal]) -> Project:
+    """One metal changed, or all where none is named."""
+    return replace(project, metals=tuple(change(metal) if name in ("", metal.name) else metal for metal in project.metals))
+
+
+def with_processes(project: Project, change: Callable[[Process], Process]) -> Project:
+    """Each of several processes changed."""
+    return replace(project, processes=tuple(change(process) for process in project.processes))
+
+
+def price(project: Project, by: Decimal, metal: str) -> Project:
+    """With the prices of years."""
+    return with_metals(project, metal, lambda it: replace(it, price=it.price * by, prices=tuple(price * by for price in it.prices)))
+
+
+def selling_cost(project: Project, by: Decimal, metal: str) -> Project:
+    return with_metals(project, metal, lambda it: replace(it, selling_cost=it.selling_cost * by))
+
+
+def recovery(project: Project, by: Decimal, metal: str) -> Project:
+    """In all processes."""
+
+    def change(process: Process) -> Process:
+        changed = {name: recovered(it, by) if metal in ("", name) else it for name, it in process.recovery.items()}
+        return replace(process, recovery=changed)
+
+    return with_processes(with_metals(project, metal, lambda it: replace(it, recovery=recovered(it.recovery, by))), change)
+
+
+def mining_cost(project: Project, by: Decimal, metal: str) -> Project:
+    """With what is added for each level or by elevation."""
+    money = project.money
+    deeper = tuple((elevation, cost * by) for elevation, cost in money.mining_cost_by_elevation)
+    level = money.mining_cost_per_level * by
+    changed = replace(money, mining_cost=times(money.mining_cost, by), mining_cost_per_level=level, mining_cost_by_elevation=deeper)
+    return replace(project, money=changed)
+
+
+def processing_cost(project: Project, by: Decimal, metal: str) -> Project:
+    """In all processes."""
+    project = replace(project, money=replace(project.money, processing_cost=times(project.money.processing_cost, by)))
+    return with_processes(project, lambda it: replace(it, cost=times(it.cost, by)))
+
+
+def slopes(project: Project, by: Decimal, metal: str) -> Project:
+    """All angles, those of benches too, but not patterns and steps."""
+    walls = []
+    for wall in project.slopes.walls:
+        angles = tuple((azimuth, angle * float(by)) for azimuth, angle in wall.angles)
+        if any(not FLATTEST <= angle <= STEEPEST for _, angle in angles):
+            raise PlanError(f"{project.path}: [sensitivity] by: slopes times {by} leave 1 to 90 degrees")
+        walls.append(replace(wall, angles=angles, bench=None))
+    return replace(project, slopes=replace(project.slopes, walls=tuple(walls)))
+
+
+def capacity(project: Project, by: Decimal, metal: str) -> Project:
+    """Of mill, or of all processes, and shovels."""
+    shells, more = project.schedule, float(by)
+    rock = None if shells.rock_per_year is None else shells.rock_per_year * more
+    of_processes = tuple(tonnes * more for tonnes in shells.per_process)
+    schedule = replace(shells, ore_per_year=shells.ore_per_year * more, rock_per_year=rock, per_process=of_processes)
+    return with_processes(replace(project, schedule=schedule), lambda it: replace(it, per_year=it.per_year * more))
+
+
+VARIED: dict[str, Callable[[Project, Decimal, str], Project]] = {
+    "price": price,
+    "mining_cost": mining_cost,
+    "processing_cost": processing_cost,
+    "selling_cost": selling_cost,
+    "recovery": recovery,
+    "slopes": slopes,
+    "capacity": capacity,
+}
+
+
+def given(project: Project) -> tuple[str, ...]:
+    """The numbers of a project that are not nothing, and that a share changes."""
+    is_there = {
+        "selling_cost": any(metal.selling_cost for metal in project.metals),
+        "slopes": any(wall.angles for wall in project.slopes.walls),
+    }
+    return tuple(name for name in VARIED if is_there.get(name, True))

@@ -1,0 +1,207 @@
+"""How much the pit that is shown, and what it earns, hang on single numbers: each more and less by given shares, and pairs of them.
+
+In every case the pit of the same factor is found anew. Beside it stands what the pit of the project as given earns at the case's numbers,
+which is dug where nothing is planned anew; where walls change there is none, since that pit may not stand.
+"""
+
+from __future__ import annotations
+
+import json
+from dataclasses import dataclass, replace
+from itertools import product
+from pathlib import Path
+from typing import Any
+
+import numpy as np
+import pandas as pd
+
+from . import analyse, files, run, table as tables
+from .errors import PlanError
+from .packages import load
+from .plan import Plan, prepare
+from .progress import Progress, silent
+from .project import Project
+from .sensitivity_rules import SensitivityRules
+from .simulation import on_dask
+from .simulation.folder import key_of
+from .varied import Change, given, varied
+
+CASES = "cases"
+# What the pit as given earns at a case's numbers.
+KEPT = ("worth", "npv_best", "npv_worst", "years")
+WHOLE = ("blocks",)
+
+
+@dataclass(frozen=True)
+class Case:
+    """What is changed; nothing is the project as given."""
+
+    changes: tuple[Change, ...] = ()
+
+    @property
+    def label(self) -> str:
+        return ", ".join(f"{name} {share:+.4g}" for name, share in self.changes) or "as given"
+
+    @property
+    def moves_walls(self) -> bool:
+        return any(name == "slopes" for name, _ in self.changes)
+
+
+@dataclass(frozen=True)
+class Found:
+    """The answer of a case.
+
+    row    what the pit holds and earns, by the names of `shells`, and with kept_ before them what the pit as given earns
+    entry  for each cell the least of the factors whose pit holds it, per mille; 0: none
+    walls  the record of the walls' patterns
+    """
+
+    row: dict[str, Any]
+    entry: np.ndarray
+    walls: list[dict[str, Any]]
+
+
+@dataclass(frozen=True)
+class Sensitivity:
+    """All cases with their answers, in order; the first is the project as given, whose plan is kept.
+
+    factor  that of the pit that is looked at, per mille
+    """
+
+    project: Project
+    plan: Plan
+    factor: int
+    answers: dict[Case, Found]
+    keys: dict[Case, str]
+
+
+def rules_of(project: Project) -> SensitivityRules:
+    """What is varied: what the project asks for, or else each number that it gives."""
+    rules = project.sensitivity or SensitivityRules()
+    return rules if rules.vary else replace(rules, vary=given(project))
+
+
+def cases_of(rules: SensitivityRules) -> list[Case]:
+    """The project as given, each number by each share, and of each pair both by each share."""
+    singles = [Case(((name, share),)) for name, share in product(rules.vary, rules.by)]
+    of_pairs = {name for pair in rules.pairs for name in pair if name not in rules.vary}
+    beside = [Case(((name, share),)) for name, share in product(sorted(of_pairs), rules.by)]
+    both = [Case(((one, first), (other, second))) for one, other in rules.pairs for first, second in product(rules.by, rules.by)]
+    return [Case(), *singles, *beside, *both]
+
+
+@dataclass(frozen=True)
+class Asked:
+    """What every case is made of: the project with the factors up to the shown one, its table, and the pit as given, once it is found."""
+
+    project: Project
+    frame: pd.DataFrame
+    as_given: Found | None = None
+
+
+def solve(project: Project, folder: Path, where: on_dask.Where | None, progress: Progress = silent) -> Sensitivity:
+    """Solves the cases that have no answer in the folder yet, one after the other or where it is said, and writes each answer as it is
+    found.
+
+    Raises PlanError where the table or a case cannot be planned with, ProgramError where the program refuses, and MissingPackage without
+    Dask where it is asked for.
+    """
+    frame = tables.read(project).frame
+    plan = prepare(project, frame, progress)
+    if plan.left_out:
+        why = "is too large for the program, and what shells can reach of it is another with each number: reblock it by [table] reblock"
+        raise PlanError(f"{project.table.file}: {why}, or give a smaller model")
+    solution = run.solve(plan, progress=progress)
+    factor = analyse.chosen_factor(analyse.shells(plan, solution), project.schedule)
+    asked = Asked(up_to(project, factor), frame)
+    begun = {"project": files.hash_of(project.path), "inputs": hashes_of(project), "program": run.identity()["sha256"], "factor": factor}
+    cases = cases_of(rules_of(project))
+    keys = {case: key_of({**begun, "changes": [[name, str(share)] for name, share in case.changes]}) for case in cases}
+    paths = {case: folder / CASES / f"{keys[case]}.npz" for case in cases}
+    if not paths[Case()].is_file():
+        answer(Case(), asked, paths[Case()])
+    asked = replace(asked, as_given=read(paths[Case()]))
+    missing = {case: path for case, path in paths.items() if not path.is_file()}
+    if where is None:
+        for number, (case, path) in enumerate(missing.items(), 1):
+            with progress.step(f"{number} of {len(missing)}: {case.label}"):
+                answer(case, asked, path)
+    elif missing:
+        over_dask(missing, asked, where, progress)
+    return Sensitivity(asked.project, plan, factor, {case: read(path) for case, path in paths.items()}, keys)
+
+
+def answer(case: Case, asked: Asked, path: Path) -> None:
+    """Finds a case's answer and writes it."""
+    write(path, find(case, asked))
+
+
+def over_dask(missing: dict[Case, Path], asked: Asked, where: on_dask.Where, progress: Progress) -> None:
+    """Each case as a task of its own, tried again where its worker is lost. Raises PlanError as the case does."""
+    distributed = load("distributed", on_dask.PACKAGE, "sensitivity --on local or a Dask scheduler")
+    with progress.step(f"solving {len(missing):,} cases"), on_dask.client_of(distributed, where) as client:
+        shared = client.scatter(asked, broadcast=True)
+        tasks = [client.submit(answer, case, shared, path.resolve(), pure=False, retries=on_dask.RETRIES) for case, path in missing.items()]
+        for task in distributed.as_completed(tasks):
+            task.result()
+
+
+def up_to(project: Project, factor: int) -> Project:
+    """The project with the factors up to one alone, whose pit is shown."""
+    factors = tuple(it for it in project.schedule.factors if it <= factor)
+    return replace(project, schedule=replace(project.schedule, factors=factors, chosen=factor, reference_added=False))
+
+
+def hashes_of(project: Project) -> dict[str, str]:
+    """Hashes of all files that the project names, by their place."""
+    named = [project.table.file]
+    if project.fixed is not None:
+        named += [*([project.fixed.surface] if project.fixed.surface else []), *(area.polygon for area in project.fixed.areas)]
+    return {str(path): files.hash_of(path) for path in named}
+
+
+def find(case: Case, asked: Asked) -> Found:
+    """The pit of a case, and what the pit as given, where there is one, earns in it."""
+    plan = prepare(varied(asked.project, case.changes), asked.frame)
+    solution = run.solve(plan)
+    row = of_last(analyse.shells(plan, solution))
+    entry = solution.entry[: plan.grid.count]
+    kept = entry if asked.as_given is None else asked.as_given.entry
+    nodes = np.concatenate([kept, np.zeros(len(plan.values.processed), dtype=kept.dtype)])
+    earned = of_last(analyse.shells(plan, replace(solution, entry=nodes)))
+    row |= {f"kept_{name}": np.nan if case.moves_walls else earned[name] for name in KEPT}
+    return Found(row, entry, [pattern.as_json() for pattern in plan.walls.patterns])
+
+
+def of_last(table: pd.DataFrame) -> dict[str, Any]:
+    """The row of the greatest factor, with the mean of its net present values."""
+    row = dict(table.iloc[-1])
+    return row | {"npv": (row["npv_best"] + row["npv_worst"]) / 2}
+
+
+def write(path: Path, found: Found) -> None:
+    numbers = {name: float(amount) for name, amount in found.row.items() if name != "worth_at_factor"}
+    with files.staged_file(path) as place, open(place, "wb") as file:
+        texts = {"worth_at_factor": f"{found.row['worth_at_factor']:f}", "walls": json.dumps(found.walls)}
+        np.savez_compressed(file, entry=found.entry, names=list(numbers), amounts=list(numbers.values()), **texts)
+
+
+def read(path: Path) -> Found:
+    with np.load(path, allow_pickle=False) as said:
+        row: dict[str, Any] = dict(zip(said["names"].tolist(), said["amounts"].tolist()))
+        row |= {name: int(row[name]) for name in ("factor", *WHOLE)}
+        return Found(row | {"worth_at_factor": str(said["worth_at_factor"])}, said["entry"], json.loads(str(said["walls"])))
+
+
+def table(found: Sensitivity) -> pd.DataFrame:
+    """One row a case: number, share, and of a pair second and second_share; what the pit holds and earns; and kept_ what the pit as given
+    does. Amounts are in tonnes, grams and money at the price as given; npv is the mean of best and worst case."""
+    rows = []
+    for case, answer in found.answers.items():
+        (name, share), (second, other) = (*case.changes, ("", 0), ("", 0))[:2]
+        rows.append({"number": name, "share": float(share), "second": second, "second_share": float(other), **answer.row})
+    frame = pd.DataFrame(rows)
+    kept = [name for name in frame if name.startswith("kept_")]
+    order = [name for name in frame if name not in (*kept, "npv")]
+    at = order.index("npv_best")
+    return frame[[*order[:at], "npv", *order[at:], *kept]]

@@ -1,0 +1,52 @@
+"""Whether the table that was written back holds the planner's own, field by field, and of each block what blocks.csv says."""
+
+from __future__ import annotations
+
+import csv
+import io
+from collections.abc import Iterator
+from itertools import zip_longest
+from pathlib import Path
+
+from ..project import Project
+from ..table_format import format_of, opened
+from .answer import Answer, Rule, own_name, rule
+
+NAME = "table.csv"
+FOUND = ("factor", "process_factor", "phase", "year")
+HOLDS = "table.csv has the planner's rows in their order, each field as it stands there, and each block's own factors, phase and year"
+
+
+def verify(answer: Answer, path: Path) -> Rule:
+    """Row by row, the header with them; `path` is where the table that was written back stands."""
+    project = answer.project
+    expected, written = lines_due(answer), lines_of(path, project)
+    differences = [
+        f"row {number}: {told(there)} for {told(due)}"
+        for number, (there, due) in enumerate(zip_longest(written, expected), 1)
+        if there != due
+    ]
+    return rule("table", HOLDS, differences)
+
+
+def told(fields: list[str] | None) -> str:
+    return "no such row" if fields is None else ",".join(fields)
+
+
+def lines_due(answer: Answer) -> Iterator[list[str]]:
+    """The fields of each line of the planner's table, with those of its block behind them."""
+    project = answer.project
+    found = answer.said[[name for name in FOUND if name in answer.said]].iloc[: answer.known]
+    lines = lines_of(project.table.file, project)
+    names = next(lines)
+    yield [own_name(name) if name in FOUND else name for name in names] + list(found.columns)
+    for fields, numbers in zip_longest(lines, found.itertuples(index=False), fillvalue=()):
+        # A line may leave out fields at its end.
+        yield [*fields, *[""] * (len(names) - len(fields)), *map(str, numbers)]
+
+
+def lines_of(path: Path, project: Project) -> Iterator[list[str]]:
+    """The fields of each line that has any, in the format of the planner's table."""
+    form = format_of(project.table.file, project.table)
+    with opened(path) as data, io.TextIOWrapper(data, encoding=form.encoding, newline="") as text:
+        yield from (fields for fields in csv.reader(text, delimiter=form.separator) if fields)

@@ -1,0 +1,255 @@
+"""A second way to what a sensitivity tells: each case from the project's own text with its numbers changed there, its table, and the written
+pits alone."""
+
+from __future__ import annotations
+
+import json
+import math
+import tomllib
+from collections.abc import Iterator
+from dataclasses import dataclass, replace
+from decimal import Decimal
+from itertools import product
+from pathlib import Path
+from typing import Any
+
+import numpy as np
+import pandas as pd
+
+from ..errors import PlanError
+from ..project import Project, load, of_data
+from . import absent, fixed, money, sums, walls, years
+from .answer import Answer, Rule, beside, read_blocks, rows_of, rule
+from .weighing import gains, weighed
+
+SHARES = ("-0.2", "-0.1", "0.1", "0.2")
+AXES = ("number", "share", "second", "second_share")
+KEPT = ("worth", "npv_best", "npv_worst", "years")
+OF_EACH = {
+    "walls": "no block of any pit leaves one standing in its own region's whole cone, as the case has it",
+    "steepness": "where the project leaves the levels open, no wall of a case comes out more than half a degree steeper",
+    "fixed": "what must be dug is in every pit, and what may not be is in none",
+    "shells": "tonnes, grades, metal and worth of each pit are the sums of its blocks by the case's own prices, costs and recoveries",
+    "worth": "the program's worth of each pit is that of its blocks",
+    "years": "net present values follow from the benches by the case's own capacities",
+    "kept": "so they do for the pit of the project as given at the numbers of each case",
+}
+Data = dict[str, Any]
+
+
+@dataclass(frozen=True)
+class Case:
+    """What is changed, as pairs of a number and a share, and where the pits are: for each cell the least factor that holds it."""
+
+    changes: tuple[tuple[str, Decimal], ...]
+    entry: np.ndarray
+    walls: list[Data]
+
+    @property
+    def label(self) -> str:
+        return ", ".join(f"{name} {share:+f}" for name, share in self.changes) or "as given"
+
+
+def verify(written: Path, folder: Path) -> list[Rule]:
+    """What was looked at of the tables in `written`, and of the answers in `folder`. Raises PlanError where a file is missing or the table
+    has changed since."""
+    try:
+        return Told.read(written, folder).rules()
+    except OSError as error:
+        raise PlanError(f"{error.filename}: cannot be read: run pitplan sensitivity first") from error
+    except (ValueError, KeyError) as error:
+        raise PlanError(f"{written}: is no folder that pitplan sensitivity has written: {error}") from error
+
+
+@dataclass(frozen=True)
+class Told:
+    """A folder as it is read: the blocks as if none were dug, the cases' rows, and what was recorded of them."""
+
+    ground: Answer
+    rows: pd.DataFrame
+    cases: list[Case]
+    factor: int
+
+    @staticmethod
+    def read(written: Path, folder: Path) -> "Told":
+        record = json.loads((written / "sensitivity.json").read_text(encoding="utf-8"))
+        project = load(folder / record["project"])
+        blocks = read_blocks(written / "blocks.csv", project)
+        frame, _, _ = rows_of(project, blocks, record["grid"])
+        known, count, order = beside(frame, blocks, project, record["grid"], "blocks.csv")
+        factor = int(record["factor"])
+        factors = tuple(it for it in project.schedule.factors if it <= factor)
+        said = pd.DataFrame({"id": blocks["id"].to_numpy()[order], "factor": 0})
+        record |= {"walls": record["cases"][0]["walls"]}
+        ground = Answer(folder, project, known, count, said, pd.DataFrame(), None, record, factors)
+        rows = pd.read_csv(written / "sensitivity.csv", dtype={"number": str, "second": str, "worth_at_factor": str}, keep_default_na=False, na_values=[""])
+        rows[["number", "second"]] = rows[["number", "second"]].fillna("")
+        return Told(ground, rows, list(cases_in(folder, record)), factor)
+
+    def rules(self) -> list[Rule]:
+        found: dict[str, list[Rule]] = {name: [] for name in OF_EACH}
+        listed = self.listed()
+        if not listed.differences:
+            for number, case in enumerate(self.cases):
+                for name, it in self.of_case(case, self.rows.iloc[[number]]).items():
+                    found[name].append(replace(it, differences=tuple(f"{case.label}: {said}" for said in it.differences)))
+        of_ground = [fixed.verify_places(self.ground), absent.verify(self.ground), listed]
+        count = f"in {len(self.cases):,} cases: "
+        return [*of_ground, *(joined(name, count + holds, found[name]) for name, holds in OF_EACH.items())]
+
+    def listed(self) -> Rule:
+        """The project as given, each number by each share, and of each pair both by each share: each has a row, and there are no others."""
+        due, differences = sorted(due_of(self.ground.project)), []
+        there = [tuple(row) for row in self.rows[list(AXES)].itertuples(index=False)]
+        noted = [padded([(name, float(share)) for name, share in case.changes]) for case in self.cases]
+        if sorted(there) != due:
+            differences.append(f"sensitivity.csv has {len(there):,} cases, and the project asks for {len(due):,} or others")
+        if there != noted:
+            differences.append("sensitivity.json lists other cases than sensitivity.csv")
+        if not (self.rows["factor"] == self.factor).all():
+            differences.append(f"sensitivity.csv has another factor than {self.factor}")
+        return rule("cases", "each number that is varied has a row for each share, and each pair for each two", differences)
+
+    def of_case(self, case: Case, row: pd.DataFrame) -> dict[str, Rule]:
+        """Everything that a row says."""
+        project = changed(self.ground.project, case.changes)
+        whole = self.dug(case.entry, project, case.walls)
+        pit = replace(weighed(whole), shells=row.set_index("factor"))
+        mean = (row["npv_best"] + row["npv_worst"]) / 2
+        unlike = [] if np.allclose(mean, row["npv"], rtol=0, atol=2e-3) else [f"npv {row['npv'].iloc[0]:.12g} for {mean.iloc[0]:.12g}"]
+        npv = years.verify(pit)
+        return {
+            "walls": walls.verify(whole),
+            "steepness": walls.verify_steepness(whole),
+            "fixed": fixed.verify(whole),
+            "shells": sums.verify(pit),
+            "worth": rule("worth", "", sums.unlike_worth(pit)),
+            "years": rule("years", "", [*npv.differences, *unlike], npv.count + len(unlike)),
+            "kept": self.kept(project, row.set_index("factor"), any(name == "slopes" for name, _ in case.changes)),
+        }
+
+    def kept(self, project: Project, row: pd.DataFrame, moves_walls: bool) -> Rule:
+        """The pit of the project as given, at the numbers of a case; nothing where walls are others."""
+        said = row[[f"kept_{name}" for name in KEPT]].set_axis(list(KEPT), axis=1)
+        if moves_walls:
+            return rule("kept", "", [] if said.isna().all(axis=None) else ["kept_ amounts are given, and walls are others"])
+        pit = replace(weighed(self.dug(self.cases[0].entry, project, self.cases[0].walls)), shells=said)
+        worth, gross = sums.sums(pit, self.factor)["worth"], float(np.abs(pit.worths).sum())
+        off = abs(float(said["worth"].iloc[0]) - worth) > 6e-4 + 1e-12 * gross
+        wrong = [f"kept_worth {said['worth'].iloc[0]:.12g} for {worth:.12g}"] if off or said["worth"].isna().any() else []
+        return rule("kept", "", [*wrong, *years.verify(pit).differences])
+
+    def dug(self, entry: np.ndarray, project: Project, patterns: list[Data]) -> Answer:
+        """The ground with pits, by the numbers of a case."""
+        said = self.ground.said.assign(factor=entry[self.ground.said["id"].to_numpy()])
+        record = {**self.ground.record, "walls": patterns}
+        whole = replace(self.ground, project=project, said=said, record=record, found={})
+        if project.money.mining_cost_per_level and project.money.mining_cost_reference is None:
+            # What is ore does not hang on what mining costs, and what ore needs is told of all blocks.
+            flat = replace(project, money=replace(project.money, mining_cost_per_level=Decimal(0)))
+            at = money.highest_needed(replace(whole, project=flat, said=gains(replace(whole, project=flat)), found={}))
+            charges = replace(project.money, mining_cost_reference=Decimal(repr(float(at))))
+            whole = replace(whole, project=replace(project, money=charges))
+        return whole
+
+
+def joined(name: str, holds: str, found: list[Rule]) -> Rule:
+    return rule(name, holds, [said for it in found for said in it.differences], sum(it.count for it in found))
+
+
+def cases_in(folder: Path, record: Data) -> Iterator[Case]:
+    for entry in record["cases"]:
+        with np.load(folder / "cases" / f"{entry['key']}.npz", allow_pickle=False) as said:
+            yield Case(tuple((name, Decimal(share)) for name, share in entry["changes"]), said["entry"], entry["walls"])
+
+
+def padded(changes: list[tuple[str, float]]) -> tuple[str, float, str, float]:
+    (one, by), (other, also) = [*changes, ("", 0.0), ("", 0.0)][:2]
+    return one, by, other, also
+
+
+def due_of(project: Project) -> list[tuple[str, float, str, float]]:
+    """The cases that the project's text asks for."""
+    asked = text_of(project.path).get("sensitivity", {})
+    by = [float(share) for share in asked.get("by", map(Decimal, SHARES))]
+    names = asked.get("vary") or [name for name in NUMBERS if is_given(project, name)]
+    names, pairs = [names] if isinstance(names, str) else names, asked.get("pairs", [])
+    alone = {*names, *(name for pair in pairs for name in pair)}
+    due = [padded([]), *(padded([(name, share)]) for name, share in product(alone, by))]
+    return due + [padded([(one, first), (other, second)]) for one, other in pairs for first, second in product(by, by)]
+
+
+def is_given(project: Project, name: str) -> bool:
+    data = text_of(project.path)
+    if name == "selling_cost":
+        return any(metal.get(name, 0) != 0 for metal in data["metals"])
+    return name != "slopes" or any({"angle", "azimuths", "bench"} & {*wall} for wall in data["slopes"]["walls"])
+
+
+def text_of(path: Path) -> Data:
+    return tomllib.loads(path.read_text(encoding="utf-8-sig"), parse_float=Decimal)
+
+
+def changed(project: Project, changes: tuple[tuple[str, Decimal], ...]) -> Project:
+    """The project as its text would be read with these numbers changed there."""
+    data = text_of(project.path)
+    for name, share in changes:
+        kind, _, metal = name.partition(" ")
+        NUMBERS[kind](data, 1 + share, metal)
+    return of_data(data, project.path)
+
+
+def times(value: Any, by: Decimal, most: Decimal = Decimal("Infinity")) -> Any:
+    """A number, or all numbers of a table by rock or of a list; of pairs the second ones."""
+    if isinstance(value, dict):
+        return {key: times(it, by, most) for key, it in value.items()}
+    if isinstance(value, list):
+        return [[it[0], times(it[1], by, most)] if isinstance(it, list) else times(it, by, most) for it in value]
+    return min(value * by, most)
+
+
+def in_section(section: str, *keys: str, of_process: str = "") -> Any:
+    """Keys of a section, and a key of each of several processes."""
+
+    def change(data: Data, by: Decimal, metal: str) -> None:
+        data[section] |= {key: times(data[section][key], by) for key in keys if key in data[section]}
+        for process in data.get("processes", []) if of_process else []:
+            process[of_process] = times(process[of_process], by)
+
+    return change
+
+
+def in_metals(*keys: str, most: Decimal = Decimal("Infinity")) -> Any:
+    def change(data: Data, by: Decimal, metal: str) -> None:
+        for one in data["metals"]:
+            if metal in ("", one["name"]):
+                one |= {key: times(one[key], by, most) for key in keys if key in one}
+
+    return change
+
+
+def in_recoveries(data: Data, by: Decimal, metal: str) -> None:
+    """Those of metals, or of these in each of several processes."""
+    in_metals("recovery", most=Decimal(1))(data, by, metal)
+    for process in data.get("processes", []):
+        process["recovery"] |= {name: times(it, by, Decimal(1)) for name, it in process["recovery"].items() if metal in ("", name)}
+
+
+def in_walls(data: Data, by: Decimal, metal: str) -> None:
+    for wall in data["slopes"]["walls"]:
+        if "bench" in wall:
+            bench = wall.pop("bench")
+            back = 1 / math.tan(math.radians(float(bench["face"]))) + float(bench["berm"] / bench["height"])
+            wall["angle"] = Decimal(repr(math.degrees(math.atan2(1.0, back))))
+        wall |= {key: times(wall[key], by) for key in ("angle", "azimuths") if key in wall}
+
+
+NUMBERS: dict[str, Any] = {
+    "price": in_metals("price", "prices"),
+    "mining_cost": in_section("money", "mining_cost", "mining_cost_per_level", "mining_cost_by_elevation"),
+    "processing_cost": in_section("money", "processing_cost", of_process="cost"),
+    "selling_cost": in_metals("selling_cost"),
+    "recovery": in_recoveries,
+    "slopes": in_walls,
+    "capacity": in_section("shells", "ore_per_year", "rock_per_year", of_process="per_year"),
+}

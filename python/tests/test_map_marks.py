@@ -1,0 +1,177 @@
+"""What plans and sections show on request, and what makes a plan a map: the north, a scale, section lines and contours with elevations."""
+
+import hashlib
+import json
+
+import numpy as np
+import pytest
+from conftest import PROJECT, rows
+from matplotlib.figure import Figure
+
+import pitplan
+from pitplan import PlanError, commands, map_marks, pictures
+from pitplan.grid import Grid
+from pitplan.picture_rules import PictureRules
+
+METALS = '[[metals]]\nname = "gold"\ncolumn = "au"\nunit = "gram_per_tonne"\nprice = 60\nrecovery = 0.9\n[slopes]\n'
+
+
+def grid():
+    """Four levels of 10 m from 100 m down, five rows of 20 m from 6,512,000 m, six columns of 25 m from 430,000 m."""
+    return Grid((4, 5, 6), (430_012.5, 6_512_010.0, 95.0), (25.0, 20.0, 10.0), np.arange(120))
+
+
+def scene(rules=PictureRules()):
+    """A pit of two levels, the lower of one block in row 3 and column 4."""
+    factor = np.zeros((4, 5, 6), dtype=int)
+    factor[0, 2:5, 3:6] = 500
+    factor[1, 3, 4] = 1000
+    metal = pitplan.project.Metal("copper", "cu", "percent", 0, 0, 1)
+    return pictures.Scene(grid(), factor, np.ones((4, 5, 6), dtype=bool), np.ones((4, 5, 6)), metal, 1000, rules)
+
+
+def drawn(plot):
+    axes = Figure().subplots()
+    plot(axes)
+    return axes
+
+
+@pytest.mark.parametrize(("most", "length"), [(37.5, 20), (100, 100), (99.9, 50), (1, 1), (0.6, 0.5), (4_999, 2_000)])
+def test_a_scale_bar_is_1_2_or_5_of_a_power_of_ten(most, length):
+    assert map_marks.nice_length(most) == pytest.approx(length)
+
+
+def test_a_map_has_a_bar_of_a_quarter_at_most_and_an_arrow_upwards():
+    """Of 150 m a quarter is 37.5."""
+    axes = drawn(lambda ax: map_marks.mark_map(ax, grid()))
+    bar = axes.lines[0].get_xydata()
+    assert bar[1, 0] - bar[0, 0] == 20 and bar[0, 1] == bar[1, 1] and 430_000 < bar[0, 0] and 6_512_000 < bar[0, 1] < 6_512_010
+    north, length = axes.texts
+    assert (north.get_text(), length.get_text()) == ("N", "20 m")
+    assert north.xy[1] > north.xyann[1] and north.xy[0] == north.xyann[0], "the tip is above the letter"
+
+
+def test_contours_go_round_what_is_dug_to_each_bench():
+    """Nine columns are dug to 90 m or deeper, and one of them to 80."""
+    axes = drawn(lambda ax: pictures.plot_floor(scene(), ax))
+    assert axes.get_title() == "Floor at factor 1000, elevation in m, a line each 10 m"
+    high, low = (np.array(lines.get_segments()) for lines in axes.collections)
+    assert len(high) == 12 and len(low) == 4
+    assert (high[..., 0].min(), high[..., 0].max(), high[..., 1].min(), high[..., 1].max()) == (430_075, 430_150, 6_512_040, 6_512_100)
+    assert (low[..., 0].min(), low[..., 0].max(), low[..., 1].min(), low[..., 1].max()) == (430_100, 430_125, 6_512_060, 6_512_080)
+    names = {text.get_text(): text.get_position() for text in axes.texts}
+    # To the south-west of the upper, and to the north-east of the lower.
+    assert names["90"] in [(430_075, 6_512_050), (430_087.5, 6_512_040)]
+    assert names["80"] in [(430_125, 6_512_070), (430_112.5, 6_512_080)]
+
+
+@pytest.mark.parametrize(
+    ("benches", "step", "lines", "names"), [(20, 1, 20, ["19", "15", "11", "7", "3"]), (21, 2, 11, ["20", "16", "12", "8", "4", "0"]), (6, 1, 6, list("543210"))]
+)
+def test_of_many_benches_some_have_a_line_and_some_of_these_a_name(benches, step, lines, names):
+    deep = np.arange(float(benches))[None]
+    high = Grid((benches, 1, benches), (5.0, 5.0, 95.0), (10.0, 10.0, 1.0), np.arange(benches**2))
+    axes = Figure().subplots()
+    assert map_marks.contours(axes, high, deep) == step
+    assert len(axes.collections) == lines and [text.get_text() for text in axes.texts] == names
+
+
+def test_a_pit_that_is_empty_has_no_contours():
+    axes = Figure().subplots()
+    assert map_marks.contours(axes, grid(), np.full((5, 6), np.nan)) == 1 and not axes.collections
+
+
+def test_the_lines_of_sections_are_where_they_go():
+    """Most of the pit lies in row 3 and in column 4."""
+    axes = drawn(lambda ax: pictures.plot_floor(scene(), ax))
+    across, along = (line.get_xydata().tolist() for line in axes.lines[:2])
+    assert across == [[430_000, 6_512_070], [430_150, 6_512_070]] and along == [[430_112.5, 6_512_000], [430_112.5, 6_512_100]]
+    assert {"A", "A'", "B", "B'"} <= {text.get_text() for text in axes.texts}
+
+
+def test_sections_and_levels_are_those_asked_for():
+    """A level holds its upper edge no more, and at the model's ends the last is taken."""
+    asked = scene(PictureRules(levels=(99.0, 90.0, 60.0), north=6_512_015.0, east=430_149.0))
+    assert pictures.levels_to_show(asked) == [0, 1, 3] and (asked.section_row, asked.section_column) == (0, 5)
+    figure = Figure()
+    found = pictures.plot_plans(asked, figure.subplots(2, 2))
+    assert [ax.get_title(loc="left") or ax.get_title() for ax in found[1:]] == [f"Shells on the level {low} to {low + 10} m" for low in (90, 80, 60)]
+    titles = [ax.get_title(loc="left") or ax.get_title() for ax in pictures.plot_sections(asked, Figure().subplots(2, 2))]
+    assert titles[0] == "Shells, west to east (A) at north 6512010" and titles[2] == "Shells, south to north (B) at east 430137.5"
+
+
+def test_a_picture_of_two_maps_has_no_empty_frames():
+    figure, axes = pictures.panels(100.0, 100.0, 3)
+    assert len(axes) == 3 and [ax.axison for ax in figure.axes] == [True, True, True, False]
+
+
+@pytest.fixture
+def project(plan_folder):
+    def write(words):
+        table = rows(5, 5, 3, cu=lambda i, j, k: 6 if (i, j, k) == (2, 2, 1) else 0, au=lambda i, j, k: i + 1)
+        return plan_folder(table, f"{PROJECT}\n[pictures]\n{words}\n", ("[slopes]\n", METALS))
+
+    return write
+
+
+def test_grades_are_those_of_the_metal_asked_for(project):
+    plan = pitplan.prepare(project('metal = "gold"'))
+    scene_of = pictures.scene_of(plan, pitplan.solve(plan), 1000)
+    assert scene_of.metal.name == "gold" and scene_of.grade[0, 0].tolist() == [1, 2, 3, 4, 5]
+    assert pictures.scene_of(pitplan.prepare(project("")), pitplan.solve(plan), 1000).metal.name == "copper"
+
+
+def test_pictures_are_written_as_pdf_and_svg_too_the_same_each_time(project):
+    path = project('formats = ["pdf", "svg"]')
+    written = []
+    for _ in range(2):
+        commands.write_shells(path, verifies=False)
+        folder = path.parent / "plan"
+        record = json.loads((folder / "prepare.json").read_text())["files"]
+        names = {f"{name}.{kind}" for name in ("pit_by_pit", "years", "plans", "sections") for kind in ("png", "pdf", "svg")}
+        assert names <= set(record) and all(hashlib.sha256((folder / name).read_bytes()).hexdigest() == record[name] for name in names)
+        written.append({name: record[name] for name in names})
+    assert written[0] == written[1]
+    assert (folder / "plans.pdf").read_bytes().startswith(b"%PDF-") and b"<svg" in (folder / "plans.svg").read_bytes()[:500]
+
+
+def test_without_a_word_pictures_are_png_alone(solved):
+    assert not list(solved[1].glob("*.pdf")) + list(solved[1].glob("*.svg"))
+    assert pictures.ALSO.get() == ()
+
+
+@pytest.mark.parametrize(
+    ("words", "said"),
+    [
+        ("levels = []", "[pictures] levels: must be a list of one to 7 elevations in metres"),
+        ("levels = [1, 2, 3, 4, 5, 6, 7, 8]", "levels: must be a list of one to 7"),
+        ("levels = 5", "levels: must be a list of one to 7"),
+        ('levels = ["top"]', "levels: 'top' is not a number"),
+        ('metal = "tin"', 'metal: "tin" is none of copper, gold'),
+        ('formats = ["png"]', 'formats: "png" is none of pdf, svg'),
+        ("scale = 5", "scale: is no key here"),
+    ],
+)
+def test_what_is_refused(project, words, said):
+    with pytest.raises(PlanError) as refused:
+        pitplan.load(project(words))
+    assert said in str(refused.value)
+
+
+@pytest.mark.parametrize(
+    ("words", "said"),
+    [
+        ("levels = [5, 30.5]", r"\[pictures\] levels: 30.5 is beyond the model, from 0 to 30 m"),
+        ("north = -0.1", "north: -0.1 is beyond the model, from 0 to 50 m"),
+        ("east = 50.1", "east: 50.1 is beyond the model, from 0 to 50 m"),
+    ],
+)
+def test_places_beyond_the_model_are_refused(project, words, said):
+    with pytest.raises(PlanError, match=said):
+        commands.write_shells(project(words))
+
+
+def test_the_models_ends_are_within_it(project):
+    plan = pitplan.prepare(project("levels = [0, 30]\nnorth = 50\neast = 0"))
+    shown = pictures.scene_of(plan, pitplan.solve(plan), 1000)
+    assert pictures.levels_to_show(shown) == [2, 0] and (shown.section_row, shown.section_column) == (4, 0)

@@ -1,0 +1,168 @@
+"""The planner's table written back: the same rows and fields in the same order, with what was found of each block."""
+
+import csv
+import gzip
+import shutil
+
+import pandas as pd
+import pytest
+from conftest import PROJECT, rows
+
+from pitplan import PlanError, commands, exports
+from pitplan.cli import main
+from pitplan.verification import verify
+
+FOUND = ["factor", "process_factor"]
+
+
+def lines(path, separator=",", encoding="utf-8"):
+    with open(path, newline="", encoding=encoding) as file:
+        return list(csv.reader(file, delimiter=separator))
+
+
+def wrong(folder):
+    return {rule.name for rule in verify(folder) if rule.differences}
+
+
+@pytest.fixture(scope="module")
+def scheduled(tmp_path_factory, blank_pictures):
+    """Two pillars of ore, the richer in phase 1, scheduled by years; rows from last to first."""
+    place = tmp_path_factory.mktemp("scheduled")
+    table = rows(9, 5, 3, cu=lambda i, j, k: {(2, 2, 1): 6, (6, 2, 1): 0.8}.get((i, j, k), 0))
+    table.iloc[::-1].to_csv(place / "blocks.csv", index=False)
+    words = "\n[pushbacks]\nfactors = [500, 1000]\n[schedule]\nlag = 1\n"
+    (place / "project.toml").write_text(PROJECT + words)
+    commands.write_schedule(place / "project.toml")
+    return place
+
+
+def test_rows_and_fields_are_the_planners_and_numbers_those_of_their_block(solved):
+    project, folder = solved
+    before, after = lines(project.table.file), lines(commands.export(folder, "table"))
+    assert after[0] == [*before[0], *FOUND]
+    assert [line[: len(before[0])] for line in after] == before
+    blocks = pd.read_csv(folder / "blocks.csv", dtype=str).set_index("name")
+    assert [line[-2:] for line in after[1:]] == [list(blocks.loc[line[0], FOUND]) for line in before[1:]]
+    assert wrong(folder) == set()
+
+
+def test_a_schedule_gives_each_row_its_phase_and_year(scheduled):
+    """Both ores have their phase and year from the first to the last row of the table, which runs from the top down."""
+    path = scheduled / "plan" / "schedule"
+    after = pd.read_csv(commands.export(path, "table")).set_index("name")
+    assert list(after.columns[-4:]) == [*FOUND, "phase", "year"]
+    assert after.index[0] == "b8-4-2" and after.index[-1] == "b0-0-0"
+    assert after.loc["b2-2-1", "phase"] == 1 and after.loc["b6-2-1", "phase"] == 2
+    # 100 t of ore fill the mill of 100 t a year: the poorer pillar's ore is milled in the second.
+    assert after.loc["b2-2-1", "year"] == 1 and after.loc["b6-2-1", "year"] == 2
+    assert after.loc["b0-0-0", ["phase", "year"]].tolist() == [0, 0]
+
+
+def test_the_tables_own_format_stays(plan_folder):
+    """Semicolons, decimal commas, letters of Windows, a quoted field, a column that the project does not name and a line that is short."""
+    table = rows(5, 5, 3, cu=lambda i, j, k: 6.5 if (i, j, k) == (2, 2, 1) else 0)
+    table["note"] = ['über "alles"; hier' if name == "b2-2-1" else "1,50" if name == "b0-0-0" else "" for name in table["name"]]
+    path = plan_folder("", PROJECT, ('file = "blocks.csv"', 'file = "blocks.csv"\nencoding = "cp1252"'))
+    text = table.to_csv(index=False, sep=";", decimal=",")
+    text = "".join(line.rstrip("\n").rstrip(";") + "\n" if "b4-4-2" in line else line for line in text.splitlines(keepends=True))
+    (path.parent / "blocks.csv").write_text(text, encoding="cp1252")
+    commands.write_shells(path, verifies=False)
+    after = lines(commands.export(path.parent / "plan", "table"), ";", "cp1252")
+    before = lines(path.parent / "blocks.csv", ";", "cp1252")
+    assert [line[:9] for line in after[:-1]] == before[:-1] and after[-1][:9] == [*before[-1], ""]
+    assert any(line[4:9] == ["100", "6,5", "R", "1", 'über "alles"; hier'] and int(line[9]) == 500 for line in after)
+
+
+def test_a_compressed_table_is_written_plain(solved):
+    project, folder = solved
+    plain = project.table.file.read_bytes()
+    packed = project.table.file.with_suffix(".csv.gz")
+    packed.write_bytes(gzip.compress(plain))
+    text = project.path.read_text().replace('"blocks.csv"', '"blocks.csv.gz"')
+    project.path.write_text(text)
+    commands.write_shells(project.path, verifies=False)
+    assert [",".join(line[:8]) for line in lines(commands.export(folder, "table"))] == plain.decode().split()
+
+
+def test_a_column_of_the_planners_with_such_a_name_is_kept_beside(plan_folder):
+    table = rows(5, 5, 3, cu=lambda i, j, k: 6 if (i, j, k) == (2, 2, 1) else 0, factor=lambda i, j, k: i + 7)
+    path = plan_folder(table)
+    commands.write_shells(path, verifies=False)
+    after = pd.read_csv(commands.export(path.parent / "plan", "table"))
+    assert list(after.columns) == [*table.columns[:-1], "planner_factor", *FOUND]
+    assert after["planner_factor"].tolist() == table["factor"].tolist() and set(after["factor"]) == {0, 500}
+
+
+def test_rock_of_cells_without_rows_has_none(plan_folder):
+    """A block of the project's rock is dug, which the table has no row of."""
+    table = rows(5, 5, 3, cu=lambda i, j, k: 6 if (i, j, k) == (2, 2, 0) else 0)
+    table = table[table["name"] != "b2-2-1"]
+    words = ('file = "blocks.csv"', 'file = "blocks.csv"\nabsent = { tonnes = 100, rock = "R", region = "1" }')
+    path = plan_folder(table, PROJECT, words)
+    commands.write_shells(path)
+    after = pd.read_csv(commands.export(path.parent / "plan", "table"))
+    assert after["name"].tolist() == table["name"].tolist()
+    assert "absent-37" in set(pd.read_csv(path.parent / "plan" / "blocks.csv")["name"])
+
+
+def bent(path, bend):
+    table = [line.split(",") for line in path.read_text().splitlines()]
+    bend(table)
+    path.write_text("".join(",".join(line) + "\n" for line in table))
+
+
+def swap(table):
+    table[3][:-2], table[4][:-2] = table[4][:-2], table[3][:-2]
+
+
+@pytest.mark.parametrize(
+    ("bend", "said"),
+    [
+        (lambda table: table[6].__setitem__(-1, "7"), "row 7: b5-0-0,55.0,5.0,5.0,100,0.0,R,1,0,7 for b5-0-0,55.0,5.0,5.0,100,0.0,R,1,0,0"),
+        (lambda table: table[6].__setitem__(5, "0"), "row 7: b5-0-0,55.0,5.0,5.0,100,0,R,1,0,0 for "),
+        (lambda table: table[0].__setitem__(-2, "shell"), "row 1: "),
+        (lambda table: table.pop(), "row 406: no such row for b4-8-4,"),
+        (lambda table: table.append(["b10-9-9"]), "row 407: b10-9-9 for no such row"),
+        (swap, "row 4: b3-0-0,"),
+    ],
+)
+def test_a_table_that_is_bent_is_found(solved, bend, said):
+    _, folder = solved
+    bent(commands.export(folder, "table"), bend)
+    (rule,) = [rule for rule in verify(folder) if rule.differences]
+    assert rule.name == "table" and rule.differences[0].startswith(said)
+
+
+def test_a_table_that_is_not_right_is_not_written(solved, monkeypatch):
+    """Numbers by rising id, as blocks.csv has them, in place of those of each row."""
+    _, folder = solved
+
+    def careless(path, result, factor):
+        table = pd.read_csv(folder.parent / "blocks.csv")
+        table[FOUND] = result.blocks[FOUND]
+        table.to_csv(path, index=False)
+
+    monkeypatch.setitem(exports.WRITERS, "table", careless)
+    with pytest.raises(PlanError, match="what was written is not right in"):
+        commands.export(folder, "table")
+    assert not (folder / "table.csv").exists()
+
+
+def test_a_project_or_a_table_that_has_changed_is_refused(solved, tmp_path, capsys):
+    project, folder = solved
+    for path in (project.path, project.table.file):
+        kept = shutil.copy(path, tmp_path / "kept")
+        path.write_text(path.read_text() + "\n")
+        assert main(["export", str(project.path), "--to", "table", "--quiet"]) == 1
+        assert capsys.readouterr().err.startswith(f"pitplan: {folder / '..' / path.name}: has changed since {folder} was written")
+        shutil.copy(kept, path)
+    project.table.file.unlink()
+    with pytest.raises(PlanError, match="blocks.csv: cannot be read"):
+        commands.export(folder, "table")
+
+
+def test_the_planners_own_table_of_that_name_is_never_written_over(plan_folder):
+    path = plan_folder(rows(3, 3, 2), PROJECT, ('file = "blocks.csv"', 'file = "table.csv"'))
+    (path.parent / "blocks.csv").rename(path.parent / "table.csv")
+    with pytest.raises(PlanError, match="table.csv: the plan would be written over it"):
+        commands.write_shells(path, path.parent)

@@ -1,0 +1,430 @@
+"""What the shown pit hangs on: each case by hand and as a project of its own, and the second look at all of them."""
+
+import json
+import shutil
+
+import numpy as np
+import pandas as pd
+import pytest
+from conftest import PROJECT, rows
+from matplotlib.figure import Figure
+
+from pitplan import PlanError, Where, commands, load, run, sensitivity_pictures, varied, varied_cases
+from pitplan.cli import main
+from pitplan.verification import verify_folder
+
+# Two blocks of ore at the surface, each with 1,000 for processing and 200 for mining: one of 24,000, and one of 1,200, which just does not pay.
+ORE = {"cu": lambda i, j, k: {(1, 1): 6, (3, 1): 0.3}.get((i, j), 0)}
+DRAW = sensitivity_pictures.write_all
+KEPT = ["kept_worth", "kept_npv_best", "kept_npv_worst", "kept_years"]
+
+
+@pytest.fixture(scope="module", autouse=True)
+def undrawn(blank_pictures):
+    """Pictures are drawn by the tests that look at them alone."""
+    with pytest.MonkeyPatch.context() as patch:
+        patch.setattr(sensitivity_pictures, "write_all", lambda *given: None)
+        yield patch
+
+
+def mean_discount(years, rate=0.1):
+    return (1 - (1 + rate) ** -years) / (np.log(1 + rate) * years)
+
+
+def by_case(table):
+    return table.set_index(["number", "share", "second", "second_share"])
+
+
+@pytest.fixture
+def small(plan_folder):
+    """Writes the project with a section of its own; gives its path."""
+
+    def write(words="", *changes):
+        text = PROJECT.replace("ore_per_year = 100", "ore_per_year = 100\nchosen = 1000")
+        return plan_folder(rows(5, 3, 1, **ORE), f"{text}\n[sensitivity]\n{words}\n", *changes)
+
+    return write
+
+
+def test_each_number_by_hand(small):
+    """What 100 t of the rich block earn in their year, and with the poor one where it pays, in two."""
+    table = by_case(commands.sensitivity(small("by = [-0.1, 0.1]")))
+    assert list(table.index.get_level_values(0)) == ["", *np.repeat(["price", "mining_cost", "processing_cost", "recovery", "capacity"], 2)]
+    worth = {("", 0.0): 22_800, ("price", -0.1): 20_400, ("price", 0.1): 25_200 + 120, ("mining_cost", -0.1): 22_820 + 20}
+    worth |= {("mining_cost", 0.1): 22_780, ("processing_cost", -0.1): 22_900 + 100, ("processing_cost", 0.1): 22_700}
+    worth |= {("recovery", -0.1): 20_400, ("recovery", 0.1): 25_200 + 120, ("capacity", -0.1): 22_800, ("capacity", 0.1): 22_800}
+    assert {key[:2]: row.worth for key, row in table.iterrows()} == pytest.approx(worth)
+    years = {key: 2.0 if extra % 100 == 20 or key == ("processing_cost", -0.1) else 1.0 for key, extra in worth.items()}
+    years |= {("mining_cost", -0.1): 2.0, ("mining_cost", 0.1): 1.0, ("capacity", -0.1): 1 / 0.9, ("capacity", 0.1): 1 / 1.1}
+    assert {key[:2]: row.years for key, row in table.iterrows()} == pytest.approx(years)
+    # One bench at one pace: cash flows evenly, and the best case is the worst where one shell is all.
+    assert table.loc[("capacity", 0.1, "", 0.0), "npv"] == pytest.approx(22_800 * mean_discount(1 / 1.1))
+    assert table.loc[("price", 0.1, "", 0.0), "npv_worst"] == pytest.approx(25_320 * mean_discount(2))
+
+
+def test_what_the_pit_as_given_earns_stands_beside_it(small):
+    """The rich block alone, at the case's numbers."""
+    table = by_case(commands.sensitivity(small("by = [-0.1, 0.1]")))
+    kept = table.xs(("", 0.0), level=("second", "second_share"))["kept_worth"]
+    assert kept["price"].tolist() == pytest.approx([20_400, 25_200]) and kept["mining_cost"].tolist() == pytest.approx([22_820, 22_780])
+    assert kept["processing_cost"].tolist() == pytest.approx([22_900, 22_700]) and kept["recovery"].tolist() == pytest.approx([20_400, 25_200])
+    assert (table["worth"] >= table["kept_worth"] - 1e-6).all()
+    earns = table.loc[("capacity", -0.1, "", 0.0), KEPT[1:]].tolist()
+    assert earns == pytest.approx([22_800 * mean_discount(1 / 0.9)] * 2 + [1 / 0.9])
+
+
+def test_pairs_by_hand(small):
+    """Both numbers at once; and each of a pair alone too, though it is not named by itself."""
+    table = by_case(commands.sensitivity(small('by = [-0.1, 0.1]\nvary = "price"\npairs = [["price", "mining_cost"]]')))
+    worth = table["worth"].to_dict()
+    assert len(worth) == 9
+    assert worth[("price", 0.1, "mining_cost", 0.1)] == pytest.approx(26_400 - 1000 - 220 + 1320 - 1220)
+    assert worth[("price", -0.1, "mining_cost", 0.1)] == pytest.approx(21_600 - 1000 - 220)
+    assert worth[("mining_cost", 0.1, "", 0.0)] == pytest.approx(22_780)
+    grid = sensitivity_pictures.grid_of(table.reset_index(), "price", "mining_cost")
+    assert grid.index.tolist() == grid.columns.tolist() == [-0.1, 0.0, 0.1]
+    npv = table["npv"].to_dict()
+    assert grid.loc[0.1, -0.1] == npv[("price", 0.1, "mining_cost", -0.1)]
+    assert (grid.loc[0.0, 0.0], grid.loc[0.0, 0.1], grid.loc[-0.1, 0.0]) == (
+        npv[("", 0.0, "", 0.0)], npv[("mining_cost", 0.1, "", 0.0)], npv[("price", -0.1, "", 0.0)],
+    )
+
+
+RICH = {
+    "cu": lambda i, j, k: {(3, 3, 1): 6, (5, 3, 1): 1.1, (3, 5, 2): 0.7, (6, 5, 2): 0.5, (6, 1, 2): 0.3}.get((i, j, k), 0),
+    "rock": lambda i, j, k: "RS"[(i + j) % 2],
+    "au": lambda i, j, k: 0.9 if (j, k) == (3, 1) else 0,
+}
+GOLD = '[[metals]]\nname = "gold"\ncolumn = "au"\nunit = "gram_per_tonne"\nprice = 60\nselling_cost = 1.5\nrecovery = 0.6\n[slopes]\n'
+WALLS = ("[slopes]\nlevels = 3\n", GOLD + "levels = 3\n"), ('pattern = "1:5"', "angle = 45")
+MORE = (
+    *WALLS,
+    ("mining_cost = 2\n", "mining_cost = { R = 2, S = 2.5 }\nmining_cost_per_level = 0.25\n"),
+    ("recovery = 0.5\n", "recovery = { R = 0.95, S = 0.5 }\nselling_cost = 200\n"),
+    ("ore_per_year = 100", "ore_per_year = 150\nrock_per_year = 900\nchosen = 1000"),
+)
+
+
+@pytest.mark.parametrize(
+    ("number", "share", "changes"),
+    [
+        ("price", "0.25", (("price = 8000", "price = 10000"), ("price = 60", "price = 75"))),
+        ("price copper", "0.25", (("price = 8000", "price = 10000"),)),
+        ("selling_cost", "-0.5", (("selling_cost = 200", "selling_cost = 100"), ("selling_cost = 1.5", "selling_cost = 0.75"))),
+        ("selling_cost gold", "1", (("selling_cost = 1.5", "selling_cost = 3"),)),
+        ("recovery", "0.1", (("R = 0.95, S = 0.5 }\ns", "R = 1, S = 0.55 }\ns"), ("recovery = 0.6", "recovery = 0.66"))),
+        ("recovery copper", "-0.2", (("R = 0.95, S = 0.5 }\ns", "R = 0.76, S = 0.4 }\ns"),)),
+        ("mining_cost", "0.2", (("R = 2, S = 2.5 }", "R = 2.4, S = 3 }"), ("mining_cost_per_level = 0.25", "mining_cost_per_level = 0.3"))),
+        ("processing_cost", "0.3", (("processing_cost = 10", "processing_cost = 13"),)),
+        ("slopes", "0.2", (("angle = 45", "angle = 54"),)),
+        ("capacity", "-0.2", (("ore_per_year = 150", "ore_per_year = 120"), ("rock_per_year = 900", "rock_per_year = 720"))),
+    ],
+)
+def test_a_case_is_the_project_with_this_number_written_there(plan_folder, tmp_path, number, share, changes):
+    path = plan_folder(rows(9, 8, 4, **RICH), PROJECT + f'\n[sensitivity]\nby = [{share}]\nvary = ["{number}"]\n', *MORE)
+    demand_as_written(path, tmp_path / "other", number, changes)
+
+
+def demand_as_written(path, other, number, changes):
+    """The case of a sensitivity is the project in whose text these changes were made."""
+    table = commands.sensitivity(path)
+    shutil.copytree(path.parent, other, ignore=shutil.ignore_patterns("plan"))
+    text = path.read_text()
+    for old, new in changes:
+        assert text.count(old) == 1
+        text = text.replace(old, new)
+    (other / "project.toml").write_text(text)
+    for row, folder in ((0, path), (1, other / "project.toml")):
+        shells = commands.write_shells(folder, verifies=False).set_index("factor").loc[1000].drop("worth_at_factor")
+        assert table.iloc[row][shells.index].astype(float).to_dict() == pytest.approx(shells.astype(float).to_dict())
+    assert table["kept_worth"].isna().tolist() == [False, number == "slopes"]
+    assert table.loc[1, "npv"] != table.loc[0, "npv"]
+
+
+@pytest.mark.parametrize(
+    ("number", "share", "changes"),
+    [
+        ("recovery", "0.25", (("[0.2, 0.4], [1.0, 0.9]", "[0.2, 0.5], [1.0, 1]"),)),
+        ("price", "-0.25", (("price = 8000", "price = 6000"), ("[6000, 10000]", "[4500, 7500]"))),
+    ],
+)
+def test_recovery_by_grade_and_prices_of_years_vary(plan_folder, tmp_path, number, share, changes):
+    by_grade = ("recovery = 0.5\n", "recovery = [[0.2, 0.4], [1.0, 0.9]]\nprices = [6000, 10000]\n")
+    project = PROJECT + f'\n[sensitivity]\nby = [{share}]\nvary = ["{number}"]\n'
+    path = plan_folder(rows(9, 8, 4, **RICH), project, by_grade, ("ore_per_year = 100", "ore_per_year = 100\nchosen = 1000"))
+    demand_as_written(path, tmp_path / "other", number, changes)
+
+
+def test_fixed_blocks_hold_in_every_case_and_ore_may_be_settled(plan_folder):
+    """A block at the corner must be dug and the last column may not be; with ore as it is at the price as given of each case."""
+    table = rows(9, 8, 4, **RICH, must=lambda i, j, k: int((i, j, k) == (0, 0, 3)), never=lambda i, j, k: int(i == 8))
+    words = '\n[fixed]\nforced = "must"\nbarred = "never"\n[sensitivity]\nby = [-0.1]\n'
+    path = plan_folder(table, PROJECT + words, *MORE, ("processing_cost = 10\n", 'processing_cost = 10\ncutoff = "fixed"\n'))
+    found = commands.sensitivity(path)
+    shells = commands.write_shells(path, verifies=False).set_index("factor")
+    assert found.loc[0, ["blocks", "worth"]].tolist() == pytest.approx(shells.loc[1000, ["blocks", "worth"]].tolist())
+    folder = path.parent / "plan" / "sensitivity"
+    blocks, record = pd.read_csv(folder / "blocks.csv"), json.loads((folder / "sensitivity.json").read_text())
+    for case in record["cases"]:
+        entry = np.load(folder / "cases" / f"{case['key']}.npz")["entry"][blocks["id"]]
+        assert (entry[blocks["must"] == 1] == 500).all() and not entry[blocks["never"] == 1].any()
+
+
+def test_costs_by_elevation_and_walls_by_azimuth(plan_folder, tmp_path):
+    walls = ("[slopes]\nlevels = 3\n", "[slopes]\nlevels = 3\n"), ('pattern = "1:5"', "azimuths = [[0, 40], [180, 50]]")
+    money = ("mining_cost = 2\n", "mining_cost = 2\nmining_cost_by_elevation = [[5, 2], [35, 0]]\n"), ("rate = 0.1", "rate = 0.1\nchosen = 1000")
+    path = plan_folder(rows(9, 8, 4, **RICH), PROJECT + '\n[sensitivity]\nby = [0.1]\nvary = ["mining_cost", "slopes"]\n', *walls, *money)
+    table = commands.sensitivity(path)
+    text = path.read_text().replace("mining_cost = 2\n", "mining_cost = 2.2\n").replace("[5, 2]", "[5, 2.2]")
+    for row, changed in ((1, text), (2, path.read_text().replace("[[0, 40], [180, 50]]", "[[0, 44], [180, 55]]"))):
+        path.write_text(changed)
+        assert commands.write_shells(path, verifies=False)["worth"].iloc[1] == pytest.approx(table.loc[row, "worth"])
+
+
+def test_a_lower_price_of_all_is_a_lesser_factor(plan_folder):
+    """Where nothing is paid for selling, the pit as given at 20 % less is worth what the program said at factor 800."""
+    path = plan_folder(
+        rows(9, 8, 4, **RICH), PROJECT + '\n[sensitivity]\nby = [-0.2]\nvary = "price"\n', ("factors = [500, 1000, 1500]", "factors = [640, 800]\nchosen = 800")
+    )
+    table = commands.sensitivity(path)
+    shells = commands.write_shells(path, verifies=False).set_index("factor")
+    assert table.loc[1, "factor"] == 800 and table.loc[1, "kept_worth"] == pytest.approx(float(shells["worth_at_factor"][800]))
+    assert float(table.loc[1, "worth_at_factor"]) == pytest.approx(float(shells["worth_at_factor"][640])) and table.loc[1, "blocks"] == shells["blocks"][640]
+
+
+def test_what_has_an_answer_is_not_solved_again(small, monkeypatch):
+    path, solved = small("by = [0.1]"), []
+    solve_files = run.solve_files
+    monkeypatch.setattr(run, "solve_files", lambda *words: solved.append(words) or solve_files(*words))
+    first = commands.sensitivity(path)
+    assert len(solved) == 7
+    second = commands.sensitivity(path)
+    # That of the project as given tells the factor.
+    assert len(solved) == 8 and first.astype(str).equals(second.astype(str))
+    path.write_text(path.read_text().replace("by = [0.1]", "by = [0.1, 0.2]"))
+    commands.sensitivity(path)
+    assert len(solved) == 8 + 1 + 11, "the project's text is another"
+
+
+def test_files_and_what_the_command_line_tells(small, capsys, monkeypatch, undrawn):
+    monkeypatch.setattr(sensitivity_pictures, "write_all", DRAW)
+    path = small('vary = ["price", "mining_cost"]\npairs = [["price", "mining_cost"]]')
+    assert main(["sensitivity", str(path), "--quiet"]) == 0
+    out = capsys.readouterr().out.splitlines()
+    assert out[2].split() == ["as", "given", "21.75", "0.00", "100.00", "100.00", "22.80", "1.0"]
+    assert out[3].split()[:3] == ["price", "-20", "%"] and "price -20 %, mining cost +10 %" in out[13]
+    folder = path.parent / "plan" / "sensitivity"
+    assert out[-1] == str(folder / "sensitivity.csv")
+    assert {it.name for it in folder.iterdir()} == {
+        *("blocks.csv", "cases", "sensitivity.csv", "sensitivity.json", "tornado.png", "spider.png", "grid-price-mining_cost.png")
+    }
+    record = json.loads((folder / "sensitivity.json").read_text())
+    assert len(record["verified"]) == 10 and record["factor"] == 1000
+    assert main(["verify", str(folder)]) == 0
+    assert "in 25 cases: " in capsys.readouterr().out
+    assert main(["sensitivity", str(path), "--quiet", "--no-verify"]) == 0
+    assert json.loads((folder / "sensitivity.json").read_text())["verified"] == []
+
+
+def test_cases_over_dask_are_those_of_one_after_the_other(small, capsys):
+    pytest.importorskip("distributed")
+    path = small('by = [-0.1, 0.1]\nvary = ["price", "capacity"]')
+    assert main(["sensitivity", str(path), "--quiet", "--on", "local", "--workers", "1", "--out", str(path.parent / "dask")]) == 0
+    commands.sensitivity(path, path.parent / "one", verifies=False)
+    assert (path.parent / "dask" / "sensitivity.csv").read_bytes() == (path.parent / "one" / "sensitivity.csv").read_bytes()
+    assert len(list((path.parent / "dask" / "cases").iterdir())) == 5
+    path.write_text(path.read_text().replace("[-0.1, 0.1]", "[-0.9999]"))
+    with pytest.raises(PlanError, match="are the capacities in tonnes a year"):
+        commands.sensitivity(path, path.parent / "dask", Where("local", 1))
+
+
+def test_cases_are_solved_here_or_over_dask_alone(small, capsys):
+    with pytest.raises(SystemExit):
+        main(["sensitivity", str(small()), "--on", "slurm"])
+    assert "slurm is none of local, tcp://host:port" in capsys.readouterr().err
+
+
+@pytest.mark.parametrize(
+    ("words", "said"),
+    [
+        ("by = []", "[sensitivity] by: must be a list of up to 20 shares"),
+        ("by = 0.1", "[sensitivity] by: must be a list of up to 20 shares"),
+        ("by = [0.1, 0]", "by: shares are above -1 and up to 10, none is 0, and each stands once"),
+        ("by = [-1]", "by: shares are above -1"),
+        ("by = [10.5]", "by: shares are above -1"),
+        ("by = [0.1, 0.10]", "by: shares are above -1"),
+        ('by = ["much"]', "by: 'much' is not a number"),
+        ('vary = "rent"', 'vary: "rent" is none of price, mining_cost, processing_cost, selling_cost, recovery, slopes, capacity; price, selling_cost'),
+        ('vary = "slopes copper"', 'vary: "slopes copper" is none of'),
+        ('vary = "price tin"', 'vary: "price tin" is none of'),
+        ('vary = ["price", "price"]', "vary: names a number twice"),
+        ('pairs = ["price"]', "pairs: must be a list of pairs of names"),
+        ('pairs = [["price", "rent"]]', 'pairs: "rent" is none of'),
+        ('pairs = [["price", "price copper"]]', "pairs: price and price copper are not two numbers"),
+        ("share = 1", "[sensitivity] share: is no key here"),
+    ],
+)
+def test_what_is_refused(small, words, said):
+    with pytest.raises(PlanError) as refused:
+        load(small(words))
+    assert said in str(refused.value)
+
+
+def test_walls_that_no_share_allows_are_refused(plan_folder):
+    path = plan_folder(rows(5, 3, 1, **ORE), PROJECT + "\n[sensitivity]\nby = [1.1]\nvary = 'slopes'\n", ('pattern = "1:5"', "angle = 45"))
+    with pytest.raises(PlanError, match="by: slopes times 2.1 leave 1 to 90 degrees"):
+        commands.sensitivity(path)
+
+
+def test_shares_have_their_ends(small):
+    asked = load(small("by = [10, -0.99]\nvary = 'price'")).sensitivity
+    assert [float(share) for share in asked.by] == [-0.99, 10.0] and asked.vary == ("price",)
+
+
+@pytest.fixture(scope="module")
+def answered(tmp_path_factory, undrawn):
+    place = tmp_path_factory.mktemp("varied")
+    text = PROJECT + '\n[sensitivity]\nby = [-0.2, 0.2]\npairs = [["price", "capacity"]]\n'
+    for old, new in MORE:
+        text = text.replace(old, new)
+    (place / "project.toml").write_text(text)
+    rows(8, 7, 4, **RICH).to_csv(place / "blocks.csv", index=False)
+    commands.sensitivity(place / "project.toml")
+    return place
+
+
+@pytest.fixture
+def copied(answered, tmp_path):
+    return shutil.copytree(answered, tmp_path / "mine") / "plan" / "sensitivity"
+
+
+def wrong(folder):
+    return {rule.name: rule.differences for rule in verify_folder(folder) if rule.differences}
+
+
+def test_what_is_right_passes(copied):
+    assert wrong(copied) == {}
+
+
+AMOUNTS = "blocks tonnes ore_tonnes waste_tonnes strip_ratio processed_tonnes grade_copper metal_copper grade_gold metal_gold worth".split()
+
+
+@pytest.mark.parametrize(
+    ("column", "name"),
+    [
+        *((column, "shells") for column in AMOUNTS),
+        *((column, "years") for column in ("npv", "npv_best", "npv_worst", "years")),
+        ("worth_at_factor", "worth"),
+        *((column, "kept") for column in KEPT),
+        ("factor", "cases"),
+        ("share", "cases"),
+        ("second_share", "cases"),
+    ],
+)
+def test_each_number_that_is_bent_is_found(copied, column, name):
+    """A hundredth more in the last row, which is of a pair."""
+    table = pd.read_csv(copied / "sensitivity.csv", dtype={"worth_at_factor": str})
+    at = table.index[-1]
+    bent = float(table.loc[at, column]) + (1 if column in ("blocks", "factor") else 0.02)
+    table.loc[at, column] = f"{bent:.6f}" if column == "worth_at_factor" else bent
+    table.to_csv(copied / "sensitivity.csv", index=False)
+    found = wrong(copied)
+    assert name in found
+    assert name == "cases" or all(said.startswith("price +0.2, capacity +0.2: ") for said in found[name])
+
+
+@pytest.mark.parametrize(
+    "bend",
+    [
+        lambda table: table.iloc[:-1],
+        lambda table: pd.concat([table, table.tail(1)]),
+        lambda table: table.replace({"number": {"recovery": "selling_cost", "selling_cost": "recovery"}}),
+        lambda table: table.iloc[[0, 2, 1, *range(3, len(table))]],
+    ],
+)
+def test_cases_that_are_not_those_asked_for_are_found(copied, bend):
+    bend(pd.read_csv(copied / "sensitivity.csv", dtype={"worth_at_factor": str})).to_csv(copied / "sensitivity.csv", index=False)
+    assert "cases" in wrong(copied)
+
+
+def test_the_pit_of_another_case_is_found(copied):
+    record = json.loads((copied / "sensitivity.json").read_text())
+    one, other = (record["cases"][k] for k in (1, 2))
+    one["key"], other["key"] = other["key"], one["key"]
+    (copied / "sensitivity.json").write_text(json.dumps(record))
+    assert {"shells", "worth"} <= set(wrong(copied))
+
+
+def test_a_block_that_is_left_standing_is_found(copied):
+    record = json.loads((copied / "sensitivity.json").read_text())
+    path = copied / "cases" / f"{record['cases'][3]['key']}.npz"
+    said = dict(np.load(path))
+    said["entry"][np.flatnonzero(said["entry"])[0]] = 0
+    np.savez_compressed(path, **said)
+    found = wrong(copied)
+    assert found["walls"][0].startswith("mining_cost -0.2: ") and "shells" in found
+
+
+def test_walls_of_patterns_that_move_not_are_as_given(plan_folder):
+    path = plan_folder(rows(5, 3, 1, **ORE), PROJECT + "\n[sensitivity]\nby = [0.2]\nvary = 'slopes'\n")
+    assert varied_cases.rules_of(load(path)).vary == ("slopes",)
+    assert "slopes" not in varied.given(load(path)) and "selling_cost" not in varied.given(load(path))
+
+
+@pytest.mark.parametrize(
+    ("number", "careless"),
+    [
+        ("price", lambda project, by, metal: varied.with_metals(project, "gold", lambda it: varied.replace(it, price=it.price * by))),
+        ("recovery", lambda project, by, metal: varied.with_metals(project, metal, lambda it: varied.replace(it, recovery=varied.times(it.recovery, by)))),
+        ("mining_cost", lambda project, by, metal: varied.replace(project, money=varied.replace(project.money, mining_cost=varied.times(project.money.mining_cost, by)))),
+        ("slopes", lambda project, by, metal: project),
+        ("capacity", lambda project, by, metal: varied.replace(project, schedule=varied.replace(project.schedule, ore_per_year=project.schedule.ore_per_year * float(by)))),
+        ("selling_cost", lambda project, by, metal: project),
+        ("processing_cost", lambda project, by, metal: varied.mining_cost(project, by, metal)),
+    ],
+)
+def test_a_number_that_is_varied_otherwise_is_found(answered, tmp_path, monkeypatch, number, careless):
+    """Of the metals one alone; a recovery above 1; without what depth adds; walls as they are; the mill alone; none; another cost."""
+    place = shutil.copytree(answered, tmp_path / "mine", ignore=shutil.ignore_patterns("plan"))
+    monkeypatch.setitem(varied.VARIED, number, careless)
+    with pytest.raises(PlanError, match="what was written is not right"):
+        commands.sensitivity(place / "project.toml")
+    assert not (place / "plan" / "sensitivity" / "sensitivity.csv").exists()
+
+
+def test_a_folder_without_its_answers_is_named(copied):
+    shutil.rmtree(copied / "cases")
+    with pytest.raises(PlanError, match="npz: cannot be read: run pitplan sensitivity first"):
+        verify_folder(copied)
+    (copied / "sensitivity.json").write_text("{}")
+    with pytest.raises(PlanError, match="is no folder that pitplan sensitivity has written"):
+        verify_folder(copied)
+
+
+@pytest.fixture
+def table():
+    """As given 100; price 80 and 130; costs 104 and 99; both 70 to 140 in pairs."""
+    lines = [("", 0, "", 0, 100), ("price", -0.1, "", 0, 80), ("price", 0.2, "", 0, 130), ("mining_cost", -0.1, "", 0, 104), ("mining_cost", 0.2, "", 0, 99)]
+    lines += [("price", one, "mining_cost", other, 70 + 10 * k) for k, (one, other) in enumerate([(-0.1, -0.1), (-0.1, 0.2), (0.2, -0.1), (0.2, 0.2)])]
+    return pd.DataFrame(lines, columns=["number", "share", "second", "second_share", "npv"]).astype({"share": float, "second_share": float})
+
+
+def test_a_tornado_has_the_outermost_shares_and_the_greatest_on_top(table):
+    axes = sensitivity_pictures.plot_tornado(table, "USD", Figure().subplots())
+    bars = sorted((bar.get_y() + bar.get_height() / 2, bar.get_x(), bar.get_width()) for bar in axes.patches)
+    assert np.allclose(bars, [(0, 100, -1), (0, 100, 4), (1, 100, -20), (1, 100, 30)])
+    assert [label.get_text() for label in axes.get_yticklabels()] == ["mining cost", "price"]
+    assert sorted(text.get_text() for text in axes.texts) == ["+20 %", "+20 %", "-10 %", "-10 %"]
+
+
+def test_a_spider_has_a_curve_a_number_through_the_project_as_given(table):
+    axes = sensitivity_pictures.plot_spider(table, "USD", Figure().subplots())
+    curves = {line.get_label(): line.get_xydata().tolist() for line in axes.lines[:2]}
+    assert curves == {"price": [[-0.1, 80], [0, 100], [0.2, 130]], "mining cost": [[-0.1, 104], [0, 100], [0.2, 99]]}
+
+
+def test_a_grid_has_an_amount_a_pair_of_shares(table):
+    axes = sensitivity_pictures.plot_grid(table, ("price", "mining_cost"), "USD", Figure().subplots())
+    assert [text.get_text() for text in axes.texts] == ["70.0", "80.0", "80.0", "104.0", "100.0", "99.0", "90.0", "130.0", "100.0"]
+    assert (axes.patches[0].get_x(), axes.patches[0].get_y()) == (0.5, 0.5)
+    assert [label.get_text() for label in axes.get_yticklabels()] == ["-10 %", "0", "+20 %"]
