@@ -74,6 +74,7 @@ def test_what_is_written_is_right(plan_folder, blank_pictures, monkeypatch, seed
     rules = "[schedule]\nlag = 1\nyears = 9\n" + (pick(rng, "", "bins = 3\n", "bins = 3\nstockpile = { rehandling_cost = 0.4 }\n") if is_one else "")
     text = PROJECT + f'[pushbacks]\nfactors = [500, 1000]\n{rules}[fixed]\nforced = "must"\nbarred = "never"\n'
     path = plan_folder(table_of(rng), text, *changes)
-    command, folder = [(commands.write_shells, "plan"), (pushbacks, "plan/pushbacks"), (write_schedule, "plan/schedule")][seed % 3]
+    ways = [(commands.write_shells, "plan"), (pushbacks, "plan/pushbacks"), (write_schedule, "plan/schedule"), (commands.pit, "plan/pit")]
+    command, folder = ways[seed % 4]
     table = command(path)
     assert len(table) and not any(rule.differences for rule in verify(path.parent / folder))
