@@ -354,6 +354,8 @@ def read_schedule(section: Section, processes: tuple[Process, ...] = ()) -> Sche
     factors = tuple(sorted({*asked, REFERENCE_FACTOR}))
     if len(factors) > MOST_FACTORS:
         raise section.wrong("factors", f"at most {MOST_FACTORS:,} factors, {REFERENCE_FACTOR} among them")
+    if processes and section.has("ore_per_year"):
+        raise section.wrong("ore_per_year", "give per_year of each of the [[processes]], not this")
     chosen = section.whole("chosen", REFERENCE_FACTOR, 0, GREATEST_FACTOR) if section.has("chosen") else None
     if chosen is not None and chosen not in factors:
         raise section.wrong("chosen", f"{chosen} is not among the factors")

@@ -212,6 +212,7 @@ def test_phases_and_schedules_keep_to_the_capacities(plan_folder, blank_pictures
     [
         (WITH[1:], r"\[money\] processing_cost: give the cost of each of the \[\[processes\]\], not this"),
         ([WITH[0], *WITH[2:]], r"\[metals 1\] recovery: give the recoveries of each of the \[\[processes\]\], not this"),
+        ([*WITH[:2], WITH[3]], r"\[shells\] ore_per_year: give per_year of each of the \[\[processes\]\], not this"),
         ([*WITH, ('name = "mill"', 'name = "leach"')], r"two \[\[processes\]\] have one name"),
         ([*WITH, ('name = "mill"', 'name = "the mill"')], '"the mill" is not one word'),
         ([*WITH, ("{ copper = 0.4 }", "{ gold = 0.4 }")], r"\[\[processes\]\] leach recovers gold, which is none of the \[\[metals\]\] copper"),
