@@ -3,11 +3,13 @@
 from __future__ import annotations
 
 from dataclasses import dataclass
+from typing import Optional
 
 import numpy as np
 import pandas as pd
 
 from .errors import PlanError
+from .packages import load
 from .project import GridRules, Project, TableColumns
 from .table import at_row
 
@@ -16,6 +18,8 @@ MOST_BLOCKS = 4_194_304
 MOST_CELLS = 64_000_000
 # Up to this share of the rows may lie off the grid that the others make: these are named then.
 FEW = 0.01
+# So many centres tell whether a grid is turned, where the directions to their neighbours are so much alike, 1 being the same.
+NEIGHBOURS, ALIKE = 2_000, 0.99
 
 
 def metres(value: float) -> str:
@@ -92,7 +96,37 @@ class Axis:
 
 def of_table(frame: pd.DataFrame, project: Project, source: str = "table", any_size: bool = False) -> Grid:
     """The grid of a checked table. Raises PlanError where a centre lies off it, a cell stands twice, or it is too large for the program,
-    or where it may have any size for this computer."""
+    or where it may have any size for this computer; where the centres lie on a grid that is turned, it says by how much."""
+    try:
+        return laid(frame, project, source, any_size)
+    except PlanError as error:
+        turned = turned_by(frame[[project.table.x, project.table.y]].to_numpy())
+        if turned is None:
+            raise
+        more = f"the centres lie on a grid that is turned by {turned:.2f} degrees clockwise: give x and y along its own axes"
+        raise PlanError(f"{error}; {more}") from error
+
+
+def turned_by(centres: np.ndarray) -> Optional[float]:
+    """Degrees clockwise, from -45 to 45, by which the rows of blocks are turned from east, told by the nearest neighbours of some centres x
+    and y; None where these lie in many directions, or where the rows go east."""
+    places = np.unique(centres.round(4), axis=0)
+    some = places[:: max(1, len(places) // NEIGHBOURS)]
+    if len(places) < 3:
+        return None
+    far, nearest = load("scipy.spatial", "python3-scipy", "a table that is no grid").cKDTree(places).query(some, k=2)
+    east, north = (places[nearest[:, 1]] - some).T
+    # Of directions that differ by a quarter of a turn the fourfold is the same.
+    mean = np.exp(4j * np.arctan2(north, east)).mean()
+    angle, size = np.angle(mean) / 4, float(np.median(far[:, 1]))
+    # The row through one centre, which is long, tells it better than neighbours, whose places are rounded.
+    row = ((places - some[len(some) // 2]) @ [1, 1j]) * np.exp(-1j * angle)
+    row = row[(np.abs(row.imag) < 0.3 * size) & (np.abs(row.real) < NEIGHBOURS / 4 * size)]
+    angle += np.angle((row * np.sign(row.real)).sum())
+    return -float(np.degrees(angle)) if abs(mean) > ALIKE and abs(np.degrees(angle)) > 0.01 else None
+
+
+def laid(frame: pd.DataFrame, project: Project, source: str, any_size: bool) -> Grid:
     columns, rules = project.table, project.grid
     axes = [axis_of(frame, name, k, rules, source) for k, name in enumerate((columns.x, columns.y, columns.z))]
     east, north, up = axes
@@ -131,7 +165,7 @@ def axis_of(frame: pd.DataFrame, name: str, k: int, rules: GridRules, source: st
         row = int((off > rules.tolerance).argmax())
         steps = ", ".join(metres(first + number * size) for number in range(3))
         why = f"{metres(values[row])} is off the grid {steps}, .. by {off[row]:g} m"
-        raise at_row(source, row, name, f"{why}: sub-blocks need [table] reblock, and a rotated model its own axes")
+        raise at_row(source, row, name, f"{why}: sub-blocks need [table] reblock")
     # The least centre lies less than half a block off the lattice's first, so no place is below 0.
     return Axis(float(first), size, int(place.max()) + 1, place.astype(np.int64))
 

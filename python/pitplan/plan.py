@@ -225,14 +225,15 @@ def prepare(
     with progress.step("laying the walls"):
         region = laying.regions_of(frame, grid, project.table.region)
         walls = laying.walls_of(region, grid, project.slopes)
-    model, dropped = Model(frame, grid, region, source), []
+    whole = model = Model(frame, grid, region, source, len(checked.frame))
+    dropped: list[str] = []
     if reach.is_too_large(model, project):
         with progress.step("leaving out what no shell can reach"):
-            model, note = reach.left(model, walls, project)
+            model, note = reach.left(whole, walls, project)
             walls, dropped = laying.walls_of(model.region, model.grid, project.slopes), [note]
     with progress.step("weighing the blocks"):
         plan = plan_of(project, model.frame, model.grid, walls, model.source)
-    plan.filled, plan.summary, plan.left_out = checked.filled, summary, len(frame) - len(model.frame)
+    plan.filled, plan.summary, plan.left_out = checked.filled, summary, whole.known - model.known
     plan.notes = [*checked.notes, *dropped, *notes_of(plan)]
     return plan
 

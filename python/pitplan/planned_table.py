@@ -26,6 +26,8 @@ def write(path: Path, folder: Folder) -> None:
     cannot be read or has changed since the folder was written.
     """
     project = project_of(folder)
+    if project.table.reblock:
+        raise PlanError(f"{project.path}: [table] reblock: rows are put together to blocks, so that there is none a block: export them as csv")
     frame, form = as_text(project.table.file, project)
     cells = grids.of_table(tables.read(project).frame, project, str(project.table.file)).rows
     blocks = folder.blocks.set_index("id")

@@ -8,7 +8,7 @@ least to the highest block of each of its columns, and to no level in which it w
 
 from __future__ import annotations
 
-from dataclasses import dataclass
+from dataclasses import dataclass, replace
 
 import numpy as np
 import pandas as pd
@@ -22,12 +22,13 @@ from .walls import Walls
 
 @dataclass(frozen=True)
 class Model:
-    """A table's rows on their grid, and the region of each cell."""
+    """A table's rows on their grid, the region of each cell, and how many of the rows are the table's own; others stand behind them."""
 
     frame: pd.DataFrame
     grid: Grid
     region: np.ndarray
     source: str
+    known: int
 
 
 @dataclass(frozen=True)
@@ -72,7 +73,7 @@ def left(model: Model, walls: Walls, project: Project) -> tuple[Model, str]:
             f"{model.source}: the grid has {grid.count:,} cells, of which shells may reach {inside.size:,}, and the program takes at most "
             f"{grids.MOST_BLOCKS:,} blocks: reblock it by [table] reblock, or give a smaller model"
         )
-    return cropped(model, box, inside), note_of(model, box)
+    return named_anew(cropped(model, box, inside), project), note_of(model, box)
 
 
 def can_pay(model: Model, project: Project) -> np.ndarray:
@@ -109,7 +110,16 @@ def cropped(model: Model, box: Box, inside: np.ndarray) -> Model:
     origin = tuple(float(axis) for axis in grid.centres(inside.flat[0]))
     small = Grid(inside.shape, (origin[0], origin[1], origin[2]), grid.size, ids[grid.rows[kept]].astype(np.int64))
     frame = model.frame.iloc[kept].reset_index(drop=True)
-    return Model(frame, small, model.region[inside.ravel()], f"of what a shell can reach in {model.source}")
+    known = int(np.count_nonzero(kept < model.known))
+    return Model(frame, small, model.region[inside.ravel()], f"of what a shell can reach in {model.source}", known)
+
+
+def named_anew(model: Model, project: Project) -> Model:
+    """The same with the ids of blocks that stand for cells without rows by their cells' numbers in the box."""
+    if project.table.id is None:
+        return model
+    ids = [*model.frame[project.table.id].iloc[: model.known], *(f"absent-{cell}" for cell in model.grid.rows[model.known :])]
+    return replace(model, frame=model.frame.assign(**{project.table.id: ids}))
 
 
 def note_of(model: Model, box: Box) -> str:

@@ -15,7 +15,7 @@ from scipy.spatial import ConvexHull, QhullError
 
 from . import cones
 from .errors import PlanError
-from .project import MOST_LEVELS, Slopes, Wall
+from .wall_rules import MOST_LEVELS, Slopes, Wall
 
 Offset = tuple[int, int, int]
 # Pairs of azimuth and angle in degrees.

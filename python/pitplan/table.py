@@ -18,6 +18,8 @@ from .project import Project, TableColumns
 from .table_format import NAMES, UNREADABLE, TableFormat, format_of, names_in_header, opened, unreadable, wrong_encoding
 
 HEADER_ROWS = 2
+# Rows that are read at a time: the reader holds several times what it has read.
+PIECE = 500_000
 
 
 @dataclass(frozen=True)
@@ -80,7 +82,8 @@ def has_decimal_commas(frame: pd.DataFrame, names: list[str]) -> bool:
     """Whether some column is no numbers as it stands, and numbers once its commas are points."""
     for name in names:
         if name in frame and frame[name].dtype == object:
-            texts = frame[name].dropna().astype(str).str.strip()
+            # A piece that was read as numbers has whole ones as 5.0 where a field is empty.
+            texts = frame[name].dropna().map(lambda it: it if isinstance(it, str) else f"{it:.15g}").str.strip()
             texts = texts[texts != ""]
             if texts.str.contains(",").any() and texts.str.fullmatch(r"[-+]?\d*(,\d+)?([eE][-+]?\d+)?").all():
                 return True
@@ -97,7 +100,7 @@ def read_columns(file: Path, form: TableFormat, codes: list[str], wanted: list[s
             # All columns are read, and a line with more fields than the header is an error: pandas would drop the rest.
             warnings.simplefilter("error", pd.errors.ParserWarning)
             with opened(file) as data:
-                return pd.read_csv(
+                pieces = pd.read_csv(
                     data,
                     sep=form.separator,
                     decimal=form.decimal,
@@ -108,13 +111,24 @@ def read_columns(file: Path, form: TableFormat, codes: list[str], wanted: list[s
                     float_precision="round_trip",
                     encoding=form.encoding,
                     low_memory=False,
+                    chunksize=PIECE,
                 )
+                return joined(list(pieces))
     except UnicodeError as error:
         raise wrong_encoding(file, form.encoding) from error
     except (pd.errors.ParserError, pd.errors.EmptyDataError, pd.errors.ParserWarning) as error:
         raise PlanError(f"{file}: is no table: {' '.join(str(error).split())}") from error
     except UNREADABLE as error:
         raise unreadable(file, error) from error
+
+
+def joined(pieces: list[pd.DataFrame]) -> pd.DataFrame:
+    """One table of several, which are emptied column by column, so that no more than one column is held twice."""
+    if len(pieces) == 1:
+        return pieces[0]
+    names = list(pieces[0].columns)
+    columns = {name: pd.concat([piece.pop(name) for piece in pieces], ignore_index=True) for name in names}
+    return pd.DataFrame(columns, copy=False)
 
 
 def read_header(file: Path, form: TableFormat) -> list[str]:

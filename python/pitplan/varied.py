@@ -7,11 +7,12 @@ from decimal import Decimal
 from typing import Callable, Union
 
 from .errors import PlanError
-from .money_rules import ByRock, Curve, Metal, Recovery
+from .money_rules import ByRock, Curve, Metal, Process, Recovery
 from .project import Project
 
 # A number's name, as `[sensitivity]` gives it, and a share: 0.1 for a tenth more.
 Change = tuple[str, Decimal]
+Recoveries = Union[Recovery, dict[str, Recovery]]
 STEEPEST, FLATTEST = 90.0, 1.0
 
 
@@ -27,13 +28,17 @@ def times(price: ByRock, by: Decimal) -> ByRock:
     return {rock: amount * by for rock, amount in price.items()} if isinstance(price, dict) else price * by
 
 
-def recovered(recovery: Union[Recovery, dict[str, Recovery]], by: Decimal) -> Union[Recovery, dict[str, Recovery]]:
-    """A share of the metal, or those by rock or grade, times a number; no more than all is recovered."""
-    whole = Decimal(1)
+def recovered(recovery: Recoveries, by: Decimal) -> Recoveries:
+    """Recoveries of all rocks and grades; no more than all of the metal is recovered."""
     if isinstance(recovery, dict):
-        return {rock: recovered(part, by) for rock, part in recovery.items()}
+        return {rock: of_rock(part, by) for rock, part in recovery.items()}
+    return of_rock(recovery, by)
+
+
+def of_rock(recovery: Recovery, by: Decimal) -> Recovery:
+    whole = Decimal(1)
     if isinstance(recovery, Curve):
-        return Curve(tuple((grade, min(part * by, whole)) for grade, part in recovery.points))
+        return Curve(tuple((grade, min(share * by, whole)) for grade, share in recovery.points))
     return min(recovery * by, whole)
 
 
@@ -42,7 +47,13 @@ def with_metals(project: Project, name: str, change: Callable[[Metal], Metal]) -
     return replace(project, metals=tuple(change(metal) if name in ("", metal.name) else metal for metal in project.metals))
 
 
+def with_processes(project: Project, change: Callable[[Process], Process]) -> Project:
+    """Each of several processes changed."""
+    return replace(project, processes=tuple(change(process) for process in project.processes))
+
+
 def price(project: Project, by: Decimal, metal: str) -> Project:
+    """With the prices of years."""
     return with_metals(project, metal, lambda it: replace(it, price=it.price * by, prices=tuple(price * by for price in it.prices)))
 
 
@@ -51,7 +62,13 @@ def selling_cost(project: Project, by: Decimal, metal: str) -> Project:
 
 
 def recovery(project: Project, by: Decimal, metal: str) -> Project:
-    return with_metals(project, metal, lambda it: replace(it, recovery=recovered(it.recovery, by)))
+    """In all processes."""
+
+    def change(process: Process) -> Process:
+        changed = {name: recovered(it, by) if metal in ("", name) else it for name, it in process.recovery.items()}
+        return replace(process, recovery=changed)
+
+    return with_processes(with_metals(project, metal, lambda it: replace(it, recovery=recovered(it.recovery, by))), change)
 
 
 def mining_cost(project: Project, by: Decimal, metal: str) -> Project:
@@ -64,25 +81,29 @@ def mining_cost(project: Project, by: Decimal, metal: str) -> Project:
 
 
 def processing_cost(project: Project, by: Decimal, metal: str) -> Project:
-    return replace(project, money=replace(project.money, processing_cost=times(project.money.processing_cost, by)))
+    """In all processes."""
+    project = replace(project, money=replace(project.money, processing_cost=times(project.money.processing_cost, by)))
+    return with_processes(project, lambda it: replace(it, cost=times(it.cost, by)))
 
 
 def slopes(project: Project, by: Decimal, metal: str) -> Project:
-    """All angles, but not the patterns."""
+    """All angles, those of benches too, but not patterns and steps."""
     walls = []
     for wall in project.slopes.walls:
         angles = tuple((azimuth, angle * float(by)) for azimuth, angle in wall.angles)
         if any(not FLATTEST <= angle <= STEEPEST for _, angle in angles):
             raise PlanError(f"{project.path}: [sensitivity] by: slopes times {by} leave 1 to 90 degrees")
-        walls.append(replace(wall, angles=angles))
+        walls.append(replace(wall, angles=angles, bench=None))
     return replace(project, slopes=replace(project.slopes, walls=tuple(walls)))
 
 
 def capacity(project: Project, by: Decimal, metal: str) -> Project:
-    """Of mill and shovels."""
-    shells = project.schedule
-    rock = None if shells.rock_per_year is None else shells.rock_per_year * float(by)
-    return replace(project, schedule=replace(shells, ore_per_year=shells.ore_per_year * float(by), rock_per_year=rock))
+    """Of mill, or of all processes, and shovels."""
+    shells, more = project.schedule, float(by)
+    rock = None if shells.rock_per_year is None else shells.rock_per_year * more
+    of_processes = tuple(tonnes * more for tonnes in shells.per_process)
+    schedule = replace(shells, ore_per_year=shells.ore_per_year * more, rock_per_year=rock, per_process=of_processes)
+    return with_processes(replace(project, schedule=schedule), lambda it: replace(it, per_year=it.per_year * more))
 
 
 VARIED: dict[str, Callable[[Project, Decimal, str], Project]] = {

@@ -16,6 +16,7 @@ import numpy as np
 import pandas as pd
 
 from . import analyse, files, run, table as tables
+from .errors import PlanError
 from .packages import load
 from .plan import Plan, prepare
 from .progress import Progress, silent
@@ -107,6 +108,9 @@ def solve(project: Project, folder: Path, where: on_dask.Where | None, progress:
     """
     frame = tables.read(project).frame
     plan = prepare(project, frame, progress)
+    if plan.left_out:
+        why = "is too large for the program, and what shells can reach of it is another with each number: reblock it by [table] reblock"
+        raise PlanError(f"{project.table.file}: {why}, or give a smaller model")
     solution = run.solve(plan, progress=progress)
     factor = analyse.chosen_factor(analyse.shells(plan, solution), project.schedule)
     asked = Asked(up_to(project, factor), frame)

@@ -15,8 +15,8 @@ import pandas as pd
 from . import cones
 from .errors import PlanError
 from .grid import Grid
-from .project import Slopes
 from .slopes import Pattern, pattern_of
+from .wall_rules import Slopes
 
 
 @dataclass(frozen=True)

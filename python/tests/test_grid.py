@@ -1,5 +1,7 @@
 """Grids from coordinates: ids from the top down, air where no row is, and what is refused."""
 
+import re
+
 import numpy as np
 import pandas as pd
 import pytest
@@ -104,3 +106,27 @@ def test_too_many_cells_are_refused(plan_folder):
 )
 def test_a_coordinate_is_told_to_a_tenth_of_a_millimetre(value, said):
     assert metres(value) == said
+
+
+@pytest.mark.parametrize("degrees", [30, -17.5, 44, 3])
+@pytest.mark.parametrize("size", ["size = [10, 10, 10]", ""])
+def test_a_model_that_is_turned_is_refused_and_by_how_much(plan_folder, degrees, size):
+    """Clockwise about a far place, in whole centimetres."""
+    table, turn = rows(40, 35, 2), np.radians(degrees)
+    x, y = table["x"] * np.cos(turn) + table["y"] * np.sin(turn), table["y"] * np.cos(turn) - table["x"] * np.sin(turn)
+    table = table.assign(x=(x + 600_000).round(2), y=(y + 6_500_000).round(2))
+    with pytest.raises(PlanError, match="degrees clockwise: give x and y along its own axes") as said:
+        pitplan.prepare(plan_folder(table, PROJECT, ("size = [10, 10, 10]", size)))
+    assert float(re.search(r"turned by (\S+) degrees", str(said.value))[1]) == pytest.approx(degrees, abs=0.005)
+
+
+def test_nothing_is_said_of_turning_where_rows_go_east(plan_folder):
+    """A centre that is off the grid, sub-blocks, and centres here and there."""
+    off = rows(5, 5, 2).assign(x=lambda it: it["x"].where(it["name"] != "b3-3-1", 37.0))
+    small = rows(5, 5, 1).assign(x=lambda it: it["x"] / 4, name=lambda it: it["name"] + "s")
+    rng = np.random.default_rng(1)
+    here = rows(5, 5, 1).assign(x=rng.random(25) * 100, y=rng.random(25) * 100)
+    for table in (off, pd.concat([rows(5, 5, 2), small]), here):
+        with pytest.raises(PlanError) as said:
+            pitplan.prepare(plan_folder(table))
+        assert "turned" not in str(said.value)

@@ -45,6 +45,7 @@ def ways_of(*lines):
         ([(10, 8), (20, 15)], [(1, 20, 15)]),
         ([(10, 5), (10, 4)], [(1, 10, 4)]),
         ([(10, 5), (20, 10)], [(1, 20, 10)]),
+        ([(20, 10), (10, 5)], [(0, 20, 10)]),
         # Of three that in the middle lies below the line from the first to the last.
         ([(10, 1), (20, 9), (30, 15)], [(0, 10, 1), (2, 20, 14)]),
         ([(10, 0), (0, 0), (30, 15)], [(0, 10, 0), (2, 20, 15)]),
@@ -73,6 +74,12 @@ def test_steps_that_pay_add_up_to_the_best_process(lines, factor):
         assert (steps.revenue[pays].sum(), steps.cost[pays].sum()) == (revenue, cost) == lines[best_way(ways, factor)[0]]
 
 
+@pytest.mark.parametrize(("lines", "best"), [([(10, 5), (20, 15)], 0), ([(20, 15), (10, 5)], 1)])
+def test_of_processes_that_are_worth_as_much_it_is_the_one_of_least_revenue(lines, best):
+    """At the price as given both gain 5, and the step from one to the other nothing."""
+    assert best_way(ways_of(*lines), 1000).tolist() == [best]
+
+
 def one_column():
     """100 t of 0.8 % of rock R: leached for 2560 at 300, milled for 5760 at 1300; from a factor of 0.3125 on the mill is better."""
     return rows(1, 1, 2, cu=lambda i, j, k: 0 if k else 0.8)
@@ -90,6 +97,14 @@ def test_nodes_by_hand(plan_folder, tmp_path):
     assert block[told].tolist() == [2560, 300, 5760, 1300, 5760, 1300]
     assert "1 blocks have a node for processing: the cut-off moves with the price, and 1 nodes more for processes that are better from a greater price on" in plan.notes
     assert plan.project.schedule.ore_per_year == 400
+
+
+def test_nodes_of_a_block_that_must_be_dug_by_hand(plan_folder, tmp_path):
+    """Its first step needs nothing more, the second still the first."""
+    table = one_column().assign(must=[1, 0])
+    pitplan.prepare(plan_folder(table, PROJECT + '[fixed]\nforced = "must"\n', *WITH)).write(tmp_path)
+    assert (tmp_path / files.REST_BLOCKS).read_text().splitlines()[2:] == ["2 0 0 0 2560 300", "3 0 0 0 3200 1000"]
+    assert (tmp_path / files.REST_PREC).read_text().splitlines() == ["3 1 2"]
 
 
 @pytest.mark.parametrize(("grade", "process", "ore"), [(0.8, "mill", 100), (0.2, "leach", 100), (0.05, "", 0)])
@@ -212,12 +227,12 @@ def test_phases_and_schedules_keep_to_the_capacities(plan_folder, blank_pictures
     [
         (WITH[1:], r"\[money\] processing_cost: give the cost of each of the \[\[processes\]\], not this"),
         ([WITH[0], *WITH[2:]], r"\[metals 1\] recovery: give the recoveries of each of the \[\[processes\]\], not this"),
+        ([*WITH[:2], WITH[3]], r"\[shells\] ore_per_year: give per_year of each of the \[\[processes\]\], not this"),
         ([*WITH, ('name = "mill"', 'name = "leach"')], r"two \[\[processes\]\] have one name"),
         ([*WITH, ('name = "mill"', 'name = "the mill"')], '"the mill" is not one word'),
         ([*WITH, ("{ copper = 0.4 }", "{ gold = 0.4 }")], r"\[\[processes\]\] leach recovers gold, which is none of the \[\[metals\]\] copper"),
         ([*WITH, ("[shells]", "[pushbacks]\ncount = 2\n[schedule]\nbins = 2\n[shells]")], r"\[schedule\] bins and ore_per_year are of one process"),
         ([*WITH, ("[shells]", '[scenarios]\ncolumns = { copper = "cu*" }\n[shells]')], r"\[scenarios\] are solved with one process"),
-        ([*WITH, ("[shells]", "[sensitivity]\nby = [0.1]\n[shells]")], r"\[sensitivity\] is solved with one process"),
     ],
 )
 def test_what_is_wrong_is_named(plan_folder, changes, said):

@@ -146,3 +146,26 @@ def test_ore_that_is_left_out_is_found(plan_folder, few, monkeypatch, blank_pict
     monkeypatch.setattr(reach, "can_pay", lambda model, project: can_pay(model, project)[:2])
     commands.write_shells(path, verifies=False)
     assert wrong(path)["reach"] == ("block b20-15-7 was left out, and pays at factor 1500",)
+
+
+def test_a_table_that_has_changed_where_it_was_left_out_is_found(plan_folder, few, blank_pictures):
+    path = plan_folder(deposit(), PROJECT, ANGLES)
+    commands.write_shells(path)
+    file = path.parent / "blocks.csv"
+    table = pd.read_csv(file)
+    table[table["name"] != "b20-15-7"].to_csv(file, index=False)
+    with pytest.raises(PlanError, match="blocks of the table are not in it: has the table changed since"):
+        verify(path.parent / "plan")
+
+
+ABSENT = ('file = "blocks.csv"', 'file = "blocks.csv"\nabsent = { tonnes = 90, rock = "R", region = "1" }')
+
+
+@pytest.mark.parametrize("change", [('file = "blocks.csv"', 'file = "blocks.csv"\nreblock = [2, 1, 1]'), ABSENT])
+def test_rows_that_are_put_together_and_cells_without_rows(plan_folder, monkeypatch, blank_pictures, change):
+    """A block of the floor and one in the ground have no row."""
+    monkeypatch.setattr(pitplan.grid, "MOST_BLOCKS", 1500)
+    table = deposit()
+    path = plan_folder(table[~table["name"].isin(["b20-2-0", "b9-8-6"])], PROJECT, ANGLES, change)
+    commands.write_shells(path)
+    assert wrong(path) == {} and "reach" in {rule.name for rule in verify(path.parent / "plan")}

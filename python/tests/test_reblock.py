@@ -146,7 +146,7 @@ def test_blocks_that_lie_elsewhere_are_found(solved_hill, monkeypatch, metres):
     if metres < 10:
         assert wrong(folder) == {"reblocked": "x: blocks of 20 m from 4 on for 20 from 0"}
         return
-    with pytest.raises(PlanError, match="blocks of the table's rows are not in it"):
+    with pytest.raises(PlanError, match="18 blocks of the table are not in it"):
         verify(folder)
 
 

@@ -13,7 +13,7 @@ from hypothesis import strategies as st
 
 import pitplan
 from pitplan import PlanError, cones, files, slopes
-from pitplan.project import Slopes, Wall
+from pitplan.wall_rules import Slopes, Wall
 
 CUBE, FLAT = (10.0, 10.0, 10.0), (20.0, 20.0, 15.0)
 

@@ -9,9 +9,9 @@ import pytest
 from conftest import PROJECT, rows
 
 import pitplan
-from pitplan import PlanError, analyse, commands, project, slopes
-from pitplan.project import Bench
+from pitplan import PlanError, analyse, commands, slopes
 from pitplan.verification import verify
+from pitplan.wall_rules import Bench
 
 WALL = '[[slopes.walls]]\npattern = "1:5"'
 
@@ -123,7 +123,7 @@ def test_a_step_that_is_passed_over_is_found(plan_folder, monkeypatch, blank_pic
 
 
 def test_berms_that_are_passed_over_are_found(plan_folder, monkeypatch, blank_pictures):
-    monkeypatch.setattr(project.Bench, "angle", property(lambda bench: bench.face))
+    monkeypatch.setattr(Bench, "angle", property(lambda bench: bench.face))
     path = plan_folder(deposit(), PROJECT, walls(BENCH))
     commands.write_shells(path, verifies=False)
     assert "walls" in wrong(path)

@@ -136,6 +136,35 @@ def test_a_compressed_table_with_another_separator_is_the_same(plan_folder):
     pd.testing.assert_frame_equal(pitplan.prepare(path).blocks, plain.blocks)
 
 
+MIXED = rows(3, 3, 2, cu=lambda i, j, k: 0.1 * i + k, rock=lambda i, j, k: ["7", "7.0", "R"][j]).astype(object)
+MIXED.loc[[1, 4, 7], "cu"] = ""
+
+
+@pytest.mark.parametrize("decimal", [".", ","])
+@pytest.mark.parametrize("piece", [1, 2, 5, 18])
+def test_a_table_that_is_read_in_pieces_is_the_same(plan_folder, monkeypatch, decimal, piece):
+    """Codes that are numbers in some pieces, and grades that are whole in some, or empty."""
+    written = MIXED.apply(lambda column: column.map(lambda it: str(it).replace(".", decimal) if isinstance(it, float) else it))
+    text = written.to_csv(sep=";", index=False)
+    project = pitplan.load(plan_folder(text, PROJECT, ('id = "name"', 'id = "name"\nempty = "zero"')))
+    whole = read(project)
+    monkeypatch.setattr(pitplan.table, "PIECE", piece)
+    pieces = read(project)
+    pd.testing.assert_frame_equal(pieces.frame, whole.frame)
+    assert pieces.notes == whole.notes and pieces.filled == whole.filled == 3 and set(pieces.frame["rock"]) == {"7", "7.0", "R"}
+
+
+def test_what_is_no_number_is_named_in_whatever_piece_it_stands(plan_folder, monkeypatch):
+    monkeypatch.setattr(pitplan.table, "PIECE", 3)
+    table = rows(3, 2, 2).astype(object)
+    table.loc[7, "cu"] = "n/a"
+    assert refused(plan_folder(table)).endswith('blocks.csv row 9 column cu: "n/a" is not a number')
+    table.loc[7, "cu"] = "1"
+    text = table.to_csv(index=False).splitlines()
+    text[8] += ",1"
+    assert "is no table" in refused(plan_folder("\n".join(text)))
+
+
 def zipped(path, **files):
     with zipfile.ZipFile(path, "w", zipfile.ZIP_DEFLATED) as packed:
         for name, text in files.items():

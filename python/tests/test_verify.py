@@ -14,11 +14,11 @@ from hypothesis import strategies as st
 from pitplan import PlanError, absent, commands, files, fixed, load, money, prepare, schedule, slopes, solve
 from pitplan.cli import main
 from pitplan.progress import silent
-from pitplan.project import Wall
 from pitplan.verification import answer as answers, demand, sums, verify
 from pitplan.verification.answer import read
 from pitplan.verification.money import sample
 from pitplan.verification.walls import flatness, high_walls
+from pitplan.wall_rules import Wall
 
 TEXT = PROJECT.replace("mining_cost = 2\n", "mining_cost = { R = 2, S = 2.5 }\nmining_cost_per_level = 0.25\ndecimals = 2\n").replace(
     "[slopes]\n",

@@ -14,9 +14,10 @@ import pandas as pd
 from .. import table as tables
 from ..errors import PlanError
 from ..money_rules import GRADE_UNITS
-from ..project import AbsentRock, Project, Wall, load
+from ..project import AbsentRock, Project, load
+from ..wall_rules import Wall
 from .feed import by_code, recovered
-from .put_together import written_rows
+from .put_together import divided, together, written_rows
 
 # In place of a factor: a cell that is not dug at any, and one where there is nothing to dig.
 UNDUG, NOTHING = 2**30, 0
@@ -124,7 +125,9 @@ class Answer:
     def process(self) -> np.ndarray:
         """The number of each block's process at the price as given, as blocks.csv says; 0 where there is one alone or none."""
         names = [process.name for process in self.project.processes]
-        return self.said[PROCESS].map({name: k for k, name in enumerate(names)}).fillna(0).to_numpy(dtype=np.int64) if names else np.zeros(len(self.rows), np.int64)
+        if not names:
+            return np.zeros(len(self.rows), dtype=np.int64)
+        return self.said[PROCESS].map({name: k for k, name in enumerate(names)}).fillna(0).to_numpy(dtype=np.int64)
 
     @cached_property
     def feeds(self) -> dict[str, np.ndarray]:
@@ -236,8 +239,7 @@ def read_shells(folder: Path, record: dict[str, Any], project: Project, written:
     """The answer of `pitplan shells`, `pitplan pushbacks` or `pitplan schedule`."""
     shells = pd.read_csv(folder / "shells.csv", dtype={"worth_at_factor": str}).set_index("factor")
     years = pd.read_csv(folder / "years.csv") if (folder / "years.csv").exists() else None
-    frame, parts = rows_of(project, written, record["grid"])
-    frame, beyond = divided(frame, project, record["grid"])
+    frame, parts, beyond = rows_of(project, written, record["grid"])
     rows, known, order = beside(frame, written, project, record["grid"], "blocks.csv")
     phases = pd.read_csv(folder / "phases.csv").set_index("phase") if "phases" in record else None
     schedule = pd.read_csv(folder / "schedule.csv") if "schedule" in record else None
@@ -246,44 +248,31 @@ def read_shells(folder: Path, record: dict[str, Any], project: Project, written:
     return Answer(folder, project, rows, known, said, shells, years, record, factors, phases=phases, schedule=schedule, parts=parts, beyond=beyond)
 
 
-def rows_of(project: Project, written: pd.DataFrame, grid: dict[str, Any]) -> tuple[pd.DataFrame, Optional[pd.DataFrame]]:
-    """A row a block of the table, and where its rows are put together to blocks these rows. Raises PlanError as `beside` does."""
+def rows_of(
+    project: Project, written: pd.DataFrame, grid: dict[str, Any]
+) -> tuple[pd.DataFrame, Optional[pd.DataFrame], Optional[pd.DataFrame]]:
+    """A row a block of the table that lies in the answer's grid; where its rows are put together to blocks these rows; and where some were
+    left out the blocks beyond the grid. Raises PlanError as `beside` does."""
     frame = tables.read(project).frame
     if project.table.reblock is None:
-        return frame, None
+        inside, beyond = divided(frame, project, grid)
+        return inside, None, beyond
+    inside, beyond = divided(together(frame, project, grid), project, grid)
     own = written.rename(columns={own_name(name): name for name in frame.columns})
-    return written_rows(frame, own.loc[:, ~own.columns.duplicated(keep="last")], project, grid), frame
+    return written_rows(inside, own.loc[:, ~own.columns.duplicated(keep="last")], project, grid), frame, beyond
 
 
 def read_pits(folder: Path, record: dict[str, Any], project: Project, written: pd.DataFrame) -> Answer:
     """The two answers of `pitplan pit`: that which keeps to the fixed blocks, and in it the one that does not."""
     pits = pd.read_csv(folder / "pits.csv", dtype={"worth_at_factor": str})
     kept, free = (pits[pits["fixed_blocks"] == name].set_index("factor") for name in ("kept", "free"))
-    frame, parts = rows_of(project, written, record["grid"])
-    frame, beyond = divided(frame, project, record["grid"])
+    frame, parts, beyond = rows_of(project, written, record["grid"])
     rows, known, order = beside(frame, written, project, record["grid"], "blocks.csv")
     said = written[[*said_of(project), *FREE]].iloc[order].reset_index(drop=True)
     other = said.assign(**{name: said[f"free_{name}"] for name in ("factor", "process_factor")})
     factors = tuple(record["factors"])
     alone = Answer(folder, replace(project, fixed=None), rows, known, other, free, None, record, factors)
     return Answer(folder, project, rows, known, said, kept, None, record, factors, alone, parts=parts, beyond=beyond)
-
-
-def divided(frame: pd.DataFrame, project: Project, grid: dict[str, Any]) -> tuple[pd.DataFrame, Optional[pd.DataFrame]]:
-    """The rows that lie in a grid, and where there are such those that lie beyond it.
-
-    Raises PlanError where these are not as many as were left out.
-    """
-    columns = project.table
-    east, north, up = np.rint((frame[[columns.x, columns.y, columns.z]].to_numpy() - grid["origin"]) / grid["size"]).T
-    levels, rows, width = grid["shape"]
-    inside = (east >= 0) & (east < width) & (north >= 0) & (north < rows) & (up <= 0) & (up > -levels)
-    beyond = np.count_nonzero(~inside)
-    if beyond != grid.get("rows_left_out", 0):
-        raise PlanError(f"blocks.csv: {beyond:,} blocks of the table are not in it: has the table changed since?")
-    if not beyond:
-        return frame, None
-    return frame[inside].reset_index(drop=True), frame[~inside].reset_index(drop=True)
 
 
 def read_blocks(path: Path, project: Project, said: Optional[tuple[str, ...]] = None) -> pd.DataFrame:

@@ -29,9 +29,11 @@ def amounts(answer: Answer, rows: pd.DataFrame, plain: pd.DataFrame, told: dict[
     have if all ore were milled as it is dug."""
     table = pd.read_csv(answer.folder / "milling.csv")
     table = table[table["way"].isin(rows["way"].unique())].copy()
+    # Of a way that mills nothing there are no rows, by which the reader could tell numbers.
+    table = table.astype({name: float if name.endswith("_tonnes") else int for name in table if name not in ("way", "bench")})
     table["level"] = np.rint((answer.elevations[0] - table["bench"]) / answer.size[2]).astype(int)
     whole = parcels_of(answer, told["edges"])
-    of_parcel = whole.reindex(pd.MultiIndex.from_frame(table[KEYS])).reset_index(drop=True)
+    of_parcel = whole.reindex(pd.MultiIndex.from_frame(table[KEYS])).reset_index(drop=True).astype(float)
     table = table.reset_index(drop=True)
     if of_parcel.isna().any(axis=None):
         return plain, plain * 0, [f"milling.csv has ore of no bin in {int(of_parcel.isna().any(axis=1).sum())} rows"]
@@ -68,7 +70,7 @@ def unlike_stock(table: pd.DataFrame, whole: pd.DataFrame, is_stocked: bool) -> 
     """Bins of benches of which by the end of a year more is reclaimed than was dug and not milled before it."""
     if not is_stocked:
         return ["ore is reclaimed, and there is no stockpile"] if (table["reclaimed_tonnes"] > 0).any() else []
-    years = range(1, int(table["year"].max()) + 1)
+    years = range(1, int(table["year"].max()) + 1) if len(table) else range(0)
     dug, milled, reclaimed = (
         table.pivot_table(index=KEYS, columns="year", values=f"{name}_tonnes", aggfunc="sum").reindex(columns=years).fillna(0.0).cumsum(axis=1)
         for name in ("dug", "milled", "reclaimed")

@@ -3,13 +3,13 @@
 from __future__ import annotations
 
 import csv
-import gzip
+import io
 from collections.abc import Iterator
 from itertools import zip_longest
 from pathlib import Path
 
 from ..project import Project
-from ..table_format import format_of
+from ..table_format import format_of, opened
 from .answer import Answer, Rule, own_name, rule
 
 NAME = "table.csv"
@@ -48,6 +48,5 @@ def lines_due(answer: Answer) -> Iterator[list[str]]:
 def lines_of(path: Path, project: Project) -> Iterator[list[str]]:
     """The fields of each line that has any, in the format of the planner's table."""
     form = format_of(project.table.file, project.table)
-    opened = gzip.open if path.suffix == ".gz" else open
-    with opened(path, "rt", encoding=form.encoding, newline="") as text:
+    with opened(path) as data, io.TextIOWrapper(data, encoding=form.encoding, newline="") as text:
         yield from (fields for fields in csv.reader(text, delimiter=form.separator) if fields)

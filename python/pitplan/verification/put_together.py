@@ -2,7 +2,7 @@
 
 from __future__ import annotations
 
-from typing import Any
+from typing import Any, Optional
 
 import numpy as np
 import pandas as pd
@@ -33,7 +33,9 @@ def together(parts: pd.DataFrame, project: Project, grid: dict[str, Any]) -> pd.
         place = found.index.get_level_values({columns.x: "east_", columns.y: "north_", columns.z: "up_"}[name])
         found[name] = first + size * (place - (grid["shape"][0] - 1 if name == columns.z else 0))
     if columns.id:
-        found[columns.id] = [f"{east + 1}-{north + 1}-{up + 1}" for up, north, east in found.index]
+        # From the west, the south and the floor of all that the table holds, of which some may be left out.
+        first = [found.index.get_level_values(name).min() - 1 for name in ("up_", "north_", "east_")]
+        found[columns.id] = [f"{east - first[2]}-{north - first[1]}-{up - first[0]}" for up, north, east in found.index]
     return found
 
 
@@ -47,10 +49,9 @@ def of_most(frame: pd.DataFrame, name: str, columns: TableColumns) -> pd.Series:
     return sums.drop_duplicates(cell).set_index(cell)[name]
 
 
-def written_rows(parts: pd.DataFrame, written: pd.DataFrame, project: Project, grid: dict[str, Any]) -> pd.DataFrame:
-    """The answer's own rows of the cells that hold rows of the table, in the order of `together`. Raises PlanError where one is missing."""
+def written_rows(expected: pd.DataFrame, written: pd.DataFrame, project: Project, grid: dict[str, Any]) -> pd.DataFrame:
+    """The answer's own rows of the cells that hold rows of the table, as `together` gives them. Raises PlanError where one is missing."""
     axes = [project.table.x, project.table.y, project.table.z]
-    expected = together(parts, project, grid)
 
     def places(frame: pd.DataFrame) -> pd.MultiIndex:
         steps = np.rint((frame[axes].to_numpy() - np.array(grid["origin"])) / np.array(grid["size"])).astype(np.int64)
@@ -60,3 +61,20 @@ def written_rows(parts: pd.DataFrame, written: pd.DataFrame, project: Project, g
     if (at < 0).any():
         raise PlanError(f"blocks.csv: {np.count_nonzero(at < 0):,} blocks of the table's rows are not in it: has the table changed since?")
     return written.iloc[at][list(expected.columns)].reset_index(drop=True)
+
+
+def divided(frame: pd.DataFrame, project: Project, grid: dict[str, Any]) -> tuple[pd.DataFrame, Optional[pd.DataFrame]]:
+    """The rows that lie in a grid, and where there are such those that lie beyond it.
+
+    Raises PlanError where these are not as many as were left out.
+    """
+    columns = project.table
+    east, north, up = np.rint((frame[[columns.x, columns.y, columns.z]].to_numpy() - grid["origin"]) / grid["size"]).T
+    levels, rows, width = grid["shape"]
+    inside = (east >= 0) & (east < width) & (north >= 0) & (north < rows) & (up <= 0) & (up > -levels)
+    beyond = np.count_nonzero(~inside)
+    if beyond != grid.get("rows_left_out", 0):
+        raise PlanError(f"blocks.csv: {beyond:,} blocks of the table are not in it: has the table changed since?")
+    if not beyond:
+        return frame, None
+    return frame[inside].reset_index(drop=True), frame[~inside].reset_index(drop=True)

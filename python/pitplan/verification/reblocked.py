@@ -9,7 +9,7 @@ import pandas as pd
 
 from ..project import Project
 from .answer import TOLD, Answer, Rule, rule
-from .put_together import together
+from .put_together import divided, together
 
 # What is kept of tonnes and of grades, and a hair for sums in another order.
 TONNES, GRADE = 0.51e-6, 0.51e-9
@@ -20,7 +20,7 @@ def verify(answer: Answer) -> Rule:
     """Blocks lie where the project puts them, and each holds its rows: tonnes, grades, rock, region, and what is fixed."""
     parts, said = answer.parts, answer.rows
     assert parts is not None
-    expected = together(parts, answer.project, answer.record["grid"]).reset_index(drop=True)
+    expected = divided(together(parts, answer.project, answer.record["grid"]), answer.project, answer.record["grid"])[0].reset_index(drop=True)
     differences = unlike_grid(parts, answer.project, answer.record["grid"])
     columns, count = answer.project.table, len(differences)
     if len(expected) != answer.known:
@@ -48,6 +48,8 @@ def unlike_grid(parts: pd.DataFrame, project: Project, grid: dict[str, Any]) -> 
         if rules.counts is not None:
             own = size / rules.counts[k]
             expected, start = own * rules.counts[k], centres[0] - own / 2
+            # What no shell can reach may be left out: whole blocks.
+            start += size * np.rint((edge - start) / size)
             steps = (centres - centres[0]) / own
             if np.abs(steps - np.rint(steps)).max() * own > project.grid.tolerance * 2 or not on_steps(np.diff(np.rint(steps))):
                 found.append(f"{name}: blocks of {size:.10g} m are no {rules.counts[k]} of the table's")

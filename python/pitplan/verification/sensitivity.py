@@ -4,6 +4,7 @@ pits alone."""
 from __future__ import annotations
 
 import json
+import math
 import tomllib
 from collections.abc import Iterator
 from dataclasses import dataclass, replace
@@ -15,11 +16,10 @@ from typing import Any
 import numpy as np
 import pandas as pd
 
-from .. import table as tables
 from ..errors import PlanError
 from ..project import Project, load, of_data
 from . import absent, fixed, money, sums, walls, years
-from .answer import Answer, Rule, beside, read_blocks, rule
+from .answer import Answer, Rule, beside, read_blocks, rows_of, rule
 from .weighing import gains, weighed
 
 SHARES = ("-0.2", "-0.1", "0.1", "0.2")
@@ -75,7 +75,8 @@ class Told:
         record = json.loads((written / "sensitivity.json").read_text(encoding="utf-8"))
         project = load(folder / record["project"])
         blocks = read_blocks(written / "blocks.csv", project)
-        known, count, order = beside(tables.read(project).frame, blocks, project, record["grid"], "blocks.csv")
+        frame, _, _ = rows_of(project, blocks, record["grid"])
+        known, count, order = beside(frame, blocks, project, record["grid"], "blocks.csv")
         factor = int(record["factor"])
         factors = tuple(it for it in project.schedule.factors if it <= factor)
         said = pd.DataFrame({"id": blocks["id"].to_numpy()[order], "factor": 0})
@@ -182,7 +183,7 @@ def is_given(project: Project, name: str) -> bool:
     data = text_of(project.path)
     if name == "selling_cost":
         return any(metal.get(name, 0) != 0 for metal in data["metals"])
-    return name != "slopes" or any("pattern" not in wall for wall in data["slopes"]["walls"])
+    return name != "slopes" or any({"angle", "azimuths", "bench"} & {*wall} for wall in data["slopes"]["walls"])
 
 
 def text_of(path: Path) -> Data:
@@ -207,9 +208,13 @@ def times(value: Any, by: Decimal, most: Decimal = Decimal("Infinity")) -> Any:
     return min(value * by, most)
 
 
-def in_section(section: str, *keys: str) -> Any:
+def in_section(section: str, *keys: str, of_process: str = "") -> Any:
+    """Keys of a section, and a key of each of several processes."""
+
     def change(data: Data, by: Decimal, metal: str) -> None:
         data[section] |= {key: times(data[section][key], by) for key in keys if key in data[section]}
+        for process in data.get("processes", []) if of_process else []:
+            process[of_process] = times(process[of_process], by)
 
     return change
 
@@ -223,17 +228,28 @@ def in_metals(*keys: str, most: Decimal = Decimal("Infinity")) -> Any:
     return change
 
 
+def in_recoveries(data: Data, by: Decimal, metal: str) -> None:
+    """Those of metals, or of these in each of several processes."""
+    in_metals("recovery", most=Decimal(1))(data, by, metal)
+    for process in data.get("processes", []):
+        process["recovery"] |= {name: times(it, by, Decimal(1)) for name, it in process["recovery"].items() if metal in ("", name)}
+
+
 def in_walls(data: Data, by: Decimal, metal: str) -> None:
     for wall in data["slopes"]["walls"]:
+        if "bench" in wall:
+            bench = wall.pop("bench")
+            back = 1 / math.tan(math.radians(float(bench["face"]))) + float(bench["berm"] / bench["height"])
+            wall["angle"] = Decimal(repr(math.degrees(math.atan2(1.0, back))))
         wall |= {key: times(wall[key], by) for key in ("angle", "azimuths") if key in wall}
 
 
 NUMBERS: dict[str, Any] = {
     "price": in_metals("price", "prices"),
     "mining_cost": in_section("money", "mining_cost", "mining_cost_per_level", "mining_cost_by_elevation"),
-    "processing_cost": in_section("money", "processing_cost"),
+    "processing_cost": in_section("money", "processing_cost", of_process="cost"),
     "selling_cost": in_metals("selling_cost"),
-    "recovery": in_metals("recovery", most=Decimal(1)),
+    "recovery": in_recoveries,
     "slopes": in_walls,
-    "capacity": in_section("shells", "ore_per_year", "rock_per_year"),
+    "capacity": in_section("shells", "ore_per_year", "rock_per_year", of_process="per_year"),
 }

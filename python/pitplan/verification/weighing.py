@@ -8,25 +8,43 @@ import numpy as np
 import pandas as pd
 
 from . import money, sums
-from .answer import Answer
+from .answer import PROCESS, Answer
 
 
 def weighed(whole: Answer) -> Answer:
     """The blocks that are dug at any factor, with exact costs and revenue."""
     dug = (whole.said["factor"] > 0).to_numpy()
     part = replace(whole, rows=whole.rows[dug].reset_index(drop=True), said=whole.said[dug].reset_index(drop=True))
-    exactly = money.Exactly.of(part)
-    amounts = [[float(amount) for amount in exactly.amounts(row)] for row in range(len(part.rows))]
-    frame = pd.DataFrame(amounts, columns=[money.MINING, "revenue", "processing_cost"], dtype=np.float64)
-    part = replace(part, said=pd.concat([part.said, frame], axis=1))
+    told = {}
+    for way, names in zip(part.project.ways, part.amounts_of_ways):
+        exactly = money.Exactly.of(replace(part, project=way))
+        amounts = [[float(amount) for amount in exactly.amounts(row)] for row in range(len(part.rows))]
+        told |= dict(zip((money.MINING, *names), np.array(amounts, dtype=np.float64).reshape(-1, 3).T))
+    part = replace(part, said=pd.concat([part.said, with_best(pd.DataFrame(told), part)], axis=1))
     return replace(part, said=part.said.assign(process_factor=sums.first_processed(part)))
+
+
+def with_best(told: pd.DataFrame, answer: Answer) -> pd.DataFrame:
+    """The amounts of several processes with those of the one that is worth most, of several that of least revenue, and its name."""
+    processes = answer.project.processes
+    if not processes:
+        return told
+    revenue, cost = (told[list(names)].to_numpy() for names in zip(*answer.amounts_of_ways))
+    gain = (revenue - cost).round(6)
+    best = np.where(gain == gain.max(axis=1, keepdims=True), revenue, np.inf).argmin(axis=1)
+    at = np.arange(len(told)), best
+    name = np.where(gain[at] > 0, np.array([process.name for process in processes], dtype=object)[best], "")
+    return told.assign(revenue=revenue[at], processing_cost=cost[at], **{PROCESS: name})
 
 
 def gains(answer: Answer) -> pd.DataFrame:
     """Revenue and processing cost of each block: by floats, and exactly where these are close to one another."""
-    _, revenue, processing = money.by_floats(answer)
-    unit = 10.0**-answer.project.money.decimals
-    exactly = money.Exactly.of(answer)
-    for row in np.flatnonzero((revenue > 0) & (np.abs(revenue - processing) <= 2 * unit + 1e-9 * revenue)).tolist():
-        revenue[row], processing[row] = (float(amount) for amount in exactly.amounts(row)[1:])
-    return answer.said.assign(revenue=revenue, processing_cost=np.where(revenue > 0, processing, 0.0))
+    told, unit = {}, 10.0**-answer.project.money.decimals
+    for way, names in zip(answer.project.ways, answer.amounts_of_ways):
+        part = replace(answer, project=way)
+        revenue, processing = money.gains_by_floats(part)
+        exactly = money.Exactly.of(part)
+        for row in np.flatnonzero((revenue > 0) & (np.abs(revenue - processing) <= 2 * unit + 1e-9 * revenue)).tolist():
+            revenue[row], processing[row] = (float(amount) for amount in exactly.amounts(row)[1:])
+        told |= dict(zip(names, (revenue, np.where(revenue > 0, processing, 0.0))))
+    return answer.said.assign(**with_best(pd.DataFrame(told), answer))

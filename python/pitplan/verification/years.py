@@ -15,8 +15,9 @@ CENT = 0.01
 
 def verify(answer: Answer) -> Rule:
     """No year exceeds a capacity; the years of a shell add up to it, and its NPV is what flows in them, discounted."""
+    flows = flows_of(answer)
     if answer.years is None:
-        return verify_npv(answer)
+        return verify_npv(answer, flows)
     # Those of a schedule are looked at with it.
     ways = () if answer.schedule is None else answer.schedule["way"].unique()
     of_shells = answer.years[~answer.years["case"].isin(ways)]
@@ -24,7 +25,8 @@ def verify(answer: Answer) -> Rule:
     for (case, factor), years in of_shells.groupby(["case", "factor"]):
         is_one = case in ("best", "worst")
         differences += unlike_sums(answer, case, factor, years) if is_one else [f"years of case {case}, which is none"]
-    npv = verify_npv(answer)
+        differences += unlike_costs(answer, (case, factor), years, flows) if is_one else []
+    npv = verify_npv(answer, flows)
     return rule(npv.name, f"no year exceeds a capacity, years add up to their shell, and {npv.holds}", [*differences, *npv.differences])
 
 
@@ -50,7 +52,7 @@ def unlike_sums(answer: Answer, case: str, factor: int, years: pd.DataFrame) -> 
         total = plain[name].sum()
         if abs(total - shell[whole]) > CENT + 1e-9 * abs(shell[whole]) + last_place * len(years):
             found.append(f"{case} case of factor {factor}: {name} adds up to {total:.12g} for {whole} {shell[whole]:.12g}")
-    return [*found, *unlike_costs(answer, case, factor, years)]
+    return found
 
 
 def costs_told(years: pd.DataFrame) -> pd.Series:
@@ -59,12 +61,11 @@ def costs_told(years: pd.DataFrame) -> pd.Series:
     return years.get("fixed_cost", none) + years.get("capital", none)
 
 
-def unlike_costs(answer: Answer, case: str, factor: int, years: pd.DataFrame) -> list[str]:
-    """The years of a pit whose fixed cost or capital is not the project's."""
-    money = answer.project.money
+def unlike_costs(answer: Answer, pit: tuple[str, int], years: pd.DataFrame, flows: pd.DataFrame) -> list[str]:
+    """The years of a pit, by case and factor, whose fixed cost or capital is not the project's."""
+    money, (case, factor) = answer.project.money, pit
     if not money.fixed_cost_per_year and not money.capital:
         return []
-    flows = flows_of(answer)
     pieces = flows[flows.index.get_level_values("factor") <= factor]
     end = lasting(pieces if case == "best" else pieces.groupby("level").sum(), answer).sum()
     found = []
@@ -77,10 +78,9 @@ def unlike_costs(answer: Answer, case: str, factor: int, years: pd.DataFrame) ->
     return found
 
 
-def verify_npv(answer: Answer) -> Rule:
+def verify_npv(answer: Answer, flows: pd.DataFrame) -> Rule:
     """Both NPVs and the years of each shell, by following its benches."""
     differences: list[str] = []
-    flows = flows_of(answer)
     for factor in answer.shells.index:
         best = flows[flows.index.get_level_values("factor") <= factor]
         worst = best.groupby("level").sum()

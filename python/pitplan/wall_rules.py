@@ -1,0 +1,111 @@
+"""What `[slopes]` of a project says: walls by region, and how far the needs of blocks reach."""
+
+from __future__ import annotations
+
+import math
+from dataclasses import dataclass
+from typing import Optional
+
+from .section import Section
+
+PATTERNS = ("1:5", "1:9")
+MOST_LEVELS, MOST_STEPS = 40, 200
+
+
+@dataclass(frozen=True)
+class Bench:
+    """Benches with berms: the height of one and the width of the berm below it in metres, and the angle of its face in degrees."""
+
+    height: float
+    face: float
+    berm: float
+
+    @property
+    def angle(self) -> float:
+        """Degrees of the wall from toe to toe."""
+        return math.degrees(math.atan2(self.height, self.height / math.tan(math.radians(self.face)) + self.berm))
+
+
+@dataclass(frozen=True)
+class Wall:
+    """The walls of some regions: a pattern of needs, steps of the planner's own, or angles in degrees by azimuth (north 0, east 90).
+
+    steps  each so many blocks east, north and up
+    bench  of what benches and berms the angle was made
+    """
+
+    regions: Optional[tuple[str, ...]]
+    pattern: Optional[str]
+    angles: tuple[tuple[float, float], ...]
+    steps: tuple[tuple[int, int, int], ...] = ()
+    bench: Optional[Bench] = None
+
+
+@dataclass(frozen=True)
+class Slopes:
+    """All walls, over how many levels their needs reach, and whether none may be steeper than asked.
+
+    levels  None where each wall entry takes as many as its angles need
+    """
+
+    levels: Optional[int]
+    never_steeper: bool
+    walls: tuple[Wall, ...]
+
+
+def read_slopes(section: Section) -> Slopes:
+    slopes = Slopes(
+        levels=section.whole("levels", 1, 1, MOST_LEVELS) if section.has("levels") else None,
+        never_steeper=section.truth("never_steeper", False),
+        walls=tuple(read_wall(wall) for wall in section.sections("walls")),
+    )
+    section.finish()
+    named = [region for wall in slopes.walls for region in wall.regions or ()]
+    if len(set(named)) < len(named):
+        raise section.wrong("walls", "a region is named twice")
+    if sum(wall.regions is None for wall in slopes.walls) > 1:
+        raise section.wrong("walls", "more than one entry names no region")
+    return slopes
+
+
+def read_wall(section: Section) -> Wall:
+    given = [key for key in ("pattern", "angle", "azimuths", "steps", "bench") if section.has(key)]
+    if len(given) != 1:
+        raise section.wrong("angle", "give exactly one of angle, azimuths, bench, pattern and steps")
+    angles: tuple[tuple[float, float], ...] = ()
+    if given == ["angle"]:
+        angles = ((0.0, float(section.number("angle"))),)
+    if given == ["azimuths"]:
+        angles = tuple((float(azimuth), float(angle)) for azimuth, angle in section.pairs("azimuths", "azimuth, angle"))
+    bench = read_bench(section.section("bench")) if given == ["bench"] else None
+    angles = ((0.0, bench.angle),) if bench else angles
+    if any(not 1 <= angle <= 90 for _, angle in angles):
+        raise section.wrong(given[0], "a wall angle is from 1 to 90 degrees")
+    if any(not 0 <= azimuth < 360 for azimuth, _ in angles) or len({azimuth for azimuth, _ in angles}) < len(angles):
+        raise section.wrong(given[0], "azimuths are from 0 to below 360 degrees, each named once")
+    pattern = section.choice("pattern", PATTERNS, None) if given == ["pattern"] else None
+    steps = read_steps(section) if given == ["steps"] else ()
+    wall = Wall(section.names("region"), pattern, tuple(sorted(angles)), steps, bench)
+    section.finish()
+    return wall
+
+
+def read_steps(section: Section) -> tuple[tuple[int, int, int], ...]:
+    """Whole numbers of blocks east, north and up, which go up."""
+    value, far = section.get("steps"), MOST_STEPS
+    is_list = isinstance(value, list) and value and all(isinstance(step, list) and len(step) == 3 for step in value)
+    if not is_list or any(isinstance(item, bool) or not isinstance(item, int) for step in value for item in step):
+        raise section.wrong("steps", "must be a list of steps [east, north, up] in whole blocks, such as [[0, 0, 1], [1, 0, 1]]")
+    if any(not 1 <= up <= MOST_LEVELS or max(abs(east), abs(north)) > far for east, north, up in value):
+        raise section.wrong("steps", f"go up by 1 to {MOST_LEVELS} blocks, and by at most {far} to a side")
+    return tuple(sorted({(east, north, up) for east, north, up in value}))
+
+
+def read_bench(section: Section) -> Bench:
+    bench = Bench(float(section.number("height")), float(section.number("face")), float(section.number("berm", least=0)))
+    section.finish()
+    if bench.height <= 0:
+        raise section.wrong("height", "is above 0 metres")
+    if not 1 <= bench.face <= 90:
+        raise section.wrong("face", "an angle of a face is from 1 to 90 degrees")
+    return bench
