@@ -4,13 +4,15 @@ from __future__ import annotations
 
 from dataclasses import replace
 from decimal import Decimal
-from typing import Callable
+from typing import Callable, Union
 
 from .errors import PlanError
-from .project import ByRock, Metal, Project
+from .project import Metal, Project
 
 # A number's name, as `[sensitivity]` gives it, and a share: 0.1 for a tenth more.
 Change = tuple[str, Decimal]
+# One number for every rock, or one for each by its code.
+ByRock = Union[Decimal, dict[str, Decimal]]
 STEEPEST, FLATTEST = 90.0, 1.0
 
 
