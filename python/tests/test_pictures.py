@@ -209,6 +209,12 @@ def test_phases_have_coordinates_in_full_and_nothing_overlaps(monkeypatch, draw)
     assert all(box.x0 >= 0 and box.y0 >= 0 and box.x1 <= figure.bbox.x1 and box.y1 <= figure.bbox.y1 for box in boxes)
 
 
+def test_sections_of_phases_are_as_high_as_the_ground_is_deep(monkeypatch):
+    """150 m of the lesser side, 480 m: each of two maps 5.2 inches wide is so much less high, with 1.6 inches for what is written."""
+    figure = drawn_of(monkeypatch, phase_pictures, lambda: phase_pictures.write_sections(phase_scene(), None))
+    assert figure.get_size_inches().tolist() == pytest.approx([12, 5.2 * 150 / 480 + 1.6])
+
+
 def test_what_plans_and_sections_show_of_phases(panels):
     """On the level 1 below the top the pit reaches nine blocks each way along a row and a column together."""
     scene = phase_scene()

@@ -106,6 +106,12 @@ def test_the_command_line_tells_the_ways(plan_folder, capsys):
     assert (path.parent / "plan" / "schedule" / "report.html").exists()
 
 
+def test_the_size_of_the_programme_is_told_before_it_is_solved(plan_folder, capsys):
+    """Six benches, and a fifth more than the rule's three years."""
+    assert main(["schedule", str(plan_folder(pillars(), PHASES))]) == 0
+    assert "solving the linear programme of 4 years, 24 unknowns .." in capsys.readouterr().err
+
+
 @pytest.fixture(scope="module")
 def written(blank_pictures, tmp_path_factory):
     """A hill in three phases under several limits."""
