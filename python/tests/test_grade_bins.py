@@ -203,10 +203,10 @@ TEXT = with_phases("count = 2", UPRIGHT.replace("ore_per_year = 100", 'ore_per_y
 WORDS = "[schedule]\nbins = 2\nstockpile = { rehandling_cost = 0.5 }\n"
 
 
-def scheduled(place, words=WORDS):
-    table = rows(2, 1, 3, cu=lambda i, j, k: {(0, 1): 1, (0, 0): 0.35, (1, 1): 0.3, (1, 0): 1.2}.get((i, k), 0))
+def scheduled(place, words=WORDS, text=TEXT, **more):
+    table = rows(2, 1, 3, **more, cu=lambda i, j, k: {(0, 1): 1, (0, 0): 0.35, (1, 1): 0.3, (1, 0): 1.2}.get((i, k), 0))
     table.to_csv(place / "blocks.csv", index=False)
-    (place / "project.toml").write_text(TEXT + words)
+    (place / "project.toml").write_text(text + words)
     return load(place / "project.toml")
 
 
@@ -265,6 +265,15 @@ def test_ore_that_is_reclaimed_before_it_is_stocked_is_found(written):
     finally:
         for name, text in kept.items():
             (written / name).write_text(text)
+
+
+def test_great_tonnages_are_right_too(blank_pictures, tmp_path):
+    """A million tonnes a block, of which the solver leaves more open than the files' last digit."""
+    text = TEXT.replace("ore_per_year = 100", "ore_per_year = 1_000_000")
+    project = scheduled(tmp_path, WORDS, text, tonnes=lambda i, j, k: 1_000_000)
+    pitplan.write_schedule(project)
+    assert pd.read_csv(project.folder / "schedule" / "milling.csv")["reclaimed_tonnes"].sum() > 1000
+    assert [rule.name for rule in verify(project.folder / "schedule") if rule.differences] == []
 
 
 def test_what_is_reclaimed_is_stocked_the_year_before_by_hand():

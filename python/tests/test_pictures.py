@@ -1,5 +1,6 @@
 """What the pictures draw, by the artists on their axes."""
 
+import dataclasses
 import json
 
 import numpy as np
@@ -207,6 +208,14 @@ def test_phases_have_coordinates_in_full_and_nothing_overlaps(monkeypatch, draw)
     boxes = [axis.get_tightbbox() for axis in figure.axes]
     assert not any(one.overlaps(other) for k, one in enumerate(boxes) for other in boxes[:k])
     assert all(box.x0 >= 0 and box.y0 >= 0 and box.x1 <= figure.bbox.x1 and box.y1 <= figure.bbox.y1 for box in boxes)
+
+
+@pytest.mark.parametrize(("count", "ticks"), [(2, [1, 2]), (11, list(range(1, 12))), (12, [1, 3, 5, 7, 9, 11])])
+def test_the_bar_of_phases_has_eleven_numbers_at_most(count, ticks):
+    figure = plt.figure()
+    phase_pictures.plot_level(dataclasses.replace(phase_scene(), count=count), 2, figure.subplots())
+    assert figure.axes[-1].get_yticks().tolist() == ticks
+    plt.close(figure)
 
 
 def test_sections_of_phases_are_as_high_as_the_ground_is_deep(monkeypatch):

@@ -288,6 +288,14 @@ def test_what_is_right_passes(copied):
     assert wrong(copied) == {}
 
 
+def test_grades_ratios_and_years_have_six_decimals_and_amounts_three(copied):
+    table = pd.read_csv(copied / "sensitivity.csv", dtype=str)
+    decimals = {name: table[name].dropna().str.partition(".")[2].str.len().max() for name in table}
+    fine = ("grade_copper", "grade_gold", "strip_ratio", "years", "kept_years")
+    assert max(decimals.pop(name) for name in fine) == 6 and decimals.pop("worth_at_factor") == 9
+    assert max(decimals.values()) == 3
+
+
 AMOUNTS = "blocks tonnes ore_tonnes waste_tonnes strip_ratio processed_tonnes grade_copper metal_copper grade_gold metal_gold worth".split()
 
 

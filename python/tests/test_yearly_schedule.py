@@ -300,6 +300,14 @@ def test_great_amounts_are_right_too(plan_folder):
     assert table["value"].min() > 1e9 and wrong(folder) == set()
 
 
+def test_blocks_of_half_a_tonne_are_dug_and_counted(plan_folder):
+    """Three tonnes in all, of which every half is a block of its own."""
+    project = load(plan_folder(pillars(tonnes=lambda i, j, k: 0.5), PHASES))
+    table, folder = pitplan.write_schedule(project).set_index("way"), project.folder / "schedule"
+    assert table["tonnes"].tolist() == [3.0] * len(table) and table["left_tonnes"].tolist() == [0.0] * len(table)
+    assert pd.read_csv(folder / "phases.csv")["blocks"].tolist() == [2, 2, 2] and wrong(folder) == set()
+
+
 def test_a_case_of_no_way_is_found(copied):
     rewrite(copied / "years.csv", lambda table: table.assign(case=table["case"].replace("rule", "hand")))
     assert wrong(copied) == {"years", "schedule value"}
