@@ -218,6 +218,12 @@ def test_the_bar_of_phases_has_eleven_numbers_at_most(count, ticks):
     plt.close(figure)
 
 
+def test_what_is_dug_of_phases_is_rock_that_is_in_one():
+    shown = phase_scene()
+    assert np.array_equal(shown.dug, at_a_zone()[1] > 0)
+    assert not dataclasses.replace(shown, solid=np.zeros_like(shown.solid)).dug.any()
+
+
 def test_sections_of_phases_are_as_high_as_the_ground_is_deep(monkeypatch):
     """150 m of the lesser side, 480 m: each of two maps 5.2 inches wide is so much less high, with 1.6 inches for what is written."""
     figure = drawn_of(monkeypatch, phase_pictures, lambda: phase_pictures.write_sections(phase_scene(), None))
