@@ -134,6 +134,15 @@ def test_what_makes_tonnes_is_counted_where_it_is_empty(tmp_path, headings, colu
     assert f"WARNING: {count} tonnes or grades are empty, and taken as 0" in told
 
 
+@pytest.mark.parametrize(
+    ("name", "metal", "unit"),
+    [("CUPPM", "copper", "gram_per_tonne"), ("AUGPT", "gold", "gram_per_tonne"), ("Znpct_ok", "zinc", "percent"), ("cupper", None, None)],
+)
+def test_a_sign_and_its_unit_may_be_one_word(name, metal, unit):
+    guess = guesses.metal_of(pd.DataFrame({name: [0.1, 0.2]}), name)
+    assert (guess and guess.metal, guess and guess.unit) == (metal, unit)
+
+
 def test_texts_and_names_without_a_letter_are_no_grades():
     table = rows(3, 3, 3, cu=lambda i, j, k: 0.5 * k).assign(**{"Au class": "rich", "1": 0.5})
     assert [metal.column for metal in guesses.columns_of(table).metals] == ["cu"]
