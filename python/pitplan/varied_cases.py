@@ -7,6 +7,7 @@ which is dug where nothing is planned anew; where walls change there is none, si
 from __future__ import annotations
 
 import json
+import os
 from dataclasses import dataclass, replace
 from itertools import product
 from pathlib import Path
@@ -149,11 +150,11 @@ def up_to(project: Project, factor: int) -> Project:
 
 
 def hashes_of(project: Project) -> dict[str, str]:
-    """Hashes of all files that the project names, by their place."""
+    """Hashes of all files that the project names, by their place as told from it."""
     named = [project.table.file]
     if project.fixed is not None:
         named += [*([project.fixed.surface] if project.fixed.surface else []), *(area.polygon for area in project.fixed.areas)]
-    return {str(path): files.hash_of(path) for path in named}
+    return {os.path.relpath(path, project.path.parent): files.hash_of(path) for path in named}
 
 
 def find(case: Case, asked: Asked) -> Found:

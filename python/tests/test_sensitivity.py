@@ -180,7 +180,8 @@ def test_what_has_an_answer_is_not_solved_again(small, monkeypatch):
     monkeypatch.setattr(run, "solve_files", lambda *words: solved.append(words) or solve_files(*words))
     first = commands.sensitivity(path)
     assert len(solved) == 7
-    second = commands.sensitivity(path)
+    monkeypatch.chdir(path.parent)
+    second = commands.sensitivity("project.toml")
     # That of the project as given tells the factor.
     assert len(solved) == 8 and first.astype(str).equals(second.astype(str))
     path.write_text(path.read_text().replace("by = [0.1]", "by = [0.1, 0.2]"))
