@@ -1,4 +1,4 @@
-"""Numbers for each shell. All are at the price as given (factor 1000) but for `worth_at_factor`.
+"""Numbers for each shell. All are at the price as given (factor 1000) but for `worth_at_factor`, and for what has the money of years.
 
 When a pit is dug, and what it is worth discounted, is told by `schedule`.
 """
@@ -10,7 +10,7 @@ from dataclasses import dataclass
 import numpy as np
 import pandas as pd
 
-from . import schedule as schedules
+from . import schedule as schedules, yearly_money
 from .plan import MILLION, Plan
 from .project import REFERENCE_FACTOR, Schedule
 from .run import Solution
@@ -25,7 +25,10 @@ class Cells:
     processed  the least factor at which the cell is processed; 0: never
     ore        whether it is processed at the price as given, once it is dug
     worth      its worth at the price as given, once it is dug, in money
-    content    tonnes times grade of each metal
+    tonnes     of rock
+    feed       tonnes that come to the mill, if it is processed
+    best       the number of the process that is worth most at the price as given
+    content    tonnes times grade of each metal in these
     """
 
     factor: np.ndarray
@@ -33,6 +36,8 @@ class Cells:
     ore: np.ndarray
     worth: np.ndarray
     tonnes: np.ndarray
+    feed: np.ndarray
+    best: np.ndarray
     content: dict[str, np.ndarray]
 
 
@@ -41,39 +46,45 @@ def cells_of(plan: Plan, solution: Solution) -> Cells:
     factor = solution.entry[:count]
     processed = np.zeros(count, dtype=np.int32)
     if values.cutoff == "moving":
-        processed[values.processed] = solution.entry[count:]
+        # The first step of a block, whose others come in later.
+        block, first = np.unique(values.processed, return_index=True)
+        processed[block] = solution.entry[count:][first]
     else:
         processed = np.where(values.pays, factor, 0)
     gain = np.where(values.pays, values.revenue - values.processing, 0)
     content = {
-        metal.name: values.tonnes * plan.grid.spread(plan.table[metal.column].to_numpy())
+        metal.name: values.undiluted * plan.grid.spread(plan.table[metal.column].to_numpy())
         for metal in plan.project.metals
     }
-    return Cells(factor, processed, values.pays, (gain - values.mining) / MILLION, values.tonnes, content)
+    return Cells(factor, processed, values.pays, (gain - values.mining) / MILLION, values.tonnes, values.feed, values.best, content)
 
 
 def blocks(plan: Plan, solution: Solution) -> pd.DataFrame:
     """`plan.blocks` with `factor`, the least factor whose pit holds the block (0: none), and `process_factor`, the least
-    at which it is processed (0: never); per mille."""
+    at which it is processed (0: never), per mille; and of several processes `process`, that at the price as given ("": none)."""
     cells = cells_of(plan, solution)
     frame = plan.blocks
     ids = frame["id"].to_numpy()
     frame["factor"] = cells.factor[ids]
     frame["process_factor"] = cells.processed[ids]
+    if plan.project.processes:
+        names = np.array([*(process.name for process in plan.project.processes), ""], dtype=object)
+        frame["process"] = names[np.where(cells.ore, cells.best, -1)[ids]]
     return frame
 
 
 def shells(plan: Plan, solution: Solution) -> pd.DataFrame:
     """One row a factor.
 
-    factor per mille; blocks (with rock) in the pit; tonnes, ore_tonnes, waste_tonnes; strip_ratio (waste to ore);
-    processed_tonnes at the factor's own price; grade_NAME of the ore in its column's unit, metal_NAME recovered of it
-    (tonnes, or grams); worth, npv_best, npv_worst in money and years (of the best case) at the price as given;
+    factor per mille; blocks (with rock) in the pit; tonnes, ore_tonnes (that come to the mill), waste_tonnes (the rest); strip_ratio;
+    processed_tonnes at the factor's own price; ore_tonnes_NAME of each of several processes; grade_NAME of the ore in its column's unit, metal_NAME recovered of it
+    (tonnes, or grams); worth in money at the price as given; npv_best, npv_worst and years (of the best case), by the money of years;
     worth_at_factor, exact (Decimal), as the program answers it. Raises PlanError where it takes too many years.
     """
     cells, settings = cells_of(plan, solution), plan.project.schedule
     benches = benches_of(plan, cells)
-    best, worst = schedules.best_case(benches, settings), schedules.worst_case(benches, settings)
+    money = yearly_money.of_project(plan.project)
+    best, worst = schedules.best_case(benches, settings, money), schedules.worst_case(benches, settings, money)
     table = amounts(plan, cells)
     table.insert(0, "factor", settings.factors)
     table["npv_best"] = [years.npv for years in best]
@@ -87,10 +98,12 @@ def years(plan: Plan, solution: Solution) -> pd.DataFrame:
     """One row a case, a factor whose pit is not empty, and a year.
 
     case best or worst; factor per mille; year from 1; rock_tonnes and, of these, ore_tonnes; metal_NAME recovered (tonnes,
-    or grams); cash, and discounted, the same as it counts for NPV, in money. All at the price as given. Raises PlanError
-    where it takes too many years.
+    or grams); fixed_cost and capital, where the project has any; cash after these, and discounted, the same as it counts for
+    NPV, in money. What is ore is so at the price as given, and so is cash unless years have prices of their own. Raises
+    PlanError where it takes too many years.
     """
-    return schedules.table_of(benches_of(plan, cells_of(plan, solution)), plan.project.schedule)
+    money = yearly_money.of_project(plan.project)
+    return schedules.table_of(benches_of(plan, cells_of(plan, solution)), plan.project.schedule, money)
 
 
 def benches_of(plan: Plan, cells: Cells) -> Benches:
@@ -100,7 +113,8 @@ def benches_of(plan: Plan, cells: Cells) -> Benches:
     _, _, level = plan.grid.indices(inside)
     piece = np.searchsorted(factors, cells.factor[inside]) * levels + level
     ore = cells.ore[inside]
-    flows = {"rock_tonnes": cells.tonnes[inside], "ore_tonnes": np.where(ore, cells.tonnes[inside], 0.0)}
+    flows = {"rock_tonnes": cells.tonnes[inside], "ore_tonnes": np.where(ore, cells.feed[inside], 0.0)}
+    flows |= {name: feed[inside] for name, feed in feeds_of(plan, cells).items()}
     flows |= {f"metal_{name}": np.where(ore, metal[inside], 0.0) for name, metal in plan.values.metal.items()}
     flows["cash"] = cells.worth[inside]
     count = len(factors) * levels
@@ -110,18 +124,27 @@ def benches_of(plan: Plan, cells: Cells) -> Benches:
     return benches
 
 
+def feeds_of(plan: Plan, cells: Cells) -> dict[str, np.ndarray]:
+    """Of several processes the tonnes that come to each, by the name of the amount, of each cell that is ore; else nothing."""
+    return {
+        f"ore_tonnes_{process.name}": np.where(cells.ore & (cells.best == number), cells.feed, 0.0)
+        for number, process in enumerate(plan.project.processes)
+    }
+
+
 def amounts(plan: Plan, cells: Cells) -> pd.DataFrame:
     """One row a factor: tonnes, grades and worth of its pit, without time."""
     pit, ore, content = cells.factor, np.where(cells.ore, cells.factor, 0), cells.content
-    tonnes, ore_tonnes = within(plan, pit, cells.tonnes), within(plan, ore, cells.tonnes)
+    tonnes, ore_tonnes = within(plan, pit, cells.tonnes), within(plan, ore, cells.feed)
     columns = {
         "blocks": within(plan, pit, cells.tonnes > 0).astype(np.int64),
         "tonnes": tonnes,
         "ore_tonnes": ore_tonnes,
         "waste_tonnes": tonnes - ore_tonnes,
         "strip_ratio": ratio(tonnes - ore_tonnes, ore_tonnes),
-        "processed_tonnes": within(plan, cells.processed, cells.tonnes),
+        "processed_tonnes": within(plan, cells.processed, cells.feed),
     }
+    columns |= {name: within(plan, pit, feed) for name, feed in feeds_of(plan, cells).items()}
     for metal in plan.project.metals:
         columns[f"grade_{metal.name}"] = ratio(within(plan, ore, content[metal.name]), ore_tonnes)
         columns[f"metal_{metal.name}"] = within(plan, ore, plan.values.metal[metal.name])

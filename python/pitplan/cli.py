@@ -70,7 +70,7 @@ def parser() -> argparse.ArgumentParser:
 def add_init(subs: Any) -> None:
     text = "write a project for a table, with each guess marked, that runs as it stands"
     sub = subs.add_parser("init", help=text, description=text)
-    sub.add_argument("table", type=Path, help="a table of blocks (.csv, .csv.gz)")
+    sub.add_argument("table", type=Path, help="a table of blocks (.csv, .csv.gz, .zip)")
     sub.add_argument("--out", type=Path, help="the project (default: project.toml beside the table)")
 
 

@@ -73,6 +73,9 @@ class Exact:
         places = max(self.places, other.places)
         return Exact(self.at(places) + other.at(places), places)
 
+    def minus(self, other: "Exact") -> "Exact":
+        return self.plus(Exact(-other.whole, other.places))
+
     def floats(self) -> np.ndarray:
         """The nearest floats, for pictures and reports."""
         return np.array([number / 10**self.places for number in self.whole], dtype=np.float64)
@@ -82,12 +85,17 @@ class Exact:
         if self.places <= places:
             return self.at(places), Rounding(len(self.whole), 0, Decimal(0))
         unit = 10 ** (self.places - places)
-        below, over = self.whole // unit, self.whole % unit
-        up = (2 * over > unit) | ((2 * over == unit) & (below % 2 == 1))
-        result = below + up.astype(bool).astype(int).astype(object)
+        result = nearest(self.whole, unit)
         off = np.abs(result * unit - self.whole)
         largest = Decimal(int(max(off, default=0))).scaleb(-self.places)
         return result, Rounding(len(off), int(np.count_nonzero(off != 0)), largest)
+
+
+def nearest(whole: np.ndarray, unit: Union[int, np.ndarray]) -> np.ndarray:
+    """The whole numbers nearest to these parts of a unit above 0, one for all or one each; halves to the even one."""
+    below, over = whole // unit, whole % unit
+    up = (2 * over > unit) | ((2 * over == unit) & (below % 2 == 1))
+    return below + up.astype(bool).astype(int).astype(object)
 
 
 def whole_and_places(value: Union[int, Decimal]) -> tuple[int, int]:

@@ -113,12 +113,14 @@ class Needs:
         return np.where((needs != ABSENT) & self.settled.dug[needs], ABSENT, needs)
 
     def binding(self) -> tuple[np.ndarray, np.ndarray]:
-        """The processing nodes that need their block, and these blocks."""
+        """The processing nodes that need another, and what they need: their block, or the node of the step before."""
         nodes = self.grid.count + np.arange(len(self.processed))
+        is_later = np.diff(self.processed, prepend=-1) == 0
+        needed = np.where(is_later, nodes - 1, self.processed)
         if self.settled is None:
-            return nodes, self.processed
-        some = self.settled.rest[self.processed]
-        return nodes[some], self.processed[some]
+            return nodes, needed
+        some = self.settled.rest[self.processed] | (is_later & self.settled.dug[self.processed])
+        return nodes[some], needed[some]
 
 
 def write_prec(path: Path, needs: Needs, most: int) -> Pairs:

@@ -43,7 +43,7 @@ def of_phases(phases: Phases, benches: PhaseBenches, count: int) -> Parcels:
     """The ore of a pit's phases in so many bins of even tonnage, or in fewer where ore of one worth is more than a bin."""
     plan, cells = phases.plan, analyse.cells_of(phases.plan, phases.solution)
     ore = np.flatnonzero((phases.phase > 0) & (cells.tonnes > 0) & cells.ore)
-    gain, tonnes = (plan.values.revenue[ore] - plan.values.processing[ore]) / MILLION, cells.tonnes[ore]
+    gain, tonnes = (plan.values.revenue[ore] - plan.values.processing[ore]) / MILLION, cells.feed[ore]
     edges = edges_of(gain / tonnes, tonnes, count)
     bench_at = np.full((len(phases.factors) + 1, plan.grid.shape[0]), -1)
     bench_at[benches.phase, benches.level] = np.arange(len(benches))

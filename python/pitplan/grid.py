@@ -12,6 +12,8 @@ from .project import GridRules, Project, TableColumns
 from .table import at_row
 
 MOST_BLOCKS = 4_194_304
+# Of a grid of up to so many cells blocks are put together, or what no shell can reach is left out.
+MOST_CELLS = 64_000_000
 # Up to this share of the rows may lie off the grid that the others make: these are named then.
 FEW = 0.01
 
@@ -88,13 +90,14 @@ class Axis:
     place: np.ndarray
 
 
-def of_table(frame: pd.DataFrame, project: Project, source: str = "table") -> Grid:
-    """The grid of a checked table. Raises PlanError where a centre lies off it, a cell stands twice, or it is too large."""
+def of_table(frame: pd.DataFrame, project: Project, source: str = "table", any_size: bool = False) -> Grid:
+    """The grid of a checked table. Raises PlanError where a centre lies off it, a cell stands twice, or it is too large for the program,
+    or where it may have any size for this computer."""
     columns, rules = project.table, project.grid
     axes = [axis_of(frame, name, k, rules, source) for k, name in enumerate((columns.x, columns.y, columns.z))]
     east, north, up = axes
     count = east.count * north.count * up.count
-    if count > MOST_BLOCKS:
+    if count > (MOST_CELLS if any_size else MOST_BLOCKS):
         raise PlanError(f"{source}: the grid has {count:,} cells, and the program takes at most {MOST_BLOCKS:,} blocks")
     cells = ((up.count - 1 - up.place) * north.count + north.place) * east.count + east.place
     demand_once(cells, frame, columns, source)
@@ -128,7 +131,7 @@ def axis_of(frame: pd.DataFrame, name: str, k: int, rules: GridRules, source: st
         row = int((off > rules.tolerance).argmax())
         steps = ", ".join(metres(first + number * size) for number in range(3))
         why = f"{metres(values[row])} is off the grid {steps}, .. by {off[row]:g} m"
-        raise at_row(source, row, name, f"{why}: reblock sub-blocks first, and turn a rotated model to its own axes")
+        raise at_row(source, row, name, f"{why}: sub-blocks need [table] reblock, and a rotated model its own axes")
     # The least centre lies less than half a block off the lattice's first, so no place is below 0.
     return Axis(float(first), size, int(place.max()) + 1, place.astype(np.int64))
 
@@ -175,5 +178,5 @@ def demand_neighbours(grid: Grid, columns: TableColumns, source: str) -> None:
             size = grid.size[2 - axis]
             raise PlanError(
                 f"{source} column {name}: at the smallest step between centres, {size:g} m, most blocks have no neighbour: "
-                "reblock sub-blocks first, or give the blocks' size as [grid] size"
+                "sub-blocks need [table] reblock, others the blocks' size as [grid] size"
             )

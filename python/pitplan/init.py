@@ -3,7 +3,6 @@
 from __future__ import annotations
 
 import codecs
-import gzip
 import json
 import os
 from dataclasses import dataclass
@@ -17,7 +16,7 @@ from .errors import PlanError
 from .guesses import PRECIOUS, Columns, MetalGuess, columns_of
 from .summary import Axis, Grade, mean_of, not_used
 from .table import has_decimal_commas, read_columns
-from .table_format import NAMES, TableFormat, guessed_separator
+from .table_format import NAMES, UNREADABLE, TableFormat, guessed_separator, opened, unreadable
 
 TEMPLATES = Path(__file__).resolve().parent / "templates"
 SEEN = 1 << 20
@@ -82,10 +81,10 @@ def numbers_where_all_are(frame: pd.DataFrame) -> pd.DataFrame:
 def encoding_of(file: Path) -> str:
     """What the text's mark says; else UTF-8 where it is that, and else the one of Western Windows."""
     try:
-        with gzip.open(file) if file.suffix == ".gz" else open(file, "rb") as text:
+        with opened(file) as text:
             seen = text.read(SEEN)
-    except (OSError, EOFError) as error:
-        raise PlanError(f"{file}: cannot be read: {getattr(error, 'strerror', None) or error}") from error
+    except UNREADABLE as error:
+        raise unreadable(file, error) from error
     for mark, name in MARKS.items():
         if seen.startswith(mark):
             return name
@@ -245,7 +244,7 @@ def doubts(model: Model) -> list[str]:
     if model.form.decimal == ",":
         said.append("decimals are written with a comma")
     if has_several_sizes(model):
-        said.append("WARNING: blocks are of several sizes, and sub-blocks are refused: reblock first")
+        said.append("WARNING: blocks are of several sizes, and sub-blocks need [table] reblock")
     if empty_fields(model):
         said.append(f"WARNING: {empty_fields(model):,} tonnes or grades are empty, and taken as 0")
     used = {guess.column for group in (columns.centres, columns.sizes, columns.named) for guess in group.values()}

@@ -12,7 +12,7 @@ import numpy as np
 from scipy.sparse import coo_matrix, csr_matrix, hstack, vstack
 
 from .highs import Programme
-from .linear_programme import diggable, of_unknowns, programme_of
+from .linear_programme import diggable, limit_rows, of_unknowns, programme_of, with_running_years
 from .optimiser import solve
 from .phase_benches import PhaseBenches
 from .schedule_rules import Effort
@@ -29,13 +29,15 @@ def integer_programme(problem: Problem, years: int) -> tuple[Programme, float]:
     size = len(shares.gain)
     begun = begun_rows(problem.benches, years)
     matrix = vstack([hstack([shares.matrix, csr_matrix((shares.matrix.shape[0], size))]), begun], format="csr")
-    return Programme(
+    programme = Programme(
         gain=np.concatenate([shares.gain, np.zeros(size)]),
         matrix=matrix,
         most=np.concatenate([shares.most, np.zeros(begun.shape[0])]),
         upper=np.concatenate([shares.upper, (shares.upper > SLIGHT).astype(float)]),
         whole=np.repeat([False, True], size),
-    ), unit
+    )
+    limits = [(hstack([matrix, csr_matrix((years, size))]), most) for matrix, most in limit_rows(problem.benches, problem.limits, years)]
+    return with_running_years(programme, iter(limits), problem.costs_of_years(years) / unit), unit
 
 
 def begun_rows(benches: PhaseBenches, years: int) -> csr_matrix:
@@ -64,7 +66,7 @@ def best_diggable(problem: Problem, years: int, effort: Effort) -> tuple[Optiona
     cumulative = np.maximum.accumulate(cumulative, axis=1)
     shares = np.diff(cumulative, axis=1, prepend=0.0)
     last = np.flatnonzero(shares.any(axis=0))
-    made = [diggable(of_unknowns(problem.benches, cumulative, found.bound * unit), problem)]
+    made = [diggable(of_unknowns(problem, cumulative.ravel(), years, found.bound * unit), problem)]
     if keeps(problem, shares):
         made.append(shares[:, : last[-1] + 1 if len(last) else 0])
     return max(made, key=problem.value), found.bound * unit

@@ -15,11 +15,11 @@ from dataclasses import dataclass, replace
 
 import numpy as np
 from scipy.optimize import linprog
-from scipy.sparse import coo_matrix, csr_matrix, vstack
+from scipy.sparse import coo_matrix, csr_matrix, diags, eye, hstack, vstack
 
 from .highs import Programme
 from .optimiser import solve
-from .phase_benches import CASH, PhaseBenches
+from .phase_benches import PhaseBenches
 from .schedule import year_discounts
 from .sequencing import HAIR, Limits, Problem, Sequence, by_lead, dig, leads
 
@@ -41,7 +41,7 @@ class Relaxed:
 
     cumulative  an array of benches and years: the share of each bench that is dug by the end of each year
     bound       its value, discounted, in money
-    cash        of each year, in money
+    cash        of each year, in money; capital as if it flowed with the year's other cash
     """
 
     cumulative: np.ndarray
@@ -51,14 +51,38 @@ class Relaxed:
 
 def programme_of(problem: Problem, years: int) -> tuple[Programme, float]:
     """The programme of so many years, and the money that one unit of its gain is. Unknowns stand bench by bench, and there by year."""
-    benches, limits, discounts = problem.benches, problem.limits, year_discounts(problem.settings, years)
-    # What is dug by the end of a year counts by this year's discount less the next one's.
-    gain = np.outer(benches.of(CASH), discounts - np.append(discounts[1:], 0.0)).ravel()
+    benches, limits = problem.benches, problem.limits
+    gain = by_end(problem.worths(years)).ravel()
     unit = float(np.abs(gain).max(initial=0.0)) or 1.0
     parts = [order_rows(benches, years), *limit_rows(benches, limits, years)]
     matrix, most = (joined([part[k] for part in parts]) for k in (0, 1))
     upper = furthest(benches, limits, years).ravel()
     return Programme(gain / unit, matrix.tocsr(), most, upper, np.zeros(len(gain), dtype=bool)), unit
+
+
+def by_end(worths: np.ndarray) -> np.ndarray:
+    """From what is earned where something is done in each year, by the last axis: what is done by a year's end counts by this year less
+    the next one."""
+    return -np.diff(worths, axis=-1, append=0.0)
+
+
+def with_running_years(programme: Programme, limits: Iterator[tuple[csr_matrix, np.ndarray]], costs: np.ndarray) -> Programme:
+    """The same with an unknown for each year behind the others: how far the mine runs, which is at least as far as any limit is used and
+    as it runs in the next year, and costs so much where it runs in full. Where years cost nothing, the same programme."""
+    if not costs.any():
+        return programme
+    size, years = len(programme.gain), len(costs)
+    used = [csr_matrix(hstack([matrix, -diags(most)])) for matrix, most in limits if np.isfinite(most).all()]
+    order = hstack([csr_matrix((years, size)), eye(years, k=1) - diags([1.0] * (years - 1) + [0.0])])
+    rows = [hstack([programme.matrix, csr_matrix((programme.matrix.shape[0], years))]), *used, order]
+    matrix = vstack(rows, format="csr")
+    return Programme(
+        gain=np.append(programme.gain, -costs),
+        matrix=matrix,
+        most=np.append(programme.most, np.zeros(matrix.shape[0] - programme.matrix.shape[0])),
+        upper=np.append(programme.upper, np.ones(years)),
+        whole=np.append(programme.whole, np.repeat(programme.whole.any(), years)),
+    )
 
 
 def furthest(benches: PhaseBenches, limits: Limits, years: int) -> np.ndarray:
@@ -123,15 +147,36 @@ def yearly_rows(amounts: np.ndarray, years: int) -> csr_matrix:
 def relaxed(problem: Problem, years: int) -> Relaxed:
     """The optimum over so many years. Raises KeyboardInterrupt where it is interrupted."""
     programme, unit = programme_of(problem, years)
-    found = solve(programme)
+    unknowns, bound = with_costs(programme, limit_rows(problem.benches, problem.limits, years), problem.costs_of_years(years) / unit)
+    return of_unknowns(problem, unknowns, years, bound * unit)
+
+
+def with_costs(programme: Programme, limits: Iterator[tuple[csr_matrix, np.ndarray]], costs: np.ndarray) -> tuple[np.ndarray, float]:
+    """The optimum where years cost so much, all in units of the gain: the unknowns, with how far the mine runs in each year behind them, and
+    a bound. Whatever is dug, the first year costs the whole; where nothing is, nothing."""
+    later = np.append(0.0, costs[1:])
+    found = solve(with_running_years(programme, limits, later))
     assert found.unknowns is not None
-    return of_unknowns(problem.benches, found.unknowns.reshape(len(problem.benches), years), found.bound * unit)
+    size, bound = len(programme.gain), found.bound - costs[0]
+    if bound < 0:
+        return np.zeros(size + len(costs)), 0.0
+    runs = found.unknowns[size:] if later.any() else np.zeros(len(costs))
+    return np.concatenate([found.unknowns[:size], [1.0], runs[1:]]), bound
 
 
-def of_unknowns(benches: PhaseBenches, cumulative: np.ndarray, bound: float) -> Relaxed:
+def of_unknowns(problem: Problem, unknowns: np.ndarray, years: int, bound: float) -> Relaxed:
     """The optimum of which all ore is milled as it is dug. The solver keeps to its rows but for a hair."""
-    kept = np.maximum.accumulate(np.clip(cumulative, 0.0, 1.0), axis=1)
-    return Relaxed(kept, bound, benches.of(CASH) @ np.diff(kept, axis=1, prepend=0.0))
+    size = len(problem.benches) * years
+    kept = np.maximum.accumulate(np.clip(unknowns[:size].reshape(-1, years), 0.0, 1.0), axis=1)
+    earned = (problem.worths(years) * np.diff(kept, axis=1, prepend=0.0)).sum(axis=0)
+    return Relaxed(kept, bound, cash_of(earned, unknowns[size:], problem))
+
+
+def cash_of(earned: np.ndarray, runs: np.ndarray, problem: Problem) -> np.ndarray:
+    """Cash by year from what is earned, discounted, and from how far the mine runs, where years cost anything."""
+    years = len(earned)
+    costs = problem.costs_of_years(years) * (runs if len(runs) else 0.0)
+    return (earned - costs) / year_discounts(problem.settings, years)
 
 
 def sequences(optimum: Relaxed, benches: PhaseBenches) -> Iterator[Sequence]:
@@ -180,14 +225,21 @@ def diggable(optimum: Relaxed, problem: Problem) -> np.ndarray:
 def without_loss(sequence: Sequence, shares: np.ndarray, problem: Problem, years: int) -> np.ndarray:
     """A schedule without what does not pay at its time, dug anew without it as long as that gains."""
     while True:
-        earned = problem.benches.of(CASH) * (shares @ year_discounts(problem.settings, shares.shape[1]))
+        earned = (problem.worths(shares.shape[1]) * shares).sum(axis=1)
         pays = paying(earned, problem.benches)
         sequence = replace(sequence, order=sequence.order[pays[sequence.order]])
-        best = max(shares * pays[:, None], dig(problem, sequence, years), key=problem.value)
+        best = max((ended(part, problem) for part in (shares * pays[:, None], dig(problem, sequence, years))), key=problem.value)
         if problem.value(best) <= problem.value(shares) * (1 + HAIR) + HAIR:
             last = np.flatnonzero(shares.any(axis=0))
             return shares[:, : last[-1] + 1 if len(last) else 0]
         shares = best
+
+
+def ended(shares: np.ndarray, problem: Problem) -> np.ndarray:
+    """A schedule up to the year with whose end it is worth most: the last, unless years cost more than they earn."""
+    if not problem.costs_of_years(shares.shape[1]).any():
+        return shares
+    return max((shares[:, :years] for years in range(shares.shape[1], -1, -1)), key=problem.value)
 
 
 def paying(earned: np.ndarray, benches: PhaseBenches) -> np.ndarray:

@@ -10,6 +10,7 @@ from __future__ import annotations
 from collections.abc import Iterator
 from dataclasses import dataclass, replace
 from functools import cached_property
+from itertools import chain
 from typing import Optional
 
 import numpy as np
@@ -17,7 +18,7 @@ from scipy.sparse import bmat, csr_matrix, diags, eye, identity, kron
 
 from .grade_bins import GAIN, Parcels
 from .highs import Programme
-from .linear_programme import Relaxed, furthest, joined, limit_rows, order_rows, paying, sequences, yearly_rows
+from .linear_programme import Relaxed, by_end, cash_of, furthest, joined, limit_rows, order_rows, paying, sequences, with_costs, yearly_rows
 from .optimiser import solve
 from .phase_benches import CASH, ORE, ROCK, PhaseBenches
 from .schedule import year_discounts
@@ -104,9 +105,7 @@ class MillingProblem:
     def programme(self) -> tuple[Programme, float]:
         """The programme, and the money that one unit of its gain is."""
         benches, parcels, years = self.problem.benches, self.parcels, self.years
-        discounts = year_discounts(self.problem.settings, years)
-        steps = discounts - np.append(discounts[1:], 0.0)
-        gain = np.concatenate([np.outer(worth, steps).ravel() for worth in self.worths])
+        gain = by_end(self.worths).ravel()
         unit = float(np.abs(gain).max(initial=0.0)) or 1.0
         rows = [*self.digging_rows(), *self.parcel_rows(), *self.mill_rows()]
         matrix, most = (joined([part[k] for part in rows]) for k in (0, 1))
@@ -122,9 +121,18 @@ class MillingProblem:
 
     def digging_rows(self) -> Iterator[tuple[csr_matrix, np.ndarray]]:
         """Order, and the limits of digging."""
+        matrix, most = order_rows(self.problem.benches, self.years)
+        yield self.of_benches(matrix), most
+        yield from self.limits_of_digging()
+
+    def limits_of_digging(self) -> Iterator[tuple[csr_matrix, np.ndarray]]:
+        for matrix, most in limit_rows(self.problem.benches, self.of_digging, self.years):
+            yield self.of_benches(matrix), most
+
+    def of_benches(self, matrix: csr_matrix) -> csr_matrix:
+        """Rows of the benches' unknowns as rows of all."""
         behind = self.kinds * len(self.parcels) * self.years
-        for matrix, most in (order_rows(self.problem.benches, self.years), *limit_rows(self.problem.benches, self.of_digging, self.years)):
-            yield csr_matrix(bmat([[matrix, csr_matrix((matrix.shape[0], behind))]])), most
+        return csr_matrix(bmat([[matrix, csr_matrix((matrix.shape[0], behind))]]))
 
     def parcel_rows(self) -> Iterator[tuple[csr_matrix, np.ndarray]]:
         """Cumulative shares never fall; no more of a parcel is milled straight than is dug in the year; and no more is reclaimed by the end
@@ -154,19 +162,26 @@ class MillingProblem:
 
     def relaxed(self) -> Relaxed:
         """The optimum. Raises KeyboardInterrupt where it is interrupted."""
-        programme, unit = self.programme
-        found = solve(programme)
-        assert found.unknowns is not None
-        cumulative = np.maximum.accumulate(np.clip(found.unknowns[: self.dug].reshape(-1, self.years), 0.0, 1.0), axis=1)
-        flows = np.diff(found.unknowns.reshape(-1, self.years), axis=1, prepend=0.0)
-        return Relaxed(cumulative, found.bound * unit, np.concatenate(self.worths) @ flows)
+        (programme, unit), size = self.programme, len(self.worths) * self.years
+        limits = chain(self.limits_of_digging(), self.mill_rows())
+        unknowns, bound = with_costs(programme, limits, self.problem.costs_of_years(self.years) / unit)
+        cumulative = np.maximum.accumulate(np.clip(unknowns[: self.dug].reshape(-1, self.years), 0.0, 1.0), axis=1)
+        flows = np.diff(unknowns[:size].reshape(-1, self.years), axis=1, prepend=0.0)
+        return Relaxed(cumulative, bound * unit, cash_of((self.worths * flows).sum(axis=0), unknowns[size:], self.problem))
+
+    @cached_property
+    def worths(self) -> np.ndarray:
+        """What each bench earns, discounted, that is dug in each year, and each parcel that is milled straight, or is reclaimed, in the order
+        of the unknowns."""
+        gain = self.gains
+        again = [] if self.cost is None else [gain - self.cost * self.parcels.of(ORE)[:, None]]
+        mining = np.repeat(mining_of(self.problem.benches, self.parcels)[:, None], self.years, axis=1)
+        return np.concatenate([mining, gain, *again]) * year_discounts(self.problem.settings, self.years)
 
     @property
-    def worths(self) -> list[np.ndarray]:
-        """What each bench earns that is dug, and each parcel that is milled straight, or is reclaimed, in the order of the unknowns."""
-        gain = self.parcels.of(GAIN)
-        again = [] if self.cost is None else [gain - self.cost * self.parcels.of(ORE)]
-        return [mining_of(self.problem.benches, self.parcels), gain, *again]
+    def gains(self) -> np.ndarray:
+        """What each parcel gains where it is milled in each year, in money: an array of parcels and years."""
+        return self.parcels.of(GAIN)[:, None] + self.parcels.amounts @ self.problem.money.premium(self.parcels.names, self.years).T
 
     def milling(self, dug: np.ndarray) -> Milling:
         """The best that can become of the ore of what is dug in all years. Raises KeyboardInterrupt where it is interrupted."""
@@ -235,12 +250,11 @@ class MillingProblem:
         """What becomes of the ore if each year mills the best that there is, of what is dug and of the stockpile."""
         parcels, limits = self.parcels, self.problem.limits
         tonnes, straight, reclaimed = parcels.of(ORE), np.zeros((len(parcels), self.years)), np.zeros((len(parcels), self.years))
-        worth = parcels.of(GAIN) / tonnes
-        worths = np.concatenate([worth, worth - (self.cost or 0.0)])
-        order = np.argsort(-worths, kind="stable")
-        order = order[worths[order] > 0]
         stock = np.zeros(len(parcels))
-        for year in range(self.years):
+        for year, worth in enumerate((self.gains / tonnes[:, None]).T):
+            worths = np.concatenate([worth, worth - (self.cost or 0.0)])
+            order = np.argsort(-worths, kind="stable")
+            order = order[worths[order] > 0]
             there = np.concatenate([dug[parcels.bench, year], stock])
             amounts = (there * np.tile(tonnes, 2))[order]
             mill = dict(zip(limits.most, limits.of_year(year + 1)))[ORE]
@@ -253,9 +267,10 @@ class MillingProblem:
 
     def value(self, dug: np.ndarray, milling: Milling) -> float:
         """What a schedule earns, discounted, in money."""
-        return float(self.earned(dug, milling).sum())
+        costs = self.problem.costs(np.concatenate([dug, milling.milled]))
+        return float(self.earned(dug, milling).sum() - costs.sum())
 
     def earned(self, dug: np.ndarray, milling: Milling) -> np.ndarray:
         """What each bench earns, discounted, in money."""
-        flows = milling.flows(self.problem.benches, dug)[:, :, self.problem.benches.names.index(CASH)]
+        flows = self.problem.priced(milling.flows(self.problem.benches, dug))[:, :, self.problem.benches.names.index(CASH)]
         return flows @ year_discounts(self.problem.settings, self.years)

@@ -4,23 +4,32 @@ A block's first node is mining it: a cost, and no revenue. A block that holds me
 the revenue of its metal, and the cost of processing and selling, and it needs the first. So at each price factor the
 program processes a mined block exactly where that pays, and the cut-off moves with the price. With a fixed cut-off
 there is one node a block, and what is ore is settled at the reference price.
+
+Of a block that is processed a share is lost in mining and rock of grade 0 comes with the rest: what comes to the mill is
+its feed, by which processing, grades and the mill's years count. The rock that dilutes is that of other blocks, so that
+rock in all stays as the table has it. A royalty on revenue is taken off it, so that it scales with the price too.
 """
 
 from __future__ import annotations
 
 import math
-from dataclasses import dataclass
+from dataclasses import dataclass, replace
 from decimal import Decimal
+from functools import cached_property
 from typing import Callable, Optional
 
 import numpy as np
 import pandas as pd
 
+from . import recoveries
 from .errors import PlanError
 from .exact import Exact, Rounding
 from .fixed import Settled
 from .grid import MOST_BLOCKS, Grid
-from .project import GRADE_UNITS, ByRock, Metal, Money, Project
+from .money_rules import GRADE_UNITS, ByCode, ByRegion, Curve, Metal, Money
+from .processes import Steps, Way, best_way, steps_of, worth
+from .project import REFERENCE_FACTOR, Project
+from .recoveries import Head
 from .table import HEADER_ROWS, at_row
 
 MILLIONTHS = 6
@@ -37,29 +46,61 @@ class Values:
     """What each cell costs and yields, in millionths of the currency at the reference price; arrays of one a cell.
 
     mining      cost of mining the block
-    revenue     price of its recovered metal; 0 where none is
-    processing  cost of processing it and of selling its metal; 0 where the revenue is 0
-    ore         ids of the blocks with a revenue, rising
-    tonnes, metal   for reports: tonnes of rock, and the recovered quantity of each metal
+    ways        what it yields and costs in each process: the price of its recovered metal, less the royalty on it, and the cost of
+                processing it and of selling its metal, with the royalty a tonne; both 0 where it yields nothing
+    best        the number of the process that is worth most at the reference price
+    tonnes      of rock, for reports
+    feed, undiluted tonnes that come to the mill if it is processed, and these without the rock that dilutes them
     cutoff      "moving" or "fixed"
     first_level the level below which each costs more to mine, by `mining_cost_per_level`
     """
 
     mining: np.ndarray
-    revenue: np.ndarray
-    processing: np.ndarray
-    ore: np.ndarray
+    ways: tuple[Way, ...]
+    best: np.ndarray
     tonnes: np.ndarray
-    metal: dict[str, np.ndarray]
+    feed: np.ndarray
+    undiluted: np.ndarray
     cutoff: str
     roundings: dict[str, Rounding]
     notes: tuple[str, ...]
     first_level: int
+    shared: Optional[np.ndarray] = None
+
+    @cached_property
+    def revenue(self) -> np.ndarray:
+        """That of the best process."""
+        return np.choose(self.best, [way.revenue for way in self.ways])
+
+    @cached_property
+    def processing(self) -> np.ndarray:
+        """The cost of the best process."""
+        return np.choose(self.best, [way.cost for way in self.ways])
+
+    @cached_property
+    def metal(self) -> dict[str, np.ndarray]:
+        """The quantity of each metal that the best process recovers."""
+        return {name: np.choose(self.best, [way.metal[name] for way in self.ways]) for name in self.ways[0].metal}
+
+    @property
+    def ore(self) -> np.ndarray:
+        """Ids of the blocks with a revenue in some process, rising."""
+        return np.flatnonzero(np.any([way.revenue > 0 for way in self.ways], axis=0))
+
+    @cached_property
+    def steps(self) -> Steps:
+        """The nodes for processing. Scenarios share their blocks, since one file of needs serves all: in some they are worth nothing."""
+        if self.cutoff != "moving":
+            return Steps(*[np.zeros(0, dtype=np.int64)] * 4)
+        if len(self.ways) > 1:
+            return steps_of(self.ways)
+        block = self.ore if self.shared is None else self.shared
+        return Steps(block, np.zeros(len(block), dtype=np.int64), self.revenue[block], self.processing[block])
 
     @property
     def processed(self) -> np.ndarray:
-        """Ids of the blocks that have a node of their own for processing, rising."""
-        return self.ore if self.cutoff == "moving" else self.ore[:0]
+        """The block of each node for processing: rising, and as often as it has steps."""
+        return self.steps.block
 
     @property
     def pays(self) -> np.ndarray:
@@ -70,8 +111,7 @@ class Values:
         """Revenue and cost in millionths of every node: the cells, then the processing nodes."""
         if self.cutoff == "moving":
             nothing = np.zeros_like(self.mining)
-            revenue = np.concatenate([nothing, self.revenue[self.ore]])
-            return revenue, np.concatenate([self.mining, self.processing[self.ore]])
+            return np.concatenate([nothing, self.steps.revenue]), np.concatenate([self.mining, self.steps.cost])
         return np.where(self.pays, self.revenue, 0), self.mining + np.where(self.pays, self.processing, 0)
 
     def nodes_of_rest(self, settled: Settled) -> tuple[np.ndarray, np.ndarray]:
@@ -85,38 +125,78 @@ class Values:
 
     def greatest_value(self, factor: int) -> np.ndarray:
         """The most that each cell can be worth at a factor, in billionths: less than 0 where it cannot pay for itself."""
-        revenue, cost = factor * self.revenue.astype(object), 1000 * self.processing.astype(object)
-        gain = revenue - cost
         if self.cutoff == "fixed":
-            return np.where(self.pays, gain, 0) - 1000 * self.mining.astype(object)
-        return np.maximum(gain, 0) - 1000 * self.mining.astype(object)
+            gain = np.where(self.pays, factor * self.revenue.astype(object) - 1000 * self.processing.astype(object), 0)
+        else:
+            gain = np.maximum(np.max([worth(way, factor) for way in self.ways], axis=0), 0)
+        return gain - 1000 * self.mining.astype(object)
+
+
+@dataclass(frozen=True)
+class Weighed:
+    """What each row yields and costs in one process, in millionths, with what was rounded of it, and the metals that are recovered."""
+
+    revenue: np.ndarray
+    cost: np.ndarray
+    metal: dict[str, Exact]
+    roundings: dict[str, Rounding]
+
+    def way(self, name: str, grid: Grid) -> Way:
+        """From one value a row of the table to one a cell."""
+        metal = {metal: grid.spread(amounts.floats()) for metal, amounts in self.metal.items()}
+        return Way(name, grid.spread(self.revenue), grid.spread(np.where(self.revenue > 0, self.cost, 0)), metal)
+
+
+@dataclass(frozen=True)
+class Feed:
+    """What comes to the mill of each row, if it is processed.
+
+    undiluted  tonnes of the block itself
+    tonnes_of  tonnes that come with each of these, itself among them: 1.05 with 5 % of rock of grade 0
+    """
+
+    undiluted: Exact
+    tonnes_of: Exact
+
+    @property
+    def tonnes(self) -> Exact:
+        return self.undiluted.times(self.tonnes_of)
 
 
 @dataclass(frozen=True)
 class Rows:
-    """The table's rows while they are weighed: a rock's code and exact tonnes of each."""
+    """The table's rows while they are weighed, with the exact tonnes of each."""
 
     frame: pd.DataFrame
     grid: Grid
     project: Project
     source: str
-    rock: np.ndarray
     tonnes: Exact
 
     def every(self, value: Decimal) -> Exact:
         return Exact.of(value, len(self.frame))
 
-    def by_rock(self, price: ByRock, needed: np.ndarray, key: str) -> Exact:
-        """One number a row by its rock. Raises PlanError where a row in `needed` is of a rock that has none."""
-        if not isinstance(price, dict):
+    def codes(self, column: Optional[str]) -> np.ndarray:
+        return self.frame[column].to_numpy() if column else np.full(len(self.frame), "")
+
+    @property
+    def rock(self) -> np.ndarray:
+        return self.codes(self.project.table.rock)
+
+    def by_code(self, price: ByCode, needed: np.ndarray, key: str) -> Exact:
+        """One number a row by its rock or its region. Raises PlanError where a row in `needed` is of one that has none."""
+        if isinstance(price, Decimal):
             return self.every(price)
-        codes, inverse = np.unique(self.rock, return_inverse=True)
+        name, column, by_code = "rock", self.project.table.rock, price
+        if isinstance(price, ByRegion):
+            name, column, by_code = "region", self.project.table.region, price.values
+        codes, inverse = np.unique(self.codes(column), return_inverse=True)
         for number, code in enumerate(codes):
             lacking = needed & (inverse == number)
-            if code not in price and lacking.any():
-                column = self.project.table.rock or "rock"
-                raise at_row(self.source, int(lacking.argmax()), column, f'[money] {key} names no rock "{code}"')
-        table = Exact.of_decimals([price.get(code, Decimal(0)) for code in codes])
+            if code not in by_code and lacking.any():
+                why = f'[money] {key} names no {name} "{code}"'
+                raise at_row(self.source, int(lacking.argmax()), column or name, why)
+        table = Exact.of_decimals([by_code.get(code, Decimal(0)) for code in codes])
         return Exact(table.whole[inverse], table.places)
 
     def mining(self, first_level: int) -> Exact:
@@ -129,13 +209,40 @@ class Rows:
         else:
             steps = whole_numbers(np.maximum(level - first_level, 0))
             deeper = Exact(steps, 0).times(self.every(money.mining_cost_per_level))
-        return self.tonnes.times(self.by_rock(money.mining_cost, solid, "mining_cost").plus(deeper))
+        return self.tonnes.times(self.by_code(money.mining_cost, solid, "mining_cost").plus(deeper))
 
-    def recovered(self, metal: Metal) -> Exact:
+    def feed(self) -> Feed:
+        """What comes to the mill of each row. Raises PlanError where a row with metal is of a code without a number."""
+        money, some = self.project.money, np.zeros(len(self.frame), dtype=bool)
+        for metal in self.project.metals:
+            some |= self.frame[metal.column].to_numpy() > 0
+        some &= np.array(self.tonnes.whole > 0, dtype=bool)
+        undiluted = self.tonnes.times(self.by_code(money.mining_recovery, some, "mining_recovery"))
+        return Feed(undiluted, self.every(Decimal(1)).plus(self.by_code(money.dilution, some, "dilution")))
+
+    def recovered(self, metal: Metal, feed: Feed) -> Exact:
         """The quantity of a metal that is recovered: tonnes, or grams where the grade is in grams a tonne."""
-        grade = Exact.of_floats(self.frame[metal.column].to_numpy()).times(self.every(GRADE_UNITS[metal.unit]))
-        nowhere = np.zeros(len(self.frame), dtype=bool)
-        return self.tonnes.times(grade).times(self.by_rock(metal.recovery, nowhere, "recovery"))
+        grade, nowhere = Exact.of_floats(self.frame[metal.column].to_numpy()), np.zeros(len(self.frame), dtype=bool)
+        share = recoveries.of_rows(metal.recovery, self.rock, Head(grade, feed.tonnes_of))
+        if metal.fixed_tail:
+            tail = self.by_code(metal.fixed_tail, nowhere, "fixed_tail").times(feed.tonnes_of)
+            left = grade.minus(tail)
+            grade = Exact(np.maximum(left.whole, 0), left.places)
+        return feed.undiluted.times(grade).times(self.every(GRADE_UNITS[metal.unit])).times(share)
+
+    def weighed(self, feed: Feed) -> Weighed:
+        """What the project's own process yields and costs. Raises PlanError where a rock has no cost, or an amount is 10^11 or more."""
+        costs, metals = self.project.money, self.project.metals
+        metal = {m.name: self.recovered(m, feed) for m in metals}
+        revenue = selling = self.every(Decimal(0))
+        for m in metals:
+            revenue = revenue.plus(metal[m.name].times(self.every(m.price * (1 - costs.royalty))))
+            selling = selling.plus(metal[m.name].times(self.every(m.selling_cost)))
+        yields = np.array(revenue.whole > 0, dtype=bool)
+        a_tonne = self.by_code(costs.processing_cost, yields, "processing_cost").plus(self.every(costs.royalty_per_tonne))
+        amounts = {"revenue": revenue, "processing cost": feed.tonnes.times(a_tonne).plus(selling)}
+        (gain, first), (cost, second) = (self.millionths(value, name) for name, value in amounts.items())
+        return Weighed(gain, cost, metal, dict(zip(amounts, (first, second))))
 
     def millionths(self, value: Exact, name: str) -> tuple[np.ndarray, Rounding]:
         """int64 millionths, rounded to the decimals that the project keeps. Raises PlanError from 10^11 on."""
@@ -158,21 +265,57 @@ def values_of(
 
     Raises PlanError where a rock has no cost, an amount is 10^11 or more, or there are too many nodes.
     """
-    rock = frame[project.table.rock].to_numpy() if project.table.rock else np.full(len(frame), "")
-    rows = Rows(frame, grid, project, source, rock, Exact.of_floats(frame[project.table.tonnes].to_numpy()))
-    metal = {m.name: rows.recovered(m) for m in project.metals}
-    revenue = selling = rows.every(Decimal(0))
-    for m in project.metals:
-        revenue = revenue.plus(metal[m.name].times(rows.every(m.price)))
-        selling = selling.plus(metal[m.name].times(rows.every(m.selling_cost)))
-    yields = np.array(revenue.whole > 0, dtype=bool)
-    treatment = rows.tonnes.times(rows.by_rock(project.money.processing_cost, yields, "processing_cost"))
-    amounts = {"revenue": revenue, "processing cost": treatment.plus(selling)}
-    kept = {name: rows.millionths(value, name) for name, value in amounts.items()}
-    pays = grid.spread(kept["revenue"][0] > kept["processing cost"][0], False)
+    rows = Rows(frame, grid, project, source, Exact.of_floats(frame[project.table.tonnes].to_numpy()))
+    feed = rows.feed()
+    weighed = [replace(rows, project=way).weighed(feed) for way in project.ways]
+    names = [process.name for process in project.processes] or [""]
+    ways = tuple(it.way(name, grid) for it, name in zip(weighed, names))
+    best = best_way(ways, REFERENCE_FACTOR)
+    pays = np.choose(best, [way.revenue for way in ways]) > np.choose(best, [way.cost for way in ways])
     first = first_level(project, grid, pays, needed)
-    kept["mining cost"] = rows.millionths(rows.mining(first), "mining cost")
-    return spread_values(rows, metal, kept, first)
+    mining, rounding = rows.millionths(rows.mining(first), "mining cost")
+    roundings = {title(what, name): done for it, name in zip(weighed, names) for what, done in it.roundings.items()}
+    values = Values(
+        mining=grid.spread(mining),
+        ways=ways,
+        best=best,
+        tonnes=grid.spread(rows.tonnes.floats()),
+        feed=grid.spread(feed.tonnes.floats()),
+        undiluted=grid.spread(feed.undiluted.floats()),
+        cutoff=project.money.cutoff,
+        roundings={**roundings, "mining cost": rounding},
+        notes=notes_of(rows, feed),
+        first_level=first,
+    )
+    demand_few_nodes(values, grid)
+    return values
+
+
+def greatest_gains(frame: pd.DataFrame, project: Project, source: str) -> np.ndarray:
+    """Whether each row of a checked table pays for its processing at the greatest factor, or at the price as given. Raises PlanError as
+    `values_of` does."""
+    factor = max(project.schedule.factors[-1], REFERENCE_FACTOR)
+    nowhere = Grid((1, 1, 1), (0.0, 0.0, 0.0), (1.0, 1.0, 1.0), np.zeros(len(frame), dtype=np.int64))
+    rows = Rows(frame, nowhere, project, source, Exact.of_floats(frame[project.table.tonnes].to_numpy()))
+    feed, found = rows.feed(), np.zeros(len(frame), dtype=bool)
+    for way in project.ways:
+        weighed = replace(rows, project=way).weighed(feed)
+        found |= np.array(factor * weighed.revenue.astype(object) > 1000 * weighed.cost.astype(object), dtype=bool)
+    return found
+
+
+def title(what: str, process: str) -> str:
+    return f"{what} of {process}" if process else what
+
+
+def demand_few_nodes(values: Values, grid: Grid) -> None:
+    """Raises PlanError where there are too many nodes."""
+    nodes = grid.count + len(values.processed)
+    if nodes > MOST_BLOCKS:
+        raise PlanError(
+            f"{grid.count:,} blocks and {len(values.processed):,} processing nodes are {nodes:,} nodes, and the program takes at most "
+            f'{MOST_BLOCKS:,}: give a smaller model, or [money] cutoff = "fixed"'
+        )
 
 
 def first_level(project: Project, grid: Grid, pays: np.ndarray, needed: Optional[Needed]) -> int:
@@ -199,31 +342,6 @@ def added_cost(money: Money, elevation: float) -> Decimal:
     return pairs[-1][1]
 
 
-def spread_values(rows: Rows, metal: dict[str, Exact], kept: dict[str, tuple[np.ndarray, Rounding]], first: int) -> Values:
-    """From one value a row of the table to one a cell. Raises PlanError where there are too many nodes."""
-    grid, cutoff = rows.grid, rows.project.money.cutoff
-    revenue, tonnes = kept["revenue"][0], rows.tonnes.floats()
-    ore = np.sort(grid.rows[revenue > 0])
-    nodes = grid.count + (len(ore) if cutoff == "moving" else 0)
-    if nodes > MOST_BLOCKS:
-        raise PlanError(
-            f"{grid.count:,} blocks and {len(ore):,} processing nodes are {nodes:,} nodes, and the program takes at most "
-            f'{MOST_BLOCKS:,}: give a smaller model, or [money] cutoff = "fixed"'
-        )
-    return Values(
-        mining=grid.spread(kept["mining cost"][0]),
-        revenue=grid.spread(revenue),
-        processing=grid.spread(np.where(revenue > 0, kept["processing cost"][0], 0)),
-        ore=ore,
-        tonnes=grid.spread(tonnes),
-        metal={name: grid.spread(amounts.floats()) for name, amounts in metal.items()},
-        cutoff=cutoff,
-        roundings={name: rounding for name, (_, rounding) in kept.items()},
-        notes=(*grade_notes(rows), *rock_notes(rows.project, rows.rock, tonnes > 0)),
-        first_level=first,
-    )
-
-
 def whole_numbers(values: np.ndarray) -> np.ndarray:
     """The same numbers as Python's own, which have no limit of size."""
     return np.asarray(values, dtype=np.int64).astype(object)
@@ -245,6 +363,65 @@ def grade_notes(rows: Rows) -> list[str]:
                 f'WARNING: the mean grade of {metal.name}, where there is any, is {some.mean():.4g} {metal.sign}: is the unit "{metal.unit}" right?'
             )
     return notes
+
+
+def notes_of(rows: Rows, feed: Feed) -> tuple[str, ...]:
+    """Warnings of grades, and what a planner should know of rocks, of what comes to the mill, and of recoveries."""
+    solid, project = np.array(rows.tonnes.whole > 0, dtype=bool), rows.project
+    notes = [*grade_notes(rows), *feed_notes(project)]
+    for process, way in zip([process.name for process in project.processes] or [""], project.ways):
+        of_way = [*rock_notes(way, rows.rock, solid), *recovery_notes(replace(rows, project=way), feed)]
+        notes += [f"{process}: {note}" for note in of_way] if process else of_way
+    return tuple(notes)
+
+
+def feed_notes(project: Project) -> list[str]:
+    """What of a block comes to the mill, and what is owed for it, where the project says anything of it."""
+    money, notes = project.money, []
+    if money.mining_recovery != 1 or money.dilution != 0:
+        recovery, dilution = said_of(money.mining_recovery), said_of(money.dilution)
+        notes.append(
+            f"of the tonnes of ore there come to the mill {recovery} (mining recovery), and with each of these {dilution} of "
+            "grade 0 (dilution); ore tonnes, grades and processing cost are those of what comes to the mill"
+        )
+    if money.royalty:
+        notes.append(f"a royalty of {(100 * money.royalty).normalize():f} % is taken off the revenue of every block, at every factor")
+    if money.royalty_per_tonne:
+        notes.append(f"a royalty of {money.royalty_per_tonne:f} {money.currency} a tonne of ore is part of the processing cost")
+    return notes
+
+
+def recovery_notes(rows: Rows, feed: Feed) -> list[str]:
+    """How recoveries go by grade, and what is lost as a fixed tail."""
+    notes = []
+    for metal in rows.project.metals:
+        of_rocks = metal.recovery if isinstance(metal.recovery, dict) else {"": metal.recovery}
+        notes += [curve_note(rows, feed, metal, rock) for rock, share in of_rocks.items() if isinstance(share, Curve)]
+        if metal.fixed_tail:
+            notes.append(f"of each tonne that comes to the mill {said_of(metal.fixed_tail)} {metal.sign} of {metal.name} are lost, whatever it holds")
+    return notes
+
+
+def curve_note(rows: Rows, feed: Feed, metal: Metal, rock: str) -> str:
+    """That a recovery goes by grade, of a rock or, where that has no name, of all, and how many blocks lie beyond the grades named."""
+    curve = metal.recovery[rock] if isinstance(metal.recovery, dict) else metal.recovery
+    assert isinstance(curve, Curve)
+    least, most = float(curve.points[0][0]), float(curve.points[-1][0])
+    grades = rows.frame[metal.column].to_numpy() / feed.tonnes_of.floats()
+    mine = (grades > 0) & ((rows.rock == rock) | (not isinstance(metal.recovery, dict)))
+    beyond = np.count_nonzero(mine & ((grades < least) | (grades > most)))
+    return (
+        f"recovery of {metal.name}{f' of {rock}' if rock else ''} goes by the grade at the mill; {beyond:,} of {np.count_nonzero(mine):,} "
+        f"blocks lie beyond {least:g} to {most:g} {metal.sign}, and have the recovery there"
+    )
+
+
+def said_of(value: ByCode) -> str:
+    """One number, or those of all codes."""
+    if isinstance(value, Decimal):
+        return f"{value:f}"
+    by_code = value.values if isinstance(value, ByRegion) else value
+    return ", ".join(f"{number:f} of {code}" for code, number in by_code.items())
 
 
 def rock_notes(project: Project, rock: np.ndarray, solid: np.ndarray) -> list[str]:

@@ -78,7 +78,8 @@ def of_phases(phases: Phases, lag: int = 0) -> PhaseBenches:
     place = (phases.phase[inside].astype(np.int64) - 1) * levels + inside // plan.grid.per_level
     used, bench = np.unique(place, return_inverse=True)
     ore = cells.ore[inside]
-    flows = {ROCK: cells.tonnes[inside], ORE: np.where(ore, cells.tonnes[inside], 0.0)}
+    flows = {ROCK: cells.tonnes[inside], ORE: np.where(ore, cells.feed[inside], 0.0)}
+    flows |= {name: feed[inside] for name, feed in analyse.feeds_of(plan, cells).items()}
     flows |= {f"metal_{name}": np.where(ore, metal[inside], 0.0) for name, metal in plan.values.metal.items()}
     flows[CASH] = cells.worth[inside]
     sums = np.column_stack([np.bincount(bench, flow, minlength=len(used)) for flow in flows.values()])

@@ -196,7 +196,7 @@ def table(phases: Phases) -> pd.DataFrame:
     """
     plan, cells = phases.plan, analyse.cells_of(phases.plan, phases.solution)
     ore = np.where(cells.ore, phases.phase, 0)
-    tonnes, ore_tonnes = added(phases.phase, cells.tonnes, phases), added(ore, cells.tonnes, phases)
+    tonnes, ore_tonnes = added(phases.phase, cells.tonnes, phases), added(ore, cells.feed, phases)
     columns = {
         "phase": np.arange(1, len(phases.factors) + 1),
         "factor": np.array(phases.factors),
@@ -206,6 +206,7 @@ def table(phases: Phases) -> pd.DataFrame:
         "waste_tonnes": tonnes - ore_tonnes,
         "strip_ratio": analyse.ratio(tonnes - ore_tonnes, ore_tonnes),
     }
+    columns |= {name: added(phases.phase, feed, phases) for name, feed in analyse.feeds_of(plan, cells).items()}
     for metal in plan.project.metals:
         columns[f"grade_{metal.name}"] = analyse.ratio(added(ore, cells.content[metal.name], phases), ore_tonnes)
         columns[f"metal_{metal.name}"] = added(ore, plan.values.metal[metal.name], phases)

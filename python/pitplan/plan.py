@@ -10,7 +10,7 @@ from typing import Any, Optional, Union
 import numpy as np
 import pandas as pd
 
-from . import absent, files, fixed as fixing, grid as grids, money, summary as summaries, table as tables, trim, walls as laying
+from . import absent, files, fixed as fixing, grid as grids, money, reach, reblock, summary as summaries, table as tables, trim, walls as laying, yearly_money
 from .errors import PlanError
 from .files import Needs, Pairs
 from .fixed import NOTHING, FixedBlocks, Settled
@@ -18,6 +18,7 @@ from .grid import Grid
 from .money import Values
 from .progress import Progress, silent
 from .project import Project, load
+from .reach import Model
 from .walls import Walls
 
 MOST_PAIRS = 67_108_864
@@ -27,6 +28,7 @@ OWN_COLUMNS = (
     *("id", "mining_cost", "revenue", "processing_cost", "factor", "process_factor", "free_factor", "free_process_factor"),
     "phase",
     "year",
+    "process",
 )
 
 
@@ -45,6 +47,7 @@ class Plan:
     summary what the table holds: extents, tonnes, grades with units, and columns that say nothing
     fixed   blocks that must be dug, and blocks that may not be
     settled what is dug and what is left for their sake; None where the project has no `[fixed]`
+    left_out how many rows of the table no shell can reach, of a model too large for the program
     """
 
     project: Project
@@ -59,6 +62,7 @@ class Plan:
     summary: list[str] = field(default_factory=list)
     fixed: FixedBlocks = NOTHING
     settled: Optional[Settled] = None
+    left_out: int = 0
 
     def __repr__(self) -> str:
         """A few lines, since the blocks themselves are thousands."""
@@ -78,12 +82,16 @@ class Plan:
 
     @property
     def blocks(self) -> pd.DataFrame:
-        """One row a block of the table, by the program's id: the planner's columns, and costs and revenue in money."""
+        """One row a block of the table, by the program's id: the planner's columns, and costs and revenue in money, of several
+        processes those of the best at the price as given and those of each."""
         ids = self.grid.rows
         frame = self.table.rename(columns=shown_name)
         frame.insert(0, "id", ids)
         for name in ("mining", "revenue", "processing"):
             frame[name if name == "revenue" else f"{name}_cost"] = getattr(self.values, name)[ids] / MILLION
+        for way in self.values.ways if self.project.processes else ():
+            frame[f"revenue_{way.name}"] = way.revenue[ids] / MILLION
+            frame[f"processing_cost_{way.name}"] = way.cost[ids] / MILLION
         return frame.sort_values("id").reset_index(drop=True)
 
     @property
@@ -165,6 +173,7 @@ class Plan:
             "cells_without_a_row": self.grid.count - len(self.table),
             "of_these_not_above_the_highest_of_their_column": len(absent.unknown_cells(self.grid)),
             "greatest_shift_of_a_centre": greatest_shift(self.table, self.grid, self.project),
+            **({"rows_left_out": self.left_out} if self.left_out else {}),
         }
 
     def notes_of_needs(self, pairs: Pairs) -> list[str]:
@@ -206,19 +215,25 @@ def prepare(
     source = str(project.table.file) if table is None else "table"
     with progress.step(f"reading {source}"):
         checked = tables.read(project) if table is None else tables.checked(table, project)
-        frame = checked.frame
     with progress.step("laying the grid"):
-        bare = grids.of_table(frame, project, source)
+        checked, laid = reblock.of_table(checked, project)
+        frame, source = checked.frame, checked.source
+        bare = grids.of_table(frame, laid, source, any_size=True)
         summary = summaries.of_table(checked, bare, project)
         frame, grid = absent.with_rows(frame, bare, project)
     progress.lines(summary)
     with progress.step("laying the walls"):
         region = laying.regions_of(frame, grid, project.table.region)
         walls = laying.walls_of(region, grid, project.slopes)
+    model, dropped = Model(frame, grid, region, source), []
+    if reach.is_too_large(model, project):
+        with progress.step("leaving out what no shell can reach"):
+            model, note = reach.left(model, walls, project)
+            walls, dropped = laying.walls_of(model.region, model.grid, project.slopes), [note]
     with progress.step("weighing the blocks"):
-        plan = plan_of(project, frame, grid, walls, source)
-    plan.filled, plan.summary = checked.filled, summary
-    plan.notes = [*checked.notes, *notes_of(plan)]
+        plan = plan_of(project, model.frame, model.grid, walls, model.source)
+    plan.filled, plan.summary, plan.left_out = checked.filled, summary, len(frame) - len(model.frame)
+    plan.notes = [*checked.notes, *dropped, *notes_of(plan)]
     return plan
 
 
@@ -259,7 +274,9 @@ def notes_of(plan: Plan) -> list[str]:
     notes = [f"{count:,} blocks lie on a grid of {columns} x {rows} x {levels} = {grid.count:,} cells"]
     notes += absent.notes(plan.table, grid, plan.project)
     if plan.values.cutoff == "moving":
-        notes.append(f"{len(plan.values.ore):,} blocks have a node for processing: the cut-off moves with the price")
+        steps = len(plan.values.processed) - len(plan.values.ore)
+        more = f", and {steps:,} nodes more for processes that are better from a greater price on" if plan.project.processes else ""
+        notes.append(f"{len(plan.values.ore):,} blocks have a node for processing: the cut-off moves with the price{more}")
     else:
         notes.append("the cut-off is fixed at the price as given, whatever the factor")
     if plan.filled:
@@ -278,6 +295,7 @@ def notes_of(plan: Plan) -> list[str]:
         notes.append(f"for their sake {dug:,} blocks are dug in every pit and {left:,} in none")
     if plan.project.schedule.reference_added:
         notes.append("factor 1000, the price as given, was added to the factors")
+    notes += yearly_money.notes(plan.project)
     for name, rounding in plan.values.roundings.items():
         if rounding.changed:
             notes.append(

@@ -3,6 +3,7 @@
 from __future__ import annotations
 
 import codecs
+import math
 import tomllib
 from dataclasses import dataclass, replace
 from decimal import Decimal
@@ -10,24 +11,19 @@ from pathlib import Path
 from typing import Optional, Union
 
 from .errors import PlanError
+from .money_rules import ByRegion, Metal, Money, Process, read_metal, read_money, read_process
 from .phase_rules import PhaseRules, read_phases
 from .picture_rules import PictureRules, read_pictures
 from .schedule_rules import ScheduleRules, read_schedule_rules
 from .section import Section
 from .sensitivity_rules import SensitivityRules, read_sensitivity
 
-# A price or a cost: one for every rock, or one for each rock by its code.
-ByRock = Union[Decimal, dict[str, Decimal]]
-
 REFERENCE_FACTOR = 1000
 GREATEST_FACTOR = 100_000
 MOST_FACTORS = 1_000
-GRADE_UNITS = {"percent": Decimal("0.01"), "fraction": Decimal(1), "gram_per_tonne": Decimal(1)}
-METAL_UNITS = {"percent": "t", "fraction": "t", "gram_per_tonne": "g"}
-GRADE_SIGNS = {"percent": "%", "fraction": "t/t", "gram_per_tonne": "g/t"}
 PATTERNS = ("1:5", "1:9")
 DISCOUNTINGS = ("continuous", "end_of_year", "mid_year")
-MOST_LEVELS = 40
+MOST_LEVELS, MOST_STEPS = 40, 200
 
 
 @dataclass(frozen=True)
@@ -40,12 +36,25 @@ class AbsentRock:
 
 
 @dataclass(frozen=True)
+class Reblock:
+    """Of what rows blocks are put together: so many blocks each way, or all that lie in blocks of a size, from a corner on, in metres.
+
+    Counts and sizes are east, north and up; the corner is x, y, z at the west, the south and the floor of some block.
+    """
+
+    counts: Optional[tuple[int, int, int]]
+    size: Optional[tuple[float, float, float]] = None
+    corner: Optional[tuple[float, float, float]] = None
+
+
+@dataclass(frozen=True)
 class TableColumns:
     """Where the table is, which of its columns say what, and what lies where it has no row: "refuse", "air" or a rock.
 
     tonnes   the column of tonnes, or what the product of density and volume is called
     density  a column of tonnes a cubic metre, where the table has no tonnes
     volume   a column of cubic metres; without it a block has the grid's size
+    reblock  of what rows blocks are put together; None: each row is a block
     """
 
     file: Path
@@ -63,6 +72,7 @@ class TableColumns:
     encoding: str
     empty: str
     absent: Union[str, AbsentRock]
+    reblock: Optional[Reblock] = None
 
 
 @dataclass(frozen=True)
@@ -74,53 +84,32 @@ class GridRules:
 
 
 @dataclass(frozen=True)
-class Metal:
-    """What is sold: its grade column, and price and selling cost for a tonne of metal (for gram_per_tonne, a gram)."""
+class Bench:
+    """Benches with berms: the height of one and the width of the berm below it in metres, and the angle of its face in degrees."""
 
-    name: str
-    column: str
-    unit: str
-    price: Decimal
-    selling_cost: Decimal
-    recovery: ByRock
+    height: float
+    face: float
+    berm: float
 
     @property
-    def sign(self) -> str:
-        """The grade's unit as it is written: %, g/t or t/t."""
-        return GRADE_SIGNS[self.unit]
-
-    @property
-    def quantity(self) -> str:
-        """The unit in which the metal is counted: t, or g where the grade is in grams a tonne."""
-        return METAL_UNITS[self.unit]
-
-
-@dataclass(frozen=True)
-class Money:
-    """Costs a tonne, how many decimals of the currency are kept, and whether the cut-off moves with the price.
-
-    mining_cost_per_level     more a tonne for each level below the one that holds the reference
-    mining_cost_reference     an elevation in metres; None: the top of the highest block that any ore needs
-    mining_cost_by_elevation  pairs of an elevation in metres and what mining costs more there, a tonne; rising
-    """
-
-    currency: str
-    mining_cost: ByRock
-    mining_cost_per_level: Decimal
-    mining_cost_reference: Optional[Decimal]
-    mining_cost_by_elevation: tuple[tuple[Decimal, Decimal], ...]
-    processing_cost: ByRock
-    decimals: int
-    cutoff: str
+    def angle(self) -> float:
+        """Degrees of the wall from toe to toe."""
+        return math.degrees(math.atan2(self.height, self.height / math.tan(math.radians(self.face)) + self.berm))
 
 
 @dataclass(frozen=True)
 class Wall:
-    """The walls of some regions: a pattern of needs, or angles in degrees by azimuth (north 0, east 90)."""
+    """The walls of some regions: a pattern of needs, steps of the planner's own, or angles in degrees by azimuth (north 0, east 90).
+
+    steps  each so many blocks east, north and up
+    bench  of what benches and berms the angle was made
+    """
 
     regions: Optional[tuple[str, ...]]
     pattern: Optional[str]
     angles: tuple[tuple[float, float], ...]
+    steps: tuple[tuple[int, int, int], ...] = ()
+    bench: Optional[Bench] = None
 
 
 @dataclass(frozen=True)
@@ -162,7 +151,10 @@ class FixedRules:
 @dataclass(frozen=True)
 class Schedule:
     """Price factors in per mille, and what discounting needs: a yearly rate, yearly capacities in tonnes, and the moment that
-    cash is discounted from: that when it flows, or the end or the middle of its year."""
+    cash is discounted from: that when it flows, or the end or the middle of its year.
+
+    per_process  the yearly capacity of each of several processes, of which `ore_per_year` is the sum then
+    """
 
     factors: tuple[int, ...]
     chosen: Optional[int]
@@ -171,6 +163,7 @@ class Schedule:
     rock_per_year: Optional[float]
     discounting: str
     reference_added: bool
+    per_process: tuple[float, ...] = ()
 
 
 @dataclass(frozen=True)
@@ -204,8 +197,18 @@ class Project:
     fixed: Optional[FixedRules] = None
     phases: Optional[PhaseRules] = None
     schedule_rules: Optional[ScheduleRules] = None
+    processes: tuple[Process, ...] = ()
     sensitivity: Optional[SensitivityRules] = None
     pictures: Optional[PictureRules] = None
+
+    @property
+    def ways(self) -> tuple[Project, ...]:
+        """The project with each of its processes alone, as if it were the only one; itself where it names none."""
+        return tuple(self.of_process(process) for process in self.processes) or (self,)
+
+    def of_process(self, process: Process) -> Project:
+        metals = tuple(replace(metal, recovery=process.recovery.get(metal.name, Decimal(0))) for metal in self.metals)
+        return replace(self, money=replace(self.money, processing_cost=process.cost), metals=metals, processes=())
 
 
 def load(path: Union[str, Path], original: Optional[Path] = None) -> Project:
@@ -228,20 +231,22 @@ def load(path: Union[str, Path], original: Optional[Path] = None) -> Project:
 def of_data(data: dict, path: Path) -> Project:
     top = Section(str(path), "", data)
     output = top.section("output", optional=True)
+    processes = tuple(read_process(section) for section in top.sections("processes")) if top.has("processes") else ()
     project = Project(
         path=path,
         title=read_title(top, path.parent.name or "plan"),
         table=read_table(top.section("table"), path.parent),
         grid=read_grid(top.section("grid", optional=True)),
-        money=read_money(top.section("money")),
-        metals=tuple(read_metal(section) for section in top.sections("metals")),
+        money=read_money(top.section("money"), bool(processes)),
+        metals=tuple(read_metal(section, bool(processes)) for section in top.sections("metals")),
         slopes=read_slopes(top.section("slopes")),
-        schedule=read_schedule(top.section("shells")),
+        schedule=read_schedule(top.section("shells"), processes),
         folder=path.parent / output.text("folder", "plan"),
         scenarios=read_scenarios(top.section("scenarios"), path.parent) if top.has("scenarios") else None,
         fixed=read_fixed(top.section("fixed"), path.parent) if top.has("fixed") else None,
         phases=read_phases(top.section("pushbacks"), GREATEST_FACTOR) if top.has("pushbacks") else None,
         schedule_rules=read_schedule_rules(top.section("schedule")) if top.has("schedule") else None,
+        processes=processes,
     )
     metals = tuple(metal.name for metal in project.metals)
     if top.has("sensitivity"):
@@ -265,11 +270,19 @@ def read_title(top: Section, default: str) -> str:
 def demand_agreement(project: Project) -> None:
     """Refuses sections that each are right and do not fit together."""
     path = project.path
-    priced = [project.money.mining_cost, project.money.processing_cost, *(metal.recovery for metal in project.metals)]
+    money = project.money
+    priced = [money.mining_cost, money.mining_recovery, money.dilution]
+    for way in project.ways:
+        priced += [way.money.processing_cost, *(share for metal in way.metals for share in (metal.recovery, metal.fixed_tail))]
     if project.table.rock is None and any(isinstance(price, dict) for price in priced):
         raise PlanError(f"{path}: [table] rock: is missing, and prices or recoveries are given by rock")
+    if project.table.region is None and any(isinstance(price, ByRegion) for price in priced):
+        raise PlanError(f"{path}: [table] region: is missing, and mining recovery or dilution is given by region")
     if project.table.density and not project.table.volume and project.grid.size is None:
         raise PlanError(f"{path}: [grid] size: is missing, by which a density gives tonnes, unless [table] names a volume")
+    if project.table.reblock and project.scenarios:
+        raise PlanError(f"{path}: [table] reblock: is not done of [scenarios]: give a table that is reblocked")
+    demand_processes_agree(project)
     names = [metal.name for metal in project.metals]
     if len(set(names)) < len(names):
         raise PlanError(f"{path}: two [[metals]] have one name")
@@ -281,6 +294,24 @@ def demand_agreement(project: Project) -> None:
         for name in named:
             if name not in names:
                 raise PlanError(f"{path}: [scenarios] names {name}, which is none of the [[metals]] {', '.join(names)}")
+
+
+def demand_processes_agree(project: Project) -> None:
+    """Refuses processes of one name or of metals that there are not, and what does not go with several."""
+    path, names = project.path, [process.name for process in project.processes]
+    metals = [metal.name for metal in project.metals]
+    if len(set(names)) < len(names):
+        raise PlanError(f"{path}: two [[processes]] have one name")
+    for process in project.processes:
+        for name in process.recovery:
+            if name not in metals:
+                raise PlanError(f"{path}: [[processes]] {process.name} recovers {name}, which is none of the [[metals]] {', '.join(metals)}")
+    for section, there in (("[scenarios] are", project.scenarios), ("[sensitivity] is", project.sensitivity)):
+        if names and there:
+            raise PlanError(f"{path}: {section} solved with one process: leave out [[processes]]")
+    rules = project.schedule_rules
+    if names and rules and (rules.bins is not None or rules.ore_per_year is not None):
+        raise PlanError(f"{path}: [schedule] bins and ore_per_year are of one process: leave them out, or [[processes]]")
 
 
 def read_table(section: Section, folder: Path) -> TableColumns:
@@ -300,6 +331,7 @@ def read_table(section: Section, folder: Path) -> TableColumns:
         encoding=read_encoding(section),
         empty=section.choice("empty", ("refuse", "zero"), "refuse"),
         absent=read_absent(section),
+        reblock=read_reblock(section),
     )
     section.finish()
     if columns.density and section.has("tonnes"):
@@ -332,6 +364,23 @@ def read_absent(section: Section) -> Union[str, AbsentRock]:
     return absent
 
 
+def read_reblock(section: Section) -> Optional[Reblock]:
+    if not section.has("reblock"):
+        return None
+    if isinstance(section.data["reblock"], dict):
+        inner = section.section("reblock")
+        (east, north, up), (x, y, z) = inner.numbers("size", 3), inner.numbers("corner", 3)
+        inner.finish()
+        if min(east, north, up) <= 0:
+            raise inner.wrong("size", "a block's size is above 0")
+        return Reblock(None, (east, north, up), (x, y, z))
+    counts = section.numbers("reblock", 3)
+    if any(count != int(count) or count < 1 for count in counts) or max(counts) == 1:
+        raise section.wrong("reblock", "must be whole numbers of blocks east, north and up, such as [2, 2, 1], or a size and a corner")
+    east, north, up = map(int, counts)
+    return Reblock((east, north, up))
+
+
 def read_grid(section: Section) -> GridRules:
     size = section.numbers("size", 3) if section.has("size") else None
     if size is not None and min(size) <= 0:
@@ -342,50 +391,6 @@ def read_grid(section: Section) -> GridRules:
     )
     section.finish()
     return rules
-
-
-def read_money(section: Section) -> Money:
-    money = Money(
-        currency=section.text("currency", "USD"),
-        mining_cost=section.by_rock("mining_cost"),
-        mining_cost_per_level=section.number("mining_cost_per_level", Decimal(0), least=0),
-        mining_cost_reference=section.number("mining_cost_reference") if section.has("mining_cost_reference") else None,
-        mining_cost_by_elevation=read_by_elevation(section),
-        processing_cost=section.by_rock("processing_cost"),
-        decimals=section.whole("decimals", 6, 0, 6),
-        cutoff=section.choice("cutoff", ("moving", "fixed"), "moving"),
-    )
-    section.finish()
-    if money.mining_cost_reference is not None and not section.has("mining_cost_per_level"):
-        raise section.wrong("mining_cost_reference", "says from where on mining_cost_per_level is added, which is missing")
-    if money.mining_cost_by_elevation and section.has("mining_cost_per_level"):
-        raise section.wrong("mining_cost_by_elevation", "give it or mining_cost_per_level, not both")
-    return money
-
-
-def read_by_elevation(section: Section) -> tuple[tuple[Decimal, Decimal], ...]:
-    """Pairs of elevation and added cost, by rising elevation."""
-    if not section.has("mining_cost_by_elevation"):
-        return ()
-    pairs = sorted(section.pairs("mining_cost_by_elevation", "elevation, cost a tonne"))
-    if any(cost < 0 for _, cost in pairs):
-        raise section.wrong("mining_cost_by_elevation", "a cost may not be negative")
-    if len({elevation for elevation, _ in pairs}) < len(pairs):
-        raise section.wrong("mining_cost_by_elevation", "an elevation is named twice")
-    return tuple(pairs)
-
-
-def read_metal(section: Section) -> Metal:
-    metal = Metal(
-        name=section.text("name"),
-        column=section.text("column"),
-        unit=section.choice("unit", tuple(GRADE_UNITS), None),
-        price=section.number("price", least=0),
-        selling_cost=section.number("selling_cost", Decimal(0), least=0),
-        recovery=section.by_rock("recovery", most=1),
-    )
-    section.finish()
-    return metal
 
 
 def read_slopes(section: Section) -> Slopes:
@@ -404,25 +409,49 @@ def read_slopes(section: Section) -> Slopes:
 
 
 def read_wall(section: Section) -> Wall:
-    given = [key for key in ("pattern", "angle", "azimuths") if section.has(key)]
+    given = [key for key in ("pattern", "angle", "azimuths", "steps", "bench") if section.has(key)]
     if len(given) != 1:
-        raise section.wrong("angle", "give exactly one of angle, azimuths and pattern")
+        raise section.wrong("angle", "give exactly one of angle, azimuths, bench, pattern and steps")
     angles: tuple[tuple[float, float], ...] = ()
     if given == ["angle"]:
         angles = ((0.0, float(section.number("angle"))),)
     if given == ["azimuths"]:
         angles = tuple((float(azimuth), float(angle)) for azimuth, angle in section.pairs("azimuths", "azimuth, angle"))
+    bench = read_bench(section.section("bench")) if given == ["bench"] else None
+    angles = ((0.0, bench.angle),) if bench else angles
     if any(not 1 <= angle <= 90 for _, angle in angles):
         raise section.wrong(given[0], "a wall angle is from 1 to 90 degrees")
     if any(not 0 <= azimuth < 360 for azimuth, _ in angles) or len({azimuth for azimuth, _ in angles}) < len(angles):
         raise section.wrong(given[0], "azimuths are from 0 to below 360 degrees, each named once")
     pattern = section.choice("pattern", PATTERNS, None) if given == ["pattern"] else None
-    wall = Wall(section.names("region"), pattern, tuple(sorted(angles)))
+    steps = read_steps(section) if given == ["steps"] else ()
+    wall = Wall(section.names("region"), pattern, tuple(sorted(angles)), steps, bench)
     section.finish()
     return wall
 
 
-def read_schedule(section: Section) -> Schedule:
+def read_steps(section: Section) -> tuple[tuple[int, int, int], ...]:
+    """Whole numbers of blocks east, north and up, which go up."""
+    value, far = section.get("steps"), MOST_STEPS
+    is_list = isinstance(value, list) and value and all(isinstance(step, list) and len(step) == 3 for step in value)
+    if not is_list or any(isinstance(item, bool) or not isinstance(item, int) for step in value for item in step):
+        raise section.wrong("steps", "must be a list of steps [east, north, up] in whole blocks, such as [[0, 0, 1], [1, 0, 1]]")
+    if any(not 1 <= up <= MOST_LEVELS or max(abs(east), abs(north)) > far for east, north, up in value):
+        raise section.wrong("steps", f"go up by 1 to {MOST_LEVELS} blocks, and by at most {far} to a side")
+    return tuple(sorted({(east, north, up) for east, north, up in value}))
+
+
+def read_bench(section: Section) -> Bench:
+    bench = Bench(float(section.number("height")), float(section.number("face")), float(section.number("berm", least=0)))
+    section.finish()
+    if bench.height <= 0:
+        raise section.wrong("height", "is above 0 metres")
+    if not 1 <= bench.face <= 90:
+        raise section.wrong("face", "an angle of a face is from 1 to 90 degrees")
+    return bench
+
+
+def read_schedule(section: Section, processes: tuple[Process, ...] = ()) -> Schedule:
     asked = section.factors("factors", GREATEST_FACTOR)
     factors = tuple(sorted({*asked, REFERENCE_FACTOR}))
     if len(factors) > MOST_FACTORS:
@@ -434,7 +463,8 @@ def read_schedule(section: Section) -> Schedule:
         factors=factors,
         chosen=chosen,
         rate=read_rate(section),
-        ore_per_year=float(section.number("ore_per_year", least=1)),
+        ore_per_year=sum(it.per_year for it in processes) if processes else float(section.number("ore_per_year", least=1)),
+        per_process=tuple(process.per_year for process in processes),
         rock_per_year=float(section.number("rock_per_year", least=1)) if section.has("rock_per_year") else None,
         discounting=section.choice("discounting", DISCOUNTINGS, DISCOUNTINGS[0]),
         reference_added=REFERENCE_FACTOR not in asked,

@@ -10,8 +10,9 @@ from typing import Any
 import pandas as pd
 from jinja2 import Environment, FileSystemLoader, select_autoescape
 
+from .money_rules import Metal
 from .pictures import scaled
-from .project import Metal, Project
+from .project import Project
 
 TEMPLATES = Environment(
     loader=FileSystemLoader(Path(__file__).parent / "templates"),
@@ -53,6 +54,7 @@ def columns_of_rock(table: pd.DataFrame, project: Project) -> Columns:
         ("waste_tonnes", f"waste, {sign}t", tonnes, 2),
         ("strip_ratio", "strip ratio", 1.0, 2),
     ]
+    columns += [(f"ore_tonnes_{process.name}", f"{process.name}, {sign}t", tonnes, 2) for process in project.processes]
     for metal in project.metals:
         size, unit = metal_unit(float(table[f"metal_{metal.name}"].max()), metal)
         columns.append((f"grade_{metal.name}", f"{metal.name}, {metal.sign}", 1.0, 3))

@@ -165,7 +165,8 @@ def draw_limits(ax: Axes, schedule: YearlySchedule, count: int, unit: tuple[floa
     size, sign = unit
     limits = schedule.problem.limits
     edges = np.arange(max(count, 1) + 1) + 0.5
-    for name, label, colour in (("ore_tonnes", "mill", MILL), ("rock_tonnes", "shovels", SHOVELS)):
+    mill = "all processes" if any(name.startswith("ore_tonnes_") for name in limits.most) else "mill"
+    for name, label, colour in (("ore_tonnes", mill, MILL), ("rock_tonnes", "shovels", SHOVELS)):
         if name in limits.most:
             most = limits.of_years(max(count, 1))[:, list(limits.most).index(name)] / size
             label = f"{label}: {round(limits.most[name] / size, 3):,.12g} {sign}t a year"

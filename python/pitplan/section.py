@@ -103,7 +103,9 @@ class Section:
 
     def pairs(self, key: str, of: str) -> tuple[tuple[Decimal, Decimal], ...]:
         """A list of pairs of numbers; `of` names the two."""
-        value = self.get(key)
+        return self.as_pairs(key, self.get(key), of)
+
+    def as_pairs(self, key: str, value: Any, of: str) -> tuple[tuple[Decimal, Decimal], ...]:
         if not isinstance(value, list) or not value or any(not isinstance(p, list) or len(p) != 2 for p in value):
             raise self.wrong(key, f"must be a list of pairs [{of}]")
         return tuple((self.as_number(key, a), self.as_number(key, b)) for a, b in value)

@@ -12,6 +12,7 @@ from .phase_benches import CASH, ORE, ROCK, PhaseBenches
 from .project import Project, Schedule
 from .schedule import MOST_YEARS, year_discounts
 from .schedule_rules import ScheduleRules
+from .yearly_money import PLAIN, YearlyMoney
 
 # A share so small is taken as nothing, since sums of fractions miss it by a hair.
 HAIR = 1e-9
@@ -22,7 +23,7 @@ class Limits:
     """What a year may hold.
 
     most          by name the most of an amount; of ore once the mill runs in full
-    ramp_up       shares of the mill's tonnes in the first years; the last one stays
+    ramp_up       shares of the tonnes of mill and processes in the first years; the last one stays
     sinking_rate  the most benches by which a phase sinks; infinite where there is no limit
     """
 
@@ -33,7 +34,7 @@ class Limits:
     def of_year(self, number: int) -> np.ndarray:
         """The limited amounts of a year, numbered from 1."""
         of_mill = self.ramp_up[min(number, len(self.ramp_up)) - 1]
-        return np.array([most * of_mill if name == ORE else most for name, most in self.most.items()], dtype=float)
+        return np.array([most * of_mill if name.startswith(ORE) else most for name, most in self.most.items()], dtype=float)
 
     def of_years(self, count: int) -> np.ndarray:
         """An array of years, from the first, and limited amounts."""
@@ -49,21 +50,52 @@ def limits_of(project: Project, rules: ScheduleRules) -> Limits:
     rock = rules.rock_per_year or project.schedule.rock_per_year
     most = {ORE: rules.ore_per_year or project.schedule.ore_per_year}
     most |= {} if rock is None else {ROCK: rock}
+    most |= {f"{ORE}_{process.name}": process.per_year for process in project.processes}
     most |= {f"metal_{name}": amount for name, amount in rules.metal_per_year.items()}
     return Limits(most, rules.ramp_up, np.inf if rules.sinking_rate is None else rules.sinking_rate)
 
 
 @dataclass(frozen=True)
 class Problem:
-    """What is scheduled: benches of phases, the limits of a year, and the settings by which cash is discounted."""
+    """What is scheduled: benches of phases, the limits of a year, the settings by which cash is discounted, and the money of years."""
 
     benches: PhaseBenches
     limits: Limits
     settings: Schedule
+    money: YearlyMoney = PLAIN
 
     def value(self, shares: np.ndarray) -> float:
         """What the years of a schedule earn, discounted, in money; the shares are an array of benches and years."""
-        return float(self.benches.of(CASH) @ shares @ year_discounts(self.settings, shares.shape[1]))
+        return float((self.worths(shares.shape[1]) * shares).sum() - self.costs(shares).sum())
+
+    def worths(self, years: int) -> np.ndarray:
+        """What each bench earns, discounted, where it is dug in each year: an array of benches and years."""
+        cash = self.benches.of(CASH)[:, None] + self.benches.amounts @ self.money.premium(self.benches.names, years).T
+        return cash * year_discounts(self.settings, years)
+
+    def priced(self, flows: np.ndarray) -> np.ndarray:
+        """Flows of benches, years and names with the cash of each year's own prices."""
+        premiums = self.money.premium(self.benches.names, flows.shape[1])
+        more = np.einsum("byn,yn->by", flows, premiums)
+        result = flows.copy()
+        result[:, :, self.benches.names.index(CASH)] += more
+        return result
+
+    def costs(self, flows: np.ndarray) -> np.ndarray:
+        """Fixed costs and capital, discounted, of each year up to the last in which something flows; by the last axis of the flows."""
+        return self.costs_of_years(flows.shape[-1]) * running(flows)
+
+    def costs_of_years(self, years: int) -> np.ndarray:
+        """The same of so many years in which the mine runs."""
+        starts = (1 + self.settings.rate) ** -np.arange(float(years))
+        return self.money.fixed_cost * year_discounts(self.settings, years) + self.money.spent(years) * starts
+
+
+def running(flows: np.ndarray) -> np.ndarray:
+    """Whether each year, by the last axis of the flows, is one up to the last in which something flows."""
+    years = flows.shape[-1]
+    used = np.flatnonzero(flows.any(axis=tuple(range(flows.ndim - 1))))
+    return np.arange(years) <= (used[-1] if len(used) else -1)
 
 
 @dataclass(frozen=True)

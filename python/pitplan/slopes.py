@@ -166,6 +166,9 @@ def pattern_of(wall: Wall, size: tuple[float, float, float], slopes: Slopes) -> 
         offsets = PATTERN_OFFSETS[wall.pattern]
         angles = wall_angles(offsets, size)
         return Pattern(f"{where}, {wall.pattern}", cones.of_steps(offsets), offsets, angles, np.zeros(0))
+    if wall.steps:
+        cells = cones.of_steps(wall.steps)
+        return Pattern(f"{where}, {len(wall.steps)} steps of the project", cells, offsets_of(cells), angles_of_cone(cells, size), np.zeros(0))
     asked = np.degrees(np.arctan2(1.0, cotangents(wall.angles, AZIMUTHS)))
     levels = levels_of(wall, size, asked) if slopes.levels is None else slopes.levels
     widened = widening(wall, size, levels, asked) if slopes.never_steeper else 1.0
@@ -176,6 +179,8 @@ def pattern_of(wall: Wall, size: tuple[float, float, float], slopes: Slopes) -> 
         if len(wall.angles) > 1
         else f"{wall.angles[0][1]:g}"
     )
+    if wall.bench:
+        where += f", benches of {wall.bench.height:g} m with faces of {wall.bench.face:g} degrees and berms of {wall.bench.berm:g} m"
     return Pattern(f"{where}, {said} degrees", cells, offsets_of(cells), angles, angles - asked, widened)
 
 

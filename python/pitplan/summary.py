@@ -8,7 +8,8 @@ from typing import Optional, Sequence
 import numpy as np
 
 from .grid import Grid, metres
-from .project import GRADE_SIGNS, GRADE_UNITS, METAL_UNITS, Metal, Project, TableColumns
+from .money_rules import GRADE_SIGNS, GRADE_UNITS, METAL_UNITS, Metal
+from .project import Project, TableColumns
 from .table import Table
 
 OPTIONAL = ("id", "rock", "region")

@@ -15,7 +15,7 @@ import pandas as pd
 
 from .errors import PlanError
 from .project import Project, TableColumns
-from .table_format import NAMES, TableFormat, format_of, names_in_header, wrong_encoding
+from .table_format import NAMES, UNREADABLE, TableFormat, format_of, names_in_header, opened, unreadable, wrong_encoding
 
 HEADER_ROWS = 2
 
@@ -39,7 +39,7 @@ class Table:
 
 
 def read(project: Project) -> Table:
-    """The table of `project.table.file` (.csv, also .csv.gz), with the columns that the project names.
+    """The table of `project.table.file` (.csv, also .csv.gz or .zip), with the columns that the project names.
 
     Raises PlanError, with file, row and column, where a column is missing or a field is not usable.
     """
@@ -96,31 +96,33 @@ def read_columns(file: Path, form: TableFormat, codes: list[str], wanted: list[s
         with warnings.catch_warnings():
             # All columns are read, and a line with more fields than the header is an error: pandas would drop the rest.
             warnings.simplefilter("error", pd.errors.ParserWarning)
-            return pd.read_csv(
-                file,
-                sep=form.separator,
-                decimal=form.decimal,
-                index_col=False,
-                dtype=dict.fromkeys(codes, str),
-                keep_default_na=False,
-                na_values={name: [""] for name in wanted if name not in codes},
-                float_precision="round_trip",
-                encoding=form.encoding,
-                low_memory=False,
-            )
-    except OSError as error:
-        raise PlanError(f"{file}: cannot be read: {error.strerror or error}") from error
+            with opened(file) as data:
+                return pd.read_csv(
+                    data,
+                    sep=form.separator,
+                    decimal=form.decimal,
+                    index_col=False,
+                    dtype=dict.fromkeys(codes, str),
+                    keep_default_na=False,
+                    na_values={name: [""] for name in wanted if name not in codes},
+                    float_precision="round_trip",
+                    encoding=form.encoding,
+                    low_memory=False,
+                )
     except UnicodeError as error:
         raise wrong_encoding(file, form.encoding) from error
-    except (pd.errors.ParserError, pd.errors.EmptyDataError, pd.errors.ParserWarning, EOFError) as error:
+    except (pd.errors.ParserError, pd.errors.EmptyDataError, pd.errors.ParserWarning) as error:
         raise PlanError(f"{file}: is no table: {' '.join(str(error).split())}") from error
+    except UNREADABLE as error:
+        raise unreadable(file, error) from error
 
 
 def read_header(file: Path, form: TableFormat) -> list[str]:
     """The names of a table's columns. Raises PlanError where it cannot be read."""
     try:
-        return list(pd.read_csv(file, sep=form.separator, nrows=0, encoding=form.encoding).columns)
-    except (OSError, ValueError) as error:
+        with opened(file) as data:
+            return list(pd.read_csv(data, sep=form.separator, nrows=0, encoding=form.encoding).columns)
+    except (*UNREADABLE, ValueError) as error:
         raise PlanError(f"{file}: cannot be read: {error}") from error
 
 
@@ -243,8 +245,12 @@ def demand_ids(frame: pd.DataFrame, name: Optional[str], source: str) -> None:
 
 
 def called(frame: pd.DataFrame, project: Project, row: int) -> str:
-    """What a planner calls the block of a row, counted from 0: by its id, where there is one, and the file's row."""
+    """What a planner calls the block of a row, counted from 0: by its id, where there is one, and the file's row, or where rows are put
+    together by its centre."""
     name, place = project.table.id, row + HEADER_ROWS
+    if project.table.reblock:
+        x, y, z = (f"{frame[axis].iloc[row]:.10g}" for axis in (project.table.x, project.table.y, project.table.z))
+        return f"the block at {x}, {y}, {z}"
     return f"block {frame[name].iloc[row]} (row {place})" if name else f"the block of row {place}"
 
 

@@ -4,15 +4,23 @@ from __future__ import annotations
 
 import csv
 import gzip
+import io
 import re
+import zipfile
+import zlib
+from collections.abc import Iterator
+from contextlib import contextmanager
 from dataclasses import dataclass
 from pathlib import Path
+from typing import IO
 
 from .errors import PlanError
 from .project import TableColumns
 
 SEPARATORS = (",", ";", "\t", "|")
 NAMES = {",": "commas", ";": "semicolons", "\t": "tabs", "|": "bars"}
+# What a packed or plain file raises that cannot be read.
+UNREADABLE = (OSError, EOFError, zipfile.BadZipFile, zlib.error)
 QUOTED = re.compile(r'"[^"]*"')
 
 
@@ -45,15 +53,35 @@ def names_in_header(file: Path, form: TableFormat) -> list[str]:
 
 def first_line(file: Path, encoding: str) -> str:
     try:
-        if file.suffix == ".gz":
-            with gzip.open(file, "rt", encoding=encoding) as text:
-                return text.readline()
-        with open(file, encoding=encoding) as text:
+        with opened(file) as data, io.TextIOWrapper(data, encoding=encoding) as text:
             return text.readline()
     except UnicodeError as error:
         raise wrong_encoding(file, encoding) from error
-    except (OSError, EOFError) as error:
-        raise PlanError(f"{file}: cannot be read: {getattr(error, 'strerror', None) or error}") from error
+    except UNREADABLE as error:
+        raise unreadable(file, error) from error
+
+
+@contextmanager
+def opened(file: Path) -> Iterator[IO[bytes]]:
+    """The bytes of a table's text, of a .gz or a .zip file those that it packs. Raises one of UNREADABLE, and PlanError where a .zip file
+    packs several files or none."""
+    if file.suffix == ".gz":
+        with gzip.open(file) as data:
+            yield data
+    elif file.suffix == ".zip":
+        with zipfile.ZipFile(file) as packed:
+            names = [name for name in packed.namelist() if not name.endswith("/")]
+            if len(names) != 1:
+                raise PlanError(f"{file}: packs {len(names)} files, and must pack one table")
+            with packed.open(names[0]) as data:
+                yield data
+    else:
+        with open(file, "rb") as data:
+            yield data
+
+
+def unreadable(file: Path, error: Exception) -> PlanError:
+    return PlanError(f"{file}: cannot be read: {getattr(error, 'strerror', None) or error}")
 
 
 def wrong_encoding(file: Path, encoding: str) -> PlanError:

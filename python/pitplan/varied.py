@@ -7,12 +7,11 @@ from decimal import Decimal
 from typing import Callable, Union
 
 from .errors import PlanError
-from .project import Metal, Project
+from .money_rules import ByRock, Curve, Metal, Recovery
+from .project import Project
 
 # A number's name, as `[sensitivity]` gives it, and a share: 0.1 for a tenth more.
 Change = tuple[str, Decimal]
-# One number for every rock, or one for each by its code.
-ByRock = Union[Decimal, dict[str, Decimal]]
 STEEPEST, FLATTEST = 90.0, 1.0
 
 
@@ -28,10 +27,14 @@ def times(price: ByRock, by: Decimal) -> ByRock:
     return {rock: amount * by for rock, amount in price.items()} if isinstance(price, dict) else price * by
 
 
-def at_most_all(recovery: ByRock) -> ByRock:
-    """No more than all of the metal is recovered."""
+def recovered(recovery: Union[Recovery, dict[str, Recovery]], by: Decimal) -> Union[Recovery, dict[str, Recovery]]:
+    """A share of the metal, or those by rock or grade, times a number; no more than all is recovered."""
     whole = Decimal(1)
-    return {rock: min(part, whole) for rock, part in recovery.items()} if isinstance(recovery, dict) else min(recovery, whole)
+    if isinstance(recovery, dict):
+        return {rock: recovered(part, by) for rock, part in recovery.items()}
+    if isinstance(recovery, Curve):
+        return Curve(tuple((grade, min(part * by, whole)) for grade, part in recovery.points))
+    return min(recovery * by, whole)
 
 
 def with_metals(project: Project, name: str, change: Callable[[Metal], Metal]) -> Project:
@@ -40,7 +43,7 @@ def with_metals(project: Project, name: str, change: Callable[[Metal], Metal]) -
 
 
 def price(project: Project, by: Decimal, metal: str) -> Project:
-    return with_metals(project, metal, lambda it: replace(it, price=it.price * by))
+    return with_metals(project, metal, lambda it: replace(it, price=it.price * by, prices=tuple(price * by for price in it.prices)))
 
 
 def selling_cost(project: Project, by: Decimal, metal: str) -> Project:
@@ -48,7 +51,7 @@ def selling_cost(project: Project, by: Decimal, metal: str) -> Project:
 
 
 def recovery(project: Project, by: Decimal, metal: str) -> Project:
-    return with_metals(project, metal, lambda it: replace(it, recovery=at_most_all(times(it.recovery, by))))
+    return with_metals(project, metal, lambda it: replace(it, recovery=recovered(it.recovery, by)))
 
 
 def mining_cost(project: Project, by: Decimal, metal: str) -> Project:

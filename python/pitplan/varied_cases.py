@@ -17,6 +17,7 @@ import numpy as np
 import pandas as pd
 
 from . import analyse, files, run, table as tables
+from .errors import PlanError
 from .packages import load
 from .plan import Plan, prepare
 from .progress import Progress, silent
@@ -106,6 +107,8 @@ def solve(project: Project, folder: Path, where: on_dask.Where | None, progress:
     Raises PlanError where the table or a case cannot be planned with, ProgramError where the program refuses, and MissingPackage without
     Dask where it is asked for.
     """
+    if project.processes:
+        raise PlanError(f"{project.path}: a sensitivity is of one process: leave out [[processes]]")
     frame = tables.read(project).frame
     plan = prepare(project, frame, progress)
     solution = run.solve(plan, progress=progress)

@@ -36,7 +36,7 @@ class Scale:
 
 def capacities_of(settings: Schedule) -> list[tuple[str, float, str]]:
     """Name, tonnes a year and colour of each capacity."""
-    found = [("mill", settings.ore_per_year, MILL)]
+    found = [("all processes" if settings.per_process else "mill", settings.ore_per_year, MILL)]
     return found if settings.rock_per_year is None else [*found, ("shovels", settings.rock_per_year, SHOVELS)]
 
 

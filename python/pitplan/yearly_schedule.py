@@ -11,7 +11,7 @@ import numpy as np
 import pandas as pd
 import scipy
 
-from . import grade_bins, integer_programme, linear_programme, phase_benches
+from . import grade_bins, integer_programme, linear_programme, phase_benches, yearly_money
 from .linear_programme import Relaxed
 from .milling_programme import Milling, MillingProblem
 from .phase_benches import CASH, ORE, ROCK, PhaseBenches
@@ -20,7 +20,7 @@ from .progress import Progress, silent
 from .project import Project, Schedule
 from .schedule import year_discounts
 from .schedule_rules import ScheduleRules
-from .sequencing import Problem, by_rule, limits_of
+from .sequencing import Problem, by_rule, limits_of, running
 
 RULE, LP, MILP = "rule", "lp", "milp"
 # The linear programme may take this part of the rule's years more.
@@ -74,14 +74,23 @@ class YearlySchedule:
 
     def value(self, way: str) -> float:
         """What a way earns, discounted, in money."""
-        discounts = self.discounts(self.shares[way].shape[1])
-        return float(self.flows(way)[:, :, self.benches.names.index(CASH)].sum(axis=0) @ discounts)
+        return float(self.yearly(way)["discounted"].sum())
+
+    def yearly(self, way: str) -> pd.DataFrame:
+        """A row a year of a way: what flows, and where years cost anything fixed_cost and capital; cash after these, and discounted."""
+        flows = self.flows(way)
+        count, amounts = flows.shape[1], dict(zip(self.benches.names, flows.sum(axis=0).T))
+        runs, money = running(flows.transpose(0, 2, 1)), self.problem.money
+        costs = {"fixed_cost": money.fixed_cost * runs, "capital": money.spent(count) * runs} if money.columns else {}
+        cash = amounts.pop(CASH)
+        present = cash * self.discounts(count) - self.problem.costs_of_years(count) * runs
+        return pd.DataFrame(amounts | costs | {CASH: cash - sum(costs.values()), "discounted": present})
 
     def flows(self, way: str) -> np.ndarray:
         """What flows of each bench in each year: an array of benches, years and the benches' names."""
         if way in self.milling:
-            return self.milling[way].flows(self.benches, self.shares[way])
-        return self.shares[way][:, :, None] * self.benches.amounts[:, None, :]
+            return self.problem.priced(self.milling[way].flows(self.benches, self.shares[way]))
+        return self.problem.priced(self.shares[way][:, :, None] * self.benches.amounts[:, None, :])
 
     def left(self, way: str) -> float:
         """Tonnes of the phases that a way does not dig."""
@@ -100,7 +109,7 @@ def make(phases: Phases, progress: Progress = silent) -> YearlySchedule:
     """
     project, rules = phases.plan.project, rules_of(phases.plan.project)
     benches = phase_benches.of_phases(phases, rules.lag)
-    problem = Problem(benches, limits_of(project, rules), project.schedule)
+    problem = Problem(benches, limits_of(project, rules), project.schedule, yearly_money.of_project(project))
     with progress.step(f"scheduling {len(benches):,} benches of {len(phases.factors)} phases by rule"):
         shares, lead = by_rule(problem, rules.years)
     years = rules.years or math.ceil((1 + MORE_YEARS) * shares.shape[1])
@@ -149,7 +158,7 @@ def table(schedule: YearlySchedule) -> pd.DataFrame:
     """One row for what is dug of a bench in a year.
 
     way; year from 1; phase; bench, the z of its centres in metres; share of the bench; rock_tonnes and, of these, ore_tonnes; metal_NAME
-    recovered (tonnes, or grams); cash, and discounted, in money.
+    recovered (tonnes, or grams); cash at the year's prices, and discounted, in money, both without what years cost.
     """
     return pd.concat([rows_of(schedule, way) for way in schedule.shares], ignore_index=True)
 
@@ -173,12 +182,11 @@ def rows_of(schedule: YearlySchedule, way: str) -> pd.DataFrame:
 def years(schedule: YearlySchedule) -> pd.DataFrame:
     """One row a way and year, as `pitplan.years` has of cases; the factor is that of the last phase."""
     found = []
-    for way, shares in schedule.shares.items():
-        flows = schedule.flows(way).sum(axis=0)
-        count = shares.shape[1]
-        discounted = flows[:, -1] * schedule.discounts(count)
-        head = {"case": np.full(count, way, dtype=object), "factor": schedule.factor, "year": np.arange(1, count + 1)}
-        found.append(pd.DataFrame(head | dict(zip(schedule.benches.names, flows.T)) | {"discounted": discounted}))
+    for way in schedule.shares:
+        years = schedule.yearly(way)
+        for place, (name, values) in enumerate({"case": way, "factor": schedule.factor, "year": years.index + 1}.items()):
+            years.insert(place, name, values)
+        found.append(years)
     return pd.concat(found, ignore_index=True)
 
 

@@ -39,7 +39,7 @@ def test_centres_may_lie_off_by_the_tolerance(plan_folder):
     plan = pitplan.prepare(plan_folder(table, PROJECT, NO_SIZE))
     assert plan.grid.shape == (2, 3, 4) and abs(plan.grid.size[0] - 10) < 0.01
     table.loc[5, "x"] += 0.3
-    with pytest.raises(PlanError, match="row .* column x: .* is off the grid .*reblock sub-blocks first"):
+    with pytest.raises(PlanError, match="row .* column x: .* is off the grid .*sub-blocks need .table. reblock"):
         pitplan.prepare(plan_folder(table))
 
 
@@ -71,16 +71,16 @@ def split(table, chosen):
 
 def test_sub_blocks_are_refused_with_and_without_a_size(plan_folder):
     table = split(rows(4, 4, 3), 20)
-    with pytest.raises(PlanError, match="most blocks have no neighbour: reblock sub-blocks first"):
+    with pytest.raises(PlanError, match="most blocks have no neighbour: sub-blocks need .table. reblock"):
         pitplan.prepare(plan_folder(table, PROJECT, NO_SIZE))
-    with pytest.raises(PlanError, match="row 49 column x: .* is off the grid .*: reblock sub-blocks first"):
+    with pytest.raises(PlanError, match="row 49 column x: .* is off the grid .*: sub-blocks need .table. reblock"):
         pitplan.prepare(plan_folder(table))
 
 
 def test_a_turned_model_is_refused(plan_folder):
     table = rows(6, 5, 2)
     x, y = table["x"] * 0.8 - table["y"] * 0.6, table["x"] * 0.6 + table["y"] * 0.8
-    with pytest.raises(PlanError, match="reblock sub-blocks first"):
+    with pytest.raises(PlanError, match="sub-blocks need .table. reblock"):
         pitplan.prepare(plan_folder(table.assign(x=x, y=y), PROJECT, NO_SIZE))
 
 

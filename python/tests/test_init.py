@@ -179,7 +179,7 @@ def test_sub_blocks_and_empty_grades_are_told(tmp_path):
     more = {**INCREMENTS, "density": lambda i, j, k: 2.5, "dx": lambda i, j, k: 10.0 if i else 5.0}
     exported(tmp_path / "m.csv", DATAMINE, **{**more, "cu": lambda i, j, k: 2.0 if k else float("nan")})
     told = init.write(tmp_path / "m.csv", tmp_path / "project.toml")
-    assert "WARNING: blocks are of several sizes, and sub-blocks are refused: reblock first" in told
+    assert "WARNING: blocks are of several sizes, and sub-blocks need [table] reblock" in told
     assert "x: centres in XC from 5 to 75 m, by its name" in told
     assert "WARNING: 64 tonnes or grades are empty, and taken as 0" in told
     assert load(tmp_path / "project.toml").table.empty == "zero"

@@ -107,6 +107,17 @@ def test_rock_of_cells_without_rows_has_none(plan_folder):
     assert "absent-37" in set(pd.read_csv(path.parent / "plan" / "blocks.csv")["name"])
 
 
+def test_rows_that_are_put_together_have_the_numbers_of_their_block(plan_folder):
+    table = rows(8, 8, 3, cu=lambda i, j, k: 6 if (i // 2, j // 2, k) == (2, 2, 1) else 0).iloc[::-1]
+    path = plan_folder(table, PROJECT, ('file = "blocks.csv"', 'file = "blocks.csv"\nreblock = [2, 2, 1]'))
+    commands.write_shells(path, verifies=False)
+    after = pd.read_csv(commands.export(path.parent / "plan", "table"))
+    assert after["name"].tolist() == table["name"].tolist()
+    # The ore, and above it the block itself and those beside it, each of four rows.
+    assert (after["factor"] == 500).sum() == 4 * 6 and (after["process_factor"] == 500).sum() == 4
+    assert after[after["process_factor"] > 0]["name"].tolist() == ["b5-5-1", "b4-5-1", "b5-4-1", "b4-4-1"]
+
+
 def bent(path, bend):
     table = [line.split(",") for line in path.read_text().splitlines()]
     bend(table)

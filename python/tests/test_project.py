@@ -63,7 +63,7 @@ def test_a_byte_order_mark_is_passed_over_and_another_encoding_is_refused(plan_f
         ("[10, 10, 10]", "[10, 10, 0]", "[grid] size: a block's size is above 0"),
         ("levels = 3", "levels = 0", "[slopes] levels: must be a whole number from 1 to 40"),
         ('pattern = "1:5"', 'pattern = "1:7"', '[slopes.walls 1] pattern: "1:7" is none of 1:5, 1:9'),
-        ('pattern = "1:5"', "", "[slopes.walls 1] angle: give exactly one of angle, azimuths and pattern"),
+        ('pattern = "1:5"', "", "[slopes.walls 1] angle: give exactly one of angle, azimuths, bench, pattern and steps"),
         ('pattern = "1:5"', "angle = 95", "[slopes.walls 1] angle: a wall angle is from 1 to 90 degrees"),
         (
             'pattern = "1:5"',

@@ -8,6 +8,7 @@ import pandas as pd
 import pytest
 from conftest import PROJECT, rows
 from matplotlib.figure import Figure
+from test_processes import WITH
 
 from pitplan import PlanError, Where, commands, load, run, sensitivity_pictures, varied, varied_cases
 from pitplan.cli import main
@@ -122,8 +123,12 @@ MORE = (
 )
 def test_a_case_is_the_project_with_this_number_written_there(plan_folder, tmp_path, number, share, changes):
     path = plan_folder(rows(9, 8, 4, **RICH), PROJECT + f'\n[sensitivity]\nby = [{share}]\nvary = ["{number}"]\n', *MORE)
+    demand_as_written(path, tmp_path / "other", number, changes)
+
+
+def demand_as_written(path, other, number, changes):
+    """The case of a sensitivity is the project in whose text these changes were made."""
     table = commands.sensitivity(path)
-    other = tmp_path / "other"
     shutil.copytree(path.parent, other, ignore=shutil.ignore_patterns("plan"))
     text = path.read_text()
     for old, new in changes:
@@ -135,6 +140,20 @@ def test_a_case_is_the_project_with_this_number_written_there(plan_folder, tmp_p
         assert table.iloc[row][shells.index].astype(float).to_dict() == pytest.approx(shells.astype(float).to_dict())
     assert table["kept_worth"].isna().tolist() == [False, number == "slopes"]
     assert table.loc[1, "npv"] != table.loc[0, "npv"]
+
+
+@pytest.mark.parametrize(
+    ("number", "share", "changes"),
+    [
+        ("recovery", "0.25", (("[0.2, 0.4], [1.0, 0.9]", "[0.2, 0.5], [1.0, 1]"),)),
+        ("price", "-0.25", (("price = 8000", "price = 6000"), ("[6000, 10000]", "[4500, 7500]"))),
+    ],
+)
+def test_recovery_by_grade_and_prices_of_years_vary(plan_folder, tmp_path, number, share, changes):
+    by_grade = ("recovery = 0.5\n", "recovery = [[0.2, 0.4], [1.0, 0.9]]\nprices = [6000, 10000]\n")
+    project = PROJECT + f'\n[sensitivity]\nby = [{share}]\nvary = ["{number}"]\n'
+    path = plan_folder(rows(9, 8, 4, **RICH), project, by_grade, ("ore_per_year = 100", "ore_per_year = 100\nchosen = 1000"))
+    demand_as_written(path, tmp_path / "other", number, changes)
 
 
 def test_fixed_blocks_hold_in_every_case_and_ore_may_be_settled(plan_folder):
@@ -150,6 +169,15 @@ def test_fixed_blocks_hold_in_every_case_and_ore_may_be_settled(plan_folder):
     for case in record["cases"]:
         entry = np.load(folder / "cases" / f"{case['key']}.npz")["entry"][blocks["id"]]
         assert (entry[blocks["must"] == 1] == 500).all() and not entry[blocks["never"] == 1].any()
+
+
+def test_rows_that_are_put_together_are_varied_as_blocks(plan_folder):
+    """Four blocks of 10 m in one of 20: the ore is as it would be in a table of these."""
+    table = rows(8, 8, 3, cu=lambda i, j, k: 6 if (i // 2, j // 2, k) == (2, 2, 1) else 0)
+    change = ('file = "blocks.csv"', 'file = "blocks.csv"\nreblock = [2, 2, 1]')
+    found = commands.sensitivity(plan_folder(table, PROJECT + '\n[sensitivity]\nby = [0.1]\nvary = "price"\n', change))
+    # Four times 24,000 and 1000 for processing, and of five blocks of 400 t, of which one is over the ore, 800 each.
+    assert found["worth"].tolist() == pytest.approx([4 * 24_000 - 4000 - 6 * 800, 4 * 26_400 - 4000 - 6 * 800])
 
 
 def test_costs_by_elevation_and_walls_by_azimuth(plan_folder, tmp_path):
@@ -251,6 +279,13 @@ def test_what_is_refused(small, words, said):
     with pytest.raises(PlanError) as refused:
         load(small(words))
     assert said in str(refused.value)
+
+
+@pytest.mark.parametrize(("section", "said"), [("", "a sensitivity is of one process"), ("\n[sensitivity]\n", "\\[sensitivity\\] is solved with one process")])
+def test_several_processes_are_refused(plan_folder, section, said):
+    path = plan_folder(rows(5, 3, 1, **ORE), PROJECT + section, *WITH)
+    with pytest.raises(PlanError, match=said + ": leave out"):
+        commands.sensitivity(path)
 
 
 def test_walls_that_no_share_allows_are_refused(plan_folder):

@@ -1,6 +1,7 @@
 """Tables that are refused, each by a sentence with file, row and column; and those that are read."""
 
 import gzip
+import zipfile
 
 import numpy as np
 import pandas as pd
@@ -133,6 +134,40 @@ def test_a_compressed_table_with_another_separator_is_the_same(plan_folder):
     with gzip.open(path.parent / "blocks.csv.gz", "wt") as file:
         table.to_csv(file, sep=";", index=False)
     pd.testing.assert_frame_equal(pitplan.prepare(path).blocks, plain.blocks)
+
+
+def zipped(path, **files):
+    with zipfile.ZipFile(path, "w", zipfile.ZIP_DEFLATED) as packed:
+        for name, text in files.items():
+            packed.writestr(name.replace("_", "."), text)
+
+
+ZIP = ('"blocks.csv"', '"blocks.zip"')
+
+
+def test_a_zipped_table_is_the_same(plan_folder):
+    """With semicolons, decimal commas and a spreadsheet's mark, which are told by looking at it."""
+    table = rows(3, 2, 2, cu=lambda i, j, k: 0.1 * i)
+    plain = pitplan.prepare(plan_folder(table))
+    path = plan_folder(table, PROJECT, ZIP)
+    zipped(path.parent / "blocks.zip", blocks_csv="\ufeff" + table.to_csv(sep=";", decimal=",", index=False))
+    pd.testing.assert_frame_equal(pitplan.prepare(path).blocks, plain.blocks)
+
+
+def test_zipped_tables_that_cannot_be_read_are_named(plan_folder):
+    text = rows(2, 2, 2).to_csv(index=False)
+    path = plan_folder(rows(2, 2, 2), PROJECT, ZIP)
+    place = path.parent / "blocks.zip"
+    for files, count in (({"a_csv": text, "b_csv": text}, 2), ({}, 0)):
+        zipped(place, **files)
+        with pytest.raises(PlanError, match=f"blocks.zip: packs {count} files, and must pack one table"):
+            pitplan.prepare(path)
+    zipped(place, a_csv=text)
+    whole = place.read_bytes()
+    for broken in (b"no archive", whole[:40] + b"????" + whole[44:]):
+        place.write_bytes(broken)
+        with pytest.raises(PlanError, match="blocks.zip: cannot be read: "):
+            pitplan.prepare(path)
 
 
 def test_a_spreadsheets_mark_at_the_beginning_is_passed_over(plan_folder):

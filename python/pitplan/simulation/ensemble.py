@@ -14,8 +14,9 @@ import pandas as pd
 from .. import absent, grid as grids, table as tables, walls as laying
 from ..errors import PlanError
 from ..grid import Grid
+from ..money_rules import Metal
 from ..plan import Plan, notes_of, plan_of
-from ..project import Metal, Project, Scenarios
+from ..project import Project, Scenarios
 from ..table import HEADER_ROWS, Table, at_row
 from ..table_format import format_of
 from ..walls import Walls

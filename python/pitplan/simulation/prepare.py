@@ -11,6 +11,7 @@ from typing import Any
 import numpy as np
 
 from .. import files, run, summary as summaries
+from ..money_rules import ByRegion
 from ..plan import Plan
 from ..progress import Progress
 from ..project import Project
@@ -76,8 +77,11 @@ def arrays_of(base: Base) -> dict[str, np.ndarray]:
     """The blocks without grades, as a scenario needs them."""
     table = base.project.table
     arrays = {"cells": base.grid.rows, table.tonnes: base.frame[table.tonnes].to_numpy()}
-    if table.rock:
-        arrays[table.rock] = base.frame[table.rock].to_numpy().astype(str)
+    money = base.project.money
+    by_region = any(isinstance(value, ByRegion) for value in (money.mining_recovery, money.dilution))
+    for name in (table.rock, table.region if by_region else None):
+        if name:
+            arrays[name] = base.frame[name].to_numpy().astype(str)
     return arrays
 
 

@@ -89,7 +89,7 @@ def plan_of(shared: Shared, scenario: Scenario) -> Plan:
     frame = shared.frame.assign(**columns)
     values = money.values_of(frame, shared.grid, project, scenario.label)
     # The same nodes in every scenario, so that one file of needs serves: those without metal here are worth nothing.
-    values = replace(values, ore=shared.ore) if values.cutoff == "moving" else values
+    values = replace(values, shared=shared.ore)
     walls, used = Walls((), np.zeros(0), (), np.zeros(0)), np.zeros(0, bool)
     return Plan(project, frame, shared.grid, values, walls, used, scenario.label, settled=shared.settled)
 

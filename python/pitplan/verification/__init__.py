@@ -5,6 +5,8 @@ of the program, for the files that it was given; here is looked whether these sa
 
 - each block of the table stands in the answer, in its own cell; where the project gives a rock to cells without rows, each that is not
   above the highest row of its column is a block of that rock, and no other is;
+- of what was left out since no shell can reach it nothing pays or must be dug, and no shell needs ground there;
+- where rows are put together to blocks, each block holds those that lie in it;
 - no shell leaves a block standing, or ground of which nothing is known, in the whole cone above a block that it digs, by that block's
   own region and over as many levels as its needs reach; where the project leaves the levels open, no wall comes out more than half a
   degree steeper than asked;
@@ -28,7 +30,8 @@ from typing import Optional
 
 from ..errors import PlanError
 from ..project import Project
-from . import absent, answer as answers, fixed, money, phases, planned_table, scenarios, schedule, sensitivity, sums, walls, years
+from . import absent, answer as answers, fixed, money, phases, planned_table, reach, reblocked, scenarios, schedule, sensitivity, sums
+from . import walls, years
 from .answer import TOLD, Answer, Rule, rule
 
 OF_PITS = (walls.verify, sums.verify, sums.verify_worth, years.verify)
@@ -41,7 +44,9 @@ def verify(folder: Path, project: Optional[Project] = None) -> list[Rule]:
     Raises PlanError where the folder has no answer, or the table has changed since.
     """
     answer = answers.read(folder, project)
-    more = [verify_free(answer, answer.free)] if answer.free else []
+    more = [reblocked.verify(answer)] if answer.parts is not None else []
+    more += [reach.verify(answer)] if answer.beyond is not None else []
+    more += [verify_free(answer, answer.free)] if answer.free else []
     more += phases.verify(answer) if answer.phases is not None else []
     more += [planned_table.verify(answer, folder / planned_table.NAME)] if (folder / planned_table.NAME).exists() else []
     return [*(check(answer) for check in CHECKS), *more, *(schedule.verify(answer) if answer.schedule is not None else [])]

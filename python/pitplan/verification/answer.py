@@ -13,7 +13,10 @@ import pandas as pd
 
 from .. import table as tables
 from ..errors import PlanError
-from ..project import GRADE_UNITS, AbsentRock, Project, Wall, load
+from ..money_rules import GRADE_UNITS
+from ..project import AbsentRock, Project, Wall, load
+from .feed import by_code, recovered
+from .put_together import written_rows
 
 # In place of a factor: a cell that is not dug at any, and one where there is nothing to dig.
 UNDUG, NOTHING = 2**30, 0
@@ -21,6 +24,8 @@ UNDUG, NOTHING = 2**30, 0
 TOLD = 10
 # The columns of blocks.csv that are the answer's.
 SAID = ("id", "mining_cost", "revenue", "processing_cost", "factor", "process_factor")
+# Of several processes that of each block at the price as given, "" where it is waste; there are amounts of each process then.
+PROCESS = "process"
 # Those that `pitplan pit` writes besides, of the pit that keeps to no fixed blocks.
 FREE = ("free_factor", "free_process_factor")
 # Those that `pitplan pushbacks` and `pitplan schedule` write besides.
@@ -56,6 +61,8 @@ class Answer:
     found   what was told of it before, by name
     phases  of `pitplan pushbacks` phases.csv, by phase; `said` has each block's phase then
     schedule  of `pitplan schedule` schedule.csv; `said` has each block's year then
+    parts   where rows are put together to blocks the table's rows; `rows` are then the answer's own, which hold them
+    beyond  the table's rows that lie beyond the answer's grid, where some do
     """
 
     folder: Path
@@ -71,6 +78,8 @@ class Answer:
     found: dict[str, Any] = field(default_factory=dict)
     phases: Optional[pd.DataFrame] = None
     schedule: Optional[pd.DataFrame] = None
+    parts: Optional[pd.DataFrame] = None
+    beyond: Optional[pd.DataFrame] = None
 
     @property
     def shape(self) -> tuple[int, int, int]:
@@ -93,19 +102,41 @@ class Answer:
         return self.record["grid"]["origin"][2] - np.arange(self.shape[0]) * self.size[2]
 
     @cached_property
+    def undiluted(self) -> np.ndarray:
+        """Tonnes of each block itself that come to the mill, if it is processed."""
+        return self.tonnes * by_code(self.project.money.mining_recovery, self.rows, self.project.table)
+
+    @cached_property
+    def feed(self) -> np.ndarray:
+        """Tonnes that come to the mill of each block, if it is processed."""
+        return self.undiluted * (1 + by_code(self.project.money.dilution, self.rows, self.project.table))
+
+    @cached_property
     def quantities(self) -> dict[str, np.ndarray]:
         """By metal, what is recovered of each block, if it is processed: tonnes, or grams."""
-        columns, found = self.project.table, {}
-        for metal in self.project.metals:
-            share = metal.recovery
-            if isinstance(share, dict):
-                rock = self.rows[columns.rock].astype(str)
-                recovery = rock.map({code: float(it) for code, it in share.items()}).fillna(0.0).to_numpy()
-            else:
-                recovery = np.full(len(self.rows), float(share))
-            grades = self.rows[metal.column].to_numpy()
-            found[metal.name] = self.tonnes * grades * float(GRADE_UNITS[metal.unit]) * recovery
+        found = {}
+        for number, metal in enumerate(self.project.metals):
+            grades = [recovered(way.metals[number], self.rows, way) for way in self.project.ways]
+            found[metal.name] = self.undiluted * np.choose(self.process, grades) * float(GRADE_UNITS[metal.unit])
         return found
+
+    @cached_property
+    def process(self) -> np.ndarray:
+        """The number of each block's process at the price as given, as blocks.csv says; 0 where there is one alone or none."""
+        names = [process.name for process in self.project.processes]
+        return self.said[PROCESS].map({name: k for k, name in enumerate(names)}).fillna(0).to_numpy(dtype=np.int64) if names else np.zeros(len(self.rows), np.int64)
+
+    @cached_property
+    def feeds(self) -> dict[str, np.ndarray]:
+        """Of several processes the tonnes of ore that come to each, by the name of the amount."""
+        names = [process.name for process in self.project.processes]
+        return {f"ore_tonnes_{name}": np.where(self.ore & (self.process == k), self.feed, 0.0) for k, name in enumerate(names)}
+
+    @property
+    def amounts_of_ways(self) -> list[tuple[str, str]]:
+        """The columns of revenue and of processing cost of each process; of one alone the only ones there are."""
+        names = [process.name for process in self.project.processes]
+        return [(f"revenue_{name}", f"processing_cost_{name}") for name in names] or [("revenue", "processing_cost")]
 
     @cached_property
     def ore(self) -> np.ndarray:
@@ -167,6 +198,8 @@ class Answer:
         """Over how many levels the needs of a wall entry reach."""
         if wall.pattern:
             return 1
+        if wall.steps:
+            return max(up for _, _, up in wall.steps)
         number = self.project.slopes.walls.index(wall)
         return int(self.record["walls"][number].get("levels", self.project.slopes.levels))
 
@@ -184,7 +217,7 @@ def read(folder: Path, project: Optional[Project] = None) -> Answer:
     try:
         record = json.loads((folder / "prepare.json").read_text(encoding="utf-8"))
         project = project or load(folder / record["project"])
-        written = read_blocks(folder / "blocks.csv", project, (*SAID, *FREE, PHASE, YEAR))
+        written = read_blocks(folder / "blocks.csv", project, (*said_of(project), *FREE, PHASE, YEAR))
         return read_shells(folder, record, project, written) if "shells" in record else read_pits(folder, record, project, written)
     except OSError as error:
         raise PlanError(f"{error.filename}: cannot be read: run pitplan shells first") from error
@@ -192,44 +225,81 @@ def read(folder: Path, project: Optional[Project] = None) -> Answer:
         raise PlanError(f"{folder}: is no folder that pitplan shells or pit has written: {error}") from error
 
 
+def said_of(project: Project) -> tuple[str, ...]:
+    """The columns of blocks.csv that are the answer's to a project."""
+    if not project.processes:
+        return SAID
+    return (*SAID, PROCESS, *(f"{name}_{process.name}" for process in project.processes for name in ("revenue", "processing_cost")))
+
+
 def read_shells(folder: Path, record: dict[str, Any], project: Project, written: pd.DataFrame) -> Answer:
     """The answer of `pitplan shells`, `pitplan pushbacks` or `pitplan schedule`."""
     shells = pd.read_csv(folder / "shells.csv", dtype={"worth_at_factor": str}).set_index("factor")
     years = pd.read_csv(folder / "years.csv") if (folder / "years.csv").exists() else None
-    rows, known, order = beside(tables.read(project).frame, written, project, record["grid"], "blocks.csv")
+    frame, parts = rows_of(project, written, record["grid"])
+    frame, beyond = divided(frame, project, record["grid"])
+    rows, known, order = beside(frame, written, project, record["grid"], "blocks.csv")
     phases = pd.read_csv(folder / "phases.csv").set_index("phase") if "phases" in record else None
     schedule = pd.read_csv(folder / "schedule.csv") if "schedule" in record else None
     more = [*([PHASE] if phases is not None else []), *([YEAR] if schedule is not None else [])]
-    said, factors = written[[*SAID, *more]].iloc[order].reset_index(drop=True), tuple(record["shells"]["factors"])
-    return Answer(folder, project, rows, known, said, shells, years, record, factors, phases=phases, schedule=schedule)
+    said, factors = written[[*said_of(project), *more]].iloc[order].reset_index(drop=True), tuple(record["shells"]["factors"])
+    return Answer(folder, project, rows, known, said, shells, years, record, factors, phases=phases, schedule=schedule, parts=parts, beyond=beyond)
+
+
+def rows_of(project: Project, written: pd.DataFrame, grid: dict[str, Any]) -> tuple[pd.DataFrame, Optional[pd.DataFrame]]:
+    """A row a block of the table, and where its rows are put together to blocks these rows. Raises PlanError as `beside` does."""
+    frame = tables.read(project).frame
+    if project.table.reblock is None:
+        return frame, None
+    own = written.rename(columns={own_name(name): name for name in frame.columns})
+    return written_rows(frame, own.loc[:, ~own.columns.duplicated(keep="last")], project, grid), frame
 
 
 def read_pits(folder: Path, record: dict[str, Any], project: Project, written: pd.DataFrame) -> Answer:
     """The two answers of `pitplan pit`: that which keeps to the fixed blocks, and in it the one that does not."""
     pits = pd.read_csv(folder / "pits.csv", dtype={"worth_at_factor": str})
     kept, free = (pits[pits["fixed_blocks"] == name].set_index("factor") for name in ("kept", "free"))
-    rows, known, order = beside(tables.read(project).frame, written, project, record["grid"], "blocks.csv")
-    said = written[[*SAID, *FREE]].iloc[order].reset_index(drop=True)
+    frame, parts = rows_of(project, written, record["grid"])
+    frame, beyond = divided(frame, project, record["grid"])
+    rows, known, order = beside(frame, written, project, record["grid"], "blocks.csv")
+    said = written[[*said_of(project), *FREE]].iloc[order].reset_index(drop=True)
     other = said.assign(**{name: said[f"free_{name}"] for name in ("factor", "process_factor")})
     factors = tuple(record["factors"])
     alone = Answer(folder, replace(project, fixed=None), rows, known, other, free, None, record, factors)
-    return Answer(folder, project, rows, known, said, kept, None, record, factors, alone)
+    return Answer(folder, project, rows, known, said, kept, None, record, factors, alone, parts=parts, beyond=beyond)
+
+
+def divided(frame: pd.DataFrame, project: Project, grid: dict[str, Any]) -> tuple[pd.DataFrame, Optional[pd.DataFrame]]:
+    """The rows that lie in a grid, and where there are such those that lie beyond it.
+
+    Raises PlanError where these are not as many as were left out.
+    """
+    columns = project.table
+    east, north, up = np.rint((frame[[columns.x, columns.y, columns.z]].to_numpy() - grid["origin"]) / grid["size"]).T
+    levels, rows, width = grid["shape"]
+    inside = (east >= 0) & (east < width) & (north >= 0) & (north < rows) & (up <= 0) & (up > -levels)
+    beyond = np.count_nonzero(~inside)
+    if beyond != grid.get("rows_left_out", 0):
+        raise PlanError(f"blocks.csv: {beyond:,} blocks of the table are not in it: has the table changed since?")
+    if not beyond:
+        return frame, None
+    return frame[inside].reset_index(drop=True), frame[~inside].reset_index(drop=True)
 
 
 def read_blocks(path: Path, project: Project, said: Optional[tuple[str, ...]] = None) -> pd.DataFrame:
-    """The centres and those of these columns that the file has; every column where none are named, or where rows may stand for cells that
-    the table has none of."""
+    """The centres and those of these columns that the file has; every column where none are named, where rows may stand for cells that the
+    table has none of, or where they are put together."""
     columns = project.table
     codes = {own_name(name): str for name in (columns.id, columns.rock, columns.region) if name}
     wanted = {*(said or ()), *(own_name(name) for name in (columns.x, columns.y, columns.z))}
-    is_whole = said is None or isinstance(columns.absent, AbsentRock)
+    is_whole = said is None or isinstance(columns.absent, AbsentRock) or columns.reblock is not None
     usecols = None if is_whole else wanted.__contains__
     return pd.read_csv(path, dtype=codes, keep_default_na=False, na_values={}, float_precision="round_trip", usecols=usecols)
 
 
 def own_name(column: str) -> str:
     """A column of the planner's, as blocks.csv names it."""
-    return f"planner_{column}" if column in (*SAID, *FREE, PHASE, YEAR) else column
+    return f"planner_{column}" if column in (*SAID, *FREE, PHASE, YEAR, PROCESS) else column
 
 
 def beside(

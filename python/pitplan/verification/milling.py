@@ -18,8 +18,8 @@ def parcels_of(answer: Answer, edges: list[float]) -> pd.DataFrame:
     """By phase, level and bin what the ore adds up to: tonnes, metals and gain."""
     gain = (answer.said["revenue"] - answer.said["processing_cost"]).to_numpy()
     with np.errstate(divide="ignore", invalid="ignore"):
-        bins = 1 + (gain[:, None] / answer.tonnes[:, None] > np.array(edges)).sum(axis=1)
-    columns = {"ore_tonnes": answer.tonnes, "gain": gain} | {f"metal_{name}": metal for name, metal in answer.quantities.items()}
+        bins = 1 + (gain[:, None] / answer.feed[:, None] > np.array(edges)).sum(axis=1)
+    columns = {"ore_tonnes": answer.feed, "gain": gain} | {f"metal_{name}": metal for name, metal in answer.quantities.items()}
     frame = pd.DataFrame(columns | {"phase": answer.said["phase"].to_numpy(), "level": answer.cells[0], "bin": bins})
     return frame[(frame["phase"] > 0) & answer.ore & (answer.tonnes > 0)].groupby(KEYS).sum()
 

@@ -3,37 +3,57 @@
 from __future__ import annotations
 
 import math
-from dataclasses import dataclass
+from dataclasses import dataclass, replace
 from decimal import ROUND_HALF_EVEN, Decimal
-from typing import Union
+from fractions import Fraction
 
 import numpy as np
 
-from ..project import GRADE_UNITS
-from .answer import TOLD, UNDUG, Answer, Rule, rule
+from ..money_rules import GRADE_UNITS, Metal
+from ..project import Project
+from .answer import PROCESS, TOLD, UNDUG, Answer, Rule, rule
+from .feed import at_grade, by_code, of_code
 from .walls import needed_by
 
 SAMPLE = 10_000
-NAMES = ("mining_cost", "revenue", "processing_cost")
-Price = Union[Decimal, dict[str, Decimal]]
+MINING = "mining_cost"
 
 
 def verify(answer: Answer) -> Rule:
     """Each amount of blocks.csv is the product of the table's and the project's numbers, rounded once."""
     chosen = sample(answer)
-    differences, count = near(answer)
+    parts = [replace(answer, project=way) for way in answer.project.ways]
+    found = [near(part, names) for part, names in zip(parts, answer.amounts_of_ways)]
+    differences, count = [said for told, _ in found for said in told], sum(count for _, count in found)
     if not count:
-        differences = not_exact(answer, chosen)
+        differences = [said for part, names in zip(parts, answer.amounts_of_ways) for said in not_exact(part, chosen, names)]
+        differences += unlike_best(answer) if answer.project.processes else []
         count = len(differences)
     return rule("money", f"costs and revenue of all blocks are right, and exactly so for {len(chosen):,}", differences, count)
 
 
-def not_exact(answer: Answer, chosen: np.ndarray) -> list[str]:
+def unlike_best(answer: Answer) -> list[str]:
+    """Blocks whose process, or its revenue and cost, are not those of the process that is worth most at the price as given."""
+    names = [process.name for process in answer.project.processes]
+    unit = 10**answer.project.money.decimals
+    told = [np.rint(answer.said[list(pair)].to_numpy() * unit).astype(np.int64) for pair in answer.amounts_of_ways]
+    gains = np.stack([amounts[:, 0] - amounts[:, 1] for amounts in told])
+    # Of several that are worth as much it is the one of least revenue.
+    tied = gains == gains.max(axis=0)
+    best = np.where(tied, np.stack([amounts[:, 0] for amounts in told]), np.iinfo(np.int64).max).argmin(axis=0)
+    of_best = np.stack(told)[best, np.arange(len(best))]
+    said = np.rint(answer.said[["revenue", "processing_cost"]].to_numpy() * unit).astype(np.int64)
+    expected = np.where(gains.max(axis=0) > 0, np.array(names, dtype=object)[best], "")
+    off = np.flatnonzero((said != of_best).any(axis=1) | (answer.said[PROCESS].to_numpy() != expected))
+    return [f"{answer.called(row)}: process {answer.said[PROCESS].iloc[row]!r} for {expected[row]!r}, or its amounts" for row in off]
+
+
+def not_exact(answer: Answer, chosen: np.ndarray, names: tuple[str, str]) -> list[str]:
     """What differs by anything at all, of these rows, by decimals."""
     read, differences = Exactly.of(answer), []
-    told = [answer.said[name].to_numpy() for name in NAMES]
+    told = [answer.said[name].to_numpy() for name in (MINING, *names)]
     for row in chosen.tolist():
-        for name, column, amount in zip(NAMES, told, read.amounts(row)):
+        for name, column, amount in zip((MINING, *names), told, read.amounts(row)):
             said = column[row]
             if not math.isclose(float(amount), said, rel_tol=1e-15):
                 differences.append(f"{answer.called(row)}: {name} {said:.10g} for {amount}")
@@ -65,10 +85,6 @@ def highest_needed(answer: Answer) -> float:
     return answer.found["highest"]
 
 
-def of_rock(price: Price, rock: str) -> Decimal:
-    return price.get(rock, Decimal(0)) if isinstance(price, dict) else price
-
-
 def more_for_depth(answer: Answer, elevation: float) -> Decimal:
     """What mining a tonne costs more for the depth of a block's centre, in metres of elevation."""
     money = answer.project.money
@@ -86,59 +102,80 @@ def more_for_depth(answer: Answer, elevation: float) -> Decimal:
 
 
 @dataclass(frozen=True)
+class Costs:
+    """What blocks of one rock and region have in common: mining cost of a tonne without what depth adds, processing cost of a tonne, and
+    the shares that are told of tonnes."""
+
+    rock: str
+    mining: Decimal
+    processing: Decimal
+    mining_recovery: Decimal
+    dilution: Decimal
+
+    @staticmethod
+    def of(project: Project, rock: str, region: str) -> Costs:
+        money = project.money
+        told = (money.mining_cost, money.processing_cost, money.mining_recovery, money.dilution)
+        return Costs(rock, *(of_code(value, rock, region) for value in told))
+
+    def recovered(self, metal: Metal, grade: Decimal) -> Decimal:
+        """The grade that is recovered of each tonne of the block itself that comes to the mill."""
+        of_rock = metal.recovery.get(self.rock, Decimal(0)) if isinstance(metal.recovery, dict) else metal.recovery
+        share = at_grade(of_rock, Fraction(grade) / Fraction(1 + self.dilution))
+        return max(grade - of_code(metal.fixed_tail, self.rock, "") * (1 + self.dilution), Decimal(0)) * share
+
+
+@dataclass(frozen=True)
 class Exactly:
     """The table's numbers as they are needed to weigh a block by decimals.
 
-    rocks   by code: mining cost of a tonne without what depth adds, processing cost of a tonne, and recovery of each metal
+    codes   of each block, of rock and region
+    costs   by these codes
     depths  what mining a tonne costs more, by level from the top
     """
 
     answer: Answer
     tonnes: list[float]
     grades: list[list[float]]
-    rock: list[str]
-    rocks: dict[str, tuple[Decimal, Decimal, list[Decimal]]]
+    codes: list[tuple[str, str]]
+    costs: dict[tuple[str, str], Costs]
     level: list[int]
     depths: list[Decimal]
 
     @staticmethod
     def of(answer: Answer) -> "Exactly":
         project, columns = answer.project, answer.project.table
-        rock = answer.rows[columns.rock].astype(str).tolist() if columns.rock else [""] * len(answer.rows)
-        prices = {
-            code: (
-                of_rock(project.money.mining_cost, code),
-                of_rock(project.money.processing_cost, code),
-                [of_rock(metal.recovery, code) for metal in project.metals],
-            )
-            for code in set(rock)
-        }
+        named = [answer.rows[name].astype(str).tolist() if name else [""] * len(answer.rows) for name in (columns.rock, columns.region)]
+        codes = list(zip(*named))
+        costs = {code: Costs.of(project, *code) for code in set(codes)}
         grades = [answer.rows[metal.column].tolist() for metal in project.metals]
         depths = [more_for_depth(answer, z) for z in answer.elevations]
-        return Exactly(answer, answer.tonnes.tolist(), grades, rock, prices, answer.cells[0].tolist(), depths)
+        return Exactly(answer, answer.tonnes.tolist(), grades, codes, costs, answer.cells[0].tolist(), depths)
 
     def amounts(self, row: int) -> tuple[Decimal, Decimal, Decimal]:
         """Mining cost, revenue and processing cost of a block."""
         project, tonnes = self.answer.project, Decimal(repr(self.tonnes[row]))
-        mining_cost, processing_cost, recoveries = self.rocks[self.rock[row]]
-        mining = tonnes * (mining_cost + self.depths[self.level[row]])
+        costs = self.costs[self.codes[row]]
+        mining = tonnes * (costs.mining + self.depths[self.level[row]])
         revenue = selling = Decimal(0)
-        for metal, grades, recovery in zip(project.metals, self.grades, recoveries):
-            quantity = tonnes * Decimal(repr(grades[row])) * GRADE_UNITS[metal.unit] * recovery
+        for metal, grades in zip(project.metals, self.grades):
+            grade = costs.recovered(metal, Decimal(repr(grades[row])))
+            quantity = tonnes * costs.mining_recovery * grade * GRADE_UNITS[metal.unit]
             revenue += quantity * metal.price
             selling += quantity * metal.selling_cost
         unit = Decimal(1).scaleb(-project.money.decimals)
-        amounts = (mining, revenue, tonnes * processing_cost + selling)
+        processing = tonnes * costs.mining_recovery * (1 + costs.dilution) * (costs.processing + project.money.royalty_per_tonne)
+        amounts = (mining, revenue - revenue * project.money.royalty, processing + selling)
         mining, revenue, processing = (amount.quantize(unit, ROUND_HALF_EVEN) for amount in amounts)
         return mining, revenue, processing if revenue else Decimal(0)
 
 
-def near(answer: Answer) -> tuple[list[str], int]:
+def near(answer: Answer, names: tuple[str, str]) -> tuple[list[str], int]:
     """What differs by more than a rounding, of all blocks, by floats: the first ten of each name, and how many there are."""
     mining, revenue, processing = by_floats(answer)
-    processing = np.where(answer.said["revenue"] > 0, processing, 0.0)
+    processing = np.where(answer.said[names[0]] > 0, processing, 0.0)
     unit, differences, count = 10.0**-answer.project.money.decimals, [], 0
-    for name, amounts in zip(NAMES, (mining, revenue, processing)):
+    for name, amounts in zip((MINING, *names), (mining, revenue, processing)):
         said = answer.said[name].to_numpy()
         off = np.flatnonzero(np.abs(said - amounts) > 0.51 * unit + 1e-12 * np.abs(amounts))
         differences += [f"{answer.called(row)}: {name} {said[row]:.10g} for {amounts[row]:.10g}" for row in off[:TOLD]]
@@ -148,20 +185,19 @@ def near(answer: Answer) -> tuple[list[str], int]:
 
 def by_floats(answer: Answer) -> tuple[np.ndarray, np.ndarray, np.ndarray]:
     """Mining cost, revenue, and cost of processing and selling of each block, as floats that are not rounded."""
-    project, columns = answer.project, answer.project.table
-    rock = answer.rows[columns.rock].astype(str) if columns.rock else None
-
-    def by_rock(price: Price) -> np.ndarray:
-        if not isinstance(price, dict):
-            return np.full(len(answer.rows), float(price))
-        assert rock is not None
-        return rock.map({name: float(value) for name, value in price.items()}).fillna(0.0).to_numpy()
-
+    money, columns = answer.project.money, answer.project.table
     deeper = np.array([float(more_for_depth(answer, z)) for z in answer.elevations])
-    mining = answer.tonnes * (by_rock(project.money.mining_cost) + deeper[answer.cells[0]])
+    mining = answer.tonnes * (by_code(money.mining_cost, answer.rows, columns) + deeper[answer.cells[0]])
+    return mining, *gains_by_floats(answer)
+
+
+def gains_by_floats(answer: Answer) -> tuple[np.ndarray, np.ndarray]:
+    """Revenue, and cost of processing and selling of each block, as floats that are not rounded."""
+    project, money, columns = answer.project, answer.project.money, answer.project.table
     revenue, selling = np.zeros(len(answer.rows)), np.zeros(len(answer.rows))
     for metal in project.metals:
         quantity = answer.quantities[metal.name]
-        revenue += quantity * float(metal.price)
+        revenue += quantity * float(metal.price) * (1 - float(money.royalty))
         selling += quantity * float(metal.selling_cost)
-    return mining, revenue, answer.tonnes * by_rock(project.money.processing_cost) + selling
+    a_tonne = by_code(money.processing_cost, answer.rows, columns) + float(money.royalty_per_tonne)
+    return revenue, answer.feed * a_tonne + selling

@@ -90,17 +90,18 @@ def verify_sums(answer: Answer) -> Rule:
 def of_blocks(answer: Answer, mine: np.ndarray, ore: np.ndarray) -> dict[str, float]:
     """What the blocks of a phase add up to; `ore` are those that pay for their processing."""
     tonnes = answer.tonnes
-    of_ore, of_all = tonnes[ore].sum(), tonnes[mine].sum()
+    of_ore, of_all = answer.feed[ore].sum(), tonnes[mine].sum()
     found = {
         "blocks": np.count_nonzero(tonnes[mine] > 0),
         "tonnes": of_all,
         "ore_tonnes": of_ore,
-        "waste_tonnes": tonnes[mine & ~answer.ore].sum(),
+        "waste_tonnes": tonnes[mine & ~answer.ore].sum() + (tonnes - answer.feed)[ore].sum(),
         "strip_ratio": (of_all - of_ore) / of_ore if of_ore else np.nan,
         "worth": answer.worths[mine].sum(),
     }
+    found |= {name: feed[mine].sum() for name, feed in answer.feeds.items()}
     for metal in answer.project.metals:
-        grades = answer.rows[metal.column].to_numpy()
-        found[f"grade_{metal.name}"] = np.average(grades[ore], weights=tonnes[ore]) if of_ore else np.nan
+        content = answer.undiluted[ore] @ answer.rows[metal.column].to_numpy()[ore]
+        found[f"grade_{metal.name}"] = content / of_ore if of_ore else np.nan
         found[f"metal_{metal.name}"] = answer.quantities[metal.name][ore].sum()
     return {name: float(amount) for name, amount in found.items()}

@@ -14,6 +14,7 @@ import pandas as pd
 
 from . import milling, years
 from .answer import TOLD, Answer, Rule, rule
+from .money_of_years import capital, more_by_prices, most_premium
 
 CENT, SLIGHT = 0.01, 1e-6
 # The last places that schedule.csv keeps of amounts and of shares.
@@ -84,7 +85,8 @@ def ways_of(answer: Answer, told: dict[str, Any]) -> tuple[list[str], list[Way]]
 
 def sums_of_benches(answer: Answer) -> pd.DataFrame:
     """By phase and level what the blocks add up to, of benches that hold rock."""
-    columns = {"rock_tonnes": answer.tonnes, "ore_tonnes": np.where(answer.ore, answer.tonnes, 0.0), "cash": answer.worths}
+    columns = {"rock_tonnes": answer.tonnes, "ore_tonnes": np.where(answer.ore, answer.feed, 0.0), "cash": answer.worths}
+    columns |= answer.feeds
     columns |= {f"metal_{name}": np.where(answer.ore, metal, 0.0) for name, metal in answer.quantities.items()}
     frame = pd.DataFrame(columns | {"phase": answer.said["phase"].to_numpy(), "level": answer.cells[0]})
     return frame[(frame["phase"] > 0) & (frame["rock_tonnes"] > 0)].groupby(["phase", "level"]).sum()
@@ -100,6 +102,8 @@ def verify_amounts(ways: list[Way], told: dict[str, Any], sums: pd.DataFrame, mi
         if way.name in told["bins"]:
             amounts, more, wrong = milling.amounts(way.answer, rows, amounts, told["bins"][way.name])
             slack, differences = slack + more, [*differences, *wrong]
+        amounts["cash"] += more_by_prices(way.answer.project, amounts.assign(year=rows["year"]))
+        slack["cash"] += AMOUNT * most_premium(way.answer.project)
         for name in sums.columns:
             expected = amounts[name]
             off = (rows[name] - expected).abs() > slack[name] + 1e-9 * expected.abs()
@@ -138,6 +142,8 @@ def limits_of(way: Way) -> Iterator[tuple[str, float, float]]:
     ore, rock = (rules and rules.ore_per_year) or shells.ore_per_year, (rules and rules.rock_per_year) or shells.rock_per_year
     yield "ore_tonnes", ore, CENT
     yield "rock_tonnes", rock or math.inf, CENT
+    for process in way.answer.project.processes:
+        yield f"ore_tonnes_{process.name}", process.per_year, CENT
     for name, most in (rules.metal_per_year if rules else {}).items():
         yield f"metal_{name}", most, CENT
 
@@ -151,7 +157,7 @@ def verify_limits(ways: list[Way]) -> Rule:
         by_year = way.rows.groupby("year")
         for name, most, slack in limits_of(way):
             for year, amount in by_year[name].sum().items():
-                share = ramp_up[min(int(year), len(ramp_up)) - 1] if name == "ore_tonnes" else 1.0
+                share = ramp_up[min(int(year), len(ramp_up)) - 1] if name.startswith("ore_tonnes") else 1.0
                 if amount > most * share * (1 + 1e-8) + slack:
                     differences.append(f"{way.name}, year {year}: {name} {amount:.10g} above {most * share:.10g}")
         sunk = way.rows.groupby(["phase", "year"])["share"].sum()
@@ -172,7 +178,8 @@ def verify_value(ways: list[Way], told: dict[str, Any], sums: pd.DataFrame) -> R
         off = (rows["discounted"] - present).abs() > 2 * AMOUNT + 1e-9 * present.abs()
         differences += [f"{place(row)}: discounted {row.discounted:.10g} for {present[row.Index]:.10g}" for row in rows[off].itertuples()]
         left = sums["rock_tonnes"].sum() - rows["rock_tonnes"].sum()
-        expected = {"value": rows["discounted"].sum(), "years": way.last, "left_tonnes": left}
+        costs = sum(present_costs(way.answer, year) for year in range(1, way.last + 1))
+        expected = {"value": rows["discounted"].sum() - costs, "years": way.last, "left_tonnes": left}
         for name, amount in expected.items():
             if abs(way.said[name] - amount) > CENT + AMOUNT * len(rows) + 1e-9 * abs(amount):
                 differences.append(f"{way.name}: {name} {way.said[name]:.12g} for {amount:.12g}")
@@ -194,6 +201,12 @@ def discount(answer: Answer, year: int) -> float:
     return (1 + settings.rate) ** -(year - (0.5 if settings.discounting == "mid_year" else 0.0))
 
 
+def present_costs(answer: Answer, year: int) -> float:
+    """Fixed cost and capital of a whole year, as they are worth at the start."""
+    of_year = float(answer.project.money.fixed_cost_per_year) * discount(answer, year)
+    return of_year + capital(answer.project, year) * (1 + answer.project.schedule.rate) ** -(year - 1)
+
+
 def unlike_years(way: Way, factor: int) -> list[str]:
     """What years.csv says of a way, and is not the sum of its rows."""
     assert way.answer.years is not None
@@ -202,10 +215,23 @@ def unlike_years(way: Way, factor: int) -> list[str]:
     if said.index.tolist() != list(range(1, way.last + 1)):
         return [*found, f"{way.name}: years {said.index.tolist()} for 1 to {way.last}"]
     for name in [name for name in said.columns if name not in ("case", "factor")]:
-        total = way.rows.groupby("year")[name].sum().reindex(said.index, fill_value=0.0)
+        total = of_years(way, name, said.index)
         off = (said[name] - total).abs() > CENT + AMOUNT * len(way.rows) + 1e-9 * total.abs()
         found += [f"{way.name}, year {year}: {name} {said[name][year]:.12g} for {total[year]:.12g}" for year in said.index[off]]
     return found
+
+
+def of_years(way: Way, name: str, years: pd.Index) -> pd.Series:
+    """What an amount of years.csv should be by year: the sum of the schedule's rows, and what years cost."""
+    project = way.answer.project
+    fixed = pd.Series(float(project.money.fixed_cost_per_year), index=years)
+    spent = pd.Series([capital(project, int(year)) for year in years], index=years, dtype=float)
+    if name in ("fixed_cost", "capital"):
+        return fixed if name == "fixed_cost" else spent
+    total = way.rows.groupby("year")[name].sum().reindex(years, fill_value=0.0)
+    if name == "cash":
+        return total - fixed - spent
+    return total - [present_costs(way.answer, int(year)) for year in years] if name == "discounted" else total
 
 
 def verify_years_of_blocks(ways: list[Way], told: dict[str, Any], sums: pd.DataFrame) -> Rule:

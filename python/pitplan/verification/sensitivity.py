@@ -15,11 +15,10 @@ from typing import Any
 import numpy as np
 import pandas as pd
 
-from .. import table as tables
 from ..errors import PlanError
 from ..project import Project, load, of_data
 from . import absent, fixed, money, sums, walls, years
-from .answer import Answer, Rule, beside, read_blocks, rule
+from .answer import Answer, Rule, beside, divided, read_blocks, rows_of, rule
 from .weighing import gains, weighed
 
 SHARES = ("-0.2", "-0.1", "0.1", "0.2")
@@ -75,12 +74,14 @@ class Told:
         record = json.loads((written / "sensitivity.json").read_text(encoding="utf-8"))
         project = load(folder / record["project"])
         blocks = read_blocks(written / "blocks.csv", project)
-        known, count, order = beside(tables.read(project).frame, blocks, project, record["grid"], "blocks.csv")
+        frame, parts = rows_of(project, blocks, record["grid"])
+        frame, beyond = divided(frame, project, record["grid"])
+        known, count, order = beside(frame, blocks, project, record["grid"], "blocks.csv")
         factor = int(record["factor"])
         factors = tuple(it for it in project.schedule.factors if it <= factor)
         said = pd.DataFrame({"id": blocks["id"].to_numpy()[order], "factor": 0})
         record |= {"walls": record["cases"][0]["walls"]}
-        ground = Answer(folder, project, known, count, said, pd.DataFrame(), None, record, factors)
+        ground = Answer(folder, project, known, count, said, pd.DataFrame(), None, record, factors, parts=parts, beyond=beyond)
         rows = pd.read_csv(written / "sensitivity.csv", dtype={"number": str, "second": str, "worth_at_factor": str}, keep_default_na=False, na_values=[""])
         rows[["number", "second"]] = rows[["number", "second"]].fillna("")
         return Told(ground, rows, list(cases_in(folder, record)), factor)
@@ -199,11 +200,11 @@ def changed(project: Project, changes: tuple[tuple[str, Decimal], ...]) -> Proje
 
 
 def times(value: Any, by: Decimal, most: Decimal = Decimal("Infinity")) -> Any:
-    """A number, or all numbers of a table by rock; of pairs the second ones."""
+    """A number, or all numbers of a table by rock or of a list; of pairs the second ones."""
     if isinstance(value, dict):
         return {key: times(it, by, most) for key, it in value.items()}
     if isinstance(value, list):
-        return [[first, times(second, by, most)] for first, second in value]
+        return [[it[0], times(it[1], by, most)] if isinstance(it, list) else times(it, by, most) for it in value]
     return min(value * by, most)
 
 
@@ -214,11 +215,11 @@ def in_section(section: str, *keys: str) -> Any:
     return change
 
 
-def in_metals(key: str, most: Decimal = Decimal("Infinity")) -> Any:
+def in_metals(*keys: str, most: Decimal = Decimal("Infinity")) -> Any:
     def change(data: Data, by: Decimal, metal: str) -> None:
         for one in data["metals"]:
-            if key in one and metal in ("", one["name"]):
-                one[key] = times(one[key], by, most)
+            if metal in ("", one["name"]):
+                one |= {key: times(one[key], by, most) for key in keys if key in one}
 
     return change
 
@@ -229,11 +230,11 @@ def in_walls(data: Data, by: Decimal, metal: str) -> None:
 
 
 NUMBERS: dict[str, Any] = {
-    "price": in_metals("price"),
+    "price": in_metals("price", "prices"),
     "mining_cost": in_section("money", "mining_cost", "mining_cost_per_level", "mining_cost_by_elevation"),
     "processing_cost": in_section("money", "processing_cost"),
     "selling_cost": in_metals("selling_cost"),
-    "recovery": in_metals("recovery", Decimal(1)),
+    "recovery": in_metals("recovery", most=Decimal(1)),
     "slopes": in_walls,
     "capacity": in_section("shells", "ore_per_year", "rock_per_year"),
 }

@@ -41,19 +41,20 @@ def sums(answer: Answer, factor: int) -> dict[str, float]:
     inside = within(answer, factor)
     ore, tonnes = inside & answer.ore, answer.tonnes
     processed = answer.said["process_factor"].to_numpy()
-    of_ore, of_all = tonnes[ore].sum(), tonnes[inside].sum()
+    of_ore, of_all = answer.feed[ore].sum(), tonnes[inside].sum()
     found = {
         "blocks": np.count_nonzero(inside & (tonnes > 0)),
         "tonnes": of_all,
         "ore_tonnes": of_ore,
-        "waste_tonnes": tonnes[inside & ~answer.ore].sum(),
+        "waste_tonnes": tonnes[inside & ~answer.ore].sum() + (tonnes - answer.feed)[ore].sum(),
         "strip_ratio": (of_all - of_ore) / of_ore if of_ore else np.nan,
-        "processed_tonnes": tonnes[(processed > 0) & (processed <= factor)].sum(),
+        "processed_tonnes": answer.feed[(processed > 0) & (processed <= factor)].sum(),
         "worth": answer.worths[inside].sum(),
     }
+    found |= {name: feed[inside].sum() for name, feed in answer.feeds.items()}
     for metal in answer.project.metals:
-        grades = answer.rows[metal.column].to_numpy()
-        found[f"grade_{metal.name}"] = np.average(grades[ore], weights=tonnes[ore]) if of_ore else np.nan
+        content = answer.undiluted[ore] @ answer.rows[metal.column].to_numpy()[ore]
+        found[f"grade_{metal.name}"] = content / of_ore if of_ore else np.nan
         found[f"metal_{metal.name}"] = answer.quantities[metal.name][ore].sum()
     return {name: float(amount) for name, amount in found.items()}
 
@@ -69,22 +70,35 @@ def verify_worth(answer: Answer) -> Rule:
 
 def unlike_worth(answer: Answer) -> list[str]:
     """The factors at which the program's worth is not the sum of what the pit's blocks are worth at that factor."""
-    revenue, processing, mining = (millionths(answer, name) for name in ("revenue", "processing_cost", "mining_cost"))
-    differences = []
+    mining, differences = millionths(answer, "mining_cost"), []
     for factor in answer.shells.index:
         inside = within(answer, int(factor))
-        pays = factor * revenue > 1000 * processing if answer.project.money.cutoff == "moving" else revenue > processing
-        some = inside & np.asarray(pays, dtype=bool)
-        gain, cost = int(factor) * total(revenue[some]), 1000 * (total(processing[some]) + total(mining[inside]))
+        revenue, processing = chosen(answer, int(factor))
+        gain, cost = int(factor) * total(revenue[inside]), 1000 * (total(processing[inside]) + total(mining[inside]))
         said = Decimal(answer.shells["worth_at_factor"][factor]).scaleb(9)
         if abs(said - (gain - cost)) > lost_digits(answer) * (gain + cost):
             differences.append(f"factor {factor}: worth_at_factor {said.scaleb(-9)} for {Decimal(gain - cost).scaleb(-9)}")
     return differences
 
 
+def chosen(answer: Answer, factor: int) -> tuple[np.ndarray, np.ndarray]:
+    """Revenue and processing cost of each block in the process that is worth most at a factor; 0 where none pays. With a fixed cut-off in
+    that of the price as given."""
+    is_moving = answer.project.money.cutoff == "moving"
+    ways, price = (answer.amounts_of_ways, factor) if is_moving else ([("revenue", "processing_cost")], 1000)
+    revenue = processing = gain = np.zeros(len(answer.rows), dtype=np.int64)
+    for names in ways:
+        first, second = (millionths(answer, name) for name in names)
+        worth = price * first - 1000 * second
+        better = np.asarray(worth > gain, dtype=bool)
+        revenue, processing, gain = (np.where(better, new, old) for new, old in ((first, revenue), (second, processing), (worth, gain)))
+    return revenue, processing
+
+
 def lost_digits(answer: Answer) -> Decimal:
     """How far a sum of amounts may be off by its size: not at all, unless some have more digits than a float of blocks.csv holds."""
-    greatest = max(float(answer.said[name].max()) for name in ("revenue", "processing_cost", "mining_cost"))
+    names = ["mining_cost", *(name for pair in answer.amounts_of_ways for name in pair)]
+    greatest = max(float(answer.said[name].max()) for name in names)
     return Decimal(0) if greatest * 10**answer.project.money.decimals < EXACT_WHOLE else Decimal("1e-15")
 
 
@@ -108,14 +122,14 @@ def total(amounts: np.ndarray) -> int:
 
 def first_processed(answer: Answer) -> np.ndarray:
     """For each block the first of the folder's factors, from that on at which it is dug, at which processing it pays; 0 at none."""
-    first, revenue, processing = answer.said["factor"].to_numpy(), millionths(answer, "revenue"), millionths(answer, "processing_cost")
+    first = answer.said["factor"].to_numpy()
     expected = np.zeros(len(first), dtype=np.int64)
     if answer.project.money.cutoff == "moving":
         for factor in sorted(answer.factors, reverse=True):
-            pays = np.asarray(factor * revenue > 1000 * processing, dtype=bool)
+            pays = np.asarray(chosen(answer, factor)[0] > 0, dtype=bool)
             expected[pays & (first > 0) & (first <= factor)] = factor
         return expected
-    return np.where(np.asarray(revenue > processing, dtype=bool), first, 0)
+    return np.where(np.asarray(chosen(answer, 1000)[0] > 0, dtype=bool), first, 0)
 
 
 def late(answer: Answer) -> tuple[list[str], int]:

@@ -29,6 +29,8 @@ class Run:
 
 def flatness(wall: Wall, azimuth: np.ndarray) -> np.ndarray:
     """Metres that the wall steps back for each metre up, by azimuth in degrees: between two that are named linear, round the circle."""
+    if wall.bench:
+        return np.full(np.shape(azimuth), 1 / math.tan(math.radians(wall.bench.face)) + wall.bench.berm / wall.bench.height)
     given = [azimuth for azimuth, _ in wall.angles]
     back = [math.cos(math.radians(angle)) / math.sin(math.radians(angle)) for _, angle in wall.angles]
     return np.interp(azimuth, [given[-1] - 360, *given, given[0] + 360], [back[-1], *back, back[0]])
@@ -39,6 +41,10 @@ def cone(wall: Wall, size: tuple[float, float, float], up: int) -> np.ndarray:
     if wall.pattern:
         corner = NEIGHBOURS[wall.pattern]
         return np.array([[abs(north) + abs(east) <= corner for east in (-1, 0, 1)] for north in (-1, 0, 1)])
+    if wall.steps:
+        steps = {(north, east) for east, north, above in wall.steps if above == up}
+        far = max((max(abs(north), abs(east)) for north, east in steps), default=0)
+        return np.array([[(north, east) in steps for east in range(-far, far + 1)] for north in range(-far, far + 1)])
     back = up * size[2] * max(flatness(wall, np.arange(0.0, 360.0, 0.25)))
     far = int(back / min(size[0], size[1])) + 1
     north, east = np.mgrid[-far : far + 1, -far : far + 1] * np.array([size[1], size[0]])[:, None, None]
@@ -83,6 +89,8 @@ def verify(answer: Answer) -> Rule:
             if below is None:
                 continue
             inside = runs(cone(wall, answer.size, up))
+            if not inside:
+                continue
             reach = max(max(abs(run.north), abs(run.west), abs(run.east)) for run in inside)
             wide = tuple(slice(max(0, it.start - reach * (axis > 0)), it.stop + reach * (axis > 0)) for axis, it in enumerate(below))
             part = dug[:-up][wide]
@@ -98,7 +106,7 @@ def verify_steepness(answer: Answer) -> Rule:
         return rule("levels", f"the needs reach over {slopes.levels} levels, as the project says", [])
     for number, wall in enumerate(slopes.walls):
         levels = answer.levels(wall)
-        steeper = 0.0 if wall.pattern else float((high_walls(wall, answer.size, levels) - asked(wall)).max())
+        steeper = 0.0 if wall.pattern or wall.steps else float((high_walls(wall, answer.size, levels) - asked(wall)).max())
         if steeper > STEEPER + 1e-6 and levels < MOST_LEVELS:
             differences.append(f"wall entry {number + 1}: over {levels} levels it comes out {steeper:.2f} degrees steeper than asked")
     return rule("levels", f"no wall comes out more than {STEEPER} degrees steeper than asked, or needs reach over {MOST_LEVELS} levels", differences)

@@ -17,7 +17,7 @@ def weighed(whole: Answer) -> Answer:
     part = replace(whole, rows=whole.rows[dug].reset_index(drop=True), said=whole.said[dug].reset_index(drop=True))
     exactly = money.Exactly.of(part)
     amounts = [[float(amount) for amount in exactly.amounts(row)] for row in range(len(part.rows))]
-    frame = pd.DataFrame(amounts, columns=list(money.NAMES), dtype=np.float64)
+    frame = pd.DataFrame(amounts, columns=[money.MINING, "revenue", "processing_cost"], dtype=np.float64)
     part = replace(part, said=pd.concat([part.said, frame], axis=1))
     return replace(part, said=part.said.assign(process_factor=sums.first_processed(part)))
 

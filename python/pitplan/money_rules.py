@@ -1,0 +1,248 @@
+"""What `[money]` and `[[metals]]` of a project say: prices, costs, and what of a block comes to the mill and is sold."""
+
+from __future__ import annotations
+
+import re
+from dataclasses import dataclass
+from decimal import Decimal
+from typing import Any, Optional, Union
+
+from .section import Section
+
+# A price or a cost: one for every rock, or one for each rock by its code.
+ByRock = Union[Decimal, dict[str, Decimal]]
+
+# So many years are counted at most.
+MOST_YEARS = 1_000
+GRADE_UNITS = {"percent": Decimal("0.01"), "fraction": Decimal(1), "gram_per_tonne": Decimal(1)}
+METAL_UNITS = {"percent": "t", "fraction": "t", "gram_per_tonne": "g"}
+GRADE_SIGNS = {"percent": "%", "fraction": "t/t", "gram_per_tonne": "g/t"}
+
+
+@dataclass(frozen=True)
+class ByRegion:
+    """A number for each region, by its code."""
+
+    values: dict[str, Decimal]
+
+
+# One for every block, or for each rock or each region.
+ByCode = Union[Decimal, dict[str, Decimal], ByRegion]
+
+
+@dataclass(frozen=True)
+class Curve:
+    """Pairs of a grade, in the metal's unit, and the recovery there: by rising grade, and recoveries do not fall."""
+
+    points: tuple[tuple[Decimal, Decimal], ...]
+
+
+# One recovery for every grade, or one by grade.
+Recovery = Union[Decimal, Curve]
+
+
+@dataclass(frozen=True)
+class Metal:
+    """What is sold: its grade column, and price and selling cost for a tonne of metal (for gram_per_tonne, a gram).
+
+    recovery    the share that is recovered of what comes to the mill, less the fixed tail; one, or by rock
+    fixed_tail  the grade, in the column's unit, of what is lost of each tonne that comes to the mill, whatever it holds
+    prices      of each year from the first, in years and schedules, the last one staying; none: the price, as in the worth of blocks
+    """
+
+    name: str
+    column: str
+    unit: str
+    price: Decimal
+    selling_cost: Decimal
+    recovery: Union[Recovery, dict[str, Recovery]]
+    fixed_tail: ByRock = Decimal(0)
+    prices: tuple[Decimal, ...] = ()
+
+    @property
+    def sign(self) -> str:
+        """The grade's unit as it is written: %, g/t or t/t."""
+        return GRADE_SIGNS[self.unit]
+
+    @property
+    def quantity(self) -> str:
+        """The unit in which the metal is counted: t, or g where the grade is in grams a tonne."""
+        return METAL_UNITS[self.unit]
+
+
+@dataclass(frozen=True)
+class Process:
+    """One of several ways to treat ore: what it costs a tonne, the recovery of each metal that it recovers, and the tonnes that it takes in
+    a year."""
+
+    name: str
+    cost: ByRock
+    recovery: dict[str, Union[Recovery, dict[str, Recovery]]]
+    per_year: float
+
+
+@dataclass(frozen=True)
+class Money:
+    """Costs a tonne, how many decimals of the currency are kept, and whether the cut-off moves with the price.
+
+    mining_cost_per_level     more a tonne for each level below the one that holds the reference
+    mining_cost_reference     an elevation in metres; None: the top of the highest block that any ore needs
+    mining_cost_by_elevation  pairs of an elevation in metres and what mining costs more there, a tonne; rising
+    mining_recovery           the share of a block's tonnes that comes to the mill, where it is ore
+    dilution                  tonnes of grade 0 that come with each of these
+    royalty                   a share of the revenue
+    royalty_per_tonne         of what comes to the mill
+    fixed_cost_per_year       in years and schedules alone
+    capital                   pairs of a year, from 1, and what is spent at its start, in years and schedules alone
+    """
+
+    currency: str
+    mining_cost: ByRock
+    mining_cost_per_level: Decimal
+    mining_cost_reference: Optional[Decimal]
+    mining_cost_by_elevation: tuple[tuple[Decimal, Decimal], ...]
+    processing_cost: ByRock
+    decimals: int
+    cutoff: str
+    mining_recovery: ByCode = Decimal(1)
+    dilution: ByCode = Decimal(0)
+    royalty: Decimal = Decimal(0)
+    royalty_per_tonne: Decimal = Decimal(0)
+    fixed_cost_per_year: Decimal = Decimal(0)
+    capital: tuple[tuple[int, Decimal], ...] = ()
+
+
+def read_money(section: Section, has_processes: bool = False) -> Money:
+    if has_processes and section.has("processing_cost"):
+        raise section.wrong("processing_cost", "give the cost of each of the [[processes]], not this")
+    money = Money(
+        currency=section.text("currency", "USD"),
+        mining_cost=section.by_rock("mining_cost"),
+        mining_cost_per_level=section.number("mining_cost_per_level", Decimal(0), least=0),
+        mining_cost_reference=section.number("mining_cost_reference") if section.has("mining_cost_reference") else None,
+        mining_cost_by_elevation=read_by_elevation(section),
+        processing_cost=Decimal(0) if has_processes else section.by_rock("processing_cost"),
+        decimals=section.whole("decimals", 6, 0, 6),
+        cutoff=section.choice("cutoff", ("moving", "fixed"), "moving"),
+        mining_recovery=read_by_code(section, "mining_recovery", Decimal(1), most=1),
+        dilution=read_by_code(section, "dilution", Decimal(0)),
+        royalty=section.number("royalty", Decimal(0), least=0),
+        royalty_per_tonne=section.number("royalty_per_tonne", Decimal(0), least=0),
+        fixed_cost_per_year=section.number("fixed_cost_per_year", Decimal(0), least=0),
+        capital=read_capital(section),
+    )
+    section.finish()
+    if money.mining_cost_reference is not None and not section.has("mining_cost_per_level"):
+        raise section.wrong("mining_cost_reference", "says from where on mining_cost_per_level is added, which is missing")
+    if money.mining_cost_by_elevation and section.has("mining_cost_per_level"):
+        raise section.wrong("mining_cost_by_elevation", "give it or mining_cost_per_level, not both")
+    if money.royalty >= 1:
+        raise section.wrong("royalty", f"{money.royalty} is a share of the revenue, such as 0.03 for 3 %")
+    return money
+
+
+def read_by_code(section: Section, key: str, default: Decimal, most: Optional[int] = None) -> ByCode:
+    """A number for all blocks, by rock, or as `{ region = { CODE = number } }` by region."""
+    if not section.has(key):
+        return default
+    value = section.get(key)
+    if not isinstance(value, dict) or not isinstance(value.get("region"), dict):
+        return section.by_rock(key, most)
+    inner = section.section(key)
+    by_region = inner.by_rock("region", most)
+    inner.finish()
+    assert isinstance(by_region, dict)
+    return ByRegion(by_region)
+
+
+def read_by_elevation(section: Section) -> tuple[tuple[Decimal, Decimal], ...]:
+    """Pairs of elevation and added cost, by rising elevation."""
+    if not section.has("mining_cost_by_elevation"):
+        return ()
+    pairs = sorted(section.pairs("mining_cost_by_elevation", "elevation, cost a tonne"))
+    if any(cost < 0 for _, cost in pairs):
+        raise section.wrong("mining_cost_by_elevation", "a cost may not be negative")
+    if len({elevation for elevation, _ in pairs}) < len(pairs):
+        raise section.wrong("mining_cost_by_elevation", "an elevation is named twice")
+    return tuple(pairs)
+
+
+def read_capital(section: Section) -> tuple[tuple[int, Decimal], ...]:
+    """Pairs of a year and an amount, by rising year."""
+    if not section.has("capital"):
+        return ()
+    pairs = sorted(section.pairs("capital", "year, amount"))
+    if any(year != int(year) or not 1 <= year <= MOST_YEARS or amount < 0 for year, amount in pairs):
+        raise section.wrong("capital", f"years are whole, from 1 to {MOST_YEARS:,}, and amounts may not be negative")
+    return tuple((int(year), amount) for year, amount in pairs)
+
+
+def read_metal(section: Section, has_processes: bool = False) -> Metal:
+    for key in ("recovery", "fixed_tail") if has_processes else ():
+        if section.has(key):
+            raise section.wrong(key, "give the recoveries of each of the [[processes]], not this")
+    metal = Metal(
+        name=section.text("name"),
+        column=section.text("column"),
+        unit=section.choice("unit", tuple(GRADE_UNITS), None),
+        price=section.number("price", least=0),
+        selling_cost=section.number("selling_cost", Decimal(0), least=0),
+        recovery=Decimal(0) if has_processes else read_recovery(section, "recovery"),
+        fixed_tail=section.by_rock("fixed_tail") if section.has("fixed_tail") else Decimal(0),
+        prices=read_prices(section),
+    )
+    section.finish()
+    return metal
+
+
+def read_prices(section: Section) -> tuple[Decimal, ...]:
+    """A price for each year from the first."""
+    if not section.has("prices"):
+        return ()
+    value = section.get("prices")
+    if not isinstance(value, list) or not value:
+        raise section.wrong("prices", "must be a list of prices, one a year, such as [8000, 8200]; the last one stays")
+    prices = tuple(section.as_number("prices", item) for item in value)
+    if min(prices) < 0:
+        raise section.wrong("prices", "may not be negative")
+    return prices
+
+
+def read_process(section: Section) -> Process:
+    name = section.text("name")
+    if not re.fullmatch(r"\w[\w-]*", name):
+        raise section.wrong("name", f'"{name}" is not one word of letters, digits, _ and -, as columns are named by it')
+    by_metal = section.section("recovery")
+    process = Process(
+        name=name,
+        cost=section.by_rock("cost"),
+        recovery={metal: read_recovery(by_metal, metal) for metal in by_metal.data},
+        per_year=float(section.number("per_year", least=1)),
+    )
+    section.finish()
+    return process
+
+
+def read_recovery(section: Section, key: str) -> Union[Recovery, dict[str, Recovery]]:
+    """A share, or pairs of grade and share; one, or by rock."""
+    value = section.get(key)
+    if isinstance(value, dict):
+        return {rock: as_recovery(section, key, of_rock) for rock, of_rock in value.items()}
+    return as_recovery(section, key, value)
+
+
+def as_recovery(section: Section, key: str, value: Any) -> Recovery:
+    if not isinstance(value, list):
+        recovery = section.as_number(key, value)
+        if not 0 <= recovery <= 1:
+            raise section.wrong(key, "must lie from 0 to 1")
+        return recovery
+    points = tuple(sorted(section.as_pairs(key, value, "grade, recovery")))
+    grades, recoveries = zip(*points)
+    if grades[0] < 0 or min(recoveries) < 0 or max(recoveries) > 1:
+        raise section.wrong(key, "grades may not be negative, and recoveries must lie from 0 to 1")
+    if len(set(grades)) < len(grades):
+        raise section.wrong(key, "a grade is named twice")
+    if list(recoveries) != sorted(recoveries):
+        raise section.wrong(key, "falls as the grade rises")
+    return Curve(points)

@@ -1,0 +1,96 @@
+"""Several processes: which of them a block goes to at each price, as nodes of which no block is counted twice.
+
+At a factor a block is worth most in the process of greatest `factor * revenue - cost`, or left as waste: the greatest of lines that rise with
+the factor. Such a greatest is a sum of steps: from waste to the first process that pays as the factor rises, and from each to the next that is
+better, each worth its own line or nothing, and each from a greater factor on than the one before. So a block has a node for each step, with the
+revenue and the cost that the step adds, which needs the node of the step before. The program takes as many steps as pay, which add up to one
+process; and as each step pays from its factor on, shells nest.
+"""
+
+from __future__ import annotations
+
+from dataclasses import dataclass
+
+import numpy as np
+
+
+@dataclass(frozen=True)
+class Way:
+    """One process: what each cell yields and costs in it, in millionths, and the recovered quantity of each metal.
+
+    name  "" where there is one alone
+    """
+
+    name: str
+    revenue: np.ndarray
+    cost: np.ndarray
+    metal: dict[str, np.ndarray]
+
+
+@dataclass(frozen=True)
+class Steps:
+    """The processing nodes, by block and there one after the other.
+
+    block    the cell of each
+    way      the number of the process to which it leads
+    revenue, cost  what the step adds to that of the step before, in millionths
+    """
+
+    block: np.ndarray
+    way: np.ndarray
+    revenue: np.ndarray
+    cost: np.ndarray
+
+
+def best_way(ways: tuple[Way, ...], factor: int) -> np.ndarray:
+    """By cell the number of the process that is worth most at a factor; of several that of least revenue, at which the steps end."""
+    best = np.zeros(len(ways[0].revenue), dtype=np.int8)
+    if len(ways) == 1:
+        return best
+    gain, revenue = worth(ways[0], factor), ways[0].revenue
+    for number, way in enumerate(ways[1:], 1):
+        other = worth(way, factor)
+        better = np.array((other > gain) | ((other == gain) & (way.revenue < revenue)), dtype=bool)
+        best[better] = number
+        gain, revenue = np.where(better, other, gain), np.where(better, way.revenue, revenue)
+    return best
+
+
+def worth(way: Way, factor: int) -> np.ndarray:
+    """What each cell is worth in a process at a factor, in billionths, without its mining: Python's own whole numbers."""
+    gain: np.ndarray = factor * way.revenue.astype(object) - 1000 * way.cost.astype(object)
+    return gain
+
+
+def steps_of(ways: tuple[Way, ...]) -> Steps:
+    """The steps of each cell: from what it has, the next is the process of more revenue that is better from the least factor on; of several
+    that of most revenue."""
+    revenues, costs = (np.stack([getattr(way, name) for way in ways]).astype(object) for name in ("revenue", "cost"))
+    block = np.flatnonzero((revenues > 0).any(axis=0))
+    revenue, cost = np.zeros(len(block), dtype=object), np.zeros(len(block), dtype=object)
+    found = []
+    while len(block):
+        following = next_way(revenues[:, block] - revenue, costs[:, block] - cost)
+        some = following >= 0
+        block, following, revenue, cost = block[some], following[some], revenue[some], cost[some]
+        then, spent = revenues[following, block], costs[following, block]
+        found.append((block, following, then - revenue, spent - cost))
+        revenue, cost = then, spent
+    columns = [np.concatenate(column) for column in zip(*found)] if found else [np.zeros(0, dtype=np.int64)] * 4
+    # Steps were found one of each block at a time, so that a stable order by blocks keeps them one after the other.
+    order = np.argsort(columns[0], kind="stable")
+    block, way, more, dearer = (column[order].astype(np.int64) for column in columns)
+    return Steps(block, way, more, dearer)
+
+
+def next_way(more: np.ndarray, dearer: np.ndarray) -> np.ndarray:
+    """The process of each block to which the next step leads; -1 where none has more revenue. Arrays of processes and blocks."""
+    best = np.full(more.shape[1], -1)
+    for number in range(len(more)):
+        rises = np.array(more[number] > 0, dtype=bool)
+        at = np.maximum(best, 0), np.arange(more.shape[1])
+        # The factor from which on a step pays is what it costs by what it brings.
+        mine, other = dearer[number] * more[at], dearer[at] * more[number]
+        sooner = np.array((mine < other) | ((mine == other) & (more[number] > more[at])), dtype=bool)
+        best[rises & ((best < 0) | sooner)] = number
+    return best

@@ -1,0 +1,130 @@
+"""Leaves out of a model that is too large for the program what no shell can reach: whole levels, rows and columns at its floor and sides.
+
+A block can be part of a shell only where it pays for its processing at the greatest factor, or must be dug, or where such a block needs it,
+directly or through others: the same rule by which needs are left out (`trim`). What is left is the box round all of these up to the top, with a
+level, a row and a column of the model more at each side, so that a shell at a side of the box is at a side of the model. The box goes down at
+least to the highest block of each of its columns, and to no level in which it would end in a gap: so what is air or not known stays so.
+"""
+
+from __future__ import annotations
+
+from dataclasses import dataclass
+
+import numpy as np
+import pandas as pd
+
+from . import fixed as fixing, grid as grids, money, trim, walls as laying
+from .errors import PlanError
+from .grid import Grid
+from .project import Project
+from .walls import Walls
+
+
+@dataclass(frozen=True)
+class Model:
+    """A table's rows on their grid, and the region of each cell."""
+
+    frame: pd.DataFrame
+    grid: Grid
+    region: np.ndarray
+    source: str
+
+
+@dataclass(frozen=True)
+class Box:
+    """From which level from the top, row from the south and column from the west on, and up to which, that one not with it."""
+
+    levels: slice
+    rows: slice
+    columns: slice
+
+    @property
+    def parts(self) -> tuple[slice, slice, slice]:
+        return self.levels, self.rows, self.columns
+
+
+def is_too_large(model: Model, project: Project) -> bool:
+    """Whether blocks and nodes for processing may be more than the program takes."""
+    nodes = model.grid.count + (np.count_nonzero(with_metal(model.frame, project)) if project.money.cutoff == "moving" else 0)
+    return nodes > grids.MOST_BLOCKS
+
+
+def with_metal(frame: pd.DataFrame, project: Project) -> np.ndarray:
+    found = np.zeros(len(frame), dtype=bool)
+    for metal in project.metals:
+        found |= frame[metal.column].to_numpy() > 0
+    return found
+
+
+def left(model: Model, walls: Walls, project: Project) -> tuple[Model, str]:
+    """What shells can reach, and a note of what was left out. Raises PlanError where no shell can reach anything, or that is too large."""
+    grid = model.grid
+    wanted = np.zeros(grid.count, dtype=bool)
+    wanted[grid.rows[can_pay(model, project)]] = True
+    wanted[fixing.of_table(model.frame, grid, project, model.source).forced] = True
+    if not wanted.any():
+        most = f"the program takes at most {grids.MOST_BLOCKS:,} blocks"
+        raise PlanError(f"{model.source}: the grid has {grid.count:,} cells, and {most}: none pays for its processing, so all could be left out")
+    box = box_of(trim.used_blocks(grid, walls, wanted), grid)
+    inside = grid.cube(np.arange(grid.count))[box.parts]
+    if inside.size > grids.MOST_BLOCKS:
+        raise PlanError(
+            f"{model.source}: the grid has {grid.count:,} cells, of which shells may reach {inside.size:,}, and the program takes at most "
+            f"{grids.MOST_BLOCKS:,} blocks: reblock it by [table] reblock, or give a smaller model"
+        )
+    return cropped(model, box, inside), note_of(model, box)
+
+
+def can_pay(model: Model, project: Project) -> np.ndarray:
+    """The rows that pay for their processing at the greatest factor, exactly."""
+    some = np.flatnonzero(with_metal(model.frame, project))
+    gains = money.greatest_gains(model.frame.iloc[some].reset_index(drop=True), project, model.source)
+    return some[gains]
+
+
+def box_of(used: np.ndarray, grid: Grid) -> Box:
+    """The box round the used cells, one wider than these, and down to where each column of it ends in rock."""
+    cube = grid.cube(used)
+    levels, rows, columns = (wider(cube.any(axis=tuple({0, 1, 2} - {axis})), grid.shape[axis]) for axis in range(3))
+    filled = np.zeros(grid.count, dtype=bool)
+    filled[grid.rows] = True
+    below = grid.cube(filled)[:, rows, columns]
+    # Whether each level may be the last: each column has a block there, or none below it.
+    may_end = (below | ~np.logical_or.accumulate(below[::-1], axis=0)[::-1]).all(axis=(1, 2))
+    last = levels.stop - 1 + int(may_end[levels.stop - 1 :].argmax())
+    return Box(slice(0, last + 1), rows, columns)
+
+
+def wider(some: np.ndarray, count: int) -> slice:
+    """From the first to the last true one, and one more to each side."""
+    first, last = np.flatnonzero(some)[[0, -1]]
+    return slice(max(0, int(first) - 1), min(count, int(last) + 2))
+
+
+def cropped(model: Model, box: Box, inside: np.ndarray) -> Model:
+    """The part of a model that lies in a box; `inside` has the cells of the box."""
+    grid, ids = model.grid, np.full(model.grid.count, -1, dtype=np.int32)
+    ids[inside.ravel()] = np.arange(inside.size)
+    kept = np.flatnonzero(ids[grid.rows] >= 0)
+    origin = tuple(float(axis) for axis in grid.centres(inside.flat[0]))
+    small = Grid(inside.shape, (origin[0], origin[1], origin[2]), grid.size, ids[grid.rows[kept]].astype(np.int64))
+    frame = model.frame.iloc[kept].reset_index(drop=True)
+    return Model(frame, small, model.region[inside.ravel()], f"of what a shell can reach in {model.source}")
+
+
+def note_of(model: Model, box: Box) -> str:
+    """How many blocks were left out, and where the box lies."""
+    grid, parts = model.grid, []
+    kept = np.ones(len(grid.rows), dtype=bool)
+    for place, part in zip(grid.indices(grid.rows), box.parts[::-1]):
+        kept &= (place >= part.start) & (place < part.stop)
+    names = (("x", box.columns, 0), ("y", box.rows, 1))
+    for name, part, axis in names:
+        west = grid.origin[axis] + (part.start - 0.5) * grid.size[axis]
+        parts.append(f"{name} from {grids.metres(west)} to {grids.metres(west + (part.stop - part.start) * grid.size[axis])}")
+    top = grid.origin[2] - (box.levels.start - 0.5) * grid.size[2]
+    parts.append(f"z from {grids.metres(top - (box.levels.stop - box.levels.start) * grid.size[2])} to {grids.metres(top)} m")
+    return (
+        f"{np.count_nonzero(~kept):,} of {len(kept):,} blocks, which no shell can reach at any factor, were left out: all "
+        f"but {', '.join(parts)}"
+    )

@@ -1,0 +1,156 @@
+"""Makes blocks of one size of a table's rows: whole blocks put together, or sub-blocks of uneven sizes put into their parents.
+
+Tonnes are summed, grades are means by tonnes, rock and region those of most tonnes; a block is forced or barred where a part of it is. What
+is of another rock or region than its block is told in tonnes.
+"""
+
+from __future__ import annotations
+
+from collections.abc import Sequence
+from dataclasses import dataclass, replace
+
+import numpy as np
+import pandas as pd
+
+from . import grid as grids
+from .project import GridRules, Project, Reblock
+from .table import Table, at_row
+
+# Kept of tonnes (a gram) and of grades, so that they have an end of decimals; at the half to the even one.
+TONNES_PLACES, GRADE_PLACES = 6, 9
+
+
+@dataclass(frozen=True)
+class Lattice:
+    """Where the rows lie among the new blocks.
+
+    first   centre of the block at the west, the south and the floor, in metres
+    size    of a block, in metres
+    places  for each row the column, the row and the level of its block, from there
+    """
+
+    first: tuple[float, float, float]
+    size: tuple[float, float, float]
+    places: tuple[np.ndarray, np.ndarray, np.ndarray]
+
+    def centres(self, places: np.ndarray) -> list[np.ndarray]:
+        """x, y, z of blocks by their column, row and level, an array of blocks and these."""
+        return [self.first[k] + places[:, k] * self.size[k] for k in range(3)]
+
+
+def of_table(table: Table, project: Project) -> tuple[Table, Project]:
+    """The table with a row a block, by level, row and column, and the project by which their grid is laid; both as they are where nothing
+    is asked for.
+
+    Raises PlanError where a row lies between two blocks, or two rows in one place.
+    """
+    rules = project.table.reblock
+    if rules is None:
+        return table, project
+    lattice = of_counts(table, project, rules) if rules.counts else of_corner(table, project, rules)
+    frame, mixed = put_together(table.frame, lattice, project)
+    x, y, z = (grids.metres(side) for side in lattice.size)
+    notes = [f"{len(table.frame):,} rows were put together to {len(frame):,} blocks of {x} x {y} x {z} m", *mixed]
+    project = replace(project, grid=GridRules(lattice.size, project.grid.tolerance))
+    return replace(table, frame=frame, source=f"reblocked {table.source}", notes=(*table.notes, *notes)), project
+
+
+def of_counts(table: Table, project: Project, rules: Reblock) -> Lattice:
+    """So many whole blocks in one, from the west, the south and the floor on."""
+    assert rules.counts is not None
+    grid = grids.of_table(table.frame, project, table.source, any_size=True)
+    column, row, level = grid.indices(grid.rows)
+    places = [place // count for place, count in zip((column, row, grid.shape[0] - 1 - level), rules.counts)]
+    west, _, south, _, floor, _ = grid.extent()
+    return lattice_of((west, south, floor), [side * count for side, count in zip(grid.size, rules.counts)], places)
+
+
+def of_corner(table: Table, project: Project, rules: Reblock) -> Lattice:
+    """Blocks of a size from a corner on, in which the rows' centres lie."""
+    assert rules.size is not None and rules.corner is not None
+    columns, places, edge = project.table, [], list(rules.corner)
+    demand_apart(table, project)
+    for k, name in enumerate((columns.x, columns.y, columns.z)):
+        steps = (table.frame[name].to_numpy() - rules.corner[k]) / rules.size[k]
+        between = np.abs(steps - np.rint(steps)) * rules.size[k] <= project.grid.tolerance
+        if between.any():
+            why = f"lies on the edge of two blocks of {grids.metres(rules.size[k])} m from {grids.metres(rules.corner[k])} on: is the corner right?"
+            raise at_row(table.source, int(between.argmax()), name, why)
+        place = np.floor(steps).astype(np.int64)
+        edge[k] += float(place.min()) * rules.size[k]
+        places.append(place - place.min())
+    return lattice_of(edge, rules.size, places)
+
+
+def lattice_of(edge: Sequence[float], size: Sequence[float], places: Sequence[np.ndarray]) -> Lattice:
+    """From the edge at the west, the south and the floor."""
+    (x, y, z), (east, north, up), (column, row, level) = edge, size, places
+    return Lattice((x + east / 2, y + north / 2, z + up / 2), (east, north, up), (column, row, level))
+
+
+def demand_apart(table: Table, project: Project) -> None:
+    """Refuses two rows of one centre."""
+    columns = [project.table.x, project.table.y, project.table.z]
+    twice = table.frame.duplicated(columns).to_numpy()
+    if twice.any():
+        row = int(twice.argmax())
+        raise at_row(table.source, row, ", ".join(columns), "another row has this centre too")
+
+
+def put_together(frame: pd.DataFrame, lattice: Lattice, project: Project) -> tuple[pd.DataFrame, list[str]]:
+    """A row a block, and what is mixed in them."""
+    columns, fixed = project.table, project.fixed
+    column, row, level = lattice.places
+    shape = [int(place.max()) + 1 for place in lattice.places]
+    used, block = np.unique((level * shape[1] + row) * shape[0] + column, return_inverse=True)
+    places = np.stack([used % shape[0], used // shape[0] % shape[1], used // (shape[0] * shape[1])], axis=1)
+    parts = Parts(block, len(used), frame[columns.tonnes].to_numpy())
+    result, mixed = pd.DataFrame(index=pd.RangeIndex(len(used))), []
+    if columns.id:
+        result[columns.id] = [f"{east + 1}-{north + 1}-{up + 1}" for east, north, up in places.tolist()]
+    for name, centre in zip((columns.x, columns.y, columns.z), lattice.centres(places)):
+        result[name] = centre
+    result[columns.tonnes] = parts.whole.round(TONNES_PLACES)
+    for name in dict.fromkeys(metal.column for metal in project.metals):
+        result[name] = parts.mean(frame[name].to_numpy()).round(GRADE_PLACES)
+    for name in (columns.rock, columns.region):
+        if name:
+            result[name], other = parts.most(frame[name].to_numpy())
+            mixed.append(f"of {parts.tonnes.sum():,.0f} t {other:,.0f} are of another {name} than their block")
+    for name in dict.fromkeys((fixed.forced, fixed.barred) if fixed else ()):
+        if name:
+            result[name] = parts.greatest(frame[name].to_numpy())
+    return result, mixed
+
+
+@dataclass(frozen=True)
+class Parts:
+    """Rows as parts of blocks: the number of each row's block, how many blocks there are, and the tonnes of each row."""
+
+    block: np.ndarray
+    count: int
+    tonnes: np.ndarray
+
+    @property
+    def whole(self) -> np.ndarray:
+        """Tonnes of each block."""
+        return np.bincount(self.block, self.tonnes, minlength=self.count)
+
+    def mean(self, values: np.ndarray) -> np.ndarray:
+        """The mean by tonnes; 0 where a block weighs nothing."""
+        whole, sums = self.whole, np.bincount(self.block, self.tonnes * values, minlength=self.count)
+        return np.divide(sums, whole, out=np.zeros(self.count), where=whole > 0)
+
+    def most(self, codes: np.ndarray) -> tuple[np.ndarray, float]:
+        """The code of most tonnes of each block, of several the first by name, and how many tonnes are of another. In a block that weighs
+        nothing all rows count alike."""
+        names, code = np.unique(codes, return_inverse=True)
+        weights = np.where(self.whole[self.block] > 0, self.tonnes, 1.0)
+        sums = np.bincount(self.block * len(names) + code, weights, minlength=self.count * len(names)).reshape(self.count, -1)
+        best = sums.round(TONNES_PLACES).argmax(axis=1)
+        return names[best], float(self.tonnes[code != best[self.block]].sum())
+
+    def greatest(self, values: np.ndarray) -> np.ndarray:
+        found = np.full(self.count, -np.inf)
+        np.maximum.at(found, self.block, values)
+        return found

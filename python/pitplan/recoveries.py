@@ -1,0 +1,65 @@
+"""The share of a metal that is recovered, by the grade of what comes to the mill."""
+
+from __future__ import annotations
+
+from dataclasses import dataclass
+from typing import Union
+
+import numpy as np
+
+from .exact import Exact, nearest, whole_and_places
+from .money_rules import Curve, Recovery
+
+# A recovery by grade is kept to a millionth, since the line between two grades has no end of decimals.
+PLACES = 6
+
+
+@dataclass(frozen=True)
+class Head:
+    """The grade of what comes to the mill of each row: the block's own grade, and the tonnes that come with each of its tonnes."""
+
+    grade: Exact
+    tonnes_of: Exact
+
+    def of(self, rows: np.ndarray) -> Head:
+        return Head(*(Exact(part.whole[rows], part.places) for part in (self.grade, self.tonnes_of)))
+
+
+def of_rows(recovery: Union[Recovery, dict[str, Recovery]], rock: np.ndarray, head: Head) -> Exact:
+    """One recovery a row, by its rock and its grade; 0 where its rock has none."""
+    if not isinstance(recovery, dict):
+        return of_rock(recovery, head)
+    parts = []
+    for code, share in recovery.items():
+        mine = np.flatnonzero(rock == code)
+        parts.append((mine, of_rock(share, head.of(mine))))
+    places = max((part.places for _, part in parts), default=0)
+    whole = np.zeros(len(rock), dtype=object)
+    for mine, part in parts:
+        whole[mine] = part.at(places)
+    return Exact(whole, places)
+
+
+def of_rock(recovery: Recovery, head: Head) -> Exact:
+    if not isinstance(recovery, Curve):
+        return Exact.of(recovery, len(head.grade.whole))
+    return Exact(at_grades(recovery, head), PLACES)
+
+
+def at_grades(curve: Curve, head: Head) -> np.ndarray:
+    """Millionths that are recovered: linear between two grades, and beyond them as at the ends."""
+    points = [(whole_and_places(grade), whole_and_places(share)) for grade, share in curve.points]
+    places = max(head.grade.places, head.tonnes_of.places, *(own for (_, own), _ in points))
+    finest = max(own for _, (_, own) in points)
+    # A grade at the mill is `grade / unit` of these whole numbers, of which a named grade is `at / one`.
+    grade, unit, one = head.grade.at(places), head.tonnes_of.at(places), 10**places
+    named = [(at * 10 ** (places - own), share * 10 ** (finest - fine)) for (at, own), (share, fine) in points]
+    parts = nearest(np.full(len(grade), named[-1][1] * 10**PLACES, dtype=object), 10**finest)
+    for (low, first), (high, last) in reversed(list(zip(named, named[1:]))):
+        up_to = np.flatnonzero(np.array(grade * one <= high * unit, dtype=bool))
+        line = first * (high - low) * unit[up_to] + (last - first) * (grade[up_to] * one - low * unit[up_to])
+        parts[up_to] = nearest(line * 10**PLACES, (high - low) * unit[up_to] * 10**finest)
+    low, first = named[0]
+    below = np.array(grade * one <= low * unit, dtype=bool)
+    parts[below] = nearest(np.full(int(below.sum()), first * 10**PLACES, dtype=object), 10**finest)
+    return parts

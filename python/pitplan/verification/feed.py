@@ -1,0 +1,68 @@
+"""What of each block comes to the mill, anew: the tonnes that mining leaves of it, what dilutes them, and how much metal is recovered."""
+
+from __future__ import annotations
+
+from decimal import Decimal
+from fractions import Fraction
+
+import numpy as np
+import pandas as pd
+
+from ..money_rules import ByCode, ByRegion, Curve, Metal, Recovery
+from ..project import Project, TableColumns
+
+# Where a recovery is so few millionths from the middle of two, the nearer one is told exactly.
+NEAR = 1e-3
+
+
+def by_code(value: ByCode, rows: pd.DataFrame, columns: TableColumns) -> np.ndarray:
+    """One number a row, by its rock or its region; 0 where its code has none."""
+    if isinstance(value, Decimal):
+        return np.full(len(rows), float(value))
+    column, numbers = (columns.region, value.values) if isinstance(value, ByRegion) else (columns.rock, value)
+    return rows[column].astype(str).map({code: float(number) for code, number in numbers.items()}).fillna(0.0).to_numpy()
+
+
+def of_code(value: ByCode, rock: str, region: str) -> Decimal:
+    """The number of a block of these codes; 0 where they have none."""
+    if isinstance(value, Decimal):
+        return value
+    return value.values.get(region, Decimal(0)) if isinstance(value, ByRegion) else value.get(rock, Decimal(0))
+
+
+def recovered(metal: Metal, rows: pd.DataFrame, project: Project) -> np.ndarray:
+    """By row the grade that is recovered of each tonne of the block itself that comes to the mill, in the column's unit."""
+    grades, table = rows[metal.column].to_numpy(), project.table
+    tonnes_of = 1 + by_code(project.money.dilution, rows, table)
+    codes = [rows[name].astype(str).to_numpy() if name else np.full(len(rows), "") for name in (table.rock, table.region)]
+    of_rocks = metal.recovery if isinstance(metal.recovery, dict) else dict.fromkeys(np.unique(codes[0]), metal.recovery)
+    share = np.zeros(len(rows))
+    for code, recovery in of_rocks.items():
+        mine = np.flatnonzero(codes[0] == code)
+        share[mine], close = by_grade(recovery, grades[mine] / tonnes_of[mine])
+        for row in mine[close].tolist():
+            whole = 1 + of_code(project.money.dilution, codes[0][row], codes[1][row])
+            share[row] = float(at_grade(recovery, Fraction(repr(float(grades[row]))) / Fraction(whole)))
+    return np.maximum(grades - by_code(metal.fixed_tail, rows, table) * tonnes_of, 0.0) * share
+
+
+def by_grade(recovery: Recovery, head: np.ndarray) -> tuple[np.ndarray, np.ndarray]:
+    """Recoveries at grades of what comes to the mill, to the millionth where they go by these, and whether two millionths are as near."""
+    if not isinstance(recovery, Curve):
+        return np.full(len(head), float(recovery)), np.zeros(len(head), dtype=bool)
+    parts = 1e6 * np.interp(head, *np.array(recovery.points, dtype=np.float64).T)
+    return np.rint(parts) / 1e6, np.abs(parts - np.floor(parts) - 0.5) < NEAR
+
+
+def at_grade(recovery: Recovery, head: Fraction) -> Decimal:
+    """The recovery at a grade of what comes to the mill, to the millionth where it goes by that."""
+    if not isinstance(recovery, Curve):
+        return recovery
+    points = [(Fraction(grade), Fraction(share)) for grade, share in recovery.points]
+    ahead = next((k for k, (grade, _) in enumerate(points) if head <= grade), len(points))
+    if ahead in (0, len(points)):
+        share = points[min(ahead, len(points) - 1)][1]
+    else:
+        (low, first), (high, last) = points[ahead - 1 : ahead + 1]
+        share = first + (last - first) * (head - low) / (high - low)
+    return Decimal(round(share * 10**6)).scaleb(-6)

@@ -1,0 +1,60 @@
+"""What years earn and cost besides what is dug at the price as given, anew: prices of their own, fixed costs and capital."""
+
+from __future__ import annotations
+
+import math
+from collections.abc import Iterator
+
+import numpy as np
+import pandas as pd
+
+from ..project import Project
+
+HAIR = 1e-9
+
+
+def premiums(project: Project, year: int) -> dict[str, float]:
+    """By the name of a metal's amount what a unit of it earns more in a year, numbered from 1, than at the price as given."""
+    return {
+        f"metal_{metal.name}": float((metal.prices[min(year, len(metal.prices)) - 1] - metal.price) * (1 - project.money.royalty))
+        for metal in project.metals
+        if metal.prices
+    }
+
+
+def more_by_prices(project: Project, rows: pd.DataFrame) -> np.ndarray:
+    """What each row, which has a year and metals, earns more by the prices of its year."""
+    more = np.zeros(len(rows))
+    for year in rows["year"].unique():
+        mine = (rows["year"] == year).to_numpy()
+        for name, premium in premiums(project, int(year)).items():
+            more[mine] += premium * rows[name].to_numpy()[mine]
+    return more
+
+
+def most_premium(project: Project) -> float:
+    """The sum over all metals of the greatest that a unit earns more or less in any year."""
+    years = range(1, 1 + max((len(metal.prices) for metal in project.metals), default=0))
+    return sum(max(abs(premiums(project, year)[name]) for year in years) for name in premiums(project, 1)) if years else 0.0
+
+
+def capital(project: Project, year: int) -> float:
+    """What is spent at the start of a year."""
+    return sum(float(amount) for at, amount in project.money.capital if at == year)
+
+
+def last_year(end: float) -> int:
+    """The year in which a pit is through that lasts so many years."""
+    return max(1, math.ceil(end - HAIR))
+
+
+def years_cut(start: float, end: float) -> Iterator[tuple[int, float, float]]:
+    """The years, from 1, of a span of time in years, each with the start and the end of its part."""
+    if end - start < HAIR:
+        yield last_year(end), start, end
+        return
+    year = math.floor(start + HAIR) + 1
+    while start < end - HAIR:
+        until = min(end, float(year))
+        yield year, start, until
+        start, year = until, year + 1

@@ -1,0 +1,74 @@
+"""What was left out of a model since no shell can reach it: nothing there pays or is forced, and no shell needs any of it."""
+
+from __future__ import annotations
+
+from dataclasses import replace
+
+import numpy as np
+import pandas as pd
+
+from .answer import NOTHING, TOLD, UNDUG, Answer, Rule, rule
+from .money import gains_by_floats
+from .walls import Run, cone, runs
+
+HAIR = 1e-9
+
+
+def verify(answer: Answer) -> Rule:
+    """No row beyond the grid pays for its processing at the greatest factor, none must be dug, and no cone above a dug block goes there."""
+    rows = answer.beyond
+    assert rows is not None
+    factor = max(*answer.factors, 1000)
+    differences, count = [], 0
+    for way in answer.project.ways:
+        part = replace(answer, project=way, rows=rows, said=pd.DataFrame(index=rows.index), found={})
+        revenue, processing = gains_by_floats(part)
+        pays = np.flatnonzero(factor / 1000 * revenue - processing > HAIR * revenue + 10.0**-answer.project.money.decimals)
+        differences += [f"{part.called(row)} was left out, and pays at factor {factor}" for row in pays[:TOLD]]
+        count += len(pays)
+    fixed = answer.project.fixed
+    if fixed is not None and fixed.forced:
+        forced = np.flatnonzero((rows[fixed.forced] > 0) & (rows[answer.project.table.tonnes] > 0))
+        differences += [f"{replace(answer, rows=rows).called(row)} was left out, and must be dug" for row in forced[:TOLD]]
+        count += len(forced)
+    reaching = leading_off(answer)
+    differences += [f"{answer.called(row)}, dug at {answer.said['factor'].iloc[row]}, needs ground that was left out" for row in reaching[:TOLD]]
+    holds = f"of {len(rows):,} blocks that were left out none pays for its processing or must be dug, and no shell needs ground there"
+    return rule("reach", holds, differences, count + len(reaching))
+
+
+def beyond_sides(answer: Answer) -> tuple[int, int, int, int]:
+    """How many rows of the model lie south and north of the grid, and how many columns west and east of it."""
+    assert answer.beyond is not None
+    columns, (_, rows, width) = answer.project.table, answer.shape
+    x, y = (answer.beyond[name].to_numpy() for name in (columns.x, columns.y))
+    east = np.rint((x - answer.record["grid"]["origin"][0]) / answer.size[0])
+    north = np.rint((y - answer.record["grid"]["origin"][1]) / answer.size[1])
+    far = (-north.min(), north.max() - rows + 1, -east.min(), east.max() - width + 1)
+    south, up, west, right = (max(0, int(steps)) for steps in far)
+    return south, up, west, right
+
+
+def leading_off(answer: Answer) -> np.ndarray:
+    """Rows of dug blocks above which a cone holds cells of the model beside the grid."""
+    level, row, column = answer.cells
+    dug, entry = answer.dug[answer.cells], answer.entries[answer.cells]
+    south, north, west, east = beyond_sides(answer)
+    wrong = np.zeros(len(answer.rows), dtype=bool)
+    for number, wall in enumerate(answer.project.slopes.walls):
+        mine = (entry == number) & (dug != UNDUG) & (dug != NOTHING)
+        for up in range(1, answer.levels(wall) + 1):
+            for run in runs(cone(wall, answer.size, up)):
+                wrong |= mine & (level >= up) & leads_off(run, row, column, (answer.shape[1:], (south, north, west, east)))
+    return np.flatnonzero(wrong)
+
+
+def leads_off(run: Run, row: np.ndarray, column: np.ndarray, sides: tuple[tuple[int, int], tuple[int, int, int, int]]) -> np.ndarray:
+    """Whether cells of a run above each place lie in the model and beside the grid, of so many rows and columns, with more beside it."""
+    (rows, columns), (south, north, west, east) = sides
+    to, first, last = row + run.north, column + run.west, column + run.east
+    in_model = (to >= -south) & (to < rows + north) & (last >= -west) & (first < columns + east)
+    beside = (to < 0) | (to >= rows)
+    is_west = (first < 0) & (west > 0)
+    is_east = (last >= columns) & (east > 0)
+    return in_model & (beside | is_west | is_east)

@@ -1,0 +1,64 @@
+"""Rows that are put together to blocks, anew: by the cells in which their centres lie."""
+
+from __future__ import annotations
+
+from typing import Any
+
+import numpy as np
+import pandas as pd
+
+from ..project import Project
+from .answer import TOLD, Answer, Rule, rule
+from .put_together import together
+
+# What is kept of tonnes and of grades, and a hair for sums in another order.
+TONNES, GRADE = 0.51e-6, 0.51e-9
+HAIR = 1e-6
+
+
+def verify(answer: Answer) -> Rule:
+    """Blocks lie where the project puts them, and each holds its rows: tonnes, grades, rock, region, and what is fixed."""
+    parts, said = answer.parts, answer.rows
+    assert parts is not None
+    expected = together(parts, answer.project, answer.record["grid"]).reset_index(drop=True)
+    differences = unlike_grid(parts, answer.project, answer.record["grid"])
+    columns, count = answer.project.table, len(differences)
+    if len(expected) != answer.known:
+        return rule("reblocked", "rows are put together", [f"{answer.known:,} blocks for {len(expected):,}"])
+    for name in [name for name in expected if name not in (columns.x, columns.y, columns.z)]:
+        column = said[name].iloc[: answer.known].to_numpy()
+        slack = TONNES if name == columns.tonnes else GRADE
+        is_code = name in (columns.id, columns.rock, columns.region)
+        other = column != expected[name] if is_code else np.abs(column - expected[name]) > slack + 1e-12 * np.abs(expected[name])
+        off = np.flatnonzero(other)
+        differences += [f"{answer.called(row)}: {name} {column[row]} for {expected[name][row]}" for row in off[:TOLD]]
+        count += len(off)
+    holds = f"each of {len(expected):,} blocks holds the {len(parts):,} rows that lie in it: tonnes, grades, codes, and what is fixed"
+    return rule("reblocked", holds, differences, count)
+
+
+def unlike_grid(parts: pd.DataFrame, project: Project, grid: dict[str, Any]) -> list[str]:
+    """Where the blocks have not the size that the project asks for, or their edges do not lie where they should."""
+    columns, rules, found = project.table, project.table.reblock, []
+    assert rules is not None
+    levels = grid["shape"][0]
+    for k, name in enumerate((columns.x, columns.y, columns.z)):
+        centres, size = np.unique(parts[name].to_numpy()), grid["size"][k]
+        edge = grid["origin"][k] - size / 2 - (size * (levels - 1) if k == 2 else 0.0)
+        if rules.counts is not None:
+            own = size / rules.counts[k]
+            expected, start = own * rules.counts[k], centres[0] - own / 2
+            steps = (centres - centres[0]) / own
+            if np.abs(steps - np.rint(steps)).max() * own > project.grid.tolerance * 2 or not on_steps(np.diff(np.rint(steps))):
+                found.append(f"{name}: blocks of {size:.10g} m are no {rules.counts[k]} of the table's")
+        else:
+            assert rules.size is not None and rules.corner is not None
+            expected, start = rules.size[k], rules.corner[k] + size * np.rint((edge - rules.corner[k]) / size)
+        if abs(expected - size) > HAIR or abs(edge - start) > max(HAIR, project.grid.tolerance):
+            found.append(f"{name}: blocks of {size:.10g} m from {edge:.10g} on for {expected:.10g} from {start:.10g}")
+    return found
+
+
+def on_steps(gaps: np.ndarray) -> bool:
+    """Whether some two centres follow each other by one step, where there are two."""
+    return not len(gaps) or bool((gaps == 1).any())

@@ -1,0 +1,209 @@
+"""Fixed costs, capital and prices of years against sums done by hand."""
+
+import math
+from dataclasses import replace
+from types import SimpleNamespace
+
+import numpy as np
+import pandas as pd
+import pytest
+from conftest import PROJECT, rows
+from hypothesis import given, settings
+from hypothesis import strategies as st
+from test_linear_programme import limits, small
+from test_sequencing import problem_of, random_benches
+
+import pitplan
+from pitplan import PlanError, commands, grade_bins, integer_programme, linear_programme, write_schedule, yearly_money
+from pitplan import milling_programme as mp
+from pitplan.phase_benches import PhaseBenches
+from pitplan.schedule_rules import Effort
+from pitplan.sequencing import Limits, Problem, by_rule
+from pitplan.verification import verify
+from pitplan.yearly_money import YearlyMoney
+
+MONEY = ("mining_cost = 2\n", "mining_cost = 2\nfixed_cost_per_year = 100\ncapital = [[3, 1000], [1, 300], [2, 50]]\n")
+PRICES = ("price = 8000", "price = 8000\nprices = [8000, 9000]")
+
+
+def of_years(discounting, ore_per_year=50):
+    return ("ore_per_year = 100", f'ore_per_year = {ore_per_year}\ndiscounting = "{discounting}"')
+
+
+def mean(start, end):
+    return (1.1**-start - 1.1**-end) / (math.log(1.1) * (end - start))
+
+
+def solved(path):
+    """The table of shells at factor 1000, and its years of the best case."""
+    shells = commands.write_shells(path)
+    years = pd.read_csv(path.parent / "plan" / "years.csv")
+    return shells.set_index("factor").loc[1000], years[(years["case"] == "best") & (years["factor"] == 1000)].set_index("year")
+
+
+@pytest.fixture
+def mine(plan_folder, blank_pictures):
+    """100 t of ore, worth 2000 once they are dug, under 100 t of waste; each costs 200 to dig, and 0.4 t of copper are sold."""
+
+    def write(*changes):
+        return plan_folder(rows(1, 1, 2, cu=lambda i, j, k: 0 if k else 0.8), PROJECT, *changes)
+
+    return write
+
+
+def test_two_years_by_hand(mine):
+    """The waste first, then 50 t of ore a year with 0.2 t of copper, which sell for 200 more in the second; of the third year nothing is
+    spent. At the ends 700 and 1100 flow, and 300 at once and 50 after a year: 700 / 1.1 + 1100 / 1.21 - 300 - 50 / 1.1 = 1200."""
+    shell, years = solved(mine(MONEY, PRICES, of_years("end_of_year")))
+    assert years["fixed_cost"].tolist() == [100, 100] and years["capital"].tolist() == [300, 50]
+    assert years["cash"].tolist() == [400, 1050]
+    assert years["discounted"].tolist() == pytest.approx([700 / 1.1 - 300, 1100 / 1.21 - 50 / 1.1], abs=1e-3)
+    assert (shell["worth"], shell["npv_best"], shell["npv_worst"]) == pytest.approx((1800, 1200, 1200))
+
+
+def test_as_cash_flows(mine):
+    shell, _ = solved(mine(MONEY, PRICES, of_years("continuous")))
+    assert shell["npv_best"] == pytest.approx(-200 - 300 + 900 * mean(0, 1) + 1100 * mean(1, 2) - 50 / 1.1)
+
+
+def test_the_last_year_costs_what_is_left_of_it(mine):
+    """100 t at 80 a year: a quarter of the second year."""
+    shell, years = solved(mine(MONEY, of_years("continuous", 80)))
+    assert years["fixed_cost"].tolist() == [100, 25] and years["capital"].tolist() == [300, 50]
+    assert shell["npv_best"] == pytest.approx(-200 - 300 + 2000 * mean(0, 1.25) - 100 * mean(0, 1) - 25 * mean(1, 1.25) - 50 / 1.1)
+
+
+def test_a_royalty_is_owed_on_the_years_prices_too(mine):
+    """A tenth of 1600 in the first year and of 1800 in the second; half of the ore costs 600 to dig and to process."""
+    text = MONEY[1] + "royalty = 0.1\n"
+    shell, years = solved(mine((MONEY[0], text), PRICES, of_years("mid_year")))
+    assert years["cash"].tolist() == [-200 + 0.9 * 1600 - 600 - 100 - 300, 0.9 * 1800 - 600 - 100 - 50]
+
+
+def test_shells_and_ore_keep_the_one_price(mine):
+    plain, other = (pitplan.prepare(mine(*changes)) for changes in ((), (MONEY, PRICES)))
+    assert plain.values.mining.tolist() == other.values.mining.tolist() and plain.values.revenue.tolist() == other.values.revenue.tolist()
+    (note,) = [note for note in other.notes if note.startswith("years have")]
+    assert note == (
+        "years have a fixed cost of 100 USD a year and capital and prices of their own: in years, net present values and schedules, not in "
+        "the worth of blocks, shells and phases"
+    )
+
+
+@pytest.mark.parametrize(
+    ("change", "said"),
+    [
+        (("mining_cost = 2\n", "mining_cost = 2\ncapital = [[0, 5]]\n"), r"\[money\] capital: years are whole, from 1 to 1,000"),
+        (("mining_cost = 2\n", "mining_cost = 2\ncapital = [[1.5, 5]]\n"), r"\[money\] capital: years are whole"),
+        (("mining_cost = 2\n", "mining_cost = 2\ncapital = [[1, -5]]\n"), "amounts may not be negative"),
+        (("mining_cost = 2\n", "mining_cost = 2\nfixed_cost_per_year = -1\n"), r"\[money\] fixed_cost_per_year: -1 is below 0"),
+        (("price = 8000", "price = 8000\nprices = []"), r"\[metals 1\] prices: must be a list of prices, one a year"),
+        (("price = 8000", "price = 8000\nprices = [-1]"), r"\[metals 1\] prices: may not be negative"),
+    ],
+)
+def test_what_is_wrong_is_named(mine, change, said):
+    with pytest.raises(PlanError, match=said):
+        pitplan.load(mine(change))
+
+
+NAMES = ("rock_tonnes", "ore_tonnes", "metal_copper", "cash")
+
+
+def two_benches(money):
+    """One bench under another, which each take the mill a year: of 100, and of 10 with 5 t of copper. Money keeps its worth."""
+    amounts = np.array([[10, 10, 0, 100], [10, 10, 5, 10]], dtype=float)
+    benches = PhaseBenches(np.array([1, 1]), np.array([0, 1]), NAMES, amounts)
+    return Problem(benches, Limits({"ore_tonnes": 10}), SimpleNamespace(rate=0.0, discounting="end_of_year"), money)
+
+
+COSTS = YearlyMoney(30, ((1, 5), (2, 8)))
+
+
+@pytest.mark.parametrize(
+    ("money", "by_rules", "best"),
+    [
+        (YearlyMoney(), 110, 110),
+        (COSTS, 110 - 60 - 13, 100 - 30 - 5),  # the second year costs more than it earns
+        (replace(COSTS, premiums={"metal_copper": (0, 10)}), 110 + 50 - 60 - 13, 110 + 50 - 60 - 13),
+    ],
+)
+def test_a_schedule_by_hand(money, by_rules, best):
+    problem = two_benches(money)
+    assert problem.value(by_rule(problem)[0]) == pytest.approx(by_rules)
+    optimum = linear_programme.relaxed(problem, 2)
+    assert optimum.bound == pytest.approx(best) and optimum.cash.sum() == pytest.approx(best)
+    assert problem.value(linear_programme.diggable(optimum, problem)) == pytest.approx(best)
+    shares, bound = integer_programme.best_diggable(problem, 2, Effort())
+    assert problem.value(shares) == pytest.approx(best) and bound == pytest.approx(best)
+
+
+@pytest.mark.parametrize(("money", "best"), [(COSTS, 65), (replace(COSTS, premiums={"metal_copper": (0, 10)}), 87)])
+def test_a_schedule_of_bins_by_hand(money, best):
+    """The ore of each bench is one bin, and digging costs nothing."""
+    problem = two_benches(money)
+    amounts = np.array([[10, 0, 100], [10, 5, 10]], dtype=float)
+    parcels = grade_bins.Parcels(np.array([0, 1]), np.array([2, 1]), ("ore_tonnes", "metal_copper", "gain"), amounts, np.array([5.0]))
+    milled = mp.MillingProblem(problem, parcels, 2, None)
+    optimum = milled.relaxed()
+    assert optimum.bound == pytest.approx(best) and optimum.cash.sum() == pytest.approx(best)
+    assert milled.value(*padded(milled.diggable(optimum))) == pytest.approx(best)
+
+
+def padded(pair):
+    """A schedule in both years, whatever it ends with."""
+    dug, milling = pair
+    wide = [(0, 0), (0, 2 - dug.shape[1])]
+    return np.pad(dug, wide), replace(milling, straight=np.pad(milling.straight, wide), reclaimed=np.pad(milling.reclaimed, wide))
+
+
+@settings(max_examples=25)
+@given(small, limits, st.sampled_from([0, 40, 300]), st.sampled_from([(), ((1, 50),), ((2, 200), (3, 10))]), st.sampled_from([(), (0, 900, -400)]))
+def test_no_schedule_is_above_the_bound(pit, limits, fixed, capital, premiums):
+    """Nor is the rule's above the programme's, of as many years."""
+    money = YearlyMoney(fixed, capital, {"metal_copper": premiums} if premiums else {})
+    problem = replace(problem_of(random_benches(pit, 0), limits), money=money)
+    by_rules = by_rule(problem, 5)[0]
+    optimum = linear_programme.relaxed(problem, 5)
+    made = problem.value(linear_programme.diggable(optimum, problem))
+    slack = 1e-6 * max(1.0, np.abs(problem.worths(5)).sum())
+    assert problem.value(by_rules) - slack <= made <= optimum.bound + slack
+    assert optimum.cash @ 1.1 ** -np.arange(1.0, 6) == pytest.approx(optimum.bound, abs=slack)
+
+
+SCHEDULED = (
+    ("mining_cost = 2\n", "mining_cost = 2\nfixed_cost_per_year = 900\ncapital = [[1, 3000], [3, 800]]\nroyalty = 0.1\n"),
+    ("price = 8000", "price = 8000\nprices = [8000, 9000, 7500]"),
+)
+
+
+def scheduled(plan_folder, way):
+    text = f"[pushbacks]\nfactors = [500, 1000]\n[schedule]\nyears = 7\n{way}\n[shells]"
+    table = rows(9, 9, 4, cu=lambda i, j, k: {(4, 4, 0): 9, (4, 4, 1): 3, (3, 4, 1): 1.6, (5, 5, 1): 1.2}.get((i, j, k), 0))
+    return plan_folder(table, PROJECT, *SCHEDULED, ("ore_per_year = 100", "ore_per_year = 70\nrock_per_year = 900"), ("[shells]", text))
+
+
+@pytest.mark.parametrize("way", ["", "milp = { seconds = 60 }", "bins = 3", "bins = 3\nstockpile = { rehandling_cost = 1 }"])
+def test_the_second_look_at_schedules_agrees(plan_folder, blank_pictures, way):
+    ways = write_schedule(scheduled(plan_folder, way))
+    assert (ways["below_bound"] >= -1e-9).all()
+
+
+@pytest.mark.parametrize(("name", "without", "rule"), [("fixed_cost", 0.0, "value"), ("capital", (), "value"), ("premiums", {}, "amounts")])
+def test_money_that_is_passed_over_is_found(plan_folder, monkeypatch, blank_pictures, name, without, rule):
+    path, of_project = scheduled(plan_folder, ""), yearly_money.of_project
+    monkeypatch.setattr(yearly_money, "of_project", lambda project: replace(of_project(project), **{name: without}))
+    write_schedule(path, verifies=False)
+    wrong = {rule.name for rule in verify(path.parent / "plan" / "schedule") if rule.differences}
+    assert {"years", f"schedule {rule}"} <= wrong
+
+
+def test_costs_of_a_year_that_are_bent_are_found(mine):
+    path = mine(MONEY, of_years("end_of_year"))
+    commands.write_shells(path)
+    file = path.parent / "plan" / "years.csv"
+    table = pd.read_csv(file)
+    table.loc[table.index[-1], "fixed_cost"] += 1
+    table.loc[table.index[-1], "cash"] -= 1
+    table.to_csv(file, index=False)
+    (rule,) = [rule for rule in verify(path.parent / "plan") if rule.differences]
+    assert rule.name == "years" and rule.differences == ("worst case of factor 1500, year 2: fixed_cost 101 for 100",)

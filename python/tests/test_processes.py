@@ -1,0 +1,225 @@
+"""Several processes: steps between them by hand, the greatest of all lines, and that no block is counted twice."""
+
+from dataclasses import replace
+
+import numpy as np
+import pandas as pd
+import pytest
+from conftest import PROJECT, rows
+from hypothesis import given
+from hypothesis import strategies as st
+
+import pitplan
+from pitplan import PlanError, analyse, commands, files, money, processes, write_schedule
+from pitplan.processes import Way, best_way, steps_of
+from pitplan.verification import verify
+
+LEACH_AND_MILL = """
+[[processes]]
+name = "leach"
+cost = 3
+recovery = { copper = 0.4 }
+per_year = 300
+[[processes]]
+name = "mill"
+cost = 13
+recovery = { copper = { R = 0.9, S = 0.65 } }
+per_year = 100
+[slopes]
+"""
+WITH = [("processing_cost = 10\n", ""), ("recovery = 0.5\n", ""), ("ore_per_year = 100\n", ""), ("[slopes]\n", LEACH_AND_MILL)]
+
+
+def ways_of(*lines):
+    """Processes of one cell, by revenue and cost."""
+    return tuple(Way(str(k), np.array([revenue]), np.array([cost]), {}) for k, (revenue, cost) in enumerate(lines))
+
+
+@pytest.mark.parametrize(
+    ("lines", "steps"),
+    [
+        # The first pays from 0.5 on; the second adds 10 for 10, so from 1 on.
+        ([(10, 5), (20, 15)], [(0, 10, 5), (1, 10, 10)]),
+        ([(20, 15), (10, 5)], [(1, 10, 5), (0, 10, 10)]),
+        # It is better from where it pays: the first is never used.
+        ([(10, 8), (20, 15)], [(1, 20, 15)]),
+        ([(10, 5), (10, 4)], [(1, 10, 4)]),
+        ([(10, 5), (20, 10)], [(1, 20, 10)]),
+        # Of three that in the middle lies below the line from the first to the last.
+        ([(10, 1), (20, 9), (30, 15)], [(0, 10, 1), (2, 20, 14)]),
+        ([(10, 0), (0, 0), (30, 15)], [(0, 10, 0), (2, 20, 15)]),
+        ([(0, 0), (0, 0)], []),
+    ],
+)
+def test_steps_by_hand(lines, steps):
+    found = steps_of(ways_of(*lines))
+    assert list(zip(found.way, found.revenue, found.cost)) == steps
+
+
+lines = st.lists(st.tuples(st.integers(0, 40), st.integers(0, 40)).map(lambda it: it if it[0] else (0, 0)), min_size=1, max_size=5)
+
+
+@given(lines, st.integers(0, 4000))
+def test_steps_that_pay_add_up_to_the_best_process(lines, factor):
+    """At every factor, and the steps that pay are the first ones: so that no block is processed twice."""
+    ways = ways_of(*lines)
+    steps = steps_of(ways)
+    gains = factor * steps.revenue - 1000 * steps.cost
+    pays = gains > 0
+    assert pays.tolist() == sorted(pays, reverse=True)
+    assert gains[pays].sum() == max(0, *(factor * revenue - 1000 * cost for revenue, cost in lines))
+    if pays.any():
+        revenue, cost = lines[steps.way[pays][-1]]
+        assert (steps.revenue[pays].sum(), steps.cost[pays].sum()) == (revenue, cost) == lines[best_way(ways, factor)[0]]
+
+
+def one_column():
+    """100 t of 0.8 % of rock R: leached for 2560 at 300, milled for 5760 at 1300; from a factor of 0.3125 on the mill is better."""
+    return rows(1, 1, 2, cu=lambda i, j, k: 0 if k else 0.8)
+
+
+def test_nodes_by_hand(plan_folder, tmp_path):
+    path = plan_folder(one_column(), PROJECT, *WITH)
+    plan = pitplan.prepare(path)
+    plan.write(tmp_path)
+    lines = (tmp_path / files.BLOCKS).read_text().splitlines()
+    assert lines == ["0 0 0 1 0 200", "1 0 0 0 0 200", "2 0 0 0 2560 300", "3 0 0 0 3200 1000"]
+    assert (tmp_path / files.PREC).read_text().splitlines() == ["1 1 0", "2 1 1", "3 1 2"]
+    block = plan.blocks.set_index("name").loc["b0-0-0"]
+    told = ["revenue_leach", "processing_cost_leach", "revenue_mill", "processing_cost_mill", "revenue", "processing_cost"]
+    assert block[told].tolist() == [2560, 300, 5760, 1300, 5760, 1300]
+    assert "1 blocks have a node for processing: the cut-off moves with the price, and 1 nodes more for processes that are better from a greater price on" in plan.notes
+    assert plan.project.schedule.ore_per_year == 400
+
+
+@pytest.mark.parametrize(("grade", "process", "ore"), [(0.8, "mill", 100), (0.2, "leach", 100), (0.05, "", 0)])
+def test_the_process_of_a_block_by_hand(plan_folder, blank_pictures, grade, process, ore):
+    """Of 0.2 % leach gains 640 - 300, the mill 1440 - 1300; 0.05 % pay nowhere. Digging is demanded."""
+    table = rows(1, 1, 2, cu=lambda i, j, k: 0 if k else grade, must=lambda i, j, k: 1 - k)
+    path = plan_folder(table, PROJECT + '[fixed]\nforced = "must"\n', *WITH)
+    shell = commands.write_shells(path).set_index("factor").loc[1000]
+    blocks = pd.read_csv(path.parent / "plan" / "blocks.csv", keep_default_na=False).set_index("name")
+    assert blocks["process"].tolist() == ["", process] and shell["ore_tonnes"] == ore
+    assert {name: shell[f"ore_tonnes_{name}"] for name in ("leach", "mill")} == {name: ore * (name == process) for name in ("leach", "mill")}
+
+
+def test_worth_by_hand_at_each_factor(plan_folder, blank_pictures):
+    """Two blocks are dug for 400. At 0.3 leaching 768 - 300 is worth more than milling 1728 - 1300, at 0.5 milling 2880 - 1300."""
+    path = plan_folder(one_column(), PROJECT, *WITH, ("[500, 1000, 1500]", "[270, 300, 500, 1000]"))
+    shells = commands.write_shells(path).set_index("factor")
+    assert [float(worth) for worth in shells["worth_at_factor"]] == [0, 768 - 700, 2880 - 1700, 5760 - 1700]
+    assert shells["worth"].tolist() == [0, 4060, 4060, 4060] and shells["processed_tonnes"].tolist() == [0, 100, 100, 100]
+
+
+def deposit():
+    """Rich ore, poor ore and waste of two rocks."""
+    rng = np.random.default_rng(3)
+    table = rows(11, 9, 4, rock=lambda i, j, k: "RS"[(i * j + k) % 2])
+    ore = (table["z"] < 25) & table["x"].between(30, 80) & table["y"].between(30, 60)
+    table["cu"] = np.where(ore, rng.lognormal(-0.3, 1.0, len(table)).round(2), 0)
+    return table
+
+
+MORE = [*WITH, ("mining_cost = 2\n", "mining_cost = 0.3\nmining_recovery = 0.97\ndilution = 0.05\ndecimals = 2\n"), ("[500, 1000, 1500]", "[200, 300, 500, 1000, 1500]")]
+
+
+def solved(plan_folder):
+    path = plan_folder(deposit(), PROJECT, *MORE)
+    commands.write_shells(path, verifies=False)
+    return path.parent / "plan"
+
+
+def wrong(folder):
+    return {rule.name for rule in verify(folder) if rule.differences}
+
+
+def test_the_second_look_agrees_and_each_process_has_ore(plan_folder, blank_pictures):
+    folder = solved(plan_folder)
+    assert wrong(folder) == set()
+    shells = pd.read_csv(folder / "shells.csv").set_index("factor")
+    assert (shells.loc[1000, ["ore_tonnes_leach", "ore_tonnes_mill"]] > 100).all()
+    assert shells["ore_tonnes"].tolist() == pytest.approx((shells["ore_tonnes_leach"] + shells["ore_tonnes_mill"]).tolist())
+    # Some blocks are leached at a low price and milled at the given one.
+    plan = pitplan.prepare(folder.parent / "project.toml")
+    assert (np.diff(plan.values.processed) == 0).sum() > 5
+
+
+def test_each_process_keeps_its_capacity(plan_folder, blank_pictures):
+    folder = solved(plan_folder)
+    years = pd.read_csv(folder / "years.csv")
+    assert years["ore_tonnes_mill"].max() == pytest.approx(100) and years["ore_tonnes_leach"].max() <= 300 + 1e-6
+
+
+@pytest.mark.parametrize("cutoff", ["moving", "fixed"])
+def test_shells_are_those_of_the_best_process_at_each_factor(plan_folder, cutoff):
+    """One factor after the other, each block with one node that has what its best process is worth there."""
+    path = plan_folder(deposit(), PROJECT, *MORE, ("decimals = 2\n", f'decimals = 2\ncutoff = "{cutoff}"\n'))
+    plan = pitplan.prepare(path)
+    entry = analyse.cells_of(plan, pitplan.solve(plan)).factor
+    for factor in plan.project.schedule.factors:
+        best = best_way(plan.values.ways, factor if cutoff == "moving" else 1000)
+        alone = tuple(replace(way, **{name: np.choose(best, [getattr(it, name) for it in plan.values.ways]) for name in ("revenue", "cost")}) for way in plan.values.ways[:1])
+        one = replace(plan, values=replace(plan.values, ways=alone, best=np.zeros_like(best)))
+        one.project = replace(plan.project, schedule=replace(plan.project.schedule, factors=(factor,)))
+        inside = pitplan.solve(one).entry[: plan.grid.count] > 0
+        assert ((entry > 0) & (entry <= factor)).tolist() == inside.tolist()
+
+
+@pytest.mark.parametrize("column", ["process", "revenue_leach", "processing_cost_mill", "revenue"])
+def test_what_is_bent_in_blocks_is_found(plan_folder, blank_pictures, column):
+    folder = solved(plan_folder)
+    table = pd.read_csv(folder / "blocks.csv", keep_default_na=False)
+    at = table.index[table["process"] == "mill"][0]
+    table.loc[at, column] = "leach" if column == "process" else table.loc[at, column] + 0.02
+    table.to_csv(folder / "blocks.csv", index=False)
+    assert "money" in wrong(folder)
+
+
+def worst_way(ways, factor):
+    return 1 - best_way(ways, factor)
+
+
+def both(ways):
+    """Each process as a node of the block's own value: a block may be processed twice."""
+    parts = [(np.flatnonzero(way.revenue > 0), number) for number, way in enumerate(ways)]
+    block = np.concatenate([block for block, _ in parts])
+    number = np.concatenate([np.full(len(block), number) for block, number in parts])
+    order = np.argsort(block, kind="stable")
+    block, number = block[order], number[order]
+    return processes.Steps(block, number, *(np.stack([getattr(way, name) for way in ways])[number, block] for name in ("revenue", "cost")))
+
+
+@pytest.mark.parametrize(("name", "planted", "rule"), [("best_way", worst_way, "money"), ("steps_of", both, "worth")])
+def test_other_processes_and_blocks_that_are_processed_twice_are_found(plan_folder, monkeypatch, blank_pictures, name, planted, rule):
+    monkeypatch.setattr(money, name, planted)
+    assert rule in wrong(solved(plan_folder))
+
+
+def test_a_capacity_that_is_passed_over_is_found(plan_folder, monkeypatch, blank_pictures):
+    lasting = pitplan.schedule.lasting
+    monkeypatch.setattr(pitplan.schedule, "lasting", lambda amounts, settings: lasting(amounts, replace(settings, per_process=())))
+    assert "years" in wrong(solved(plan_folder))
+
+
+def test_phases_and_schedules_keep_to_the_capacities(plan_folder, blank_pictures):
+    text = "[pushbacks]\ncount = 2\n[schedule]\nlag = 1\nramp_up = [0.5, 1.0]\n[shells]"
+    ways = write_schedule(plan_folder(deposit(), PROJECT, *MORE, ("[shells]", text)))
+    assert ways["way"].tolist() == ["rule", "lp"] and (ways["below_bound"] >= -1e-9).all()
+
+
+@pytest.mark.parametrize(
+    ("changes", "said"),
+    [
+        (WITH[1:], r"\[money\] processing_cost: give the cost of each of the \[\[processes\]\], not this"),
+        ([WITH[0], *WITH[2:]], r"\[metals 1\] recovery: give the recoveries of each of the \[\[processes\]\], not this"),
+        ([*WITH, ('name = "mill"', 'name = "leach"')], r"two \[\[processes\]\] have one name"),
+        ([*WITH, ('name = "mill"', 'name = "the mill"')], '"the mill" is not one word'),
+        ([*WITH, ("{ copper = 0.4 }", "{ gold = 0.4 }")], r"\[\[processes\]\] leach recovers gold, which is none of the \[\[metals\]\] copper"),
+        ([*WITH, ("[shells]", "[pushbacks]\ncount = 2\n[schedule]\nbins = 2\n[shells]")], r"\[schedule\] bins and ore_per_year are of one process"),
+        ([*WITH, ("[shells]", '[scenarios]\ncolumns = { copper = "cu*" }\n[shells]')], r"\[scenarios\] are solved with one process"),
+        ([*WITH, ("[shells]", "[sensitivity]\nby = [0.1]\n[shells]")], r"\[sensitivity\] is solved with one process"),
+    ],
+)
+def test_what_is_wrong_is_named(plan_folder, changes, said):
+    with pytest.raises(PlanError, match=said):
+        pitplan.load(plan_folder(one_column(), PROJECT, *changes))

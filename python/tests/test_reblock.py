@@ -1,0 +1,158 @@
+"""Rows that are put together to blocks: by hand, and against pandas' own sums."""
+
+import numpy as np
+import pandas as pd
+import pytest
+from conftest import PROJECT, rows
+
+import pitplan
+from pitplan import PlanError, commands, reblock
+from pitplan.verification import verify
+
+TWOS = ('file = "blocks.csv"', 'file = "blocks.csv"\nreblock = [2, 2, 1]')
+# Of these four blocks of 10 m 100, 300, 200 and 400 t are of copper 1, 0, 2 and 0.5 %: 7 t in 1000, 0.7 %.
+GRADES, TONNES = [1, 0, 2, 0.5], [100, 300, 200, 400]
+
+
+def four(**more):
+    by_place = {"tonnes": lambda i, j, k: TONNES[i + 2 * j], "cu": lambda i, j, k: GRADES[i + 2 * j]}
+    return rows(2, 2, 1, **{**by_place, "rock": lambda i, j, k: "AABB"[i + 2 * j], "region": lambda i, j, k: "1211"[i + 2 * j], **more})
+
+
+def test_four_blocks_in_one_by_hand(plan_folder):
+    """A has 400 t, B 600; region 1 has 700 t, 2 has 300."""
+    plan = pitplan.prepare(plan_folder(four(), PROJECT, TWOS))
+    (block,) = plan.table.to_dict("records")
+    assert block == {"name": "1-1-1", "x": 10, "y": 10, "z": 5, "tonnes": 1000, "cu": 0.7, "rock": "B", "region": "1"}
+    assert plan.grid.size == (20, 20, 10) and plan.grid.shape == (1, 1, 1)
+    for said in ("4 rows were put together to 1 blocks of 20 x 20 x 10 m", "of 1,000 t 400 are of another rock than their block", "of 1,000 t 300 are of another region than their block"):
+        assert said in plan.summary
+
+
+def test_sides_that_are_not_full_and_fixed_blocks(plan_folder):
+    """Five blocks from the west: the third of the new ones holds one. A block is fixed where a part of it is."""
+    table = rows(5, 1, 3, must=lambda i, j, k: int((i, k) == (1, 2)), cu=lambda i, j, k: i)
+    change = ('file = "blocks.csv"', 'file = "blocks.csv"\nreblock = [2, 1, 2]')
+    plan = pitplan.prepare(plan_folder(table, PROJECT + '[fixed]\nforced = "must"\n', change))
+    table = plan.table
+    assert table["x"].tolist() == [10, 30, 50] * 2 and table["z"].tolist() == [10] * 3 + [30] * 3 and (table["y"] == 5).all()
+    assert table["tonnes"].tolist() == [400, 400, 200, 200, 200, 100] and table["cu"].tolist() == [0.5, 2.5, 4] * 2
+    assert table["must"].tolist() == [0, 0, 0, 1, 0, 0] and plan.fixed.forced.tolist() == [0]
+
+
+def sub_blocks():
+    """Two parents of 20 x 20 x 10 m from 100, 200, 50 on: one whole, one of two unequal halves and a piece without tonnes."""
+    frame = pd.DataFrame({"name": list("abcd"), "x": [110.0, 125, 135, 135], "y": [210.0, 210, 205, 215], "z": [55.0, 55, 55, 55]})
+    return frame.assign(tonnes=[4000, 1500, 500.5, 0], cu=[0.3, 1, 0, 9], rock=list("RRSS"), region=["1"] * 4)
+
+
+PARENTS = ('file = "blocks.csv"', 'file = "blocks.csv"\nreblock = { size = [20, 20, 10], corner = [60, 200, 50] }')
+SIZE = ("size = [10, 10, 10]\n", "tolerance = 0.02\n")
+
+
+def test_sub_blocks_by_hand(plan_folder):
+    """1500 t of 1 % in 2000.5."""
+    plan = pitplan.prepare(plan_folder(sub_blocks(), PROJECT, PARENTS, SIZE))
+    assert plan.table["x"].tolist() == [110, 130] and plan.table["tonnes"].tolist() == [4000, 2000.5]
+    assert plan.table["cu"].tolist() == [0.3, round(1500 / 2000.5, 9)] and plan.table["rock"].tolist() == ["R", "R"]
+    assert "of 6,000 t 500 are of another rock than their block" in plan.summary or "of 6,000 t 501 are of another rock than their block" in plan.summary
+
+
+@pytest.mark.parametrize(
+    ("changes", "said"),
+    [
+        ([("reblock = [2, 2, 1]", "reblock = [1, 1, 1]")], r"\[table\] reblock: must be whole numbers"),
+        ([("reblock = [2, 2, 1]", "reblock = [2, 1.5, 1]")], r"\[table\] reblock: must be whole numbers"),
+        ([("reblock = [2, 2, 1]", "reblock = { size = [20, 20, 0], corner = [0, 0, 0] }")], r"\[table.reblock\] size: a block's size is above 0"),
+        ([("reblock = [2, 2, 1]", "reblock = { size = [20, 20, 10], corner = [5, 0, 0] }")], "row 2 column x: lies on the edge of two blocks of 20 m from 5 on"),
+        ([("[slopes]\n", '[scenarios]\ncolumns = { copper = "cu*" }\n[slopes]\n')], r"\[table\] reblock: is not done of \[scenarios\]"),
+    ],
+)
+def test_what_is_wrong_is_named(plan_folder, changes, said):
+    with pytest.raises(PlanError, match=said):
+        pitplan.prepare(plan_folder(four(), PROJECT, TWOS, *changes))
+
+
+def test_rows_in_one_place_are_refused(plan_folder):
+    table = pd.concat([sub_blocks(), sub_blocks().tail(1).assign(name="e")])
+    with pytest.raises(PlanError, match="row 6 column x, y, z: another row has this centre too"):
+        pitplan.prepare(plan_folder(table, PROJECT, PARENTS, SIZE))
+
+
+def hill():
+    """Ore of two rocks below a hill of blocks of 10 m, with an odd number of them each way."""
+    rng = np.random.default_rng(7)
+    table = rows(13, 11, 6, tonnes=lambda i, j, k: 99.7 + 0.013 * i, rock=lambda i, j, k: "RS"[(i + j) % 3 == 0], region=lambda i, j, k: "12"[i > 6])
+    ore = (table["z"] < 35) & table["x"].between(40, 90) & table["y"].between(30, 80)
+    table["cu"] = np.where(ore, rng.lognormal(0.7, 0.5, len(table)).round(3), 0)
+    return table[(table["z"] < 50) | (table["x"] < 70)].assign(must=0, never=lambda it: (it["x"] > 120).astype(int))
+
+
+FIXED = '[fixed]\nforced = "must"\nbarred = "never"\n'
+
+
+@pytest.fixture
+def solved_hill(plan_folder, blank_pictures):
+    def solve():
+        path = plan_folder(hill(), PROJECT + FIXED, ('file = "blocks.csv"', 'file = "blocks.csv"\nreblock = [2, 2, 2]'))
+        commands.write_shells(path, verifies=False)
+        return path.parent / "plan"
+
+    return solve
+
+
+def wrong(folder):
+    return {rule.name: rule.differences[0] for rule in verify(folder) if rule.differences}
+
+
+def test_the_second_look_agrees(solved_hill):
+    folder = solved_hill()
+    rules = {rule.name: rule for rule in verify(folder)}
+    assert not any(rule.differences for rule in rules.values())
+    assert f"holds the {len(hill())} rows that lie in it" in rules["reblocked"].holds
+    assert (pd.read_csv(folder / "shells.csv")["blocks"] > 0).any()
+
+
+@pytest.mark.parametrize(("column", "more"), [("tonnes", 1e-5), ("cu", 1e-6), ("rock", "X"), ("region", "X"), ("name", "X"), ("must", 1)])
+def test_each_number_that_is_bent_is_found(solved_hill, column, more):
+    folder = solved_hill()
+    table = pd.read_csv(folder / "blocks.csv", dtype={"rock": str, "region": str})
+    table.loc[40, column] = table.loc[40, column] + more
+    table.to_csv(folder / "blocks.csv", index=False)
+    assert column in wrong(folder)["reblocked"]
+
+
+def by_first(self, codes):
+    first = np.unique(self.block, return_index=True)[1]
+    return codes[first], 0.0
+
+
+def by_rows(self, values):
+    return np.bincount(self.block, values) / np.bincount(self.block)
+
+
+@pytest.mark.parametrize(("name", "planted"), [("most", by_first), ("mean", by_rows)])
+def test_rows_that_are_put_together_otherwise_are_found(solved_hill, monkeypatch, name, planted):
+    monkeypatch.setattr(reblock.Parts, name, planted)
+    assert "reblocked" in wrong(solved_hill())
+
+
+@pytest.mark.parametrize("metres", [4, 10])
+def test_blocks_that_lie_elsewhere_are_found(solved_hill, monkeypatch, metres):
+    """So far that rows lie in other blocks the table is told to be another."""
+    lattice = reblock.lattice_of
+    monkeypatch.setattr(reblock, "lattice_of", lambda edge, size, places: lattice([edge[0] + metres, *edge[1:]], size, places))
+    folder = solved_hill()
+    if metres < 10:
+        assert wrong(folder) == {"reblocked": "x: blocks of 20 m from 4 on for 20 from 0"}
+        return
+    with pytest.raises(PlanError, match="blocks of the table's rows are not in it"):
+        verify(folder)
+
+
+def test_a_table_that_is_too_large_by_itself(plan_folder, monkeypatch):
+    monkeypatch.setattr(pitplan.grid, "MOST_BLOCKS", 200)
+    with pytest.raises(PlanError, match="the grid has 858 cells, of which shells may reach 858, and the program takes at most 200 blocks"):
+        pitplan.prepare(plan_folder(hill(), PROJECT))
+    plan = pitplan.prepare(plan_folder(hill(), PROJECT, ('file = "blocks.csv"', 'file = "blocks.csv"\nreblock = [2, 2, 2]')))
+    assert plan.grid.shape == (3, 6, 7)

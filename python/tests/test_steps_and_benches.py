@@ -1,0 +1,129 @@
+"""Steps of the planner's own and benches with berms: by hand, and against blocks found one by one."""
+
+import math
+from dataclasses import replace
+
+import numpy as np
+import pandas as pd
+import pytest
+from conftest import PROJECT, rows
+
+import pitplan
+from pitplan import PlanError, analyse, commands, project, slopes
+from pitplan.project import Bench
+from pitplan.verification import verify
+
+WALL = '[[slopes.walls]]\npattern = "1:5"'
+
+
+def walls(text):
+    return (WALL, f"[[slopes.walls]]\n{text}")
+
+
+def deposit():
+    return rows(11, 11, 5, cu=lambda i, j, k: 30 if (i, j, k) == (5, 5, 0) else 0, region=lambda i, j, k: "12"[i > 6])
+
+
+def dug(path):
+    """The places, by columns, rows and levels from the floor, that are dug at factor 1000."""
+    plan = pitplan.prepare(path)
+    inside = np.flatnonzero(analyse.cells_of(plan, pitplan.solve(plan)).factor[:] == 500)
+    column, row, level = plan.grid.indices(inside)
+    return set(zip(column.tolist(), row.tolist(), (4 - level).tolist()))
+
+
+def reached(steps_of):
+    """From the ore at (5, 5, 0) all that steps lead to, one by one; `steps_of` has those of a column."""
+    found, open_ = {(5, 5, 0)}, [(5, 5, 0)]
+    while open_:
+        i, j, k = open_.pop()
+        for east, north, up in steps_of(i):
+            place = (i + east, j + north, k + up)
+            if place not in found and 0 <= place[0] < 11 and 0 <= place[1] < 11 and place[2] < 5:
+                found.add(place)
+                open_.append(place)
+    return found
+
+
+LEANING = [(0, 0, 1), (1, 0, 1), (1, 1, 2), (-2, 0, 3)]
+KNIGHT = [(0, 0, 1), (2, 1, 1)]
+
+
+@pytest.mark.parametrize("steps", [LEANING, KNIGHT, [(0, 0, 1)], [(0, 0, 1), (0, 0, 2), (1, 0, 2), (1, 0, 3)]])
+def test_steps_are_those_of_the_project(plan_folder, steps):
+    path = plan_folder(deposit(), PROJECT, walls(f"steps = {[list(step) for step in steps]}"))
+    assert dug(path) == reached(lambda i: steps)
+
+
+def test_steps_by_region(plan_folder):
+    text = f'region = "1"\nsteps = {[list(step) for step in LEANING]}\n[[slopes.walls]]\nregion = "2"\nsteps = {[list(step) for step in KNIGHT]}'
+    assert dug(plan_folder(deposit(), PROJECT, walls(text))) == reached(lambda i: KNIGHT if i > 6 else LEANING)
+
+
+def test_what_is_told_of_steps(plan_folder):
+    """To the east by a block of 10 m a level of 10 m: 45 degrees, and upright to the west."""
+    plan = pitplan.prepare(plan_folder(deposit(), PROJECT, walls("steps = [[0, 0, 1], [1, 0, 1], [1, 0, 2]]")))
+    (pattern,) = plan.walls.patterns
+    assert (pattern.angles[90], pattern.angles[270]) == pytest.approx((45, 90))
+    assert pattern.sentence() == "other regions, 3 steps of the project: 2 needs a block over 2 levels make walls of 45.0 to 90.0 degrees"
+
+
+@pytest.mark.parametrize(("bench", "angle"), [(Bench(10, 45, 10), math.degrees(math.atan(0.5))), (Bench(15, 90, 15), 45), (Bench(15, 70, 0), 70)])
+def test_the_angle_of_benches_by_hand(bench, angle):
+    assert bench.angle == pytest.approx(angle)
+
+
+BENCH = "bench = { height = 20, face = 63.43494882292201, berm = 10 }"
+
+
+def test_benches_are_as_their_overall_angle(plan_folder):
+    """Faces of 2 to 1: 10 m back for 20 up, and as much of a berm, are 45 degrees."""
+    plans = [pitplan.prepare(plan_folder(deposit(), PROJECT, walls(text))) for text in (BENCH, "angle = 45")]
+    assert plans[0].walls.patterns[0].offsets == plans[1].walls.patterns[0].offsets
+    note = "other regions, benches of 20 m with faces of 63.4349 degrees and berms of 10 m, 45 degrees: "
+    assert any(said.startswith(note) for said in plans[0].notes)
+
+
+@pytest.mark.parametrize(
+    ("text", "said"),
+    [
+        ("angle = 45\nsteps = [[0, 0, 1]]", "angle: give exactly one of angle, azimuths, bench, pattern and steps"),
+        ("steps = []", "steps: must be a list of steps"),
+        ("steps = [[0, 0]]", "steps: must be a list of steps"),
+        ("steps = [[0, 0.5, 1]]", "steps: must be a list of steps"),
+        ("steps = [[0, 0, 0]]", "steps: go up by 1 to 40 blocks, and by at most 200 to a side"),
+        ("steps = [[201, 0, 1]]", "steps: go up by 1 to 40 blocks, and by at most 200 to a side"),
+        ("bench = { height = 0, face = 70, berm = 5 }", "height: is above 0 metres"),
+        ("bench = { height = 10, face = 95, berm = 5 }", "face: an angle of a face is from 1 to 90 degrees"),
+        ("bench = { height = 10, face = 70, berm = -5 }", "berm: -5 is below 0"),
+    ],
+)
+def test_what_is_wrong_is_named(plan_folder, text, said):
+    with pytest.raises(PlanError, match=said):
+        pitplan.load(plan_folder(deposit(), PROJECT, walls(text)))
+
+
+def wrong(path):
+    return {rule.name for rule in verify(path.parent / "plan") if rule.differences}
+
+
+@pytest.mark.parametrize("text", [f"steps = {[list(step) for step in LEANING]}", BENCH])
+def test_the_second_look_agrees(plan_folder, blank_pictures, text):
+    path = plan_folder(deposit(), PROJECT, walls(text))
+    commands.write_shells(path)
+    assert wrong(path) == set()
+    assert (pd.read_csv(path.parent / "plan" / "shells.csv")["blocks"] > 5).all()
+
+
+def test_a_step_that_is_passed_over_is_found(plan_folder, monkeypatch, blank_pictures):
+    path, pattern_of = plan_folder(deposit(), PROJECT, walls(f"steps = {[list(step) for step in LEANING]}")), slopes.pattern_of
+    monkeypatch.setattr("pitplan.walls.pattern_of", lambda wall, *more: pattern_of(replace(wall, steps=wall.steps[1:]), *more))
+    commands.write_shells(path, verifies=False)
+    assert "walls" in wrong(path)
+
+
+def test_berms_that_are_passed_over_are_found(plan_folder, monkeypatch, blank_pictures):
+    monkeypatch.setattr(project.Bench, "angle", property(lambda bench: bench.face))
+    path = plan_folder(deposit(), PROJECT, walls(BENCH))
+    commands.write_shells(path, verifies=False)
+    assert "walls" in wrong(path)
