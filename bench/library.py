@@ -65,9 +65,9 @@ def by_library(mine) -> dict:
 
     before = peak()
     clock = Clock()
-    found = pitshell.solve(mine["values"], (mine["indptr"], mine["indices"]))
+    found = pitshell.solve(mine["values"], (mine["indptr"], mine["indices"]), millionths=True)
     clock.step("solve")
-    return {**clock.taken(), "before": before, "peak": peak(), "worth": found.worth, "blocks": int(found.in_pit.sum())}
+    return {**clock.taken(), "before": before, "peak": peak(), "worth": int(found.worth.scaleb(6)), "blocks": int(found.in_pit.sum())}
 
 
 def by_program(mine, program: str) -> dict:

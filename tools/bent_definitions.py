@@ -4,9 +4,9 @@
     tools/bent_definitions.py [--only WORD] [--jobs 2] [--results FILE]      by hand; about half a minute each
 
 A definition that could be changed in one quantifier, sign or number while all stays proved would be pinned by nothing but the
-reader's eye. tools/bent_definitions.txt has a change of each; it is made in a copy of crates/pit_model, which is proved there
-alone, so that what refuses it is a law or an example beside the definitions; some few are refused by the first crate above that
-cites them, which then is proved too. What stays proved is named, and the status is 1. The gate tries a few more of the kind
+reader's eye. tools/bent_definitions.txt has a change of each; it is made in a copy of its crate, which is proved there alone, so
+that what refuses it is a law or an example beside the definitions; some few are refused by the first crate above that cites them,
+which then is proved too. What stays proved is named, and the status is 1. The gate tries a few more of the kind
 (crates/pit_model/mutants).
 """
 
@@ -20,6 +20,7 @@ import sys
 import tempfile
 from typing import NamedTuple
 
+from clone import keep_only
 from crates import TOP, in_order
 
 BENDS = TOP / "tools" / "bent_definitions.txt"
@@ -27,13 +28,27 @@ CRATE = "pit_model"
 
 
 class Bend(NamedTuple):
-    """A definition by its name and file, the words that stand there once, what takes their place, and the crate that refuses it."""
+    """A definition by its name and file, the words that stand there once, what takes their place, and where it is not the file's own the
+    crate that refuses it."""
 
     name: str
-    file: str
+    place: str
     old: str
     new: str
-    crate: str = CRATE
+    above: str = ""
+
+    @property
+    def home(self) -> str:
+        """The crate of the definition: named before a stroke, or pit_model."""
+        return self.place.rpartition("/")[0] or CRATE
+
+    @property
+    def file(self) -> str:
+        return self.place.rpartition("/")[2]
+
+    @property
+    def crate(self) -> str:
+        return self.above or self.home
 
 
 def bends() -> list[Bend]:
@@ -47,6 +62,7 @@ def copy_crate(folder: pathlib.Path, crate: str) -> None:
         shutil.copytree(TOP / "crates" / name, folder / "crates" / name)
     shutil.copy(TOP / "crates.txt", folder)
     shutil.copy(TOP / "HANDLES", folder)
+    keep_only(folder, set(in_order(crate)))
 
 
 def told(bend: Bend) -> str:
@@ -54,7 +70,7 @@ def told(bend: Bend) -> str:
     with tempfile.TemporaryDirectory() as folder:
         copy_crate(pathlib.Path(folder), bend.crate)
         crates = pathlib.Path(folder) / "crates"
-        spec = crates / CRATE / "specs" / bend.file
+        spec = crates / bend.home / "specs" / bend.file
         text = spec.read_text()
         if text.count(bend.old) != 1:
             return f"NOT TRIED: the words stand in {bend.file} {text.count(bend.old)} times"
@@ -63,12 +79,15 @@ def told(bend: Bend) -> str:
     said = ran.stdout + ran.stderr
     if ran.returncode == 0:
         return "PROVED"
+    if "logic=not-proved" not in said:
+        return f"NOT TRIED: {said.strip().splitlines()[-1][:120]}"
     errors = re.findall(r"^\./(\S+?):\d+:\d+: error: (.*)$", said, re.MULTILINE)
     scope = [it for it in errors if it[0].startswith("specs/")]
     if scope:
         return f"NOT TRIED: {scope[0][1][:120]}"
-    where = "" if bend.crate == CRATE else f"crates/{bend.crate}/"
-    return f"refused in {where}{errors[0][0]}" if errors else f"refused: {said.strip().splitlines()[-1][:120]}"
+    where = "" if bend.crate == bend.home == CRATE else f"crates/{bend.crate}/"
+    open_goals = re.findall(r"^note: (src/\S+?):\d+:\d+: it is not proved", said, re.MULTILINE)
+    return f"refused in {where}{(errors[0][0] if errors else open_goals[0] if open_goals else 'a proof')}"
 
 
 def main() -> int:

@@ -24,11 +24,11 @@ import clone
 from build import PROGRAM
 from crates import TOP, in_order
 
-SOURCES = pathlib.Path("crates") / "pitshell" / "src"
+SOURCES = pathlib.Path("crates")
 
 
 class Exchange(NamedTuple):
-    """What is exchanged, in a file of the program: old texts and new ones; what it may alter and its test uses; and that test."""
+    """What is exchanged, in a file of the crates `pitshell` or `command_line`: old texts and new ones; what it may alter and its test uses; and that test."""
 
     what: str
     file: str

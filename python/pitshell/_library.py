@@ -35,6 +35,7 @@ def _slice(dtype: type, flags: str = "C_CONTIGUOUS,ALIGNED") -> list:
     return [ndpointer(dtype=dtype, ndim=1, flags=flags), ctypes.c_size_t]
 
 
+WRITTEN = "C_CONTIGUOUS,ALIGNED,WRITEABLE"
 # ctypes lets go of Python's lock while a function runs, so other threads go on; they must not write to the arrays meanwhile.
 _library = ctypes.CDLL(str(_find()))
 
@@ -46,6 +47,65 @@ solve.argtypes = [
     *_slice(np.uint32),
     *_slice(np.uint8),
     ctypes.c_bool,
-    *_slice(np.uint8, "C_CONTIGUOUS,ALIGNED,WRITEABLE"),
+    *_slice(np.uint8, WRITTEN),
     ctypes.POINTER(Found),
 ]
+
+shells = _library.pitshell_shells
+shells.restype = ctypes.c_uint32
+shells.argtypes = [
+    *_slice(np.int64),
+    *_slice(np.int64),
+    *_slice(np.uint32),
+    *_slice(np.uint32),
+    *_slice(np.uint32),
+    *_slice(np.uint32, WRITTEN),
+    *_slice(np.int64, WRITTEN),
+    *_slice(np.uint64, WRITTEN),
+    ctypes.POINTER(ctypes.c_uint32),
+]
+
+certificate = _library.pitshell_certificate
+certificate.restype = ctypes.c_uint32
+certificate.argtypes = [
+    *_slice(np.int64),
+    *_slice(np.uint32),
+    *_slice(np.uint32),
+    *_slice(np.uint8, WRITTEN),
+    *_slice(np.int64, WRITTEN),
+    *_slice(np.uint64, WRITTEN),
+    ctypes.POINTER(Found),
+]
+
+check = _library.pitshell_check
+check.restype = ctypes.c_uint32
+check.argtypes = [
+    *_slice(np.int64),
+    *_slice(np.uint32),
+    *_slice(np.uint32),
+    *_slice(np.uint8),
+    *_slice(np.int64),
+    *_slice(np.uint64),
+    ctypes.POINTER(ctypes.c_bool),
+    ctypes.POINTER(ctypes.c_uint32),
+]
+
+_cycle = _library.pitshell_cycle
+_cycle.restype = ctypes.c_uint32
+_cycle.argtypes = [
+    ctypes.c_size_t,
+    *_slice(np.uint32),
+    *_slice(np.uint32),
+    *_slice(np.uint32, WRITTEN),
+    ctypes.POINTER(ctypes.c_size_t),
+    ctypes.POINTER(ctypes.c_uint32),
+]
+
+
+def cycle_of(starts: np.ndarray, needs: np.ndarray, blocks: int) -> list[int]:
+    """The blocks of the cycle that rows have; none where they have none, or where memory for looking is refused."""
+    room = np.zeros(blocks, dtype=np.uint32)
+    count, place = ctypes.c_size_t(), ctypes.c_uint32()
+    words = (starts, len(starts), needs, len(needs), room, len(room))
+    done = _cycle(blocks, *words, ctypes.byref(count), ctypes.byref(place)) == 0
+    return [int(block) for block in room[: count.value]] if done else []

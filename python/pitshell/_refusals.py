@@ -1,5 +1,18 @@
 """The refusals of the library, by the numbers of docs/FORMATS.md, as exceptions."""
 
+from __future__ import annotations
+
+from typing import TYPE_CHECKING
+
+import numpy as np
+
+from . import _library
+
+if TYPE_CHECKING:
+    from ._arrays import Rows
+
+CYCLE = 14
+
 WORDS = {
     1: "no memory",
     3: "wrong header",
@@ -16,19 +29,35 @@ WORDS = {
 }
 
 
-class Refusal(ValueError):
-    """A mine that is none, or is over the limits. `number` is that of docs/FORMATS.md; `block` and `needed` name the pair where
-    it lies, where it lies in one."""
+# So many blocks of a cycle stand in the words.
+MOST_NAMED = 20
 
-    def __init__(self, number: int, block: int | None = None, needed: int | None = None):
-        self.number = number
-        self.block = block
-        self.needed = needed
+
+class Refusal(ValueError):
+    """A mine that is none, or is over the limits.
+
+    number: that of docs/FORMATS.md. block, needed: the pair where it lies, or the block. need: the number of the need, from 0, where it
+    lies in an amount on one. cycle: the blocks of a cycle, each of which needs the next, and the last the first.
+    """
+
+    def __init__(
+        self,
+        number: int,
+        block: int | None = None,
+        needed: int | None = None,
+        need: int | None = None,
+        cycle: list[int] | None = None,
+    ):
+        self.number, self.block, self.needed, self.need, self.cycle = number, block, needed, need, cycle
         words = WORDS.get(number, "refused")
-        if words.endswith(" "):
-            words += str(block)
+        if words.endswith("block "):
+            words = words + str(block) if block is not None else words.removesuffix(" at block ")
         elif block is not None:
             words += f": block {block}" if needed is None else f": block {block} needs {needed}"
+        elif cycle is not None:
+            words += f": blocks {', '.join(map(str, cycle[:MOST_NAMED]))}{', ..' if len(cycle) > MOST_NAMED else ''}"
+        if need is not None:
+            words += f": flow on need {need}"
         super().__init__(f"error {number}: {words}")
 
 
@@ -39,3 +68,14 @@ class NoMemory(MemoryError):
 
     def __init__(self) -> None:
         super().__init__("error 1: no memory")
+
+
+def refused(number: int, place: int, rows: Rows, blocks: int) -> Refusal | NoMemory:
+    """The exception of a refusal, with the pair or the block at its place, and the blocks of a cycle."""
+    if number == NoMemory.number:
+        return NoMemory()
+    if number == CYCLE:
+        return Refusal(number, cycle=_library.cycle_of(rows.starts, rows.needs, blocks))
+    if number in (8, 9, 10):
+        return Refusal(number, block=int(np.searchsorted(rows.starts, place, side="right")) - 1, needed=int(rows.needs[place]))
+    return Refusal(number, block=place) if number in (3, 15, 21) else Refusal(number)

@@ -1,5 +1,6 @@
 """The library on arrays: the same pits as by trying every set, and each refusal as an exception that names what is wrong."""
 
+import json
 import random
 import subprocess
 from decimal import Decimal
@@ -12,7 +13,7 @@ from scipy.sparse import csr_matrix
 pitshell = pytest.importorskip("pitshell", reason="make library builds it")
 
 TOP = Path(__file__).resolve().parents[2]
-TWO = np.array([-3_000_000, 5_000_000])
+TWO = np.array([-3, 5])
 NEEDS = np.array([[1, 0]])
 
 
@@ -54,47 +55,85 @@ def test_the_best_set_of_all(seed):
             way = "greatest" if greatest else "least"
             if wanted is None:
                 with pytest.raises(pitshell.Refusal) as refused:
-                    pitshell.solve(values, pairs, fixed, way)
+                    pitshell.solve(values, pairs, fixed, way, millionths=True)
                 assert refused.value.number == 21 and fixed[refused.value.block] == pitshell.BARRED
                 continue
-            found = pitshell.solve(values, pairs, fixed, way)
-            assert (found.worth, sum(1 << int(u) for u in np.flatnonzero(found.in_pit))) == (wanted[0], wanted[2])
+            found = pitshell.solve(values, pairs, fixed, way, millionths=True)
+            assert (found.worth * 10**6, sum(1 << int(u) for u in np.flatnonzero(found.in_pit))) == (wanted[0], wanted[2])
 
 
 def test_needs_in_each_form():
     forms = [NEEDS, NEEDS.astype(np.int32), (np.array([0, 0, 1]), np.array([0])), csr_matrix(([7], ([1], [0])), shape=(2, 2))]
     for needs in forms:
         found = pitshell.solve(TWO, needs)
-        assert found.in_pit.tolist() == [True, True] and found.worth == 2_000_000
+        assert found.in_pit.tolist() == [True, True] and found.worth == 2
 
 
 def test_values_in_each_form():
-    for values in (TWO, [-3.0, 5.0], [Decimal("-3"), Decimal("5")]):
-        assert pitshell.solve(values, NEEDS).worth == 2_000_000
+    for values in (TWO, TWO.astype(np.int8), [-3, 5], [-3.0, 5.0], [Decimal("-3"), Decimal("5")]):
+        assert pitshell.solve(values, NEEDS).worth == 2
+    assert pitshell.solve(TWO, NEEDS, millionths=True).worth == Decimal("0.000002")
+    assert pitshell.solve([-1.5, 2.000001], NEEDS).worth == Decimal("0.500001")
     assert pitshell.solve([0.1, 0.2], NEEDS).rounded == 0
     assert pitshell.solve([0.1234567, 0.2], NEEDS).rounded == 1
     assert pitshell.solve([Decimal("0.1234567"), Decimal("0.2")], NEEDS).rounded == 1
 
 
-@pytest.mark.parametrize("seed", range(20))
-def test_shells_are_the_pit_of_each_factor(seed):
+def test_numbers_that_do_not_fit_are_named():
+    for values, millionths in (([0, 10**13], False), (np.array([0, 2**63], dtype=np.uint64), True), ([0.0, 1e13], False), ([0, Decimal(10**13)], False)):
+        with pytest.raises(OverflowError, match="values: that of block 1 does not fit"):
+            pitshell.solve(values, NEEDS, millionths=millionths)
+    with pytest.raises(TypeError, match="millionths are whole numbers"):
+        pitshell.solve([0.5, 1.0], NEEDS, millionths=True)
+
+
+@pytest.mark.parametrize("seed", range(40))
+def test_shells_are_the_best_sets_of_each_factor(seed):
     rng = random.Random(seed)
     values, pairs = random_mine(rng)
     revenues = np.abs(values) % 1000
     costs = np.array([rng.randint(0, 500) for _ in values], dtype=np.int64)
     factors = sorted(rng.sample(range(3000), rng.randint(0, 5)))
-    found = pitshell.shells(revenues, costs, pairs, factors)
+    found = pitshell.shells(revenues, costs, pairs, factors, millionths=True)
     for number, factor in enumerate(factors):
-        pit = pitshell.solve(factor * revenues - 1000 * costs, pairs)
-        assert (found.first <= number).tolist() == pit.in_pit.tolist() and found.worths[number] == pit.worth
+        worth, _, blocks = best([factor * int(r) - 1000 * int(c) for r, c in zip(revenues, costs)], pairs, [0] * len(values), False)
+        assert sum(1 << int(u) for u in np.flatnonzero(found.first <= number)) == blocks and found.worths[number] * 10**9 == worth
     assert (found.first <= len(factors)).all() and len(found.worths) == len(factors)
 
 
-@pytest.mark.parametrize("revenues, factors, number", [([-1, 0], [1], 15), ([0, 0], [2, 1], 19), ([0, 0], [100_001], 4), ([0], [1], 17)])
-def test_shells_that_are_refused(revenues, factors, number):
+def test_shells_in_units_and_past_64_bits():
+    # At 1.5 times its price of 2 the block pays for what it needs, and at the price as given it just does not.
+    found = pitshell.shells([0, 2], [1.0, 1.5], NEEDS, [1000, 1500])
+    assert found.first.tolist() == [1, 1] and found.worths == [0, Decimal("0.5")]
+    # Two blocks of 10^12 at a hundred times their price.
+    found = pitshell.shells([10**12, 10**12], [0, 0], NEEDS, [100_000])
+    assert found.worths == [2 * 10**14]
+
+
+@pytest.mark.parametrize(
+    "revenues, costs, factors, number, block",
+    [
+        ([-1, 0], [0, 0], [1], 15, 0),
+        ([0, 0], [0, -1], [1], 15, 1),
+        ([10**12 + 1, 0], [0, 0], [1], 4, None),
+        ([0, 0], [0, 0], [2, 1], 19, None),
+        ([0, 0], [0, 0], [1, 1], 19, None),
+        ([0, 0], [0, 0], [100_001], 4, None),
+        ([0, 0], [0, 0], [-1], 4, None),
+        ([0, 0], [0, 0], range(1001), 4, None),
+        ([0, 0], [0], [1], 17, None),
+    ],
+)
+def test_shells_that_are_refused(revenues, costs, factors, number, block):
     with pytest.raises(pitshell.Refusal) as refused:
-        pitshell.shells(np.array(revenues), np.zeros(2, dtype=np.int64), NEEDS, factors)
-    assert refused.value.number == number
+        pitshell.shells(revenues, costs, NEEDS, factors)
+    assert (refused.value.number, refused.value.block) == (number, block)
+
+
+def test_shells_of_no_factor_and_of_no_block():
+    assert pitshell.shells([1, 1], [0, 0], NEEDS, []).first.tolist() == [0, 0]
+    none = pitshell.shells([], [], [], [1000])
+    assert len(none.first) == 0 and none.worths == [0]
 
 
 def test_arrays_that_lie_askew():
@@ -104,7 +143,7 @@ def test_arrays_that_lie_askew():
     assert not askew.flags.aligned
     backward = TWO[::-1].copy()[::-1]
     for values in (askew, backward, TWO.astype(">i8")):
-        assert pitshell.solve(values, NEEDS).worth == 2_000_000
+        assert pitshell.solve(values, NEEDS).worth == 2
 
 
 REFUSED = [
@@ -140,7 +179,8 @@ def test_the_words_name_the_pair():
         pitshell.solve(TWO, np.array([[1, 1]]))
 
 
-def test_the_header_is_c(tmp_path):
+@pytest.mark.parametrize("watch", [[], ["-fsanitize=address"]])
+def test_the_header_is_c(tmp_path, watch):
     source = tmp_path / "main.c"
     source.write_text(
         """#include <pitshell.h>
@@ -150,11 +190,53 @@ int main(void) {
     uint8_t numbers[1] = {0}, marks[2];
     struct pitshell_found found;
     uint32_t done = pitshell_solve(values, 2, starts, 3, needs, 1, numbers, 0, false, marks, 2, &found);
-    return !(done == PITSHELL_DONE && marks[0] == 1 && marks[1] == 1 && found.worth_low == 2000000 && found.worth_high == 0);
+    if (done != PITSHELL_DONE || marks[0] != 1 || marks[1] != 1 || found.worth_low != 2000000 || found.worth_high != 0) return 1;
+
+    int64_t revenues[] = {0, 5}, costs[] = {3, 0}, high[2];
+    uint64_t low[2];
+    uint32_t factors[] = {500, 1000}, firsts[2], place;
+    done = pitshell_shells(revenues, 2, costs, 2, starts, 3, needs, 1, factors, 2, firsts, 2, high, 2, low, 2, &place);
+    if (done != PITSHELL_DONE || firsts[0] != 1 || firsts[1] != 1 || low[0] != 0 || low[1] != 2000 || high[1] != 0) return 2;
+    costs[1] = -1;
+    done = pitshell_shells(revenues, 2, costs, 2, starts, 3, needs, 1, factors, 2, firsts, 2, high, 2, low, 2, &place);
+    if (done != PITSHELL_NEGATIVE || place != 1 || firsts[0] != 1) return 3;
+
+    int64_t flow_high[1];
+    uint64_t flow_low[1];
+    bool yes;
+    marks[0] = marks[1] = 0;
+    done = pitshell_certificate(values, 2, starts, 3, needs, 1, marks, 2, flow_high, 1, flow_low, 1, &found);
+    if (done != PITSHELL_DONE || marks[0] != 1 || marks[1] != 1 || found.worth_low != 2000000) return 4;
+    done = pitshell_check(values, 2, starts, 3, needs, 1, marks, 2, flow_high, 1, flow_low, 1, &yes, &place);
+    if (done != PITSHELL_DONE || !yes) return 5;
+    flow_low[0] = 1;
+    done = pitshell_check(values, 2, starts, 3, needs, 1, marks, 2, flow_high, 1, flow_low, 1, &yes, &place);
+    if (done != PITSHELL_DONE || yes) return 6;
+
+    uint32_t round_starts[] = {0, 1, 2}, round_needs[] = {1, 0}, cycle[1];
+    size_t count;
+    done = pitshell_solve(values, 2, round_starts, 3, round_needs, 2, numbers, 0, false, marks, 2, &found);
+    if (done != PITSHELL_CYCLE) return 7;
+    done = pitshell_cycle(2, round_starts, 3, round_needs, 2, cycle, 1, &count, &place);
+    if (done != PITSHELL_DONE || count != 2 || cycle[0] != 0) return 8;
+    return 0;
 }
 """
     )
     program = tmp_path / "main"
     build = TOP / "build"
-    subprocess.run(["cc", "-Wall", "-Werror", "-I", TOP / "include", source, build / "libpitshell.so", f"-Wl,-rpath,{build}", "-o", program], check=True)
+    subprocess.run(["cc", *watch, "-Wall", "-Wextra", "-Werror", "-I", TOP / "include", source, build / "libpitshell.so", f"-Wl,-rpath,{build}", "-o", program], check=True)
     assert subprocess.run([program]).returncode == 0
+
+
+def test_the_notebook_of_arrays_runs(capsys):
+    cells = json.loads((TOP / "examples" / "arrays.ipynb").read_text())["cells"]
+    scope: dict = {}
+    for cell in cells:
+        if cell["cell_type"] == "code":
+            exec("".join(cell["source"]), scope)
+    said = capsys.readouterr().out
+    # The shallow block needs 3, and all cost 8: its 9.5 pay from 843 per mille on. The next needs 8, and all cost 18: its 20 pay beyond 900.
+    first, factors = scope["nested"].first, scope["factors"].tolist()
+    assert [factors[first[scope["block"][place]]] for place in ((1, 1), (2, 6))] == [900, 1000]
+    assert "cycle: blocks 0, 1, 2" in said

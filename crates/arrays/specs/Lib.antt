@@ -1,4 +1,9 @@
 pub mod Spelled
 pub mod Fixing
+pub mod Firsts
+pub mod Parts
 pub mod Refused
 pub mod Solved
+pub mod Nested
+pub mod Certified
+pub mod Cycles

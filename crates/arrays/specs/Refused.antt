@@ -1,13 +1,16 @@
 -- Why arrays spell no mine, or none within the limits.
-use Rattle.std.specs.Prelude.{◌≡◌, ◌⊎◌, ℕ, ◌<◌, ◌≤◌, List, length, get_or}
+use Rattle.std.specs.Prelude.{◌≡◌, ◌⊎◌, ℕ, ◌<◌, ◌≤◌, ◌^◌, ℤ, pos, ◌<ℤ◌, List, length, get_or, map, Some}
 use Rattle.pit_model.specs.Size.{most_blocks, most_pairs}
 use Rattle.faults.specs.Words.{number_of}
+use Rattle.faults.specs.declared.fault.Fault.{Fault}
 use Rattle.faults.specs.declared.refusal.Refusal.{Refusal}
-use Rattle.faults.specs.declared.refusal.Refusal.TheVariants.{NoMemory, OverLimit, IdOutOfPlace, PredecessorOutOfRange, NeedsItself, PredecessorTwice, Cycle, CountsDiffer, WrongHeader, FixedClash}
+use Rattle.faults.specs.declared.refusal.Refusal.TheVariants.{NoMemory, OverLimit, IdOutOfPlace, PredecessorOutOfRange, NeedsItself, PredecessorTwice, Cycle, CountsDiffer, WrongHeader, FixedClash, NegativeColumn}
 use Rattle.pit_model.specs.Graph.{AreSamePairs}
 use Rattle.pit_model.specs.Cycle.{IsCycleList}
+use Rattle.shells.specs.FactorList.{IsFirstItemFault}
+use Rattle.arrays.specs.Parts.{RefusesParts}
 use Rattle.arrays.specs.Fixing.{AreForBlocks, RefusesFixing}
-use Rattle.arrays.specs.Spelled.{AreRows, IsInRow, SpellPairs}
+use Rattle.arrays.specs.Spelled.{AreRows, IsInRow, PricedRows, SpellPairs}
 
 -- too many blocks, or too many pairs
 abbrev pub AreTooMany : ℕ → List ℕ → Type 0
@@ -29,15 +32,15 @@ RefusesPairs pairs blocks (Cycle list) = IsCycleList pairs blocks list.items
 RefusesPairs pairs blocks _ = ⊥
 
 -- no memory; or a fault of the arrays, with the place of `needs` where it lies
-abbrev pub RefusesMine : ℕ → List ℕ → List ℕ → Refusal → ℕ → Type 0
-RefusesMine blocks starts needs NoMemory place = Unit {0}
-RefusesMine blocks starts needs OverLimit place = AreTooMany blocks needs
-RefusesMine blocks starts needs IdOutOfPlace place = AreRows blocks (length needs) starts → ⊥
-RefusesMine blocks starts needs PredecessorOutOfRange place = (place < length needs) × (blocks ≤ get_or needs place 0)
-RefusesMine blocks starts needs NeedsItself place = IsInRow starts (get_or needs place 0) place
-RefusesMine blocks starts needs PredecessorTwice place = IsNamedTwice starts needs place
-RefusesMine blocks starts needs (Cycle list) place = (pairs : List (ℕ × ℕ)) × SpellPairs starts needs pairs × IsCycleList pairs blocks list.items
-RefusesMine blocks starts needs _ place = ⊥
+abbrev pub RefusesRows : ℕ → List ℕ → List ℕ → Refusal → ℕ → Type 0
+RefusesRows blocks starts needs NoMemory place = Unit {0}
+RefusesRows blocks starts needs OverLimit place = AreTooMany blocks needs
+RefusesRows blocks starts needs IdOutOfPlace place = AreRows blocks (length needs) starts → ⊥
+RefusesRows blocks starts needs PredecessorOutOfRange place = (place < length needs) × (blocks ≤ get_or needs place 0)
+RefusesRows blocks starts needs NeedsItself place = IsInRow starts (get_or needs place 0) place
+RefusesRows blocks starts needs PredecessorTwice place = IsNamedTwice starts needs place
+RefusesRows blocks starts needs (Cycle list) place = (pairs : List (ℕ × ℕ)) × SpellPairs starts needs pairs × IsCycleList pairs blocks list.items
+RefusesRows blocks starts needs _ place = ⊥
 
 -- or there is not a mark for each block, or neither a number for each block nor none; or a number says nothing; or a barred
 -- block must be dug, by the pairs in whatever order
@@ -46,9 +49,38 @@ RefusesSolve blocks starts needs numbers marks CountsDiffer place = (length mark
 RefusesSolve blocks starts needs numbers marks WrongHeader place = (place < length numbers) × (2 < get_or numbers place 0)
 RefusesSolve blocks starts needs numbers marks (FixedClash block) place =
     (spelled pairs : List (ℕ × ℕ)) × SpellPairs starts needs spelled × AreSamePairs spelled pairs × RefusesFixing pairs numbers (FixedClash block) place
-RefusesSolve blocks starts needs numbers marks refusal place = RefusesMine blocks starts needs refusal place
+RefusesSolve blocks starts needs numbers marks refusal place = RefusesRows blocks starts needs refusal place
 
 -- the number of why no pit is marked
 abbrev pub IsRefusedBy : ℕ → List ℕ → List ℕ → List ℕ → List ℕ → ℕ → ℕ → Type 0
 IsRefusedBy blocks starts needs numbers marks number place =
     (refusal : Refusal) × (number ≡ number_of refusal) × RefusesSolve blocks starts needs numbers marks refusal place
+
+-- of an amount of a block: it is negative, or above 10^18
+abbrev pub RefusesAmount : ℕ → ℤ → Refusal → Type 0
+RefusesAmount block amount (NegativeColumn least) = (least ≡ block) × (amount <ℤ pos 0)
+RefusesAmount block amount OverLimit = pos (10 ^ 18) <ℤ amount
+RefusesAmount block amount _ = ⊥
+
+-- no memory; or a block has such an amount
+abbrev pub RefusesAmounts : List ℤ → Refusal → ℕ → Type 0
+RefusesAmounts amounts NoMemory block = Unit {0}
+RefusesAmounts amounts refusal block = (block < length amounts) × RefusesAmount block (get_or amounts block (pos 0)) refusal
+
+-- no memory; or the first factor of a list that breaks a check is refused by it
+abbrev pub RefusesFactors : List ℕ → Refusal → Type 0
+RefusesFactors factors NoMemory = Unit {0}
+RefusesFactors factors refusal = (fault : Fault) × (fault.refusal ≡ refusal) × IsFirstItemFault (map (λ factor. Some factor) factors) fault
+
+-- why nested pits are not marked: there is not a cost and a number for each revenue; or rows, amounts or factors are refused
+pub data RefusesShells (rows : PricedRows) (factors firsts : List ℕ) (refusal : Refusal) (place : ℕ) : Type 0 where
+  by_counts : refusal ≡ CountsDiffer → ((length firsts ≡ length rows.revenues) × (length rows.costs ≡ length rows.revenues) → ⊥) → RefusesShells rows factors firsts refusal place
+  by_rows : RefusesRows (length rows.revenues) rows.starts rows.needs refusal place → RefusesShells rows factors firsts refusal place
+  by_revenues : RefusesAmounts rows.revenues refusal place → RefusesShells rows factors firsts refusal place
+  by_costs : RefusesAmounts rows.costs refusal place → RefusesShells rows factors firsts refusal place
+  by_factors : RefusesFactors factors refusal → RefusesShells rows factors firsts refusal place
+
+-- the number of why nested pits are not marked
+abbrev pub IsRefusedShells : PricedRows → List ℕ → List ℕ → List ℤ → List ℕ → ℕ → ℕ → Type 0
+IsRefusedShells rows factors firsts high low number place =
+    (refusal : Refusal) × (number ≡ number_of refusal) × (RefusesShells rows factors firsts refusal place ⊎ RefusesParts (length factors) high low refusal)

@@ -1,6 +1,7 @@
 -- The mine that arrays spell: a value for each block, and which blocks each needs in compressed rows.
 use Rattle.std.specs.Prelude.{◌≡◌, ℕ, ◌+◌, ◌<◌, ◌≤◌, ℤ, List, length, get_or}
-use Rattle.pit_model.specs.Graph.{first_of, second_of, AreSamePairs}
+use Rattle.pit_model.specs.Deposit.{Deposit}
+use Rattle.pit_model.specs.Graph.{first_of, second_of, AreSamePairs, Graph}
 use Rattle.pit_model.specs.Mine.{Instance, instance_of}
 
 -- a row of places for each block, one behind the other from the first place to the last: that of block u begins at place
@@ -33,6 +34,32 @@ pub record IsSpelled (values : List ℤ) (starts needs : List ℕ) (mine : Insta
   pub pairs : List (ℕ × ℕ)
   pub spelled : SpellMine values starts needs (instance_of mine.blocks mine.values pairs)
   pub same : AreSamePairs pairs mine.pairs
+
+-- the revenue and the cost of each block, and which blocks each needs
+pub record PricedRows : Type 0 where
+  pub revenues : List ℤ
+  pub costs : List ℤ
+  pub starts : List ℕ
+  pub needs : List ℕ
+
+abbrev pub priced_rows : List ℤ → List ℤ → List ℕ → List ℕ → PricedRows
+priced_rows revenues costs starts needs = record { revenues = revenues; costs = costs; starts = starts; needs = needs }
+
+-- as many blocks as revenues, a cost for each, and the pairs of the rows
+pub record SpellDeposit (rows : PricedRows) (deposit : Deposit) : Type 0 where
+  pub blocks : deposit.blocks ≡ length rows.revenues
+  pub revenues_are : deposit.revenues ≡ rows.revenues
+  pub costs_are : deposit.costs ≡ rows.costs
+  pub rows_are : AreRows deposit.blocks (length rows.needs) rows.starts
+  pub pairs_are : SpellPairs rows.starts rows.needs deposit.pairs
+
+-- a graph in memory of so many blocks, where the pairs of the rows stand in another order
+pub record SpellGraph (blocks : ℕ) (starts needs : List ℕ) (graph : Graph) : Type 0 where
+  pub pairs : List (ℕ × ℕ)
+  pub count : graph.blocks ≡ blocks
+  pub rows : AreRows blocks (length needs) starts
+  pub pairs_are : SpellPairs starts needs pairs
+  pub same : AreSamePairs pairs graph.pairs
 
 -- the law: arrays spell one mine at most
 abbrev pub ArraysSpellOneMine : Type 0

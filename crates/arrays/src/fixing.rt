@@ -1,5 +1,5 @@
 //! Blocks forced in and blocks barred, as an array has them: 1 and 2, and 0 for a block that is neither.
-ghost use Rattle.std.specs.Prelude.{◌≡◌, ◌==◌, ◌<◌, ◌≤◌, ℕ, length, get_or, IfOk, IfErr, IfSome};
+ghost use Rattle.std.specs.Prelude.{◌≡◌, ◌==◌, ◌<◌, ◌≤◌, ℕ, length, get_or, IfOk, IfErr, IfSome, IfNone};
 ghost use Rattle.pit_model.specs.Size.{most_blocks};
 ghost use Rattle.pit_model.specs.Fixed.{fixed_of};
 ghost use Rattle.pit_model.specs.Mine.{members};
@@ -23,13 +23,14 @@ pub fn toward(greatest: bool) -> Direction
     }
 }
 
-/// The first place of a number that says nothing.
-pub fn first_unknown(numbers: &[u8]) -> Option<u32>
+/// The first place of a number above the most that says something.
+pub fn first_above(numbers: &[u8], most: u8) -> Option<u32>
     requires { length numbers.now ≤ most_blocks }
-    ensures { IfSome result (λ k. (k < length numbers.now) × (2 < get_or numbers.now k 0)) }
+    ensures some { IfSome result (λ k. (k < length numbers.now) × (most < get_or numbers.now k 0)) }
+    ensures none { IfNone result ((k : ℕ) → k < length numbers.now → get_or numbers.now k 0 ≤ most) }
 {
     for k in 0..numbers.len() {
-        if numbers[k] > 2 {
+        if numbers[k] > most {
             return Some(k as u32);
         }
     }
@@ -37,7 +38,7 @@ pub fn first_unknown(numbers: &[u8]) -> Option<u32>
 }
 
 /// The blocks with a number, rising.
-fn blocks_with(alloc: Global, numbers: &[u8], number: u8) -> Result<Vec<u32>, AllocError>
+pub fn blocks_with(alloc: Global, numbers: &[u8], number: u8) -> Result<Vec<u32>, AllocError>
     requires { length numbers.now ≤ most_blocks }
     ensures { IfOk result (λ list. list.items ≡ members (length numbers.now) (λ u. get_or numbers.now u 0 == number)) }
 {

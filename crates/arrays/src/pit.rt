@@ -5,9 +5,10 @@ ghost use Rattle.arrays.specs.Fixing.{AreForBlocks, RefusesFixing, fixed_by, tow
 ghost use Rattle.arrays.specs.Refused.{RefusesSolve};
 ghost use Rattle.arrays.specs.Solved.{MarkPit};
 
-use crate::fixing::{first_unknown, fixed_by, toward};
+use crate::fixing::{first_above, fixed_by, toward};
 use crate::marks::write_marks;
 use crate::mine::mine_of;
+use crate::rows::Rows;
 use crate::unsound::Unsound;
 use faults::Refusal;
 use mine_graph::Instance;
@@ -42,14 +43,13 @@ fn pit_of(
 pub fn mark_pit(
     alloc: Global,
     values: &[i64],
-    starts: &[u32],
-    needs: &[u32],
+    rows: &Rows<'_>,
     numbers: &[u8],
     greatest: bool,
     marks: &mut [u8],
 ) -> Result<i128, Unsound>
-    ensures marked { IfOk result (MarkPit values.now starts.now needs.now numbers.now greatest marks.new) }
-    ensures refused { IfErr result (λ e. RefusesSolve (length values.now) starts.now needs.now numbers.now marks.old e.refusal e.place) }
+    ensures marked { IfOk result (MarkPit values.now rows.now.starts.now rows.now.needs.now numbers.now greatest marks.new) }
+    ensures refused { IfErr result (λ e. RefusesSolve (length values.now) rows.now.starts.now rows.now.needs.now numbers.now marks.old e.refusal e.place) }
     ensures kept { IfErr result (λ _. marks.new ≡ marks.old) }
 {
     if marks.len() != values.len() || (numbers.len() != 0 && numbers.len() != values.len()) {
@@ -58,9 +58,9 @@ pub fn mark_pit(
             place: 0,
         });
     }
-    let mine = mine_of(alloc, values, starts, needs)?;
+    let mine = mine_of(alloc, values, rows)?;
     mine.law();
-    if let Some(place) = first_unknown(numbers) {
+    if let Some(place) = first_above(numbers, 2) {
         return Err(Unsound {
             refusal: Refusal::WrongHeader,
             place,

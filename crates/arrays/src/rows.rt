@@ -1,8 +1,15 @@
-//! Rows of places, one behind the other, and the pairs that they spell.
+//! Which blocks each block needs, in compressed rows: rows of places, one behind the other, and the pairs that they spell.
 ghost use Rattle.std.specs.Prelude.{◌≡◌, ◌↔◌, ◌<◌, ◌≤◌, ◌^◌, ◌+◌, ℕ, IsTrue, length, IfOk};
 ghost use Rattle.arrays.specs.Spelled.{AreRows, SpellPairs};
 
 use std::alloc::{AllocError, Global};
+
+/// Block u needs `needs[k]` for k from `starts[u]` up to, and without, `starts[u + 1]`.
+#[derive(Clone, Copy)]
+pub struct Rows<'a> {
+    pub starts: &'a [u32],
+    pub needs: &'a [u32],
+}
 
 /// Whether the array says where rows of so many blocks begin and end, over so many places.
 pub fn are_rows(blocks: u32, places: usize, starts: &[u32]) -> bool

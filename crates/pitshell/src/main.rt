@@ -2,7 +2,6 @@
 //! The crate `runs` does the work over readers and writers; `main` opens files, calls it and gives the exit status.
 #![tactic(auto)]
 
-mod command_line;
 mod options;
 mod output;
 mod stats;

@@ -2,11 +2,22 @@
 //! says the same for who writes C.
 #![tactic(auto)]
 
-ghost use Rattle.std.specs.Prelude.{◌≡◌, ◌≢◌, ◌+ℤ◌, ◌*ℤ◌, ◌^◌, pos, length};
-ghost use Rattle.arrays.specs.Refused.{IsRefusedBy};
+ghost use Rattle.std.specs.Prelude.{◌≡◌, ◌≢◌, ◌↔◌, ◌<◌, ◌+ℤ◌, ◌*ℤ◌, ◌^◌, pos, ℤ, IsTrue, List, length};
+ghost use Rattle.faults.specs.Words.{number_of};
+ghost use Rattle.faults.specs.declared.refusal.Refusal.{Refusal as AnyRefusal};
+ghost use Rattle.arrays.specs.Certified.{CertifyMarks, IsRefusedCertified, IsRefusedCheck, MarkCertified};
+ghost use Rattle.arrays.specs.Cycles.{SpellNoCycle, WritesCycle};
+ghost use Rattle.arrays.specs.Nested.{MarkShells};
+ghost use Rattle.arrays.specs.Parts.{AreParts};
+ghost use Rattle.arrays.specs.Refused.{IsRefusedBy, IsRefusedShells, RefusesRows};
 ghost use Rattle.arrays.specs.Solved.{MarkPit};
+ghost use Rattle.arrays.specs.Spelled.{priced_rows};
 
-use arrays::{Parts, mark_pit, parts_of};
+use arrays::{
+    Certified, DepositArrays, Parts, Rows, Unsound, check_marks, find_cycle, have_room,
+    mark_certified, mark_pit, mark_shells, numbers_of, parts_of, write_parts,
+};
+use faults::Refusal;
 use std::alloc::Global;
 
 /// What a call found: the worth of the pit in millionths, which is `worth_high` times 2^64 plus `worth_low`; and of a refusal the
@@ -17,6 +28,31 @@ pub struct PitshellFound {
     pub worth_high: i64,
     pub worth_low: u64,
     pub place: u32,
+}
+
+impl PitshellFound {
+    /// What is found where a pit is: its worth.
+    fn worth(worth: i128) -> PitshellFound
+        ensures { pos (2 ^ 64) *ℤ result.worth_high +ℤ pos result.worth_low ≡ worth }
+    {
+        let Parts { high, low } = parts_of(worth);
+        PitshellFound {
+            worth_high: high,
+            worth_low: low,
+            place: 0,
+        }
+    }
+
+    /// What is found of a refusal: its place.
+    fn refused(place: u32) -> PitshellFound
+        ensures { result.place ≡ place }
+    {
+        PitshellFound {
+            worth_high: 0,
+            worth_low: 0,
+            place,
+        }
+    }
 }
 
 /// The pit of the mine that the arrays spell: block u is worth `values[u]` millionths, and needs the blocks `needs[k]` for k from
@@ -37,23 +73,162 @@ pub extern "C" fn pitshell_solve(
     ensures refused { result ≢ 0 → IsRefusedBy (length values.now) starts.now needs.now numbers.now marks.old result found.new.place }
     ensures kept { result ≢ 0 → marks.new ≡ marks.old }
 {
-    match mark_pit(alloc, values, starts, needs, numbers, greatest, marks) {
+    let rows = Rows { starts, needs };
+    match mark_pit(alloc, values, &rows, numbers, greatest, marks) {
         Ok(worth) => {
-            let Parts { high, low } = parts_of(worth);
-            *found = PitshellFound {
-                worth_high: high,
-                worth_low: low,
-                place: 0,
-            };
+            *found = PitshellFound::worth(worth);
             0
         }
         Err(unsound) => {
-            *found = PitshellFound {
-                worth_high: 0,
-                worth_low: 0,
-                place: unsound.place,
-            };
+            *found = PitshellFound::refused(unsound.place);
             unsound.refusal.number()
+        }
+    }
+}
+
+/// The nested pits of the deposit that the arrays spell: block u yields `revenues[u]` and costs `costs[u]` millionths, and needs blocks as
+/// in `pitshell_solve`; at a factor f it is worth f * revenue - 1000 * cost, in billionths. Where the answer is 0, `firsts[u]` is the
+/// number, from 0, of the first factor whose pit holds block u, or how many factors there are where none does, and the pit of factor k
+/// is worth `worths_high[k]` times 2^64 plus `worths_low[k]`.
+#[unsafe(no_mangle)]
+pub extern "C" fn pitshell_shells(
+    alloc: Global,
+    revenues: &[i64],
+    costs: &[i64],
+    starts: &[u32],
+    needs: &[u32],
+    factors: &[u32],
+    firsts: &mut [u32],
+    worths_high: &mut [i64],
+    worths_low: &mut [u64],
+    place: &mut u32,
+) -> u32
+    ensures solved { result ≡ 0 → (amounts : List ℤ) × AreParts amounts worths_high.new worths_low.new × MarkShells (priced_rows revenues.now costs.now starts.now needs.now) factors.now firsts.new amounts }
+    ensures refused { result ≢ 0 → IsRefusedShells (priced_rows revenues.now costs.now starts.now needs.now) factors.now firsts.old worths_high.old worths_low.old result place.new }
+    ensures kept { result ≢ 0 → (firsts.new ≡ firsts.old) × (worths_high.new ≡ worths_high.old) × (worths_low.new ≡ worths_low.old) }
+{
+    *place = 0;
+    if !have_room(factors.len(), worths_high, worths_low) {
+        return Refusal::CountsDiffer.number();
+    }
+    let deposit = DepositArrays {
+        revenues,
+        costs,
+        rows: Rows { starts, needs },
+    };
+    match mark_shells(alloc, &deposit, factors, firsts) {
+        Ok(worths) => {
+            write_parts(&worths, worths_high, worths_low);
+            0
+        }
+        Err(Unsound { refusal, place: at }) => {
+            *place = at;
+            refusal.number()
+        }
+    }
+}
+
+/// The pit of the mine that the arrays spell, as `pitshell_solve` finds the smallest, with the flow that shows it: on the pair of the need
+/// at place k flow `flow_high[k]` times 2^64 plus `flow_low[k]` millionths. The blocks of each row rise.
+#[unsafe(no_mangle)]
+pub extern "C" fn pitshell_certificate(
+    alloc: Global,
+    values: &[i64],
+    starts: &[u32],
+    needs: &[u32],
+    marks: &mut [u8],
+    flow_high: &mut [i64],
+    flow_low: &mut [u64],
+    found: &mut PitshellFound,
+) -> u32
+    ensures solved { result ≡ 0 → (amounts : List ℤ) × AreParts amounts flow_high.new flow_low.new
+        × MarkCertified values.now starts.now needs.now marks.new amounts (pos (2 ^ 64) *ℤ found.new.worth_high +ℤ pos found.new.worth_low) }
+    ensures refused { result ≢ 0 → IsRefusedCertified (length values.now) starts.now needs.now marks.old flow_high.old flow_low.old result found.new.place }
+    ensures kept { result ≢ 0 → (marks.new ≡ marks.old) × (flow_high.new ≡ flow_high.old) × (flow_low.new ≡ flow_low.old) }
+{
+    if !have_room(needs.len(), flow_high, flow_low) {
+        *found = PitshellFound::refused(0);
+        return Refusal::CountsDiffer.number();
+    }
+    match mark_certified(alloc, values, &Rows { starts, needs }, marks) {
+        Ok(Certified { worth, flow }) => {
+            write_parts(&flow, flow_high, flow_low);
+            *found = PitshellFound::worth(worth);
+            0
+        }
+        Err(Unsound { refusal, place }) => {
+            *found = PitshellFound::refused(place);
+            refusal.number()
+        }
+    }
+}
+
+/// Whether a flow shows that the marked blocks are the pit of the mine that the arrays spell, whoever made it; places, parts and rows are
+/// as in `pitshell_certificate`. Where the answer is 0, `yes` says so.
+#[unsafe(no_mangle)]
+pub extern "C" fn pitshell_check(
+    alloc: Global,
+    values: &[i64],
+    starts: &[u32],
+    needs: &[u32],
+    marks: &[u8],
+    flow_high: &[i64],
+    flow_low: &[u64],
+    yes: &mut bool,
+    place: &mut u32,
+) -> u32
+    ensures answered { result ≡ 0 → (amounts : List ℤ) × AreParts amounts flow_high.now flow_low.now
+        × (IsTrue yes.new ↔ CertifyMarks values.now starts.now needs.now marks.now amounts) }
+    ensures refused { result ≢ 0 → IsRefusedCheck (length values.now) starts.now needs.now marks.now flow_high.now flow_low.now result place.new }
+{
+    *yes = false;
+    *place = 0;
+    if !have_room(needs.len(), flow_high, flow_low) {
+        return Refusal::CountsDiffer.number();
+    }
+    let Ok(flow) = numbers_of(alloc, flow_high, flow_low) else {
+        return Refusal::NoMemory.number();
+    };
+    match check_marks(alloc, values, &Rows { starts, needs }, marks, flow) {
+        Ok(answer) => {
+            *yes = answer;
+            0
+        }
+        Err(Unsound { refusal, place: at }) => {
+            *place = at;
+            refusal.number()
+        }
+    }
+}
+
+/// The cycle that the rows of so many blocks have, for which the other calls refuse them. Where the answer is 0, `count` is how many
+/// blocks it has, of which each needs the next, and the last the first, and `cycle` begins with them, as far as there is room; or it is 0,
+/// where there is no cycle.
+#[unsafe(no_mangle)]
+pub extern "C" fn pitshell_cycle(
+    alloc: Global,
+    blocks: usize,
+    starts: &[u32],
+    needs: &[u32],
+    cycle: &mut [u32],
+    count: &mut usize,
+    place: &mut u32,
+) -> u32
+    ensures none { result ≡ 0 → count.new ≡ 0 → SpellNoCycle blocks starts.now needs.now }
+    ensures some { result ≡ 0 → 0 < count.new → WritesCycle blocks starts.now needs.now cycle.new count.new }
+    ensures refused { result ≢ 0 → (refusal : AnyRefusal) × (result ≡ number_of refusal) × RefusesRows blocks starts.now needs.now refusal place.new }
+{
+    *count = 0;
+    *place = 0;
+    match find_cycle(alloc, blocks, &Rows { starts, needs }, cycle) {
+        Ok(None) => 0,
+        Ok(Some(found)) => {
+            *count = found;
+            0
+        }
+        Err(Unsound { refusal, place: at }) => {
+            *place = at;
+            refusal.number()
         }
     }
 }

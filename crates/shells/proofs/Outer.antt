@@ -1,6 +1,5 @@
 -- The outermost shell is what is found on the whole; and the shells of its part, lifted, are those of the whole.
 use Rattle.std.proofs.Common.{◌≡◌, ℕ, ◌-◌, ◌<◌, ◌≤◌, not, Bool, true, false, refl, sym, ap, subst, ◌∙◌, arith, ⊎_elim, List, [], ◌∷◌, get_or, length, map}
-use Rattle.std.specs.Prelude.{◌⊎◌}
 use Rattle.std.specs.List.{All}
 use Rattle.std.proofs.lemmas.Bool.{cases_eq}
 use Rattle.std.proofs.lemmas.List.{ext_get_or, get_or-map, length-map, take_all}
@@ -14,12 +13,10 @@ use Rattle.pit_model.specs.Direction.{ListsPit, nothing}
 use Rattle.pit_model.specs.Shells.{AreFactors, AreShells, IsShell}
 use Rattle.pit_model.specs.declared.shell.Shell.{Shell}
 use Rattle.pit_model.proofs.Members.{members_each}
-use Rattle.pit_model.proofs.Shells.{rest_gives_shell}
 use Rattle.mine_graph.proofs.Renumbering.{part_ext}
 use Rattle.shells.specs.Prices.{Prices, deposit_of}
-use Rattle.shells.specs.Grown.{marked, rest_at, IsGrown}
+use Rattle.shells.specs.Grown.{marked}
 use Rattle.shells.specs.Outermost.{amounts_of, AreLifted, IsOutermost, IsPlacedIn}
-use Rattle.shells.proofs.Joining.{joins}
 use Rattle.shells.proofs.Lifting.{lifted_is_shell}
 use Rattle.shells.proofs.Nests.{are_shells}
 

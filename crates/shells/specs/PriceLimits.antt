@@ -1,5 +1,5 @@
 -- What revenues and costs may be, at their limits: these are lawful, and those are not.
-use Rattle.std.specs.Prelude.{ℕ, ℤ, pos, ◌-ℤ◌, List, [], ◌∷◌, ◌<◌, ◌≤◌, ◌^◌, ◌+◌}
+use Rattle.std.specs.Prelude.{ℕ, ℤ, pos, ◌-ℤ◌, List, [], ◌∷◌, ◌<◌, ◌^◌, ◌+◌}
 use Rattle.pit_model.specs.Deposit.{Deposit, IsAmount, IsPriced}
 
 -- as many blocks, with no pairs

@@ -7,6 +7,7 @@ ghost use Rattle.shells.specs.Prices.{deposit_of};
 
 use crate::columns::Columns;
 use crate::factors::Factors;
+use crate::outermost::{lifted, outermost_alone};
 use crate::plan::Plan;
 use crate::rising::rising_shells;
 use faults::Fault;
@@ -34,5 +35,7 @@ pub fn shells_alone(
         graph,
         factors,
     };
-    rising_shells(alloc, &plan)
+    let outer = outermost_alone(alloc, &plan, plan.last_factor())?;
+    let inner = rising_shells(alloc, &outer.plan(factors))?;
+    lifted(alloc, &plan, &outer, &inner)
 }

@@ -9,7 +9,7 @@ ghost use Rattle.shells.specs.Planned.{deposit_in, HasRows};
 use crate::columns::Columns;
 use crate::factors::Factors;
 use crate::growing::{next_shell, start};
-use crate::outermost::{is_free, lift_all, outermost_shell};
+use crate::outermost::{is_free, lifted, outermost_shell};
 use crate::plan::Plan;
 use crate::rising::rising_shells;
 use faults::Fault;
@@ -74,25 +74,9 @@ fn shells_within<G: Gate + Sync, R: Threads + Wait + Sync>(
     ensures shells { IfOk result (λ list. AreShells search.now.direction (deposit_in plan.now) plan.now.factors.now list.items) }
     ensures refused { IfErr result (λ e. e ≡ no_memory) }
 {
-    let Plan {
-        columns,
-        graph,
-        factors,
-    } = *plan;
-    factors.law();
-    columns.law();
-    graph.law();
-    let greatest = factors.get(factors.len() - 1);
-    let outer = outermost_shell(search, plan, greatest)?;
-    outer.columns.law();
-    outer.graph.law();
-    let within = Plan {
-        columns: &outer.columns,
-        graph: &outer.graph,
-        factors,
-    };
-    let inner = inner_shells(search, &within)?;
-    Ok(lift_all(search.alloc, graph.n(), &outer.blocks, &inner)?)
+    let outer = outermost_shell(search, plan, plan.last_factor())?;
+    let inner = inner_shells(search, &outer.plan(plan.factors))?;
+    lifted(search.alloc, plan, &outer, &inner)
 }
 
 /// The shell of each factor, in their order, by the way that the mode allows.

@@ -2,20 +2,28 @@
 //! 1965), and it is closed: so where no budget counts mergers, it is found first, and the others among its blocks alone.
 ghost use Rattle.std.specs.Prelude.{◌≡◌, ◌<◌, ◌≤◌, ℕ, not, map, length, get_or, IsTrue, IfOk, IfErr};
 ghost use Rattle.faults.specs.Refused.{no_memory};
+ghost use Rattle.pit_model.specs.Deposit.{mine_at};
+ghost use Rattle.pit_model.specs.Direction.{ListsPit, nothing};
+ghost use Rattle.pit_model.specs.declared.direction.Direction.{Direction as AnyDirection};
+ghost use Rattle.pit_model.specs.declared.direction.Direction.TheVariants.{Least};
+ghost use Rattle.solver.specs.Searched.{IsFound};
 ghost use Rattle.shells.specs.Grown.{IsFree};
+ghost use Rattle.pit_model.specs.Shells.{AreShells};
 ghost use Rattle.shells.specs.Outermost.{IsOutermost, IsLiftedShell, AreLifted, IsPlacedIn};
-ghost use Rattle.shells.specs.Planned.{HasRows};
+ghost use Rattle.shells.specs.Within.{AreWithin};
+ghost use Rattle.shells.specs.Planned.{deposit_in, HasRows};
 ghost use Rattle.std.specs.List.{All};
 ghost use Rattle.pit_model.specs.Size.{most_blocks};
 
 use crate::columns::Columns;
+use crate::factors::Factors;
 use crate::growing::mark;
 use crate::plan::Plan;
 use crate::whole::{marks_of, mine_at};
 use faults::Fault;
-use mine_graph::{Graph, marked_numbers};
-use pit_model::Shell;
-use solver::{Gate, Mode, Search};
+use mine_graph::{Fixed, Graph, Instance, marked_numbers};
+use pit_model::{Direction, Shell};
+use solver::{FoundPit, Gate, Mode, Search, find_pit_alone};
 use std::alloc::{AllocError, Global};
 use std::sync::{Arc, Wait};
 use std::thread::Threads;
@@ -47,7 +55,46 @@ fn opposite(alloc: Global, marks: &[bool]) -> Result<Vec<bool>, AllocError>
     marks.iter().map(|&mark| !mark).collect(alloc)
 }
 
-/// The pit at a factor toward the plan's direction, as a deposit of its own. Refused for want of memory alone.
+impl Outermost {
+    /// The part as the mine of a plan, with these factors.
+    pub fn plan<'a>(&'a self, factors: &'a Factors) -> Plan<'a>
+        ensures columns { result.columns.now ≡ self.now.columns }
+        ensures graph { result.graph.now ≡ self.now.graph }
+        ensures factors { result.factors.now ≡ factors.now }
+    {
+        Plan {
+            columns: &self.columns,
+            graph: &self.graph,
+            factors,
+        }
+    }
+
+    /// The pit that was found of a plan's mine at a factor, as a deposit of its own. Refused for want of memory alone.
+    fn of(alloc: Global, plan: &Plan<'_>, factor: u32, pit: &[u32]) -> Result<Outermost, Fault>
+        requires rows { HasRows plan.now }
+        requires pit { (direction : AnyDirection) × ListsPit direction (mine_at (deposit_in plan.now) factor) nothing pit.now }
+        ensures is { IfOk result (λ o. (direction : AnyDirection) → ListsPit direction (mine_at (deposit_in plan.now) factor) nothing pit.now
+            → IsOutermost direction plan.now.columns.now plan.now.graph.now.value factor o.blocks.items o.columns o.graph.value) }
+        ensures refused { IfErr result (λ e. e ≡ no_memory) }
+    {
+        let Plan { columns, graph, .. } = *plan;
+        columns.law();
+        graph.law();
+        let marks = marks_of(alloc, graph.n(), pit)?;
+        let outside = opposite(alloc, &marks)?;
+        let part = graph.without(&outside)?;
+        part.graph.law();
+        let inner = columns.at(alloc, &part.blocks)?;
+        let graph = Arc::new(alloc, part.graph)?;
+        Ok(Outermost {
+            blocks: part.blocks,
+            columns: inner,
+            graph,
+        })
+    }
+}
+
+/// The pit at a factor toward the search's direction, as a deposit of its own. Refused for want of memory alone.
 pub fn outermost_shell<G: Gate + Sync, R: Threads + Wait + Sync>(
     search: &Search<'_, R, G>,
     plan: &Plan<'_>,
@@ -59,23 +106,29 @@ pub fn outermost_shell<G: Gate + Sync, R: Threads + Wait + Sync>(
     ensures is { IfOk result (λ o. IsOutermost search.now.direction plan.now.columns.now plan.now.graph.now.value factor o.blocks.items o.columns o.graph.value) }
     ensures refused { IfErr result (λ e. e ≡ no_memory) }
 {
-    let alloc = search.alloc;
-    let Plan { columns, graph, .. } = *plan;
-    columns.law();
-    graph.law();
-    let mine = mine_at(alloc, columns, graph, factor)?;
+    let mine = mine_at(search.alloc, plan.columns, plan.graph, factor)?;
     let found = search.unfixed_pit(mine)?;
-    let marks = marks_of(alloc, graph.n(), &found.blocks)?;
-    let outside = opposite(alloc, &marks)?;
-    let part = graph.without(&outside)?;
-    part.graph.law();
-    let inner = columns.at(alloc, &part.blocks)?;
-    let graph = Arc::new(alloc, part.graph)?;
-    Ok(Outermost {
-        blocks: part.blocks,
-        columns: inner,
-        graph,
-    })
+    Outermost::of(search.alloc, plan, factor, &found.blocks)
+}
+
+/// The least pit of a mine of which no block is fixed, by one thread. Refused for want of memory alone.
+fn least_pit(alloc: Global, mine: Instance) -> Result<FoundPit, Fault>
+    ensures found { IfOk result (IsFound Least mine nothing) }
+    ensures refused { IfErr result (λ e. e ≡ no_memory) }
+{
+    find_pit_alone(alloc, mine, &Fixed::none(), Direction::Least)
+}
+
+/// The least pit at a factor by one thread, as a deposit of its own. Refused for want of memory alone.
+pub fn outermost_alone(alloc: Global, plan: &Plan<'_>, factor: u32) -> Result<Outermost, Fault>
+    requires rows { HasRows plan.now }
+    requires factor { factor ≤ 100000 }
+    ensures is { IfOk result (λ o. IsOutermost Least plan.now.columns.now plan.now.graph.now.value factor o.blocks.items o.columns o.graph.value) }
+    ensures refused { IfErr result (λ e. e ≡ no_memory) }
+{
+    let mine = mine_at(alloc, plan.columns, plan.graph, factor)?;
+    let found = least_pit(alloc, mine)?;
+    Outermost::of(alloc, plan, factor, &found.blocks)
 }
 
 /// A shell by the numbers that its blocks have in a list.
@@ -96,7 +149,7 @@ fn lift(alloc: Global, n: u32, blocks: &[u32], shell: &Shell) -> Result<Shell, A
 }
 
 /// Shells by the numbers that their blocks have in a list.
-pub fn lift_all(
+fn lift_all(
     alloc: Global,
     n: u32,
     blocks: &[u32],
@@ -112,4 +165,24 @@ pub fn lift_all(
         lifted.push(lift(alloc, n, blocks, &shells[i])?)?;
     }
     Ok(lifted)
+}
+
+/// The shells of a plan, by those among the blocks of its outermost one. Refused for want of memory alone.
+pub fn lifted(
+    alloc: Global,
+    plan: &Plan<'_>,
+    outer: &Outermost,
+    inner: &[Shell],
+) -> Result<Vec<Shell>, Fault>
+    requires rows { HasRows plan.now }
+    requires some { 0 < length plan.now.factors.now }
+    requires within { (direction : AnyDirection) × AreWithin direction plan.now outer.now inner.now }
+    ensures shells { IfOk result (λ list. (direction : AnyDirection) → AreWithin direction plan.now outer.now inner.now → AreShells direction (deposit_in plan.now) plan.now.factors.now list.items) }
+    ensures refused { IfErr result (λ e. e ≡ no_memory) }
+{
+    plan.factors.law();
+    plan.columns.law();
+    plan.graph.law();
+    outer.graph.law();
+    Ok(lift_all(alloc, plan.graph.n(), &outer.blocks, inner)?)
 }

@@ -1,4 +1,7 @@
 //! What a mine's shells are found from, in one value.
+ghost use Rattle.std.specs.Prelude.{◌≡◌, ◌<◌, ◌≤◌, ◌-◌, length};
+ghost use Rattle.pit_model.specs.Shells.{factor_of};
+
 use crate::columns::Columns;
 use crate::factors::Factors;
 use mine_graph::Graph;
@@ -10,4 +13,16 @@ pub struct Plan<'a> {
     pub columns: &'a Columns,
     pub graph: &'a Arc<Graph>,
     pub factors: &'a Factors,
+}
+
+impl Plan<'_> {
+    /// The greatest factor, in per mille.
+    pub fn last_factor(&self) -> u32
+        requires { 0 < length self.now.factors.now }
+        ensures last { result ≡ factor_of self.now.factors.now (length self.now.factors.now - 1) }
+        ensures limit { result ≤ 100000 }
+    {
+        self.factors.law();
+        self.factors.get(self.factors.len() - 1)
+    }
 }

@@ -1,4 +1,4 @@
-use Rattle.std.proofs.Common.{arith, refl, ℕ, zero, suc, ℤ, pos, List, [], ◌∷◌, get_or, ◌<◌, ◌≤◌, ◌+◌, ◌^◌, ◌≤ℤ◌, ◌-ℤ◌}
+use Rattle.std.proofs.Common.{arith, refl, ℕ, zero, suc, ℤ, pos, [], ◌∷◌, get_or, ◌<◌, ◌^◌, ◌≤ℤ◌}
 use Rattle.pit_model.specs.Deposit.{IsAmount}
 use Rattle.shells.proofs.laws.limits_of_prices.Goals as goal
 

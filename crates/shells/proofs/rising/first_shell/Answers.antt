@@ -1,8 +1,7 @@
 -- The mine at the first factor is solved.
-use Rattle.std.proofs.Common.{◌≡◌, ◌∙◌, ℕ, List, Bool, ap, subst, sym}
+use Rattle.std.proofs.Common.{◌≡◌, ◌∙◌, subst}
 use Rattle.std.proofs.lemmas.Result.{IfOk-weaker}
 use Rattle.pit_model.specs.declared.direction.Direction.TheVariants.{Least}
-use Rattle.pit_model.specs.Mine.{Instance, IsPit, members}
 use Rattle.pit_model.specs.Deposit.{mine_at}
 use Rattle.pit_model.specs.Shells.{IsShell, factor_of}
 use Rattle.shells.specs.Prices.{deposit_of}

@@ -1,5 +1,5 @@
 -- The mine that has risen to the next factor is solved.
-use Rattle.std.proofs.Common.{◌≡◌, ◌≤◌, ◌<◌, ◌+◌, ◌∙◌, ℕ, suc, List, Bool, ap, subst, sym, arith, get_or, rules}
+use Rattle.std.proofs.Common.{◌≤◌, ◌+◌, List, Bool, subst, arith}
 use Rattle.std.proofs.lemmas.Result.{IfOk-weaker}
 use Rattle.std.proofs.lemmas.List.Kept.{AllPairs-from_increasing}
 use Rattle.pit_model.specs.declared.direction.Direction.TheVariants.{Least}

@@ -1,6 +1,6 @@
 -- A block without a mark has its old price until it is raised, and then the new one.
-use Rattle.std.proofs.Common.{◌≡◌, ◌<◌, ◌≤◌, ◌∙◌, ◌+◌, ◌^◌, ℕ, true, false, ap, subst, sym, length, get_or, arith, rules}
-use Rattle.std.specs.Prelude.{ℤ, pos, ◌+ℤ◌, ◌-ℤ◌, ◌≤ℤ◌}
+use Rattle.std.proofs.Common.{◌≡◌, ◌<◌, ◌∙◌, ◌+◌, true, false, ap, subst, sym, length, arith, rules}
+use Rattle.std.specs.Prelude.{◌+ℤ◌}
 use Rattle.std.specs.Int.{w128}
 use Rattle.std.proofs.lemmas.Int.{ints, to_z-of_z}
 use mir.Val.{SFits}

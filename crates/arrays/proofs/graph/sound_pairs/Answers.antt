@@ -2,7 +2,7 @@
 use Rattle.std.proofs.Common.{ℕ, length, ◌<◌, ◌≤◌, sym, subst, List}
 use Rattle.pit_model.specs.Graph.{first_of, AreInRange}
 use Rattle.arrays.proofs.Spelling.{by_rows, in_range}
-use Rattle.arrays.proofs.mine.sound_pairs.Goals as goal
+use Rattle.arrays.proofs.graph.sound_pairs.Goals as goal
 
 pub first_repeated-requires-clause-in_range : goal.first_repeated-requires-clause-in_range
 first_repeated-requires-clause-in_range c =

@@ -1,4 +1,5 @@
-//! The command line, as `clap` sees it. `options` turns what was found into the program's own types.
+//! The command line of `pitshell`, as `clap` sees it: its subcommands, their options, and the words of its help.
+#![tactic(auto)]
 
 use clap::{Arg, ArgAction, Command, value_parser};
 use std::alloc::{AllocError, Global};
@@ -247,16 +248,27 @@ fn solve_command<'a>(alloc: Global) -> Result<Command<'a>, AllocError> {
     with_watch(alloc, with_outputs(alloc, solve)?)
 }
 
-/// `pitshell` with its subcommands. Its version is the release.
+/// With the subcommands that solve.
+fn with_solves<'a>(alloc: Global, command: Command<'a>) -> Result<Command<'a>, AllocError> {
+    command
+        .subcommand(solve_command(alloc)?)?
+        .subcommand(shells_command(alloc)?)
+}
+
+/// With the subcommands that judge what a solve has written.
+fn with_judges<'a>(alloc: Global, command: Command<'a>) -> Result<Command<'a>, AllocError> {
+    command
+        .subcommand(check_command(alloc)?)?
+        .subcommand(replay_command(alloc)?)
+}
+
+/// `pitshell` with its subcommands. Its version is the release. Refused for want of memory alone.
 pub fn command<'a>(alloc: Global) -> Result<Command<'a>, AllocError> {
-    Command::new(alloc, "pitshell")
+    let command = Command::new(alloc, "pitshell")
         .version("0.1.0")
         .about("Finds the ultimate pit of a mine with a proved solver")
         .after_help(STATUSES)
         .subcommand_required(true)
-        .arg_required_else_help(false)
-        .subcommand(solve_command(alloc)?)?
-        .subcommand(shells_command(alloc)?)?
-        .subcommand(check_command(alloc)?)?
-        .subcommand(replay_command(alloc)?)
+        .arg_required_else_help(false);
+    with_judges(alloc, with_solves(alloc, command)?)
 }

@@ -1,0 +1,64 @@
+-- What shows the marked pit of a mine in arrays: a flow on each pair, by the place of the pair's need.
+use Rattle.std.specs.Prelude.{◌≡◌, ◌⊎◌, ℕ, ◌+◌, ◌-◌, ◌<◌, ℤ, pos, ◌<ℤ◌, Bool, List, length, get_or}
+use Rattle.faults.specs.Words.{number_of}
+use Rattle.faults.specs.declared.refusal.Refusal.{Refusal}
+use Rattle.faults.specs.declared.refusal.Refusal.TheVariants.{OverLimit, IdOutOfPlace, CountsDiffer, WrongHeader, NegativeColumn}
+use Rattle.pit_model.specs.Certificate.{Certifies}
+use Rattle.pit_model.specs.Mine.{Instance, IsPit, worth}
+use Rattle.certificate.specs.Check.{most_amount}
+use Rattle.arrays.specs.Parts.{AreParts, RefusesParts}
+use Rattle.arrays.specs.Refused.{RefusesRows}
+use Rattle.arrays.specs.Solved.{AreMarks}
+use Rattle.arrays.specs.Spelled.{SpellMine}
+
+-- the blocks of a row rise
+abbrev pub RowRises : List ℕ → ℕ → ℕ → Type 0
+RowRises needs begin end = (k : ℕ) → begin < k → k < end → get_or needs (k - 1) 0 < get_or needs k 0
+
+-- those of each row do
+abbrev pub RowsRise : ℕ → List ℕ → List ℕ → Type 0
+RowsRise blocks starts needs = (u : ℕ) → u < blocks → RowRises needs (get_or starts u 0) (get_or starts (u + 1) 0)
+
+-- the amounts are a flow on the pairs that shows that the marked blocks are the pit
+pub record CertifyMarks (values : List ℤ) (starts needs marks : List ℕ) (amounts : List ℤ) : Type 0 where
+  pub mine : Instance
+  pub spelled : SpellMine values starts needs mine
+  pub set : ℕ → Bool
+  pub marks_are : AreMarks mine.blocks set marks
+  pub count : length amounts ≡ length needs
+  pub certifies : Certifies mine set (λ k. get_or amounts k (pos 0))
+
+-- they do, and this is what the pit is worth
+pub record MarkCertified (values : List ℤ) (starts needs marks : List ℕ) (amounts : List ℤ) (amount : ℤ) : Type 0 where
+  pub certified : CertifyMarks values starts needs marks amounts
+  pub is_pit : IsPit certified.mine certified.set
+  pub worth_is : amount ≡ worth certified.mine certified.set
+
+-- why no flow by place is made or looked at: there is not a mark for each block; the rows are refused, or do not rise
+pub data RefusesCertified (blocks : ℕ) (starts needs marks : List ℕ) (refusal : Refusal) (place : ℕ) : Type 0 where
+  by_marks : refusal ≡ CountsDiffer → (length marks ≡ blocks → ⊥) → RefusesCertified blocks starts needs marks refusal place
+  by_rows : RefusesRows blocks starts needs refusal place → RefusesCertified blocks starts needs marks refusal place
+  by_order : refusal ≡ IdOutOfPlace → (RowsRise blocks starts needs → ⊥) → RefusesCertified blocks starts needs marks refusal place
+
+-- of an amount on a pair: it is negative, or above 10^30
+abbrev pub RefusesFlow : List ℤ → Refusal → ℕ → Type 0
+RefusesFlow amounts (NegativeColumn least) place = (least ≡ place) × (place < length amounts) × (get_or amounts place (pos 0) <ℤ pos 0)
+RefusesFlow amounts OverLimit place = (place < length amounts) × (most_amount <ℤ get_or amounts place (pos 0))
+RefusesFlow amounts _ place = ⊥
+
+-- why a flow is not looked at: or there is not an amount for each need; or a mark is neither 0 nor 1; or an amount is not as it must be
+pub data RefusesCheck (blocks : ℕ) (starts needs marks : List ℕ) (amounts : List ℤ) (refusal : Refusal) (place : ℕ) : Type 0 where
+  by_arrays : RefusesCertified blocks starts needs marks refusal place → RefusesCheck blocks starts needs marks amounts refusal place
+  by_count : refusal ≡ CountsDiffer → (length amounts ≡ length needs → ⊥) → RefusesCheck blocks starts needs marks amounts refusal place
+  by_mark : refusal ≡ WrongHeader → place < length marks → 1 < get_or marks place 0 → RefusesCheck blocks starts needs marks amounts refusal place
+  by_flow : RefusesFlow amounts refusal place → RefusesCheck blocks starts needs marks amounts refusal place
+
+-- the number of why no flow is made
+abbrev pub IsRefusedCertified : ℕ → List ℕ → List ℕ → List ℕ → List ℤ → List ℕ → ℕ → ℕ → Type 0
+IsRefusedCertified blocks starts needs marks high low number place =
+    (refusal : Refusal) × (number ≡ number_of refusal) × (RefusesCertified blocks starts needs marks refusal place ⊎ RefusesParts (length needs) high low refusal)
+
+-- and of why none is looked at
+abbrev pub IsRefusedCheck : ℕ → List ℕ → List ℕ → List ℕ → List ℤ → List ℕ → ℕ → ℕ → Type 0
+IsRefusedCheck blocks starts needs marks high low number place =
+    (refusal : Refusal) × (number ≡ number_of refusal) × (((amounts : List ℤ) × AreParts amounts high low × RefusesCheck blocks starts needs marks amounts refusal place) ⊎ RefusesParts (length needs) high low refusal)

@@ -1,0 +1,134 @@
+//! The pit of a mine that arrays spell, with the flow that shows it, by one thread; and the check of such a flow.
+ghost use Rattle.std.specs.Prelude.{◌≡◌, ◌↔◌, ◌<◌, ◌≤◌, ℕ, pos, ◌≤ℤ◌, IsTrue, length, get_or, IfOk, IfErr, IfSome, IfNone};
+ghost use Rattle.pit_model.specs.Mine.{arcs};
+ghost use Rattle.pit_model.specs.Size.{most_pairs};
+ghost use Rattle.certificate.specs.Certificate.{IsCertificateOf};
+ghost use Rattle.certificate.specs.Check.{AreAmounts};
+ghost use Rattle.arrays.specs.Certified.{CertifyMarks, MarkCertified, RefusesCertified, RefusesCheck, RefusesFlow};
+
+use crate::fixing::{blocks_with, first_above};
+use crate::marks::write_marks;
+use crate::ordered::ordered_mine_of;
+use crate::rows::Rows;
+use crate::unsound::Unsound;
+use certificate::{Certificate, check};
+use faults::{Fault, Refusal};
+use mine_graph::{Fixed, Instance};
+use solver::{Outcome, solve_single};
+use std::alloc::Global;
+
+/// The most that an amount on a pair may be, in the unit of the values.
+const MOST_AMOUNT: i128 = 1_000_000_000_000_000_000_000_000_000_000;
+
+/// The worth of a pit, and the flow that shows it: an amount for each need, by its place.
+#[derive(Drop)]
+pub struct Certified {
+    pub worth: i128,
+    pub flow: Vec<i128>,
+}
+
+/// The certificate of a mine. Refused for want of memory alone.
+fn certificate_of(alloc: Global, mine: &Instance) -> Result<Certificate, Unsound>
+    ensures certifies { IfOk result (IsCertificateOf mine.now) }
+    ensures refused { IfErr result (λ e. e.refusal ≡ Refusal.NoMemory) }
+{
+    match solve_single(alloc, mine, None) {
+        Ok(Outcome::Pit(certificate)) => Ok(certificate),
+        Ok(Outcome::Exhausted(_)) => unreachable!(),
+        Err(_) => Err(Unsound {
+            refusal: Refusal::NoMemory,
+            place: 0,
+        }),
+    }
+}
+
+/// Marks the pit of the mine that the arrays spell, and answers its worth and the flow that shows it. Refused as `mine_of` is, where the
+/// blocks of a row do not rise (7), and where there is not a mark for each block (17). The marks are then as they were.
+pub fn mark_certified(
+    alloc: Global,
+    values: &[i64],
+    rows: &Rows<'_>,
+    marks: &mut [u8],
+) -> Result<Certified, Unsound>
+    ensures marked { IfOk result (λ c. MarkCertified values.now rows.now.starts.now rows.now.needs.now marks.new c.flow.items c.worth) }
+    ensures refused { IfErr result (λ e. RefusesCertified (length values.now) rows.now.starts.now rows.now.needs.now marks.old e.refusal e.place) }
+    ensures kept { IfErr result (λ _. marks.new ≡ marks.old) }
+{
+    if marks.len() != values.len() {
+        return Err(Unsound {
+            refusal: Refusal::CountsDiffer,
+            place: 0,
+        });
+    }
+    let mine = ordered_mine_of(alloc, values, rows)?;
+    mine.law();
+    let certificate = certificate_of(alloc, &mine)?;
+    write_marks(&certificate.pit, marks);
+    Ok(Certified {
+        worth: mine.worth(&certificate.pit),
+        flow: certificate.flow,
+    })
+}
+
+/// The first amount that no pair may have: negative (15), or above 10^30 (4).
+fn first_unfit(flow: &[i128]) -> Option<Unsound>
+    requires { length flow.now ≤ most_pairs }
+    ensures some { IfSome result (λ e. RefusesFlow flow.now e.refusal e.place) }
+    ensures none { IfNone result (AreAmounts flow.now) }
+{
+    for k in 0..flow.len() {
+        let place = k as u32;
+        if flow[k] < 0 {
+            return Some(Unsound {
+                refusal: Refusal::NegativeColumn(place),
+                place,
+            });
+        }
+        if flow[k] > MOST_AMOUNT {
+            return Some(Unsound {
+                refusal: Refusal::OverLimit,
+                place,
+            });
+        }
+    }
+    None
+}
+
+/// Whether the flow shows that the marked blocks are the pit of the mine that the arrays spell. Refused as `mark_certified` is; where
+/// there is not an amount for each need (17); by a mark above 1 (3), and by an amount that is negative (15) or above 10^30 (4).
+pub fn check_marks(
+    alloc: Global,
+    values: &[i64],
+    rows: &Rows<'_>,
+    marks: &[u8],
+    flow: Vec<i128>,
+) -> Result<bool, Unsound>
+    ensures exact { IfOk result (λ yes. IsTrue yes ↔ CertifyMarks values.now rows.now.starts.now rows.now.needs.now marks.now flow.items) }
+    ensures refused { IfErr result (λ e. RefusesCheck (length values.now) rows.now.starts.now rows.now.needs.now marks.now flow.items e.refusal e.place) }
+{
+    if marks.len() != values.len() || flow.len() != rows.needs.len() {
+        return Err(Unsound {
+            refusal: Refusal::CountsDiffer,
+            place: 0,
+        });
+    }
+    let mine = ordered_mine_of(alloc, values, rows)?;
+    mine.law();
+    if let Some(place) = first_above(marks, 1) {
+        return Err(Unsound {
+            refusal: Refusal::WrongHeader,
+            place,
+        });
+    }
+    if let Some(unfit) = first_unfit(&flow) {
+        return Err(unfit);
+    }
+    let pit = blocks_with(alloc, marks, 1)?;
+    match check(alloc, &mine, &Fixed::none(), &Certificate { pit, flow }) {
+        Ok(yes) => Ok(yes),
+        Err(_) => Err(Unsound {
+            refusal: Refusal::NoMemory,
+            place: 0,
+        }),
+    }
+}

@@ -1,0 +1,46 @@
+//! The cycle of rows that spell no mine.
+ghost use Rattle.std.specs.Prelude.{◌≡◌, ◌<◌, ℕ, length, get_or, IfOk, IfErr, IfSome, IfNone};
+ghost use Rattle.arrays.specs.Cycles.{SpellNoCycle, WritesCycle};
+ghost use Rattle.arrays.specs.Refused.{RefusesRows};
+
+use crate::graph::graph_of;
+use crate::rows::Rows;
+use crate::unsound::Unsound;
+use faults::Refusal;
+use std::alloc::Global;
+
+/// Writes the blocks of a list, as far as there is room.
+fn write_front(blocks: &[u32], room: &mut [u32])
+    ensures { (i : ℕ) → i < length blocks.now → i < length room.new → get_or room.new i 0 ≡ get_or blocks.now i 0 }
+{
+    for i in 0..blocks.len().min(room.len()) {
+        room[i] = blocks[i];
+    }
+}
+
+/// Writes the blocks of the cycle that the rows of so many blocks have, each of which needs the next, and the last the first, as far as
+/// there is room, and answers how many they are; None where they have no cycle. Refused as `mine_of` is by its rows.
+pub fn find_cycle(
+    alloc: Global,
+    blocks: usize,
+    rows: &Rows<'_>,
+    room: &mut [u32],
+) -> Result<Option<usize>, Unsound>
+    ensures none { IfOk result (λ found. IfNone found (SpellNoCycle blocks rows.now.starts.now rows.now.needs.now)) }
+    ensures some { IfOk result (λ found. IfSome found (λ count. (0 < count) × WritesCycle blocks rows.now.starts.now rows.now.needs.now room.new count)) }
+    ensures refused { IfErr result (λ e. RefusesRows blocks rows.now.starts.now rows.now.needs.now e.refusal e.place) }
+{
+    match graph_of(alloc, blocks, rows) {
+        Ok(graph) => {
+            graph.law();
+            Ok(None)
+        }
+        Err(Unsound { refusal, place }) => match refusal {
+            Refusal::Cycle(cycle) => {
+                write_front(&cycle, room);
+                Ok(Some(cycle.len()))
+            }
+            refusal => Err(Unsound { refusal, place }),
+        },
+    }
+}
