@@ -267,12 +267,14 @@ def test_ore_that_is_reclaimed_before_it_is_stocked_is_found(written):
             (written / name).write_text(text)
 
 
-def test_great_tonnages_are_right_too(blank_pictures, tmp_path):
-    """A million tonnes a block, of which the solver leaves more open than the files' last digit."""
-    text = TEXT.replace("ore_per_year = 100", "ore_per_year = 1_000_000")
-    project = scheduled(tmp_path, WORDS, text, tonnes=lambda i, j, k: 1_000_000)
+@pytest.mark.parametrize("tonnes", [1, 1_000_000])
+def test_tonnages_great_and_small_are_right_too(blank_pictures, tmp_path, tonnes):
+    """Of a million tonnes a block the solver leaves more open than the files' last digit; of one, a tonne is reclaimed at most."""
+    text = TEXT.replace("ore_per_year = 100", f"ore_per_year = {tonnes}")
+    project = scheduled(tmp_path, WORDS, text, tonnes=lambda i, j, k: tonnes)
     pitplan.write_schedule(project)
-    assert pd.read_csv(project.folder / "schedule" / "milling.csv")["reclaimed_tonnes"].sum() > 1000
+    reclaimed = pd.read_csv(project.folder / "schedule" / "milling.csv")["reclaimed_tonnes"]
+    assert 0 < reclaimed.sum() / tonnes <= 1 + 1e-6
     assert [rule.name for rule in verify(project.folder / "schedule") if rule.differences] == []
 
 
