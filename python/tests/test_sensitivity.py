@@ -272,6 +272,7 @@ def test_cases_are_solved_here_or_over_dask_alone(small, capsys):
         ('pairs = ["price"]', "pairs: must be a list of pairs of names"),
         ('pairs = [["price", "rent"]]', 'pairs: "rent" is none of'),
         ('pairs = [["price", "price copper"]]', "pairs: price and price copper are not two numbers"),
+        ('pairs = [["price copper", "price copper"]]', "pairs: price copper and price copper are not two numbers"),
         ("share = 1", "[sensitivity] share: is no key here"),
     ],
 )
