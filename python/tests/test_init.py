@@ -56,6 +56,13 @@ def test_grams_a_tonne_and_regions(tmp_path):
     assert project.table.region == "slope_region" and project.table.tonnes == "tonnage"
 
 
+def test_semicolons_do_not_make_decimals_of_commas(tmp_path):
+    exported(tmp_path / "m.csv", SURPAC, ";")
+    told = init.write(tmp_path / "m.csv", tmp_path / "project.toml")
+    assert "the fields are parted by semicolons" in told and "decimals are written with a comma" not in told
+    assert load(tmp_path / "project.toml").table.decimal in (None, ".")
+
+
 def test_a_volume_and_a_density(tmp_path):
     more = {"volume": lambda i, j, k: 1000.0 - k, "density": lambda i, j, k: 2.5 + i}
     exported(tmp_path / "m.csv", VULCAN, **more)
