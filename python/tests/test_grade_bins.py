@@ -278,6 +278,14 @@ def test_tonnages_great_and_small_are_right_too(blank_pictures, tmp_path, tonnes
     assert [rule.name for rule in verify(project.folder / "schedule") if rule.differences] == []
 
 
+def test_thousandths_of_tonnes_that_are_worth_much_are_right_too(blank_pictures, tmp_path):
+    """A third of 100 t a block, of which a thousandth earns more than a cent."""
+    text = TEXT.replace("ore_per_year = 100", "ore_per_year = 33").replace("price = 8000", "price = 80_000_000")
+    project = scheduled(tmp_path, WORDS, text, tonnes=lambda i, j, k: 100 / 3)
+    pitplan.write_schedule(project)
+    assert [rule.name for rule in verify(project.folder / "schedule") if rule.differences] == []
+
+
 def test_what_is_reclaimed_is_stocked_the_year_before_by_hand():
     """Of 10 t each of which 4 are milled at once: 6 reclaimed a year later, in the same year, and 7."""
     place = {"phase": [2, 2, 3, 4, 4], "level": [0, 0, 5, 1, 1], "bin": [1, 1, 2, 1, 1], "year": [1, 2, 1, 1, 2]}

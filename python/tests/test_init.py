@@ -172,6 +172,11 @@ def test_centres_have_few_numbers_at_equal_steps(values, is_one):
     assert guesses.is_lattice(pd.DataFrame({"p": [float(value) for value in values]}), "p") == is_one
 
 
+def test_placeholders_of_prices_are_round():
+    """Two digits, so that nobody takes one for a quotation."""
+    assert {metal: float(f"{price:.2g}") for metal, price in init.PRICES.items()} == init.PRICES
+
+
 def test_ore_a_year_is_by_taylors_rule(tmp_path):
     """16 Mt of ore last 0.2 * 16,000,000^(1/4) = 12.65 years: 1,265,000 t a year, by two digits 1,300,000.
 
