@@ -15,9 +15,10 @@ import pandas as pd
 
 from . import text
 from .errors import PlanError
+from .fixed_rules import Area
 from .grid import Grid
 from .packages import load
-from .project import Area, Project
+from .project import Project
 from .walls import Walls
 from .table import at_row, called, demand_columns, numbers_of, read_columns
 from .table_format import TableFormat, guessed_separator

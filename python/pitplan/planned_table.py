@@ -4,11 +4,13 @@ from __future__ import annotations
 
 from pathlib import Path
 
+import numpy as np
 import pandas as pd
 
-from . import grid as grids, table as tables
+from . import table as tables
 from .errors import PlanError
 from .files import Folder, hash_of
+from .grid import Grid
 from .plan import shown_name
 from .project import Project, load
 from .table_format import TableFormat, format_of, names_in_header
@@ -29,12 +31,22 @@ def write(path: Path, folder: Folder) -> None:
     if project.table.reblock:
         raise PlanError(f"{project.path}: [table] reblock: rows are put together to blocks, so that there is none a block: export them as csv")
     frame, form = as_text(project.table.file, project)
-    cells = grids.of_table(tables.read(project).frame, project, str(project.table.file)).rows
+    cells = cells_of(tables.read(project).frame, project, folder.grid)
     blocks = folder.blocks.set_index("id")
     for name in FOUND:
         if name in blocks:
-            frame[name] = blocks[name].reindex(cells).to_numpy()
+            frame[name] = blocks[name].reindex(cells, fill_value=0).to_numpy()
     frame.to_csv(path, sep=form.separator, index=False, encoding=WRITTEN_AS.get(form.encoding, form.encoding))
+
+
+def cells_of(frame: pd.DataFrame, project: Project, grid: Grid) -> np.ndarray:
+    """For each row the number of the cell in which its centre lies."""
+    columns = project.table
+    west, _, south, _, _, top = grid.extent()
+    x, y, z = (frame[name].to_numpy() for name in (columns.x, columns.y, columns.z))
+    steps = ((top - z) / grid.size[2], (y - south) / grid.size[1], (x - west) / grid.size[0])
+    level, row, column = (np.floor(step).astype(np.int64) for step in steps)
+    return (level * grid.shape[1] + row) * grid.shape[2] + column
 
 
 def project_of(folder: Folder) -> Project:

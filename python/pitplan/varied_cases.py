@@ -7,6 +7,7 @@ which is dug where nothing is planned anew; where walls change there is none, si
 from __future__ import annotations
 
 import json
+import os
 from dataclasses import dataclass, replace
 from itertools import product
 from pathlib import Path
@@ -106,6 +107,8 @@ def solve(project: Project, folder: Path, where: on_dask.Where | None, progress:
     Raises PlanError where the table or a case cannot be planned with, ProgramError where the program refuses, and MissingPackage without
     Dask where it is asked for.
     """
+    if project.processes:
+        raise PlanError(f"{project.path}: a sensitivity is of one process: leave out [[processes]]")
     frame = tables.read(project).frame
     plan = prepare(project, frame, progress)
     if plan.left_out:
@@ -153,11 +156,11 @@ def up_to(project: Project, factor: int) -> Project:
 
 
 def hashes_of(project: Project) -> dict[str, str]:
-    """Hashes of all files that the project names, by their place."""
+    """Hashes of all files that the project names, by their place as told from it."""
     named = [project.table.file]
     if project.fixed is not None:
         named += [*([project.fixed.surface] if project.fixed.surface else []), *(area.polygon for area in project.fixed.areas)]
-    return {str(path): files.hash_of(path) for path in named}
+    return {os.path.relpath(path, project.path.parent): files.hash_of(path) for path in named}
 
 
 def find(case: Case, asked: Asked) -> Found:

@@ -58,6 +58,12 @@ def test_a_mine_without_ore_has_a_report_and_a_page_too(plan_folder):
     )
 
 
+def test_the_record_is_json_that_can_be_read(solved):
+    """A key a line, two blanks deep."""
+    first, second, *_ = (solved[1] / "prepare.json").read_text().splitlines()
+    assert (first, second) == ("{", '  "title": "Test hill",')
+
+
 def test_the_record_has_hashes_of_all_that_was_read_and_written(solved):
     project, folder = solved
     record = json.loads((folder / "prepare.json").read_text())

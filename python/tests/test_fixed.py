@@ -17,7 +17,7 @@ from test_shells import BOX, CLOSED, SMALL, best_by_trying, grades, project_of
 import pitplan
 from pitplan import commands, files, fixed, load, prepare, run, simulation
 from pitplan.cli import main
-from pitplan.project import FixedRules
+from pitplan.fixed_rules import FixedRules
 from pitplan.errors import PlanError
 from pitplan.progress import Progress, silent
 

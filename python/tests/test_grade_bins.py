@@ -203,10 +203,10 @@ TEXT = with_phases("count = 2", UPRIGHT.replace("ore_per_year = 100", 'ore_per_y
 WORDS = "[schedule]\nbins = 2\nstockpile = { rehandling_cost = 0.5 }\n"
 
 
-def scheduled(place, words=WORDS):
-    table = rows(2, 1, 3, cu=lambda i, j, k: {(0, 1): 1, (0, 0): 0.35, (1, 1): 0.3, (1, 0): 1.2}.get((i, k), 0))
+def scheduled(place, words=WORDS, text=TEXT, **more):
+    table = rows(2, 1, 3, **more, cu=lambda i, j, k: {(0, 1): 1, (0, 0): 0.35, (1, 1): 0.3, (1, 0): 1.2}.get((i, k), 0))
     table.to_csv(place / "blocks.csv", index=False)
-    (place / "project.toml").write_text(TEXT + words)
+    (place / "project.toml").write_text(text + words)
     return load(place / "project.toml")
 
 
@@ -265,6 +265,25 @@ def test_ore_that_is_reclaimed_before_it_is_stocked_is_found(written):
     finally:
         for name, text in kept.items():
             (written / name).write_text(text)
+
+
+@pytest.mark.parametrize("tonnes", [1, 1_000_000])
+def test_tonnages_great_and_small_are_right_too(blank_pictures, tmp_path, tonnes):
+    """Of a million tonnes a block the solver leaves more open than the files' last digit; of one, a tonne is reclaimed at most."""
+    text = TEXT.replace("ore_per_year = 100", f"ore_per_year = {tonnes}")
+    project = scheduled(tmp_path, WORDS, text, tonnes=lambda i, j, k: tonnes)
+    pitplan.write_schedule(project)
+    reclaimed = pd.read_csv(project.folder / "schedule" / "milling.csv")["reclaimed_tonnes"]
+    assert 0 < reclaimed.sum() / tonnes <= 1 + 1e-6
+    assert [rule.name for rule in verify(project.folder / "schedule") if rule.differences] == []
+
+
+def test_thousandths_of_tonnes_that_are_worth_much_are_right_too(blank_pictures, tmp_path):
+    """A third of 100 t a block, of which a thousandth earns more than a cent."""
+    text = TEXT.replace("ore_per_year = 100", "ore_per_year = 33").replace("price = 8000", "price = 80_000_000")
+    project = scheduled(tmp_path, WORDS, text, tonnes=lambda i, j, k: 100 / 3)
+    pitplan.write_schedule(project)
+    assert [rule.name for rule in verify(project.folder / "schedule") if rule.differences] == []
 
 
 def test_what_is_reclaimed_is_stocked_the_year_before_by_hand():

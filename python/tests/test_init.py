@@ -56,6 +56,13 @@ def test_grams_a_tonne_and_regions(tmp_path):
     assert project.table.region == "slope_region" and project.table.tonnes == "tonnage"
 
 
+def test_semicolons_do_not_make_decimals_of_commas(tmp_path):
+    exported(tmp_path / "m.csv", SURPAC, ";")
+    told = init.write(tmp_path / "m.csv", tmp_path / "project.toml")
+    assert "the fields are parted by semicolons" in told and "decimals are written with a comma" not in told
+    assert load(tmp_path / "project.toml").table.decimal in (None, ".")
+
+
 def test_a_volume_and_a_density(tmp_path):
     more = {"volume": lambda i, j, k: 1000.0 - k, "density": lambda i, j, k: 2.5 + i}
     exported(tmp_path / "m.csv", VULCAN, **more)
@@ -134,6 +141,15 @@ def test_what_makes_tonnes_is_counted_where_it_is_empty(tmp_path, headings, colu
     assert f"WARNING: {count} tonnes or grades are empty, and taken as 0" in told
 
 
+@pytest.mark.parametrize(
+    ("name", "metal", "unit"),
+    [("CUPPM", "copper", "gram_per_tonne"), ("AUGPT", "gold", "gram_per_tonne"), ("Znpct_ok", "zinc", "percent"), ("cupper", None, None)],
+)
+def test_a_sign_and_its_unit_may_be_one_word(name, metal, unit):
+    guess = guesses.metal_of(pd.DataFrame({name: [0.1, 0.2]}), name)
+    assert (guess and guess.metal, guess and guess.unit) == (metal, unit)
+
+
 def test_texts_and_names_without_a_letter_are_no_grades():
     table = rows(3, 3, 3, cu=lambda i, j, k: 0.5 * k).assign(**{"Au class": "rich", "1": 0.5})
     assert [metal.column for metal in guesses.columns_of(table).metals] == ["cu"]
@@ -154,6 +170,11 @@ def test_texts_and_names_without_a_letter_are_no_grades():
 def test_centres_have_few_numbers_at_equal_steps(values, is_one):
     """At most half as many numbers as rows, two at least, and steps of more than half a metre."""
     assert guesses.is_lattice(pd.DataFrame({"p": [float(value) for value in values]}), "p") == is_one
+
+
+def test_placeholders_of_prices_are_round():
+    """Two digits, so that nobody takes one for a quotation."""
+    assert {metal: float(f"{price:.2g}") for metal, price in init.PRICES.items()} == init.PRICES
 
 
 def test_ore_a_year_is_by_taylors_rule(tmp_path):

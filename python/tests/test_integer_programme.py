@@ -1,6 +1,7 @@
 """The best schedule that can be dug, against the tests' own statement of it."""
 
 import json
+from types import SimpleNamespace
 
 import numpy as np
 import pandas as pd
@@ -8,6 +9,7 @@ import pytest
 from conftest import rows
 from hypothesis import given, settings
 from hypothesis import strategies as st
+from scipy.sparse import csr_matrix
 from test_linear_programme import integer_optimum, limits, small
 from test_pushbacks import pillars, with_phases
 from test_sequencing import THREE, benches_of, demand_diggable, problem_of, random_benches
@@ -68,6 +70,15 @@ def test_phases_sink_each_by_itself():
     benches = benches_of(*((phase, 0, 100, 100, 500) for phase in (1, 2, 3)))
     problem = problem_of(benches, Limits({"ore_tonnes": 1000}, sinking_rate=1.5))
     assert ip.keeps(problem, np.ones((3, 1)))
+
+
+@pytest.mark.parametrize(("seconds", "more"), [(5.0, {"time_limit": 5.0}), (None, {})])
+def test_the_solver_is_told_the_gap_and_the_seconds(monkeypatch, seconds, more):
+    asked = []
+    found = SimpleNamespace(status=0, x=np.ones(1), mip_dual_bound=-2.0)
+    monkeypatch.setattr(highs, "milp", lambda *given, options, **named: asked.append(options) or found)
+    whole = highs.Programme(np.ones(1), csr_matrix([[1.0]]), np.ones(1), np.ones(1), np.ones(1, dtype=bool))
+    assert highs.optimum_of(whole, 0.1, seconds).bound == 2 and asked == [{"mip_rel_gap": 0.1} | more]
 
 
 @pytest.mark.usefixtures("blank_pictures")

@@ -137,6 +137,14 @@ def test_a_schedule_by_hand(money, by_rules, best):
     assert problem.value(shares) == pytest.approx(best) and bound == pytest.approx(best)
 
 
+def test_a_mine_that_costs_more_than_it_earns_is_left():
+    """110 in two years, for a capital of 500 and 30 a year."""
+    problem = two_benches(YearlyMoney(30, ((1, 500),)))
+    optimum = linear_programme.relaxed(problem, 2)
+    assert optimum.bound == 0 and not optimum.cash.any() and not optimum.cumulative.any()
+    assert problem.value(linear_programme.diggable(optimum, problem)) == 0
+
+
 @pytest.mark.parametrize(("money", "best"), [(COSTS, 65), (replace(COSTS, premiums={"metal_copper": (0, 10)}), 87)])
 def test_a_schedule_of_bins_by_hand(money, best):
     """The ore of each bench is one bin, and digging costs nothing."""

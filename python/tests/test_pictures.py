@@ -1,5 +1,6 @@
 """What the pictures draw, by the artists on their axes."""
 
+import dataclasses
 import json
 
 import numpy as np
@@ -207,6 +208,26 @@ def test_phases_have_coordinates_in_full_and_nothing_overlaps(monkeypatch, draw)
     boxes = [axis.get_tightbbox() for axis in figure.axes]
     assert not any(one.overlaps(other) for k, one in enumerate(boxes) for other in boxes[:k])
     assert all(box.x0 >= 0 and box.y0 >= 0 and box.x1 <= figure.bbox.x1 and box.y1 <= figure.bbox.y1 for box in boxes)
+
+
+@pytest.mark.parametrize(("count", "ticks"), [(2, [1, 2]), (11, list(range(1, 12))), (12, [1, 3, 5, 7, 9, 11])])
+def test_the_bar_of_phases_has_eleven_numbers_at_most(count, ticks):
+    figure = plt.figure()
+    phase_pictures.plot_level(dataclasses.replace(phase_scene(), count=count), 2, figure.subplots())
+    assert figure.axes[-1].get_yticks().tolist() == ticks
+    plt.close(figure)
+
+
+def test_what_is_dug_of_phases_is_rock_that_is_in_one():
+    shown = phase_scene()
+    assert np.array_equal(shown.dug, at_a_zone()[1] > 0)
+    assert not dataclasses.replace(shown, solid=np.zeros_like(shown.solid)).dug.any()
+
+
+def test_sections_of_phases_are_as_high_as_the_ground_is_deep(monkeypatch):
+    """150 m of the lesser side, 480 m: each of two maps 5.2 inches wide is so much less high, with 1.6 inches for what is written."""
+    figure = drawn_of(monkeypatch, phase_pictures, lambda: phase_pictures.write_sections(phase_scene(), None))
+    assert figure.get_size_inches().tolist() == pytest.approx([12, 5.2 * 150 / 480 + 1.6])
 
 
 def test_what_plans_and_sections_show_of_phases(panels):

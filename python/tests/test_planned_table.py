@@ -3,14 +3,16 @@
 import csv
 import gzip
 import shutil
+from dataclasses import replace
 
+import numpy as np
 import pandas as pd
 import pytest
 from conftest import PROJECT, rows
 
 from pitplan import PlanError, commands, exports
 from pitplan.cli import main
-from pitplan.verification import verify
+from pitplan.verification import answer as answers, planned_table, verify
 
 FOUND = ["factor", "process_factor"]
 
@@ -105,6 +107,17 @@ def test_rock_of_cells_without_rows_has_none(plan_folder):
     assert "absent-37" in set(pd.read_csv(path.parent / "plan" / "blocks.csv")["name"])
 
 
+def test_rows_that_are_put_together_have_the_numbers_of_their_block(plan_folder):
+    table = rows(8, 8, 3, cu=lambda i, j, k: 6 if (i // 2, j // 2, k) == (2, 2, 1) else 0).iloc[::-1]
+    path = plan_folder(table, PROJECT, ('file = "blocks.csv"', 'file = "blocks.csv"\nreblock = [2, 2, 1]'))
+    commands.write_shells(path, verifies=False)
+    after = pd.read_csv(commands.export(path.parent / "plan", "table"))
+    assert after["name"].tolist() == table["name"].tolist()
+    # The ore, and above it the block itself and those beside it, each of four rows.
+    assert (after["factor"] == 500).sum() == 4 * 6 and (after["process_factor"] == 500).sum() == 4
+    assert after[after["process_factor"] > 0]["name"].tolist() == ["b5-5-1", "b4-5-1", "b5-4-1", "b4-4-1"]
+
+
 def bent(path, bend):
     table = [line.split(",") for line in path.read_text().splitlines()]
     bend(table)
@@ -131,6 +144,19 @@ def test_a_table_that_is_bent_is_found(solved, bend, said):
     bent(commands.export(folder, "table"), bend)
     (rule,) = [rule for rule in verify(folder) if rule.differences]
     assert rule.name == "table" and rule.differences[0].startswith(said)
+
+
+def test_rows_of_no_block_of_the_answer_are_due_0(solved):
+    """Without the blocks of the last column from the west, of which the grid knows nothing, and without one that is dug."""
+    answer = answers.read(solved[1])
+    dug = (answer.said["factor"] > 0).to_numpy()
+    kept = (answer.rows["x"] < 90).to_numpy() & (np.arange(len(dug)) != dug.argmax())
+    box = answer.record["grid"]
+    record = answer.record | {"grid": box | {"shape": [*box["shape"][:2], box["shape"][2] - 1]}}
+    part = replace(answer, rows=answer.rows[kept].reset_index(drop=True), said=answer.said[kept].reset_index(drop=True), record=record)
+    whole, found = planned_table.found_of(answer), planned_table.found_of(part)
+    assert np.array_equal(found, np.where(kept[:, None], whole, 0)) and list(found) == FOUND
+    assert (whole[~kept] > 0).any(axis=None) and (whole[kept] > 0).any(axis=None)
 
 
 def test_a_table_that_is_not_right_is_not_written(solved, monkeypatch):

@@ -57,6 +57,14 @@ def test_steps_by_hand(lines, steps):
     assert list(zip(found.way, found.revenue, found.cost)) == steps
 
 
+@pytest.mark.parametrize(
+    ("lines", "best"),
+    [([(10, 5), (10, 5)], 0), ([(10, 5), (20, 15)], 0), ([(20, 15), (10, 5)], 1), ([(10, 5), (20, 14)], 1), ([(20, 15), (10, 5), (10, 5)], 1)],
+)
+def test_of_equals_the_least_revenue_and_then_the_first_is_best(lines, best):
+    assert best_way(ways_of(*lines), 1000).tolist() == [best]
+
+
 lines = st.lists(st.tuples(st.integers(0, 40), st.integers(0, 40)).map(lambda it: it if it[0] else (0, 0)), min_size=1, max_size=5)
 
 

@@ -113,6 +113,15 @@ def test_fixed_blocks_are_in_the_first_phase_and_in_none(plan_folder):
     assert said.to_dict() == {f"b{i}-0-{k}": [0, 2, 1][i] for i in range(3) for k in range(2)}
 
 
+def test_rows_without_rock_join_no_pieces(plan_folder):
+    """Two blocks of ore whose cones meet where the table has rows of no tonnes."""
+    table = rows(7, 1, 2, cu=lambda i, j, k: 6 * ((i, k) in ((1, 0), (4, 0))), tonnes=lambda i, j, k: 100 * (k == 0))
+    project = load(plan_folder(table, with_phases("factors = [1000]", PROJECT)))
+    found = pitplan.pushbacks(project)
+    assert found[["blocks", "pieces"]].values.tolist() == [[2, 2]]
+    assert wrong(project.folder / "pushbacks") == {}
+
+
 def test_an_empty_pit_is_refused(plan_folder, capsys):
     path = plan_folder(pillars(), with_phases("count = 2\nlast = 300"))
     assert main(["pushbacks", str(path), "--quiet"]) == 1

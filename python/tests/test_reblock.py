@@ -156,3 +156,12 @@ def test_a_table_that_is_too_large_by_itself(plan_folder, monkeypatch):
         pitplan.prepare(plan_folder(hill(), PROJECT))
     plan = pitplan.prepare(plan_folder(hill(), PROJECT, ('file = "blocks.csv"', 'file = "blocks.csv"\nreblock = [2, 2, 2]')))
     assert plan.grid.shape == (3, 6, 7)
+
+
+def test_a_corner_that_is_no_multiple_of_the_size_is_right(plan_folder, blank_pictures):
+    """All as it was, 5 m to the east."""
+    moved = (PARENTS[0], PARENTS[1].replace("corner = [60,", "corner = [65,"))
+    path = plan_folder(sub_blocks().assign(x=lambda it: it["x"] + 5), PROJECT, moved, SIZE)
+    commands.write_shells(path)
+    assert pd.read_csv(path.parent / "plan" / "blocks.csv")["x"].tolist() == [115, 135]
+    assert [rule.name for rule in verify(path.parent / "plan") if rule.differences] == []

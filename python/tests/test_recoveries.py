@@ -15,7 +15,7 @@ from pitplan import PlanError, commands, money, recoveries
 from pitplan.exact import Exact
 from pitplan.money_rules import Curve
 from pitplan.recoveries import Head
-from pitplan.verification import verify
+from pitplan.verification import feed, verify
 from pitplan.verification.feed import at_grade
 
 CURVE = "recovery = [[0.6, 0.9], [0.2, 0.5]]"
@@ -145,3 +145,10 @@ def test_a_tail_that_is_passed_over_is_found(plan_folder, monkeypatch, blank_pic
     monkeypatch.setattr(money, "values_of", without)
     commands.write_shells(path, verifies=False)
     assert "money" in wrong(path)
+
+
+def test_recoveries_that_two_millionths_are_as_near_to_are_told_exactly():
+    """Half a millionth above 0.5 at 1 %, and a fifth of one at 0.4 %."""
+    curve = Curve(((Decimal(0), Decimal("0.5")), (Decimal(2), Decimal("0.500001"))))
+    shares, close = feed.by_grade(curve, np.array([1.0, 0.4]))
+    assert close.tolist() == [True, False] and shares[1] == 0.5

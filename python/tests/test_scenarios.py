@@ -1,9 +1,11 @@
 """Scenarios of small mines: probabilities by hand and by trying all sets, resuming, and how failures are kept apart."""
 
+import io
 import json
 import os
 import subprocess
 import sys
+from contextlib import nullcontext
 from decimal import Decimal
 
 import numpy as np
@@ -16,7 +18,7 @@ from test_shells import BOX, CLOSED, best_by_trying
 
 from pitplan import MissingPackage, PlanError, ProgramError, load, simulation
 from pitplan.cli import main, parser
-from pitplan.progress import silent
+from pitplan.progress import Progress, silent
 from pitplan.simulation import Request, answers, folder as folders, job_lists, on_dask, prepare, work
 
 UPRIGHT = ('pattern = "1:5"', "angle = 90")
@@ -384,6 +386,16 @@ def test_dask_tries_a_killed_scenario_again(dask_threads, plan_folder, monkeypat
     assert {number: outcome.status for number, outcome in ended.items()} == {1: 0, 2: status, 3: 0}
     assert tries.count(2) == min(deaths + 1, 3) and tries.count(1) == 1
     assert ended[2].why == ("killed: tried 3 times" if status else "")
+
+
+@pytest.mark.parametrize(("count", "told"), [(20, [2, 4, 6, 8, 10, 12, 14, 16, 18, 20]), (3, [1, 2, 3])])
+def test_each_tenth_of_the_scenarios_is_told(monkeypatch, tmp_path, count, told):
+    pytest.importorskip("distributed")
+    monkeypatch.setattr(on_dask, "client_of", lambda *_: nullcontext())
+    monkeypatch.setattr(on_dask, "outcomes_of", lambda *given: iter(given[-1]))
+    said = io.StringIO()
+    assert on_dask.run(on_dask.Where("local"), tmp_path, list(range(count)), Progress(said)) == list(range(count))
+    assert said.getvalue().startswith(f"solving {count} scenarios .. " + " ".join(map(str, told)) + " ")
 
 
 def test_a_missing_dask_is_named_by_its_package(plan_folder, monkeypatch):

@@ -152,3 +152,8 @@ def test_the_page_has_a_colour_a_year(solved):
     cells = np.frombuffer(base64.b64decode(model["year"]), dtype=np.uint8)
     assert cells[folder.blocks["id"]].tolist() == years.tolist() and cells.sum() == years.sum()
     assert len(model["year_colours"]) == 3 and len(set(map(tuple, model["year_colours"]))) == 3
+
+
+@pytest.mark.parametrize(("bound", "told"), [(1234.56789, 1234.568), (np.inf, None), (None, None)])
+def test_a_bound_is_told_to_a_thousandth_where_there_is_one(schedule, bound, told):
+    assert yearly_schedule.record(replace(schedule, milp_bound=bound))["milp_bound"] == told

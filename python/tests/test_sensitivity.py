@@ -8,6 +8,7 @@ import pandas as pd
 import pytest
 from conftest import PROJECT, rows
 from matplotlib.figure import Figure
+from test_processes import WITH
 
 from pitplan import PlanError, Where, commands, load, run, sensitivity_pictures, varied, varied_cases
 from pitplan.cli import main
@@ -170,6 +171,15 @@ def test_fixed_blocks_hold_in_every_case_and_ore_may_be_settled(plan_folder):
         assert (entry[blocks["must"] == 1] == 500).all() and not entry[blocks["never"] == 1].any()
 
 
+def test_rows_that_are_put_together_are_varied_as_blocks(plan_folder):
+    """Four blocks of 10 m in one of 20: the ore is as it would be in a table of these."""
+    table = rows(8, 8, 3, cu=lambda i, j, k: 6 if (i // 2, j // 2, k) == (2, 2, 1) else 0)
+    change = ('file = "blocks.csv"', 'file = "blocks.csv"\nreblock = [2, 2, 1]')
+    found = commands.sensitivity(plan_folder(table, PROJECT + '\n[sensitivity]\nby = [0.1]\nvary = "price"\n', change))
+    # Four times 24,000 and 1000 for processing, and of five blocks of 400 t, of which one is over the ore, 800 each.
+    assert found["worth"].tolist() == pytest.approx([4 * 24_000 - 4000 - 6 * 800, 4 * 26_400 - 4000 - 6 * 800])
+
+
 def test_costs_by_elevation_and_walls_by_azimuth(plan_folder, tmp_path):
     walls = ("[slopes]\nlevels = 3\n", "[slopes]\nlevels = 3\n"), ('pattern = "1:5"', "azimuths = [[0, 40], [180, 50]]")
     money = ("mining_cost = 2\n", "mining_cost = 2\nmining_cost_by_elevation = [[5, 2], [35, 0]]\n"), ("rate = 0.1", "rate = 0.1\nchosen = 1000")
@@ -198,7 +208,8 @@ def test_what_has_an_answer_is_not_solved_again(small, monkeypatch):
     monkeypatch.setattr(run, "solve_files", lambda *words: solved.append(words) or solve_files(*words))
     first = commands.sensitivity(path)
     assert len(solved) == 7
-    second = commands.sensitivity(path)
+    monkeypatch.chdir(path.parent)
+    second = commands.sensitivity("project.toml")
     # That of the project as given tells the factor.
     assert len(solved) == 8 and first.astype(str).equals(second.astype(str))
     path.write_text(path.read_text().replace("by = [0.1]", "by = [0.1, 0.2]"))
@@ -261,6 +272,7 @@ def test_cases_are_solved_here_or_over_dask_alone(small, capsys):
         ('pairs = ["price"]', "pairs: must be a list of pairs of names"),
         ('pairs = [["price", "rent"]]', 'pairs: "rent" is none of'),
         ('pairs = [["price", "price copper"]]', "pairs: price and price copper are not two numbers"),
+        ('pairs = [["price copper", "price copper"]]', "pairs: price copper and price copper are not two numbers"),
         ("share = 1", "[sensitivity] share: is no key here"),
     ],
 )
@@ -268,6 +280,13 @@ def test_what_is_refused(small, words, said):
     with pytest.raises(PlanError) as refused:
         load(small(words))
     assert said in str(refused.value)
+
+
+@pytest.mark.parametrize(("section", "said"), [("", "a sensitivity is of one process"), ("\n[sensitivity]\n", "\\[sensitivity\\] is solved with one process")])
+def test_several_processes_are_refused(plan_folder, section, said):
+    path = plan_folder(rows(5, 3, 1, **ORE), PROJECT + section, *WITH)
+    with pytest.raises(PlanError, match=said + ": leave out"):
+        commands.sensitivity(path)
 
 
 def test_walls_that_no_share_allows_are_refused(plan_folder):
@@ -304,6 +323,14 @@ def wrong(folder):
 
 def test_what_is_right_passes(copied):
     assert wrong(copied) == {}
+
+
+def test_grades_ratios_and_years_have_six_decimals_and_amounts_three(copied):
+    table = pd.read_csv(copied / "sensitivity.csv", dtype=str)
+    decimals = {name: table[name].dropna().str.partition(".")[2].str.len().max() for name in table}
+    fine = ("grade_copper", "grade_gold", "strip_ratio", "years", "kept_years")
+    assert max(decimals.pop(name) for name in fine) == 6 and decimals.pop("worth_at_factor") == 9
+    assert max(decimals.values()) == 3
 
 
 AMOUNTS = "blocks tonnes ore_tonnes waste_tonnes strip_ratio processed_tonnes grade_copper metal_copper grade_gold metal_gold worth".split()

@@ -106,6 +106,12 @@ def test_the_command_line_tells_the_ways(plan_folder, capsys):
     assert (path.parent / "plan" / "schedule" / "report.html").exists()
 
 
+def test_the_size_of_the_programme_is_told_before_it_is_solved(plan_folder, capsys):
+    """Six benches, and a fifth more than the rule's three years."""
+    assert main(["schedule", str(plan_folder(pillars(), PHASES))]) == 0
+    assert "solving the linear programme of 4 years, 24 unknowns .." in capsys.readouterr().err
+
+
 @pytest.fixture(scope="module")
 def written(blank_pictures, tmp_path_factory):
     """A hill in three phases under several limits."""
@@ -292,6 +298,14 @@ def test_great_amounts_are_right_too(plan_folder):
     """Billions, of which a float holds no thousandths of a cent, at the price as given a millionfold."""
     table, folder = scheduled(plan_folder, text=PHASES.replace("price = 8000", "price = 8_123_456_789.123"))
     assert table["value"].min() > 1e9 and wrong(folder) == set()
+
+
+def test_blocks_of_half_a_tonne_are_dug_and_counted(plan_folder):
+    """Three tonnes in all, of which every half is a block of its own."""
+    project = load(plan_folder(pillars(tonnes=lambda i, j, k: 0.5), PHASES))
+    table, folder = pitplan.write_schedule(project).set_index("way"), project.folder / "schedule"
+    assert table["tonnes"].tolist() == [3.0] * len(table) and table["left_tonnes"].tolist() == [0.0] * len(table)
+    assert pd.read_csv(folder / "phases.csv")["blocks"].tolist() == [2, 2, 2] and wrong(folder) == set()
 
 
 def test_a_case_of_no_way_is_found(copied):

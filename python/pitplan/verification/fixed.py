@@ -6,7 +6,7 @@ import numpy as np
 import pandas as pd
 from matplotlib.path import Path as Outline
 
-from ..project import FixedRules
+from ..fixed_rules import FixedRules
 from . import surface
 from .answer import TOLD, Answer, Rule, rule
 

@@ -8,6 +8,10 @@ from collections.abc import Iterator
 from itertools import zip_longest
 from pathlib import Path
 
+import numpy as np
+import pandas as pd
+
+from .. import table as tables
 from ..project import Project
 from ..table_format import format_of, opened
 from .answer import Answer, Rule, own_name, rule
@@ -35,14 +39,27 @@ def told(fields: list[str] | None) -> str:
 
 def lines_due(answer: Answer) -> Iterator[list[str]]:
     """The fields of each line of the planner's table, with those of its block behind them."""
-    project = answer.project
-    found = answer.said[[name for name in FOUND if name in answer.said]].iloc[: answer.known]
+    project, found = answer.project, found_of(answer)
     lines = lines_of(project.table.file, project)
     names = next(lines)
     yield [own_name(name) if name in FOUND else name for name in names] + list(found.columns)
     for fields, numbers in zip_longest(lines, found.itertuples(index=False), fillvalue=()):
         # A line may leave out fields at its end.
         yield [*fields, *[""] * (len(names) - len(fields)), *map(str, numbers)]
+
+
+def found_of(answer: Answer) -> pd.DataFrame:
+    """For each row of the table what is said of the block whose centre is nearest, 0 where that is none of the answer's."""
+    columns, shape = answer.project.table, np.array(answer.shape)
+    centres = tables.read(answer.project).frame[[columns.x, columns.y, columns.z]].to_numpy()
+    east, north, up = np.rint((centres - answer.record["grid"]["origin"]) / answer.size).astype(np.int64).T
+    cells = np.array([-up, north, east])
+    inside = ((cells >= 0) & (cells < shape[:, None])).all(axis=0)
+    row_of = np.full(answer.shape, -1)
+    row_of[answer.cells] = np.arange(len(answer.said))
+    at = np.where(inside, row_of[tuple(np.where(inside, cells, 0))], -1)
+    names = [name for name in FOUND if name in answer.said]
+    return pd.DataFrame({name: np.where(at < 0, 0, answer.said[name].to_numpy()[at]) for name in names})
 
 
 def lines_of(path: Path, project: Project) -> Iterator[list[str]]:

@@ -1,0 +1,50 @@
+"""What `[fixed]` of a project says: what must be dug, and what may not be."""
+
+from __future__ import annotations
+
+from dataclasses import dataclass
+from pathlib import Path
+from typing import Optional
+
+from .section import Section
+
+
+@dataclass(frozen=True)
+class Area:
+    """A polygon on the map, by a table of its corners x and y in order, of which the inside or the outside may not be dug."""
+
+    polygon: Path
+    barred: str
+
+
+@dataclass(frozen=True)
+class FixedRules:
+    """What must be dug, and what may not be.
+
+    forced   a column of the table: blocks with a number above 0 must be dug
+    barred   a column of the table: blocks with a number above 0 may not be dug
+    surface  a table of points x, y, z of the ground as mined: the rock above it must be dug
+    areas    what may not be dug on the map
+    """
+
+    forced: Optional[str]
+    barred: Optional[str]
+    surface: Optional[Path]
+    areas: tuple[Area, ...]
+
+
+def read_fixed(section: Section, folder: Path) -> FixedRules:
+    rules = FixedRules(
+        forced=section.optional_text("forced"),
+        barred=section.optional_text("barred"),
+        surface=folder / section.text("surface") if section.has("surface") else None,
+        areas=tuple(read_area(area, folder) for area in section.sections("areas")) if section.has("areas") else (),
+    )
+    section.finish()
+    return rules
+
+
+def read_area(section: Section, folder: Path) -> Area:
+    area = Area(folder / section.text("polygon"), section.choice("barred", ("inside", "outside"), None))
+    section.finish()
+    return area
