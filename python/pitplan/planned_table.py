@@ -28,8 +28,6 @@ def write(path: Path, folder: Folder) -> None:
     cannot be read or has changed since the folder was written.
     """
     project = project_of(folder)
-    if project.table.reblock:
-        raise PlanError(f"{project.path}: [table] reblock: rows are put together to blocks, so that there is none a block: export them as csv")
     frame, form = as_text(project.table.file, project)
     cells = cells_of(tables.read(project).frame, project, folder.grid)
     blocks = folder.blocks.set_index("id")
@@ -40,13 +38,15 @@ def write(path: Path, folder: Folder) -> None:
 
 
 def cells_of(frame: pd.DataFrame, project: Project, grid: Grid) -> np.ndarray:
-    """For each row the number of the cell in which its centre lies."""
+    """For each row the number of the cell in which its centre lies, or -1 beyond the grid."""
     columns = project.table
     west, _, south, _, _, top = grid.extent()
     x, y, z = (frame[name].to_numpy() for name in (columns.x, columns.y, columns.z))
     steps = ((top - z) / grid.size[2], (y - south) / grid.size[1], (x - west) / grid.size[0])
-    level, row, column = (np.floor(step).astype(np.int64) for step in steps)
-    return (level * grid.shape[1] + row) * grid.shape[2] + column
+    cells = np.array([np.floor(step).astype(np.int64) for step in steps])
+    is_inside = ((cells >= 0) & (cells < np.array(grid.shape)[:, None])).all(axis=0)
+    level, row, column = cells
+    return np.where(is_inside, (level * grid.shape[1] + row) * grid.shape[2] + column, -1)
 
 
 def project_of(folder: Folder) -> Project:

@@ -107,8 +107,6 @@ def solve(project: Project, folder: Path, where: on_dask.Where | None, progress:
     Raises PlanError where the table or a case cannot be planned with, ProgramError where the program refuses, and MissingPackage without
     Dask where it is asked for.
     """
-    if project.processes:
-        raise PlanError(f"{project.path}: a sensitivity is of one process: leave out [[processes]]")
     frame = tables.read(project).frame
     plan = prepare(project, frame, progress)
     if plan.left_out:

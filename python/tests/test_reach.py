@@ -125,6 +125,15 @@ def test_the_second_look_agrees(plan_folder, few, blank_pictures):
     assert len(pd.read_csv(path.parent / "plan" / "blocks.csv")) < 1000
 
 
+def test_a_table_written_back_has_no_factor_where_it_was_left_out(plan_folder, few, blank_pictures):
+    path = plan_folder(deposit(), PROJECT, ANGLES)
+    commands.write_shells(path)
+    blocks = pd.read_csv(path.parent / "plan" / "blocks.csv").set_index("name")
+    after = pd.read_csv(commands.export(path.parent / "plan", "table")).set_index("name")
+    assert after.index.tolist() == deposit()["name"].tolist()
+    pd.testing.assert_series_equal(after["factor"], blocks["factor"].reindex(after.index, fill_value=0))
+
+
 def narrower(used, grid):
     box = box_of(used, grid)
     return Box(box.levels, box.rows, slice(box.columns.start + 3, box.columns.stop))

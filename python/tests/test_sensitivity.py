@@ -8,7 +8,6 @@ import pandas as pd
 import pytest
 from conftest import PROJECT, rows
 from matplotlib.figure import Figure
-from test_processes import WITH
 
 from pitplan import PlanError, Where, commands, load, run, sensitivity_pictures, varied, varied_cases
 from pitplan.cli import main
@@ -280,13 +279,6 @@ def test_what_is_refused(small, words, said):
     with pytest.raises(PlanError) as refused:
         load(small(words))
     assert said in str(refused.value)
-
-
-@pytest.mark.parametrize(("section", "said"), [("", "a sensitivity is of one process"), ("\n[sensitivity]\n", "\\[sensitivity\\] is solved with one process")])
-def test_several_processes_are_refused(plan_folder, section, said):
-    path = plan_folder(rows(5, 3, 1, **ORE), PROJECT + section, *WITH)
-    with pytest.raises(PlanError, match=said + ": leave out"):
-        commands.sensitivity(path)
 
 
 def test_walls_that_no_share_allows_are_refused(plan_folder):

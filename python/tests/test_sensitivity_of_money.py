@@ -75,13 +75,10 @@ def test_walls_of_benches(plan_folder):
 
 
 def test_a_reblocked_table(plan_folder):
-    """Both looks agree; a table of its rows is not written."""
+    """Both looks agree."""
     reblock = ('file = "blocks.csv"', 'file = "blocks.csv"\nreblock = [2, 1, 1]')
     path = plan_folder(two_blocks(), PROJECT + RULES, reblock, BY)
     assert worths(path)[("", 0.0)] == pytest.approx(24_000 - 2 * 1_200)  # beside each block one of waste is in it
-    commands.write_shells(path)
-    with pytest.raises(PlanError, match="reblock: rows are put together to blocks"):
-        commands.export(path.parent / "plan", "table")
 
 
 def test_a_model_that_is_too_large_is_refused(plan_folder, monkeypatch):
