@@ -153,7 +153,10 @@ def in_area(grid: Grid, area: Area) -> np.ndarray:
 
 
 def within(x: np.ndarray, y: np.ndarray, corners: np.ndarray) -> np.ndarray:
-    """Which points lie in a polygon: those from which a ray to the east crosses its sides an odd number of times."""
+    """Which points lie in a polygon: those from which a ray to the east crosses its sides an odd number of times.
+
+    By code of its own, since every planner would have to have shapely for these lines alone.
+    """
     odd = np.zeros(len(x), dtype=bool)
     for (ax, ay), (bx, by) in zip(corners, np.roll(corners, -1, axis=0)):
         if ay != by:
