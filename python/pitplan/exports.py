@@ -4,7 +4,7 @@ for ParaView, and DXF for drawing programs."""
 from __future__ import annotations
 
 from pathlib import Path
-from typing import Callable
+from typing import Any, Callable
 
 import numpy as np
 import pandas as pd
@@ -61,9 +61,13 @@ def write_image(path: Path, grid: Grid, cells: dict[str, np.ndarray]) -> None:
         array = numpy_support.numpy_to_vtk(np.ascontiguousarray(grid.cube(values)[::-1]).ravel(), deep=True)
         array.SetName(name)
         image.GetCellData().AddArray(array)
-    writer = vtk.vtkXMLImageDataWriter()
+    save(vtk.vtkXMLImageDataWriter(), path, image)
+
+
+def save(writer: Any, path: Path, data: Any) -> None:
+    """The file of one of VTK's writers. Raises PlanError where it cannot be written."""
     writer.SetFileName(str(path))
-    writer.SetInputData(image)
+    writer.SetInputData(data)
     if not writer.Write():
         raise PlanError(f"{path}: cannot be written")
 
@@ -90,11 +94,7 @@ def write_vtu(path: Path, folder: Folder, factor: int) -> None:
         array = numpy_support.numpy_to_vtk(blocks[name].to_numpy(), deep=True)
         array.SetName(name)
         mesh.GetCellData().AddArray(array)
-    writer = vtk.vtkXMLUnstructuredGridWriter()
-    writer.SetFileName(str(path))
-    writer.SetInputData(mesh)
-    if not writer.Write():
-        raise PlanError(f"{path}: cannot be written")
+    save(vtk.vtkXMLUnstructuredGridWriter(), path, mesh)
 
 
 def write_xlsx(path: Path, folder: Folder, factor: int) -> None:
