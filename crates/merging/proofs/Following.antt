@@ -1,12 +1,11 @@
 -- The entries of a journal are decided again, one by one.
-use Rattle.std.proofs.Common.{◌≡◌, ℕ, suc, ◌+◌, ◌<◌, ◌≤◌, sym, ap, ◌∙◌, subst, arith, List, [], ◌∷◌, ◌++◌, take, length, get_or, Option, IsTrue, false}
+use Rattle.std.proofs.Common.{◌≡◌, ℕ, suc, ◌+◌, ◌<◌, ◌≤◌, sym, ap, ◌∙◌, subst, arith, List, [], ◌∷◌, ◌++◌, take, length, get_or, Option}
 use Rattle.std.proofs.Math.Seq.{take-suc}
 use Rattle.pit_model.specs.declared.journal.Entry.{Entry}
 use Rattle.pit_model.specs.Mine.{Instance}
-use Rattle.pit_model.specs.Tree.{MineTree, opening, is_merger}
-use Rattle.pit_model.specs.Journal.{lawful_verdict, tree_after, count_after, applied_count, is_used_up, IsLawful, replay}
-use Rattle.pit_model.specs.FirstRun.{HasNoMerger}
-use Rattle.pit_model.specs.Replay.{DiffersAt, IsSettled, IsOpenAt}
+use Rattle.pit_model.specs.Tree.{MineTree, opening}
+use Rattle.pit_model.specs.Journal.{lawful_verdict, tree_after, count_after, applied_count, IsLawful, replay}
+use Rattle.pit_model.specs.Replay.{DiffersAt}
 use Rattle.pit_model.proofs.Journals.{lawful-snoc, lawful-last, replay-snoc, applied_count-snoc, count_after-most}
 
 -- so many entries of a journal were decided again: each has its lawful verdict, and this is their tree, and how many mergers they make
@@ -50,24 +49,3 @@ module _ (mine : Instance) (budget : Option ℕ) (journal : List Entry) (i : ℕ
     differs = λ all. let entry = get_or journal i none in
         differs (lawful-last mine budget (take i journal) entry (opening mine) 0 (subst (IsLawful mine budget) (next_taken journal i none inside) all) ∙ sym (verdict_here entry.arc));
   }
-
--- the end without a merger arc left
-pub settled :
-    (start mine : Instance) (budget : Option ℕ) (journal : List Entry) (tree : MineTree) → start ≡ mine → tree.mine ≡ start → IsLawful start budget journal
-    → tree.tree ≡ replay start journal → HasNoMerger tree.mine tree.tree → IsSettled mine budget journal
-settled start mine budget journal tree begun same lawful replayed none =
-    subst (λ (m : Instance). IsSettled m budget journal) begun
-    (record { lawful = lawful; none_left = subst (λ (t : MineTree). HasNoMerger t.mine t.tree) (λ i. record { mine = same i; tree = replayed i }) none })
-
--- a merger arc is left, and the budget allows it
-pub left_open :
-    (start mine : Instance) (budget : Option ℕ) (journal : List Entry) (tree : MineTree) (arc count : ℕ) → start ≡ mine → tree.mine ≡ start → IsLawful start budget journal
-    → tree.tree ≡ replay start journal → IsTrue (is_merger tree.mine tree.tree arc) → count ≡ applied_count journal → is_used_up budget count ≡ false → IsOpenAt mine budget journal count
-left_open start mine budget journal tree arc count begun same lawful replayed merger counted allowed =
-    subst (λ (m : Instance). IsOpenAt m budget journal count) begun
-    (record {
-      lawful = lawful;
-      left = (arc, subst (λ (t : MineTree). IsTrue (is_merger t.mine t.tree arc)) (λ i. record { mine = same i; tree = replayed i }) merger);
-      allowed = allowed;
-      made = sym counted;
-    })

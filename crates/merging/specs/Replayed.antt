@@ -1,7 +1,10 @@
 -- What the replay of a journal gives.
-use Rattle.std.specs.Prelude.{ℕ, List, Option}
+use Rattle.std.specs.Prelude.{◌≡◌, ℕ, List, Option, Some, false}
 use Rattle.pit_model.specs.declared.journal.Entry.{Entry}
+use Rattle.pit_model.specs.FirstRun.{HasMerger, HasNoMerger}
+use Rattle.pit_model.specs.Journal.{is_used_up}
 use Rattle.pit_model.specs.Mine.{Instance}
+use Rattle.pit_model.specs.Tree.{MineTree}
 use Rattle.pit_model.specs.Replay.{DiffersAt, IsSettled, IsSpentAt, IsOpenAt}
 use Rattle.certificate.specs.Check.{ShowsPit}
 use Rattle.merging.specs.declared.replayed.Replayed.{Replayed}
@@ -13,3 +16,10 @@ EndsReplay mine budget journal (Pit pit) = IsSettled mine budget journal × Show
 EndsReplay mine budget journal (Differs k) = DiffersAt mine budget journal k
 EndsReplay mine budget journal (Exhausted count) = IsSpentAt mine budget journal count
 EndsReplay mine budget journal (Open count) = IsOpenAt mine budget journal count
+
+-- what a tree says of the end of a replay, after so many mergers under a budget
+abbrev pub EndsAt : MineTree → Option ℕ → ℕ → Replayed → Type 0
+EndsAt tree budget made (Pit pit) = HasNoMerger tree.mine tree.tree × ShowsPit tree.mine pit.items
+EndsAt tree budget made (Differs k) = ⊥
+EndsAt tree budget made (Exhausted count) = HasMerger tree.mine tree.tree × (budget ≡ Some count) × (made ≡ count)
+EndsAt tree budget made (Open count) = HasMerger tree.mine tree.tree × (is_used_up budget count ≡ false) × (made ≡ count)

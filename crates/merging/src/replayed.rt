@@ -4,7 +4,7 @@ ghost use Rattle.faults.specs.Refused.{no_memory};
 ghost use Rattle.pit_model.specs.Tree.{is_merger, opening};
 ghost use Rattle.pit_model.specs.Journal.{applied_count, count_after, is_applied, lawful_verdict, replay, tree_after, IsLawful};
 ghost use Rattle.pit_model.specs.Replay.{DiffersAt};
-ghost use Rattle.merging.specs.Replayed.{EndsReplay};
+ghost use Rattle.merging.specs.Replayed.{EndsAt, EndsReplay};
 
 use faults::Fault;
 use mine_graph::Instance;
@@ -78,6 +78,21 @@ fn follow(tree: &mut NormTree, budget: Option<u64>, entries: &[Entry]) -> Result
     Ok(made)
 }
 
+/// What is said of a tree after so many mergers under a budget: its pit, or why none is told. Refused for want of memory alone.
+fn end_at(tree: &NormTree, budget: Option<u64>, made: u64) -> Result<Replayed, Fault>
+    ensures end { IfOk result (EndsAt tree.now budget made) }
+    ensures refused { IfErr result (λ e. e ≡ no_memory) }
+{
+    tree.law();
+    match tree.find_merger() {
+        None => Ok(Replayed::Pit(tree.pit()?)),
+        Some(_) => match budget {
+            Some(budget) if made == budget => Ok(Replayed::Exhausted(budget)),
+            _ => Ok(Replayed::Open(made)),
+        },
+    }
+}
+
 /// Replays the journal of a run under a budget, from the opening tree of the instance on, by one thread. Which of the four
 /// ends it has is told by the entries alone. Refused for want of memory alone.
 pub fn replay(
@@ -90,16 +105,8 @@ pub fn replay(
     ensures refused { IfErr result (λ e. e ≡ no_memory) }
 {
     let mut tree = NormTree::start(alloc, instance)?;
-    let made = match follow(&mut tree, budget, entries) {
-        Ok(made) => made,
-        Err(place) => return Ok(Replayed::Differs(place)),
-    };
-    tree.law();
-    match tree.find_merger() {
-        None => Ok(Replayed::Pit(tree.pit()?)),
-        Some(_) => match budget {
-            Some(budget) if made == budget => Ok(Replayed::Exhausted(budget)),
-            _ => Ok(Replayed::Open(made)),
-        },
+    match follow(&mut tree, budget, entries) {
+        Ok(made) => end_at(&tree, budget, made),
+        Err(place) => Ok(Replayed::Differs(place)),
     }
 }
