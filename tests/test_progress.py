@@ -179,6 +179,15 @@ def test_a_line_tells_what_was_read_so_far(mine: Mine, call: list[str], model: s
     assert re.fullmatch(rf"(pitshell: reading, {len(model) + 3} bytes, 2 blocks, 0 pairs\n){{2,3}}", err)
 
 
+def test_pairs_are_read_as_they_come(mine: Mine) -> None:
+    """The pipe of the pairs stalls within its second line."""
+    mine.write("mine.upit", model_of(["-3", "5", "7"]))
+    piped = ["/dev/stdin" if word == "mine.prec" else word for word in SOLVE]
+    status, out, err = stalled(mine, [PROGRAM, *piped, "--progress", "1"], "1 1 0\n2 1 0\n", 8)
+    assert (status, out) == (0, pit_of(3, [0, 1, 2], "9.000000"))
+    assert re.fullmatch(rf"(pitshell: reading, {len(mine.read('mine.upit')) + 8} bytes, 3 blocks, 1 pairs\n){{2,3}}", err)
+
+
 @pytest.mark.parametrize("closed", ["2>&-", "2>/dev/full"])
 def test_a_standard_error_that_takes_nothing_is_no_other_answer(mine: Mine, closed: str) -> None:
     command = ["sh", "-c", f'"$0" "$@" {closed}', PROGRAM, *PIPED, "--certificate", "made.cert", "--stats", "made.stats"]

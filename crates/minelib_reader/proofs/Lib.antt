@@ -1,6 +1,7 @@
 pub mod WriteLemmas
 pub mod WholeLemmas
 pub mod Numbers
+mod PieceLemmas
 mod PlaceLemmas
 pub mod TextLemmas
 pub mod LineLemmas
@@ -13,6 +14,7 @@ pub mod UpitGrammarLemmas
 pub mod UpitFaultLemmas
 pub mod PrecLemmas
 pub mod PrecLineLemmas
+mod PrecPieceLemmas
 pub mod PrecFaultLemmas
 pub mod PrecGrammarLemmas
 pub mod PrecLimitLemmas

@@ -4,7 +4,7 @@ use Rattle.std.proofs.lemmas.List.{append-nil, length-map}
 use Rattle.faults.specs.declared.fault.Fault.{Fault}
 use Rattle.minelib_reader.specs.Checks.{◌>>=◌}
 use Rattle.minelib_reader.specs.Text.{Row}
-use Rattle.minelib_reader.specs.Marks.{AddsLine}
+use Rattle.minelib_reader.specs.Marks.{AddsLine, AddsRows, with_pairs}
 use Rattle.minelib_reader.specs.Prec.{need_of, needs_from, front_of, needs_line, pairs_of, pairs_from}
 use Rattle.minelib_reader.proofs.CheckLemmas.{passed, same_value}
 
@@ -47,10 +47,6 @@ line_added n from total r front ps old new f h count pairs = record {
 abbrev Pairs : Type 0
 Pairs = Result (List (ℕ × ℕ)) Fault
 
--- the pairs read before, and those still read
-abbrev pub with_pairs : List (ℕ × ℕ) → Pairs → Pairs
-with_pairs front read = read >>= λ ps. Ok (front ++ ps)
-
 regroup : (old more : List (ℕ × ℕ)) (read : Pairs) → with_pairs old (read >>= λ others. Ok (more ++ others)) ≡ with_pairs (old ++ more) read
 regroup old more (Ok ps) = ap (λ (xs : List (ℕ × ℕ)). Ok xs) (sym (append_assoc old more ps))
 regroup old more (Err e) = refl
@@ -75,8 +71,16 @@ unfolding pairs_from
 stop e n from total rows rest r old all are h so_far =
     let one : with_pairs old (pairs_from n from total rows) ≡ Err e = rw (are, h) refl in sym so_far ∙ one
 
-pub end : (n from total : ℕ) (rows : List Row) (old : List (ℕ × ℕ)) (all : Pairs) → rows ≡ [] → with_pairs old (pairs_from n from total rows) ≡ all → all ≡ Ok old
+-- one row more was added to some
+pub row_added : (n from total from' total' from'' total'' : ℕ) (all rows rest : List Row) (r : Row) (old mid new : List (ℕ × ℕ)) → rows ≡ r ∷ rest → AddsLine n from' total' r mid new from'' total''
+    → ((behind : List Row) → with_pairs mid (pairs_from n from' total' (rows ++ behind)) ≡ with_pairs old (pairs_from n from total (all ++ behind)))
+    → (behind : List Row) → with_pairs new (pairs_from n from'' total'' (rest ++ behind)) ≡ with_pairs old (pairs_from n from total (all ++ behind))
+row_added n from total from' total' from'' total'' all rows rest r old mid new are a so_far behind =
+    go_on n from' total' from'' total'' (rows ++ behind) (rest ++ behind) r mid new (with_pairs old (pairs_from n from total (all ++ behind))) (ap (λ (rs : List Row). rs ++ behind) are) a (so_far behind)
+
+-- the rows of a whole text were added to none
+pub all_added : (n from total : ℕ) (rows : List Row) (new : List (ℕ × ℕ)) → AddsRows n 0 0 rows [] new from total → pairs_from n 0 0 rows ≡ Ok new
 unfolding pairs_from
-end n from total rows old all none so_far =
-    let one : with_pairs old (pairs_from n from total rows) ≡ Ok (old ++ []) = rw none refl in
-    sym so_far ∙ one ∙ ap (λ (xs : List (ℕ × ℕ)). Ok xs) (append-nil old)
+all_added n from total rows new added =
+    let one : with_pairs new (pairs_from n from total []) ≡ Ok new = ap (λ (ps : List (ℕ × ℕ)). Ok ps) (append-nil new) in
+    ap (pairs_from n 0 0) (sym (append-nil rows)) ∙ sym (begin (pairs_from n 0 0 (rows ++ []))) ∙ sym (added []) ∙ one

@@ -8,6 +8,7 @@ pub mod Upit
 pub mod UpitGrammar
 pub mod UpitFault
 pub mod UpitLimits
+pub mod Pieces
 pub mod Prec
 pub mod Marks
 pub mod PrecGrammar

@@ -1,7 +1,9 @@
 -- What the reading of a precedence file keeps: the marks of the blocks seen on a line, and the pairs so far.
-use Rattle.std.specs.Prelude.{◌≡◌, ℕ, ◌+◌, ◌<◌, ◌==◌, ◌++◌, List, length, slice_index, Ok}
+use Rattle.std.specs.Prelude.{◌≡◌, ℕ, ◌+◌, ◌<◌, ◌==◌, ◌++◌, List, length, slice_index, Result, Ok}
+use Rattle.faults.specs.declared.fault.Fault.{Fault}
 use Rattle.pit_model.specs.Fixed.{is_among}
-use Rattle.minelib_reader.specs.Prec.{needs_line, pairs_of}
+use Rattle.minelib_reader.specs.Prec.{needs_line, pairs_from, pairs_of}
+use Rattle.minelib_reader.specs.Checks.{◌>>=◌}
 use Rattle.minelib_reader.specs.Text.{Row}
 
 -- the marks id + 1 stand at the blocks that were seen on the line of block id
@@ -16,3 +18,12 @@ pub record AddsLine (n from total : ℕ) (r : Row) (old new : List (ℕ × ℕ))
   pub pairs : new ≡ old ++ pairs_of id needs
   pub next : from_after ≡ id + 1
   pub sum : total_after ≡ total + length needs
+
+-- the pairs read before, and those still read
+abbrev pub with_pairs : List (ℕ × ℕ) → Result (List (ℕ × ℕ)) Fault → Result (List (ℕ × ℕ)) Fault
+with_pairs front read = read >>= λ pairs. Ok (front ++ pairs)
+
+-- the rows are lawful, and whatever rows come behind them, the pairs of all are those that were added and what is read from there on
+abbrev pub AddsRows : ℕ → ℕ → ℕ → List Row → List (ℕ × ℕ) → List (ℕ × ℕ) → ℕ → ℕ → Type 0
+AddsRows n from total rows old new from_after total_after =
+    (behind : List Row) → with_pairs new (pairs_from n from_after total_after behind) ≡ with_pairs old (pairs_from n from total (rows ++ behind))

@@ -1,5 +1,5 @@
 -- What the pairs keep that were read for n blocks.
-use Rattle.std.specs.Prelude.{ℕ, ◌≢◌, ◌<◌, ◌≤◌, ◌^◌, List, length}
+use Rattle.std.specs.Prelude.{ℕ, ◌≢◌, ◌<◌, ◌≤◌, List, length}
 use Rattle.pit_model.specs.Size.{most_pairs}
 use Rattle.pit_model.specs.Graph.{AreInRange, AreApart, first_of, second_of}
 

@@ -143,7 +143,8 @@ impl<S: InputStream + Drop> InBytes for FileReader<S> {
     }
 }
 
-const CHUNK: usize = 65536;
+/// How many bytes are read at once.
+pub(crate) const CHUNK: usize = 65536;
 
 /// All that is left to be read. Refused by `NoMemory`, and by `ReadFailed` with that source and no line. Memory for as many bytes
 /// as the source holds is taken before the first is read: a file larger than memory is refused at once.

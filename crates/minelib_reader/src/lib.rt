@@ -11,6 +11,7 @@ mod limits;
 mod lines;
 mod number;
 mod output;
+mod pieces;
 mod prec;
 mod rows;
 mod stream;

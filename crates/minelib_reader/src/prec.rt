@@ -9,29 +9,36 @@ ghost use Rattle.faults.specs.declared.refusal.Refusal.TheVariants.{OverLimit, W
 ghost use Rattle.faults.specs.declared.source.Source.TheVariants as sources;
 ghost use Rattle.pit_model.specs.Size.{most_pairs};
 ghost use Rattle.minelib_reader.specs.Answer.{Gives, Answers, AnswersBy, FailsBy, FailsAt};
-ghost use Rattle.minelib_reader.specs.Marks.{AreMarked, AddsLine};
+ghost use Rattle.minelib_reader.specs.Marks.{AreMarked, AddsLine, AddsRows, with_pairs};
 ghost use Rattle.minelib_reader.specs.Number.{whole_of};
-ghost use Rattle.minelib_reader.specs.Prec.{in_precedence, need_of, needs_from, front_of, needs_line, pairs_of, prec_of};
+ghost use Rattle.minelib_reader.specs.Prec.{in_precedence, need_of, needs_from, front_of, needs_line, pairs_from, pairs_of, prec_of};
 ghost use Rattle.minelib_reader.specs.PrecFault.{IsFirstPrecFault};
 ghost use Rattle.minelib_reader.specs.PrecGrammar.{SpellsPrec};
 ghost use Rattle.minelib_reader.specs.PrecLimits.{ArePrecedences};
-ghost use Rattle.minelib_reader.specs.Text.{row, fields_of};
+ghost use Rattle.minelib_reader.specs.Text.{Row as AnyRow, row, rows_at, lines_at, fields_of};
 
 use crate::device::InBytes;
-use crate::input::read_all;
 use crate::limits::MOST_PAIRS;
 use crate::lines::{count_fields, has_fields, next_whole, plain_whole};
+use crate::pieces::{read_past, read_piece};
 use crate::rows::{Row, Rows};
-use counters::Counters;
 use faults::{Fault, Refusal, Source};
 use std::alloc::Global;
 
-/// What the lines before tell a line: the least id that it may have, and how many pairs they have.
+/// What the lines before tell a line: how many they are, the least id that it may have, and how many pairs they have.
 #[derive(Clone, Copy)]
 struct Before {
+    line: u64,
     from: u32,
     total: u64,
 }
+
+/// There are no lines before the first.
+const AT_FIRST: Before = Before {
+    line: 0,
+    from: 0,
+    total: 0,
+};
 
 /// The front of a line, and the part of it that names the predecessors.
 #[derive(Clone, Copy)]
@@ -220,6 +227,7 @@ fn read_line(
                 return Err(in_precedence(Refusal::WrongFieldCount, r.line));
             }
             Ok(Before {
+                line: r.line,
                 from: front.id + 1,
                 total: before.total + front.count,
             })
@@ -234,25 +242,79 @@ fn read_line(
     }
 }
 
-/// The pairs of all lines.
-fn parse_lines(
-    alloc: Global,
-    text: &[u8],
+/// Adds the pairs of some lines, and answers what they and the lines before tell the next.
+fn read_lines(
     n: u32,
-    counters: &Counters,
-) -> Result<Vec<(u32, u32)>, Fault>
+    before: Before,
+    marks: &mut Vec<u32>,
+    text: &[u8],
+    pairs: &mut Vec<(u32, u32)>,
+) -> Result<Before, Fault>
+    requires countable { before.line + length text.now < 2 ^ 63 }
+    requires sizes { length marks.old.items ≡ n }
+    requires few { before.total ≤ most_pairs }
+    requires old_marks { All (λ m. m ≤ before.from) marks.old.items }
+    ensures ok { IfOk result (λ after. AddsRows n before.from before.total (rows_at before.line text.now) pairs.old.items pairs.new.items after.from after.total) }
+    ensures err { IfErr result (λ e. (behind : List AnyRow) → FailsBy e.refusal e (with_pairs pairs.old.items (pairs_from n before.from before.total (rows_at before.line text.now ++ behind)))) }
+    ensures counted { IfOk result (λ after. after.line ≡ lines_at before.line text.now) }
+    ensures short { IfOk result (λ after. after.line ≤ before.line + length text.now) }
+    ensures few { IfOk result (λ after. after.total ≤ most_pairs) }
+    ensures sizes { length marks.new.items ≡ n }
+    ensures new_marks { IfOk result (λ after. All (λ m. m ≤ after.from) marks.new.items) }
+{
+    let mut rows = Rows {
+        rest: text,
+        number: before.line,
+    };
+    let mut after = before;
+    while let Some(row) = rows.next_row() {
+        after = read_line(n, after, marks, row, pairs)?;
+    }
+    after.line = rows.number;
+    Ok(after)
+}
+
+/// The pairs of all lines of a text.
+fn parse_lines(alloc: Global, text: &[u8], n: u32) -> Result<Vec<(u32, u32)>, Fault>
     requires { length text.now ≤ 2 ^ 40 }
     ensures { Gives (λ v. v.items) result (prec_of n text.now) }
 {
-    let mut rows = Rows::new(text);
     let mut marks = vec![in alloc; 0u32; n as usize]?;
     let mut pairs = Vec::new(alloc);
-    let mut before = Before { from: 0, total: 0 };
-    while let Some(row) = rows.next_row() {
-        before = read_line(n, before, &mut marks, row, &mut pairs)?;
-        counters.pairs_read(before.total);
-    }
+    read_lines(n, AT_FIRST, &mut marks, text, &mut pairs)?;
     Ok(pairs)
+}
+
+/// The pairs of all lines that a reader has left, read piece by piece. Counters are told of the pairs of each piece. A fault in
+/// the text is told when the text is known whole, so the rest of it is read.
+fn read_pieces<R: InBytes>(alloc: Global, reader: &mut R, n: u32) -> Result<Vec<(u32, u32)>, Fault>
+    requires countable { (R.progress reader.old).failures < 2 ^ 63 }
+    requires bounded { (R.progress reader.old).allowance ≤ 2 ^ 40 }
+    ensures exact { Answers (λ v. v.items) (prec_of n) sources.Precedence (R.progress reader.old) (R.progress reader.new) (R.IsAtEnd reader.new) result }
+    ensures known { Keeps (R.known_text reader.old) (R.known_text reader.new) }
+{
+    let counters = reader.counters();
+    let mut marks = vec![in alloc; 0u32; n as usize]?;
+    let mut pairs = Vec::new(alloc);
+    let mut piece = Vec::new(alloc);
+    let mut kept = Vec::new(alloc);
+    let mut before = AT_FIRST;
+    loop {
+        let ended = read_piece(reader, Source::Precedence, &mut piece, &mut kept)?;
+        match read_lines(n, before, &mut marks, &piece, &mut pairs) {
+            Ok(after) => before = after,
+            Err(fault) => {
+                if !ended && !matches!(fault.refusal, Refusal::NoMemory) {
+                    read_past(reader, Source::Precedence)?;
+                }
+                return Err(fault);
+            }
+        }
+        counters.pairs_read(before.total);
+        if ended {
+            return Ok(pairs);
+        }
+    }
 }
 
 /// Each text spells one list of pairs for n blocks or has one first fault, and not both: what is read of it says which.
@@ -273,24 +335,7 @@ pub fn parse_prec(alloc: Global, text: &[u8], n: u32) -> Result<Vec<(u32, u32)>,
     ensures first_fault { IfErr result (λ e. FailsAt e.refusal e (IsFirstPrecFault n text.now)) }
     ensures lawful { IfOk result (λ v. ArePrecedences n v.items) }
 {
-    parse_watched(alloc, text, n, &Counters::none())
-}
-
-/// The same as `parse_prec` gives. Counters are told of the pairs of each line.
-fn parse_watched(
-    alloc: Global,
-    text: &[u8],
-    n: u32,
-    counters: &Counters,
-) -> Result<Vec<(u32, u32)>, Fault>
-    requires { length text.now ≤ 2 ^ 40 }
-    ensures exact { Gives (λ v. v.items) result (prec_of n text.now) }
-    ensures spelled { IfOk result (λ v. SpellsPrec n text.now v.items) }
-    ensures read { (pairs : List (ℕ × ℕ)) → SpellsPrec n text.now pairs → Gives (λ v. v.items) result (Ok pairs) }
-    ensures first_fault { IfErr result (λ e. FailsAt e.refusal e (IsFirstPrecFault n text.now)) }
-    ensures lawful { IfOk result (λ v. ArePrecedences n v.items) }
-{
-    parse_lines(alloc, text, n, counters)
+    parse_lines(alloc, text, n)
 }
 
 /// The pairs (u, p) of "u needs p" for n blocks, in order of line and place, that all spells which the reader has left,
@@ -310,6 +355,5 @@ pub fn read_prec<R: InBytes>(
     // The same by what is read of a text.
     ensures exact { Answers (λ v. v.items) (prec_of n) sources.Precedence (R.progress reader.old) (R.progress reader.new) (R.IsAtEnd reader.new) result }
 {
-    let text = read_all(alloc, reader, Source::Precedence)?;
-    parse_watched(alloc, &text, n, &reader.counters())
+    read_pieces(alloc, reader, n)
 }

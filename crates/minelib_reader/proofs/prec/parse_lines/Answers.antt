@@ -1,40 +1,26 @@
--- Each way through the loop is one step of `pairs_from`.
+-- The rows of the text are added to no pairs.
+use Rattle.std.proofs.Common.{◌≡◌, ◌∙◌, ◌++◌, [], ℕ, List, ap, subst}
+use Rattle.std.proofs.lemmas.List.{append-nil}
 use Rattle.std.proofs.lemmas.Result.{err_from_is_err_and}
-use Rattle.minelib_reader.specs.Text.{row, rows_at, fields_of}
-use Rattle.minelib_reader.specs.Prec.{needs_line, prec_of}
-use Rattle.minelib_reader.proofs.AnswerLemmas.{fails_map}
-use Rattle.minelib_reader.proofs.PrecLineLemmas.{go_on, stop, end}
+use Rattle.minelib_reader.specs.Answer.{FailsBy}
+use Rattle.minelib_reader.specs.Marks.{AddsRows, with_pairs}
+use Rattle.minelib_reader.specs.Prec.{pairs_from, prec_of}
+use Rattle.minelib_reader.specs.Text.{rows_of}
+use Rattle.minelib_reader.proofs.PrecLineLemmas.{all_added, begin}
 use Rattle.minelib_reader.proofs.prec.parse_lines.Goals as goal
 
-pub returns-in_err-before : goal.returns-in_err-before
-returns-in_err-before c =
-    let p = err_from_is_err_and c.from_residual-in_err-before.result c.from_residual-in_err-before.ensures.1 in
-    let e = c.in_err-before.field-0.0 in
-    let b = c.loop-row.before in
-    let s = c.loop-row.rows in
-    let t = c.next_row.new.self in
-    let r = row c.in-Some.row.line (fields_of c.in-Some.row.text.now) in
-    let all = prec_of c.args.n c.args.text.now in
-    rw (p.1, p.2) (fails_map e.refusal e (needs_line c.args.n b.from b.total r) all
-    (λ h. stop e c.args.n b.from b.total (rows_at s.number s.rest.now) (rows_at t.number t.rest.now) r c.loop-row.pairs.items all c.in-Some.ensures.row h c.loop-row.invariant.read) c.in_err-before.ensures.err)
-
-pub loop-row-preserved : goal.loop-row-preserved
-loop-row-preserved c =
-    let b = c.loop-row.before in
-    let after = c.in_ok-before.before in
-    let s = c.loop-row.rows in
-    let t = c.next_row.new.self in
-    let r = row c.in-Some.row.line (fields_of c.in-Some.row.text.now) in
-    record {
-      read = go_on c.args.n b.from b.total after.from after.total (rows_at s.number s.rest.now) (rows_at t.number t.rest.now) r c.loop-row.pairs.items c.read_line.new.pairs.items (prec_of c.args.n c.args.text.now)
-          c.in-Some.ensures.row c.in_ok-before.ensures.ok c.loop-row.invariant.read;
-      few = c.in_ok-before.ensures.few;
-      sizes = c.in_ok-before.ensures.sizes;
-      marks = c.in_ok-before.ensures.new_marks;
-    }
+pub returns-in_err-read_lines : goal.returns-in_err-read_lines
+returns-in_err-read_lines c =
+    let p = err_from_is_err_and c.from_residual-in_err-read_lines.result c.from_residual-in_err-read_lines.ensures.1 in
+    let e = c.in_err-read_lines.field-0.0 in
+    let rows = rows_of c.args.text.now in
+    let all : with_pairs c.new-pairs.result.items (pairs_from c.args.n 0 0 (rows ++ [])) ≡ prec_of c.args.n c.args.text.now =
+    ap (λ (ps : List (ℕ × ℕ)). with_pairs ps (pairs_from c.args.n 0 0 (rows ++ []))) c.new-pairs.ensures.items ∙ begin (pairs_from c.args.n 0 0 (rows ++ [])) ∙ ap (pairs_from c.args.n 0 0) (append-nil rows) in
+    rw (p.1, p.2) (subst (FailsBy e.refusal e) all (c.in_err-read_lines.ensures.err []))
 
 pub returns : goal.returns
 returns c =
-    let b = c.loop-row.before in
-    let s = c.loop-row.rows in
-    end c.args.n b.from b.total (rows_at s.number s.rest.now) c.loop-row.pairs.items (prec_of c.args.n c.args.text.now) c.in_default.ensures.row c.loop-row.invariant.read
+    let after = c.in_ok-read_lines.field-0 in
+    let rows = rows_of c.args.text.now in
+    all_added c.args.n after.from after.total rows c.read_lines.new.pairs.items
+    (subst (λ (ps : List (ℕ × ℕ)). AddsRows c.args.n 0 0 rows ps c.read_lines.new.pairs.items after.from after.total) c.new-pairs.ensures.items c.in_ok-read_lines.ensures.ok)
