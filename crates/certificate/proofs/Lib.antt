@@ -1,7 +1,7 @@
 pub mod OfTree
 pub mod Adding
 pub mod Found
-pub mod Trail
+pub mod Visiting
 pub mod Spreading
 pub mod SameSet
 pub mod Checked

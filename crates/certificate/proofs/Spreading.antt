@@ -8,7 +8,9 @@ use Rattle.pit_model.specs.Flow.{HasResidual, excess}
 use Rattle.pit_model.specs.Certificate.{IsReached}
 use Rattle.pit_model.proofs.Members.{members_each}
 use Rattle.certificate.specs.Check.{has, amount, AreExcesses}
-use Rattle.certificate.specs.Queue.{IsExtended, IsSpread}
+use Rattle.certificate.specs.Reaching.{IsSpread, IsVisited}
+use Rattle.mine_graph.specs.Flood.{TakesIn, is_in, queued}
+use Rattle.mine_graph.specs.declared.flood.Flood.{Flood}
 use Rattle.certificate.proofs.Found.{members_found}
 
 pub lt_from : (x y : ℤ) → int_lt x y ≡ true → x <ℤ y
@@ -23,37 +25,35 @@ module _ (mine : Instance) (inside : List Bool) (flow : List ℤ) where
       → (steps : ℕ) × IsReached mine (has inside) (amount flow) b steps
   reach_more a b l r step within = (suc r.0, (within, (a, l, r.1, step)))
 
-  pub spread_start : (excesses : List ℤ) (seen0 : List Bool) (queue0 : List ℕ) (seen : List Bool) (queue : List ℕ) (tail : ℕ)
-      → length seen0 ≡ mine.blocks → ((u : ℕ) → has seen0 u ≡ false) → AreExcesses mine flow excesses
-      → IsExtended inside (λ x. int_lt (pos 0) (get_or excesses x (pos 0))) (λ x. x) 0 (length seen0) seen0 queue0 0 seen queue tail
-      → IsSpread mine inside flow seen queue tail 0
-  spread_start excesses seen0 queue0 seen queue tail size none is ext = record {
+  pub spread_start : (excesses : List ℤ) (before after : Flood) → length before.marks.items ≡ mine.blocks → length excesses ≡ mine.blocks → ((u : ℕ) → is_in before u ≡ false) → AreExcesses mine flow excesses
+      → TakesIn (IsVisited inside (λ x. int_lt (pos 0) (get_or excesses x (pos 0))) (λ x. x) 0 (length excesses)) before after
+      → IsSpread mine inside flow after 0
+  spread_start excesses before after size count none is ext = record {
     trail = ext.trail;
     size = ext.size ∙ size;
     sound = λ u e. ⊎_elim
-        (λ (h : has seen0 u ≡ true). absurd (false≢true (sym (none u) ∙ h)))
-        (λ (w : (x : ℕ) × (0 ≤ x) × (x < length seen0) × (int_lt (pos 0) (get_or excesses x (pos 0)) ≡ true) × (x ≡ u) × (has inside u ≡ true)).
+        (λ (h : is_in before u ≡ true). absurd (false≢true (sym (none u) ∙ h)))
+        (λ (w : IsVisited inside (λ x. int_lt (pos 0) (get_or excesses x (pos 0))) (λ x. x) 0 (length excesses) u).
         (0, (w.5, subst (λ y. pos 0 <ℤ excess mine (amount flow) y) w.4 (subst (λ z. pos 0 <ℤ z) (is w.0 (omega (arith, w.2))) (lt_from (pos 0) (get_or excesses w.0 (pos 0)) w.3)))))
         (ext.only u e);
-    starts = λ u l within more. ext.all u (omega arith) (omega arith) (ap (int_lt (pos 0)) (is u l) ∙ lt_to (pos 0) (excess mine (amount flow) u) more) within;
+    starts = λ u l within more. ext.all u (u, omega arith, omega arith, ap (int_lt (pos 0)) (is u l) ∙ lt_to (pos 0) (excess mine (amount flow) u) more, refl, within);
     closed = λ i b h. absurd (omega arith);
   }
 
   module _ (begin end : ℕ) (users : List ℕ)
-      (seen : List Bool) (queue : List ℕ) (tail head a : ℕ) (ahead : head < tail) (is : get_or queue head 0 ≡ a)
+      (before : Flood) (head a : ℕ) (ahead : head < before.tail) (is : queued before head ≡ a)
       (within_row : end ≤ arcs mine)
       (own : (k : ℕ) → k < arcs mine → (source mine k ≡ a) ↔ ((begin ≤ k) × (k < end)))
       (used : users ≡ members (arcs mine) (λ k. eqb (target mine k) a))
-      (was : IsSpread mine inside flow seen queue tail head)
-      (seen1 : List Bool) (queue1 : List ℕ) (tail1 : ℕ)
-      (one : IsExtended inside (λ x. true) (λ x. target mine x) begin end seen queue tail seen1 queue1 tail1)
-      (seen2 : List Bool) (queue2 : List ℕ) (tail2 : ℕ)
-      (two : IsExtended inside (λ x. int_lt (pos 0) (amount flow (get_or users x 0))) (λ x. source mine (get_or users x 0)) 0 (length users) seen1 queue1 tail1 seen2 queue2 tail2) where
+      (was : IsSpread mine inside flow before head)
+      (mid after : Flood)
+      (one : TakesIn (IsVisited inside (λ x. true) (λ x. target mine x) begin end) before mid)
+      (two : TakesIn (IsVisited inside (λ x. int_lt (pos 0) (amount flow (get_or users x 0))) (λ x. source mine (get_or users x 0)) 0 (length users)) mid after) where
     below : a < mine.blocks
     below = let m = (was.trail.marked head ahead).0 in let s = was.size in omega arith
 
     reached_a : (steps : ℕ) × IsReached mine (has inside) (amount flow) a steps
-    reached_a = was.sound a (ap (has seen) (sym is) ∙ (was.trail.marked head ahead).1)
+    reached_a = was.sound a (ap (is_in before) (sym is) ∙ (was.trail.marked head ahead).1)
 
     -- each of the users is an arc to a
     user_at : (x : ℕ) → x < length users → (get_or users x 0 < arcs mine) × (target mine (get_or users x 0) ≡ a)
@@ -62,57 +62,56 @@ module _ (mine : Instance) (inside : List Bool) (flow : List ℤ) where
         let at : get_or users x 0 ≡ get_or (members (arcs mine) (λ k. eqb (target mine k) a)) x 0 = ap (λ us. get_or us x 0) used in
         (subst (λ k. k < arcs mine) (sym at) each.0, ap (target mine) at ∙ eqb-true _ _ each.1)
 
-    sound_one : (u : ℕ) → has seen1 u ≡ true → (steps : ℕ) × IsReached mine (has inside) (amount flow) u steps
-    sound_one u e = ⊎_elim (λ (h : has seen u ≡ true). was.sound u h)
-        (λ (w : (x : ℕ) × (begin ≤ x) × (x < end) × (true ≡ true) × (target mine x ≡ u) × (has inside u ≡ true)).
+    sound_one : (u : ℕ) → is_in mid u ≡ true → (steps : ℕ) × IsReached mine (has inside) (amount flow) u steps
+    sound_one u e = ⊎_elim (λ (h : is_in before u ≡ true). was.sound u h)
+        (λ (w : IsVisited inside (λ x. true) (λ x. target mine x) begin end u).
         let l : w.0 < arcs mine = (let p = w.2 in omega arith) in
         reach_more a u below reached_a (w.0, l, inl ((own w.0 l).1 (w.1, w.2), w.4)) w.5)
         (one.only u e)
 
-    sound_two : (u : ℕ) → has seen2 u ≡ true → (steps : ℕ) × IsReached mine (has inside) (amount flow) u steps
-    sound_two u e = ⊎_elim (λ (h : has seen1 u ≡ true). sound_one u h)
-        (λ (w : (x : ℕ) × (0 ≤ x) × (x < length users) × (int_lt (pos 0) (amount flow (get_or users x 0)) ≡ true) × (source mine (get_or users x 0) ≡ u) × (has inside u ≡ true)).
+    sound_two : (u : ℕ) → is_in after u ≡ true → (steps : ℕ) × IsReached mine (has inside) (amount flow) u steps
+    sound_two u e = ⊎_elim (λ (h : is_in mid u ≡ true). sound_one u h)
+        (λ (w : IsVisited inside (λ x. int_lt (pos 0) (amount flow (get_or users x 0))) (λ x. source mine (get_or users x 0)) 0 (length users) u).
         let at = user_at w.0 w.2 in
         reach_more a u below reached_a (get_or users w.0 0, at.0, inr (w.4, at.1, lt_from (pos 0) (amount flow (get_or users w.0 0)) w.3)) w.5)
         (two.only u e)
 
-    next : (b : ℕ) → HasResidual mine (amount flow) a b → has inside b ≡ true → has seen2 b ≡ true
+    next : (b : ℕ) → HasResidual mine (amount flow) a b → has inside b ≡ true → is_in after b ≡ true
     next b step within = ⊎_elim
         (λ (s : (source mine step.0 ≡ a) × (target mine step.0 ≡ b)).
         let f = (own step.0 step.1).0 s.0 in
-        two.grows b (ap (has seen1) (sym s.1) ∙ one.all step.0 f.0 f.1 refl (ap (has inside) s.1 ∙ within)))
+        two.grows b (one.all b (step.0, f.0, f.1, refl, s.1, within)))
         (λ (s : (source mine step.0 ≡ b) × (target mine step.0 ≡ a) × (pos 0 <ℤ amount flow step.0)).
         let f = members_found (arcs mine) (λ k. eqb (target mine k) a) step.0 step.1 (eq-eqb (target mine step.0) a s.1) in
         let room : f.0 < length users = subst (λ us. f.0 < length us) (sym used) f.1 in
         let at : get_or users f.0 0 ≡ step.0 = ap (λ us. get_or us f.0 0) used ∙ f.2 in
-        ap (has seen2) (sym (ap (source mine) at ∙ s.0))
-        ∙ two.all f.0 (omega arith) room (ap (λ k. int_lt (pos 0) (amount flow k)) at ∙ lt_to (pos 0) (amount flow step.0) s.2) (ap (has inside) (ap (source mine) at ∙ s.0) ∙ within))
+        two.all b (f.0, omega arith, room, ap (λ k. int_lt (pos 0) (amount flow k)) at ∙ lt_to (pos 0) (amount flow step.0) s.2, ap (source mine) at ∙ s.0, within))
         step.2
 
-    pub spread_more : IsSpread mine inside flow seen2 queue2 tail2 (head + 1)
+    pub spread_more : IsSpread mine inside flow after (head + 1)
     spread_more = record {
       trail = two.trail;
       size = two.size ∙ one.size ∙ was.size;
       sound = sound_two;
       starts = λ u l within more. two.grows u (one.grows u (was.starts u l within more));
       closed = λ i b h step within.
-          let kept : get_or queue2 i 0 ≡ get_or queue i 0 = (let m = one.more in two.kept i (omega arith)) ∙ one.kept i (omega arith) in
-          let back : HasResidual mine (amount flow) (get_or queue i 0) b = subst (λ x. HasResidual mine (amount flow) x b) kept step in
+          let kept : queued after i ≡ queued before i = (let m = one.more in two.kept i (omega arith)) ∙ one.kept i (omega arith) in
+          let back : HasResidual mine (amount flow) (queued before i) b = subst (λ x. HasResidual mine (amount flow) x b) kept step in
           ⊎_elim
-          (λ (e : i ≡ head). next b (subst (λ x. HasResidual mine (amount flow) x b) (ap (λ x. get_or queue x 0) e ∙ is) back) within)
+          (λ (e : i ≡ head). next b (subst (λ x. HasResidual mine (amount flow) x b) (ap (queued before) e ∙ is) back) within)
           (λ (ne : i ≡ head → ⊥). two.grows b (one.grows b (was.closed i b (omega arith) back within)))
           (cases_eq i head);
     }
 
   -- where the whole queue was handled, what is marked is what is reached
-  complete : (seen : List Bool) (queue : List ℕ) (tail : ℕ) → IsSpread mine inside flow seen queue tail tail
-      → (steps b : ℕ) → b < mine.blocks → IsReached mine (has inside) (amount flow) b steps → has seen b ≡ true
-  complete seen queue tail was zero b l r = was.starts b l r.0 r.1
-  complete seen queue tail was (suc steps) b l r =
-      let before = complete seen queue tail was steps r.1.0 r.1.1 r.1.2 in
+  complete : (flood : Flood) → IsSpread mine inside flow flood flood.tail
+      → (steps b : ℕ) → b < mine.blocks → IsReached mine (has inside) (amount flow) b steps → is_in flood b ≡ true
+  complete flood was zero b l r = was.starts b l r.0 r.1
+  complete flood was (suc steps) b l r =
+      let before = complete flood was steps r.1.0 r.1.1 r.1.2 in
       let f = was.trail.found r.1.0 before in
       was.closed f.0 b f.1 (subst (λ x. HasResidual mine (amount flow) x b) (sym f.2) r.1.3) r.0
 
-  pub exactly : (seen : List Bool) (queue : List ℕ) (tail : ℕ) → IsSpread mine inside flow seen queue tail tail
-      → (u : ℕ) → u < mine.blocks → IsTrue (has seen u) ↔ ((steps : ℕ) × IsReached mine (has inside) (amount flow) u steps)
-  exactly seen queue tail was u l = (λ e. was.sound u e, λ r. complete seen queue tail was r.0 u l r.1)
+  pub exactly : (flood : Flood) → IsSpread mine inside flow flood flood.tail
+      → (u : ℕ) → u < mine.blocks → IsTrue (is_in flood u) ↔ ((steps : ℕ) × IsReached mine (has inside) (amount flow) u steps)
+  exactly flood was u l = (λ e. was.sound u e, λ r. complete flood was r.0 u l r.1)

@@ -1,5 +1,5 @@
 -- A value that grew within the limits leaves all values within them.
-use Rattle.std.proofs.Common.{◌≡◌, ℕ, ◌<◌, ◌^◌, ◌∙◌, arith, ⊎_elim, List, get_or, set, length, get_or-set_same, get_or-set_other, length-set, refl}
+use Rattle.std.proofs.Common.{◌≡◌, ℕ, ◌<◌, ◌^◌, arith, ⊎_elim, List, get_or, set, length, get_or-set_same, get_or-set_other, length-set, refl}
 use Rattle.std.specs.Prelude.{ℤ, pos, ◌≤ℤ◌}
 use Rattle.std.proofs.lemmas.Int.{ints}
 use Rattle.std.proofs.lemmas.Bool.{cases_eq}

@@ -116,6 +116,10 @@ takes_as asked other a b forth back one = record {
   more = one.more;
 }
 
+-- nothing new is asked for
+pub takes_nothing : (asked : ℕ → Type 0) (a : Flood) → IsTrail a → ((u : ℕ) → asked u → is_in a u ≡ true) → TakesIn asked a a
+takes_nothing asked a trail old = record { trail = trail; size = refl; grows = λ u e. e; only = λ u e. inl e; all = old; kept = λ i h. refl; more = omega arith }
+
 -- in a list of marks that are all false
 pub none_marked : (n : ℕ) (marks : List Bool) (u : ℕ) → marks ≡ replicate n false → mark_of marks u ≡ false
 none_marked n marks u is = ap (λ m. mark_of m u) is ∙ ⊎_elim

@@ -1,11 +1,11 @@
 //! The closure of some blocks along pairs: a queue takes in block after block, each once, and after each those that its pairs
 //! lead to. So time is linear in blocks and pairs.
-ghost use Rattle.std.specs.Prelude.{◌≡◌, ◌<◌, ◌≤◌, ℕ, length, get_or, IfOk};
+ghost use Rattle.std.specs.Prelude.{◌≡◌, ◌<◌, ◌≤◌, ℕ, false, length, get_or, IfOk};
 ghost use Rattle.std.specs.List.{All};
 ghost use Rattle.pit_model.specs.Graph.{first_of, second_of};
 ghost use Rattle.pit_model.specs.Fixed.{IsClosure, is_among};
 ghost use Rattle.mine_graph.specs.FixedBlocks.{mark_of};
-ghost use Rattle.mine_graph.specs.Flood.{IsAt, IsTrail, LeadsTo, TakesIn, pairs_along};
+ghost use Rattle.mine_graph.specs.Flood.{IsAt, IsTrail, LeadsTo, TakesIn, is_in, pairs_along};
 
 use crate::graph::Graph;
 use std::alloc::{AllocError, Global};
@@ -20,15 +20,31 @@ pub enum Way {
 
 /// The blocks that were taken in: each has a mark, and they stand in the first `tail` places of the queue.
 #[derive(Drop)]
-struct Flood {
-    marks: Vec<bool>,
-    queue: Vec<u32>,
-    tail: usize,
+pub struct Flood {
+    pub marks: Vec<bool>,
+    pub queue: Vec<u32>,
+    pub tail: usize,
 }
 
 impl Flood {
+    /// Of so many blocks none is in.
+    pub fn new(alloc: Global, n: u32) -> Result<Flood, AllocError>
+        ensures trail { IfOk result IsTrail }
+        ensures size { IfOk result (λ flood. length flood.marks.items ≡ n) }
+        ensures none { IfOk result (λ flood. (u : ℕ) → is_in flood u ≡ false) }
+        ensures empty { IfOk result (λ flood. flood.tail ≡ 0) }
+    {
+        let marks = vec![in alloc; false; n as usize]?;
+        let queue = vec![in alloc; 0; n as usize]?;
+        Ok(Flood {
+            marks,
+            queue,
+            tail: 0,
+        })
+    }
+
     /// Takes in a block, where it is not in yet.
-    fn take_in(&mut self, block: u32)
+    pub fn take_in(&mut self, block: u32)
         requires below { block < length self.old.marks.items }
         requires trail { IsTrail self.old }
         ensures { TakesIn (λ u. block ≡ u) self.old self.new }
@@ -102,16 +118,9 @@ pub fn closure_of(
     requires { All (λ u. u < graph.now.blocks) seeds.now }
     ensures { IfOk result (λ marks. IsClosure (pairs_along way graph.now.pairs) (is_among seeds.now) (mark_of marks.items)) }
 {
-    let n = graph.n() as usize;
-    let marks = vec![in alloc; false; n]?;
-    let queue = vec![in alloc; 0; n]?;
-    let mut flood = Flood {
-        marks,
-        queue,
-        tail: 0,
-    };
+    let mut flood = Flood::new(alloc, graph.n())?;
     flood.take_all(seeds);
-    for head in 0..n {
+    for head in 0..graph.n() as usize {
         if head == flood.tail {
             break;
         }

@@ -19,6 +19,7 @@ mod values;
 pub use classes::Classes;
 pub use cycle::acyclic_has_no_needy;
 pub use fixed::Fixed;
+pub use flood::Flood;
 pub use graph::Graph;
 pub use instance::Instance;
 pub use numbers::{all_numbers, marked_numbers};

@@ -1,8 +1,8 @@
-use Rattle.certificate.proofs.Trail.{room, visited}
+use Rattle.certificate.proofs.Visiting.{passed_by, visited}
 use Rattle.certificate.proofs.reach.visit.Goals as goal
 
-pub bounds-queue-tail : goal.bounds-queue-tail
-bounds-queue-tail c = room c.args.seen.now c.args.queue.now c.args.tail c.args.block c.requires.below c.if-not-seen-at.true c.requires.trail
+pub returns-then-inside-block : goal.returns-then-inside-block
+returns-then-inside-block c = visited c.args.inside.now c.args.block c.args.flood.now c.take_in.new.self c.if-inside-block.true c.take_in.ensures
 
-pub returns-then-not-seen-at : goal.returns-then-not-seen-at
-returns-then-not-seen-at c = visited c.args.inside.now c.args.seen.now c.args.queue.now c.args.tail c.args.block c.requires.below c.if-inside-at.true c.if-not-seen-at.true c.requires.trail
+pub returns-else-inside-block : goal.returns-else-inside-block
+returns-else-inside-block c = passed_by c.args.inside.now c.args.block c.args.flood.now c.if-inside-block.false c.requires.trail

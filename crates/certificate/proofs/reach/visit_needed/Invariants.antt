@@ -1,7 +1,8 @@
 use Rattle.std.proofs.Common.{true}
 use Rattle.pit_model.specs.Graph.{second_of}
-use Rattle.certificate.specs.Queue.{IsExtended}
+use Rattle.mine_graph.specs.Flood.{TakesIn}
+use Rattle.certificate.specs.Reaching.{IsVisited}
 use Rattle.certificate.proofs.reach.visit_needed.Given as goal
 
 abbrev pub invariant-loop-k : goal.invariant-loop-k
-invariant-loop-k l = IsExtended l.inside (λ x. true) (second_of l.graph.pairs) l.begin l.k l.fn.seen l.fn.queue l.tail l.seen l.queue l.last
+invariant-loop-k l = TakesIn (IsVisited l.inside (λ x. true) (second_of l.graph.pairs) l.fn.row.start l.k) l.fn.flood l.flood

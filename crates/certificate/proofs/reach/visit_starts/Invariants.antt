@@ -1,7 +1,8 @@
 use Rattle.std.proofs.Common.{get_or}
 use Rattle.std.specs.Prelude.{pos, int_lt}
-use Rattle.certificate.specs.Queue.{IsExtended}
+use Rattle.mine_graph.specs.Flood.{TakesIn}
+use Rattle.certificate.specs.Reaching.{IsVisited}
 use Rattle.certificate.proofs.reach.visit_starts.Given as goal
 
 abbrev pub invariant-loop-u : goal.invariant-loop-u
-invariant-loop-u l = IsExtended l.inside (λ x. int_lt (pos 0) (get_or l.excesses x (pos 0))) (λ x. x) 0 l.u l.fn.seen l.fn.queue 0 l.seen l.queue l.last
+invariant-loop-u l = TakesIn (IsVisited l.inside (λ x. int_lt (pos 0) (get_or l.excesses x (pos 0))) (λ x. x) 0 l.u) l.fn.flood l.flood

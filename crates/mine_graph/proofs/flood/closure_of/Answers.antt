@@ -4,7 +4,7 @@ use Rattle.std.proofs.lemmas.List.{get_or_default}
 use Rattle.pit_model.specs.Fixed.{is_among}
 use Rattle.mine_graph.specs.Flood.{IsAt, pairs_along}
 use Rattle.mine_graph.proofs.Among.{among_at, among_here}
-use Rattle.mine_graph.proofs.Spreading.{none_marked, spread_none, spread_more, spread_all}
+use Rattle.mine_graph.proofs.Spreading.{spread_none, spread_more, spread_all}
 use Rattle.mine_graph.proofs.flood.closure_of.Goals as goal
 use Rattle.mine_graph.proofs.flood.closure_of.Goals.{else-loop-head-test, then-loop-head-test+then-head-flood}
 
@@ -12,9 +12,9 @@ pub loop-head-init : goal.loop-head-init
 loop-head-init c =
     let seeds = c.args.seeds.now in
     record {
-      state = spread_none (pairs_along c.args.way c.args.graph.now.pairs) (is_among seeds) (IsAt (λ x. get_or seeds x 0) 0 (length seeds)) (record { marks = c.in_ok-marks.marks; queue = c.in_ok-queue.queue; tail = 0 }) c.take_all.new.self
-          (λ u. none_marked c.n-n.result c.in_ok-marks.marks.items u (c.in_ok-marks.ensures.items_if_clones_equal (λ y e. e))) c.take_all.ensures (among_here seeds) (among_at seeds);
-      size = c.take_all.ensures.size ∙ sym c.in_ok-marks.marks.ok.0 ∙ c.in_ok-marks.ensures.len;
+      state = spread_none (pairs_along c.args.way c.args.graph.now.pairs) (is_among seeds) (IsAt (λ x. get_or seeds x 0) 0 (length seeds)) c.in_ok-flood.flood c.take_all.new.self
+          c.in_ok-flood.ensures.none c.take_all.ensures (among_here seeds) (among_at seeds);
+      size = c.take_all.ensures.size ∙ c.in_ok-flood.ensures.size ∙ c.n.ensures;
       ahead = omega arith;
     }
 

@@ -1,0 +1,20 @@
+-- The flood of the blocks that are reached.
+use Rattle.std.specs.Prelude.{◌≡◌, ℕ, ◌<◌, ◌≤◌, pos, ◌<ℤ◌, ℤ, Bool, true, List, length}
+use Rattle.pit_model.specs.Mine.{Instance}
+use Rattle.pit_model.specs.Flow.{HasResidual, excess}
+use Rattle.pit_model.specs.Certificate.{IsReached}
+use Rattle.mine_graph.specs.Flood.{IsTrail, is_in, queued}
+use Rattle.mine_graph.specs.declared.flood.Flood.{Flood}
+use Rattle.certificate.specs.Check.{has, amount}
+
+-- u is the block of one of the places from `begin` up to `end` that pass the test, and lies inside
+abbrev pub IsVisited : List Bool → (ℕ → Bool) → (ℕ → ℕ) → ℕ → ℕ → ℕ → Type 0
+IsVisited inside test block begin end u = (x : ℕ) × (begin ≤ x) × (x < end) × (test x ≡ true) × (block x ≡ u) × (has inside u ≡ true)
+
+-- only reached blocks are in, the starts among them, and all that the first `head` blocks of the queue reach in one step
+pub record IsSpread (mine : Instance) (inside : List Bool) (flow : List ℤ) (flood : Flood) (head : ℕ) : Type 0 where
+  pub trail : IsTrail flood
+  pub size : length flood.marks.items ≡ mine.blocks
+  pub sound : (u : ℕ) → is_in flood u ≡ true → (steps : ℕ) × IsReached mine (has inside) (amount flow) u steps
+  pub starts : (u : ℕ) → u < mine.blocks → has inside u ≡ true → pos 0 <ℤ excess mine (amount flow) u → is_in flood u ≡ true
+  pub closed : (i b : ℕ) → i < head → HasResidual mine (amount flow) (queued flood i) b → has inside b ≡ true → is_in flood b ≡ true
