@@ -1,9 +1,9 @@
-"""The planner's layer over the proved program `pitshell`: from a table of blocks to shells, numbers and pictures.
+"""The planner's layer over the proved solver `pitshell`: from a table of blocks to shells, numbers and pictures.
 
     import pitplan
 
     plan = pitplan.prepare("project.toml")      # plan.blocks: one row a block, with costs and revenue
-    solution = pitplan.solve(plan)              # the program's shells; solution.worth: exact, by factor
+    solution = pitplan.solve(plan)              # the proved shells; solution.worth: exact, by factor
     pitplan.blocks(plan, solution)              # plan.blocks with the least factor of each block
     pitplan.shells(plan, solution)              # one row a factor: tonnes, grades, strip ratio, worth, NPV
     pitplan.years(plan, solution)               # one row a case, factor and year: rock, ore, metal, cash
@@ -28,16 +28,18 @@ take a table of shells, or `pictures.scene_of(plan, solution)`; those of `pitpla
 `scene_of(pitplan.phases.divide(plan))`; `pitplan.yearly.plot_years` a table of years; and those of `pitplan.simulation.pictures`
 `found.likely(1000)` or `found.table`; those of `pitplan.sensitivity_pictures` a table of cases.
 
-That a shell is the smallest set of greatest worth that keeps the needs is proved of the program, for the files that it
-reads. This layer, which writes those files, is not proved; `plan.notes` says what it rounded, dropped and clipped.
+The library `libpitshell` solves where it is there, else the program `pitshell`; `dataclasses.replace(project, by="program")`, or
+"library", asks for one. That a shell is the smallest set of greatest worth that keeps the needs is proved of both, for what they are given.
+This layer, which makes that of a table, is not proved; `plan.notes` says what it rounded, dropped and clipped.
 """
 
 from .analyse import blocks, shells, years
 from .commands import audit, export, gather, pit, pushbacks, scenarios, sensitivity, verify, view, write_schedule, write_shells
 from .errors import BudgetUsedUp, MissingPackage, PlanError, ProgramError
+from .mine import solve
 from .plan import Plan, prepare
 from .project import Project, load
-from .run import Solution, solve
+from .run import Solution
 from .simulation import Request, ScenarioResult
 from .simulation.on_dask import Where
 from .verification import Rule

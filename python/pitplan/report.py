@@ -147,7 +147,7 @@ def cells_of(table: pd.DataFrame, columns: Columns) -> list[list[str]]:
 def write(path: Path, project: Project, table: pd.DataFrame, facts: dict[str, Any]) -> None:
     """The page of a table of shells.
 
-    `facts`: chosen factor, pictures by name, the table's summary, notes, what was verified, files with their hashes, the program's identity,
+    `facts`: chosen factor, pictures by name, the table's summary, notes, what was verified, files with their hashes, the solver,
     and where there are such the tables of phases and of a schedule's ways.
     """
     columns = columns_of(table, project)
@@ -167,6 +167,7 @@ def write(path: Path, project: Project, table: pd.DataFrame, facts: dict[str, An
         pictures={name: picture(place) for name, place in facts["pictures"].items()},
         rate=project.schedule.rate,
         discounting=DISCOUNTED[project.schedule.discounting],
-        **{name: facts[name] for name in ("chosen", "summary", "verified", "files", "program")},
+        has_fixed=project.fixed is not None,
+        **{name: facts[name] for name in ("chosen", "summary", "verified", "files", "solver")},
     )
     path.write_text(page, encoding="utf-8")

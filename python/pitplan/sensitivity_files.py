@@ -3,13 +3,14 @@
 from __future__ import annotations
 
 import os
+from dataclasses import asdict
 from pathlib import Path
 from typing import Any
 
 import numpy as np
 import pandas as pd
 
-from . import files, run, sensitivity_pictures, verification
+from . import files, sensitivity_pictures, verification
 from .progress import Progress
 from .varied_cases import Case, Sensitivity, rules_of, table
 
@@ -40,7 +41,7 @@ def record(found: Sensitivity, project: str) -> dict[str, Any]:
     return {
         "project": project,
         "title": found.project.title,
-        "program": run.identity(),
+        "solver": asdict(found.solver),
         "inputs": {path.name: files.hash_of(path) for path in (found.project.path, found.project.table.file)},
         "grid": found.plan.record_of_grid(),
         "factor": found.factor,

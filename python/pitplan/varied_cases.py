@@ -16,7 +16,7 @@ from typing import Any
 import numpy as np
 import pandas as pd
 
-from . import analyse, files, run, table as tables
+from . import analyse, files, mine, solver, table as tables
 from .errors import PlanError
 from .packages import load
 from .plan import Plan, prepare
@@ -25,6 +25,7 @@ from .project import Project
 from .sensitivity_rules import SensitivityRules
 from .simulation import on_dask
 from .simulation.folder import key_of
+from .solver import Solver
 from .varied import Change, given, varied
 
 CASES = "cases"
@@ -67,6 +68,7 @@ class Sensitivity:
     """All cases with their answers, in order; the first is the project as given, whose plan is kept.
 
     factor  that of the pit that is looked at, per mille
+    solver  what found all of them
     """
 
     project: Project
@@ -74,6 +76,7 @@ class Sensitivity:
     factor: int
     answers: dict[Case, Found]
     keys: dict[Case, str]
+    solver: Solver
 
 
 def rules_of(project: Project) -> SensitivityRules:
@@ -93,10 +96,12 @@ def cases_of(rules: SensitivityRules) -> list[Case]:
 
 @dataclass(frozen=True)
 class Asked:
-    """What every case is made of: the project with the factors up to the shown one, its table, and the pit as given, once it is found."""
+    """What every case is made of: the project with the factors up to the shown one, its table, what solves, and the pit as given, once it is
+    found."""
 
     project: Project
     frame: pd.DataFrame
+    solver: Solver
     as_given: Found | None = None
 
 
@@ -104,18 +109,20 @@ def solve(project: Project, folder: Path, where: on_dask.Where | None, progress:
     """Solves the cases that have no answer in the folder yet, one after the other or where it is said, and writes each answer as it is
     found.
 
-    Raises PlanError where the table or a case cannot be planned with, ProgramError where the program refuses, and MissingPackage without
+    Raises PlanError where the table or a case cannot be planned with, ProgramError where the solver refuses, and MissingPackage without
     Dask where it is asked for.
     """
+    found_by = solver.chosen(project.by)
+    project = replace(project, by=found_by.by)
     frame = tables.read(project).frame
     plan = prepare(project, frame, progress)
     if plan.left_out:
         why = "is too large for the program, and what shells can reach of it is another with each number: reblock it by [table] reblock"
         raise PlanError(f"{project.table.file}: {why}, or give a smaller model")
-    solution = run.solve(plan, progress=progress)
+    solution = mine.solve(plan, progress=progress)
     factor = analyse.chosen_factor(analyse.shells(plan, solution), project.schedule)
-    asked = Asked(up_to(project, factor), frame)
-    begun = {"project": files.hash_of(project.path), "inputs": hashes_of(project), "program": run.identity()["sha256"], "factor": factor}
+    asked = Asked(up_to(project, factor), frame, found_by)
+    begun = {"project": files.hash_of(project.path), "inputs": hashes_of(project), "solver": found_by.sha256, "factor": factor}
     cases = cases_of(rules_of(project))
     keys = {case: key_of({**begun, "changes": [[name, str(share)] for name, share in case.changes]}) for case in cases}
     paths = {case: folder / CASES / f"{keys[case]}.npz" for case in cases}
@@ -129,7 +136,7 @@ def solve(project: Project, folder: Path, where: on_dask.Where | None, progress:
                 answer(case, asked, path)
     elif missing:
         over_dask(missing, asked, where, progress)
-    return Sensitivity(asked.project, plan, factor, {case: read(path) for case, path in paths.items()}, keys)
+    return Sensitivity(asked.project, plan, factor, {case: read(path) for case, path in paths.items()}, keys, found_by)
 
 
 def answer(case: Case, asked: Asked, path: Path) -> None:
@@ -155,16 +162,14 @@ def up_to(project: Project, factor: int) -> Project:
 
 def hashes_of(project: Project) -> dict[str, str]:
     """Hashes of all files that the project names, by their place as told from it."""
-    named = [project.table.file]
-    if project.fixed is not None:
-        named += [*([project.fixed.surface] if project.fixed.surface else []), *(area.polygon for area in project.fixed.areas)]
-    return {os.path.relpath(path, project.path.parent): files.hash_of(path) for path in named}
+    return {os.path.relpath(path, project.path.parent): files.hash_of(path) for path in project.inputs[1:]}
 
 
 def find(case: Case, asked: Asked) -> Found:
-    """The pit of a case, and what the pit as given, where there is one, earns in it."""
+    """The pit of a case, and what the pit as given, where there is one, earns in it. Raises ProgramError where the solver here is another."""
+    solver.demand_same(asked.solver)
     plan = prepare(varied(asked.project, case.changes), asked.frame)
-    solution = run.solve(plan)
+    solution = mine.solve(plan)
     row = of_last(analyse.shells(plan, solution))
     entry = solution.entry[: plan.grid.count]
     kept = entry if asked.as_given is None else asked.as_given.entry

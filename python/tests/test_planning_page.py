@@ -63,9 +63,9 @@ def test_the_levels_that_the_page_says_are_chosen():
 
 def test_the_pairs_of_the_page_are_those_of_the_example(tmp_path):
     plan = pitplan.prepare(EXAMPLE)
-    written = plan.write(tmp_path)["needs"]["written"]
+    written = plan.write(tmp_path).written
     plan.used[:] = True
-    whole = plan.write(tmp_path)["needs"]["written"]
+    whole = plan.write(tmp_path).written
     assert f"of the example's {whole:,} pairs {written:,} are written" in PAGE
 
 

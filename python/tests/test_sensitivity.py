@@ -9,7 +9,7 @@ import pytest
 from conftest import PROJECT, rows
 from matplotlib.figure import Figure
 
-from pitplan import PlanError, Where, commands, load, run, sensitivity_pictures, varied, varied_cases
+from pitplan import PlanError, Where, commands, load, mine, sensitivity_pictures, varied, varied_cases
 from pitplan.cli import main
 from pitplan.verification import verify_folder
 
@@ -203,8 +203,8 @@ def test_a_lower_price_of_all_is_a_lesser_factor(plan_folder):
 
 def test_what_has_an_answer_is_not_solved_again(small, monkeypatch):
     path, solved = small("by = [0.1]"), []
-    solve_files = run.solve_files
-    monkeypatch.setattr(run, "solve_files", lambda *words: solved.append(words) or solve_files(*words))
+    joined = mine.joined
+    monkeypatch.setattr(mine, "joined", lambda *words: solved.append(words) or joined(*words))
     first = commands.sensitivity(path)
     assert len(solved) == 7
     monkeypatch.chdir(path.parent)

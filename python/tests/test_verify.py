@@ -216,7 +216,7 @@ def looked_at(plan):
     """What is said of the plan's numbers, without pictures and report."""
     folder = plan.project.folder
     folder.mkdir(exist_ok=True)
-    record = plan.write(folder)
+    record = plan.record(plan.write(folder))
     commands.write_tables(commands.Answered(plan, solve(plan)), folder)
     record["shells"] = {"factors": list(plan.project.schedule.factors)}
     (folder / "prepare.json").write_text(json.dumps(record))

@@ -53,7 +53,7 @@ def solve(project: Project, folder: Path, request: Request, progress: Progress) 
     notes = [*shared.record["notes"], f"{count - len(missing):,} of {count:,} scenarios have their answer already"]
     if request.where in ("slurm", "parallel"):
         if missing:
-            return ScenarioResult(folder, tuple(notes), job_lists.write(request.where, folder, missing))
+            return ScenarioResult(folder, tuple(notes), job_lists.write(request.where, folder, missing, shared.solver))
     elif missing:
         where = on_dask.Where(request.where, request.workers)
         outcomes = on_dask.run(where, folder, missing, progress)
@@ -67,7 +67,7 @@ def solve(project: Project, folder: Path, request: Request, progress: Progress) 
 
 def notes_of_outcomes(outcomes: list[work.Outcome]) -> list[str]:
     """How the scenarios ended: how many by each status, and the first sentence of each that is not 0."""
-    words = {0: "solved", 1: "refused by the program", 2: "not understood by the program", 3: "out of budget"}
+    words = {0: "solved", 1: "refused by the solver", 2: "not understood by the program", 3: "out of budget"}
     words |= {4: "answered no", work.REFUSED: "refused by pitplan", work.LOST: "killed again and again"}
     notes = []
     for status, said in words.items():
