@@ -17,6 +17,7 @@ import pandas as pd
 
 from . import absent, files, fixed as fixing, library, run
 from .errors import PlanError
+from .exact import at_factor, greatest
 from .files import Needs, Pairs
 from .fixed import Settled
 from .money import Values
@@ -120,11 +121,8 @@ def values_at(nodes: tuple[np.ndarray, np.ndarray], factor: int) -> np.ndarray:
 
     Raises PlanError where one is 10^18 or more: such values, a thousandfold, are those of a model.
     """
-    revenue, cost = nodes
-    if max(factor * int(revenue.max(initial=0)), 1000 * int(cost.max(initial=0))) >= GREATEST:
-        revenue, cost = revenue.astype(object), cost.astype(object)
-    values = factor * revenue - 1000 * cost
-    if int(abs(values).max(initial=0)) >= GREATEST:
+    values = at_factor(factor, *nodes)
+    if greatest(values) >= GREATEST:
         raise PlanError(
             f"a value at factor {factor}, a thousandfold, is 10^12 or more and does not fit a model: give prices and costs in a greater "
             "unit of money"
