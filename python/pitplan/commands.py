@@ -10,7 +10,7 @@ from typing import Any, Optional, Union
 import numpy as np
 import pandas as pd
 
-from . import absent, analyse, auditing, exports, files, mine as mines, page, phase_pictures, phases as phasing, pictures, report
+from . import absent, analyse, auditing, csv_file, exports, files, mine as mines, page, phase_pictures, phases as phasing, pictures, report
 from . import schedule_pictures, sensitivity_files, sensitivity_pictures, simulation, varied_cases, verification, workbook, yearly, yearly_schedule as scheduling
 from .errors import PlanError
 from .mine import Mine
@@ -326,7 +326,7 @@ def ready(plan: Plan, solver: Solver, stage: Path, progress: Progress) -> tuple[
 
 
 def write_table(blocks: pd.DataFrame, stage: Path) -> None:
-    blocks.to_csv(stage / files.TABLE, index=False)
+    csv_file.write(stage / files.TABLE, blocks)
 
 
 def finish(plan: Plan, record: dict[str, Any], names: list[str], stage: Path) -> dict[str, Any]:

@@ -9,7 +9,7 @@ from typing import Any, Callable
 import numpy as np
 import pandas as pd
 
-from . import files, planned_table, workbook
+from . import csv_file, files, planned_table, workbook
 from .errors import PlanError
 from .files import Folder
 from .grid import Grid
@@ -37,7 +37,7 @@ def write_table(path: Path, folder: Folder, factor: int) -> None:
 def write_csv(path: Path, folder: Folder, factor: int) -> None:
     """The blocks of the greatest pit by id, with the least factor of each; `factor` is not looked at."""
     blocks = folder.blocks
-    blocks[blocks["factor"] > 0].to_csv(path, index=False)
+    csv_file.write(path, blocks[blocks["factor"] > 0])
 
 
 def write_vti(path: Path, folder: Folder, factor: int) -> None:

@@ -10,7 +10,7 @@ from typing import Any
 import numpy as np
 import pandas as pd
 
-from . import files, sensitivity_pictures, verification
+from . import csv_file, files, sensitivity_pictures, verification
 from .progress import Progress
 from .varied_cases import Case, Sensitivity, rules_of, table
 
@@ -57,7 +57,7 @@ def write_tables(found: Sensitivity, cases: pd.DataFrame, stage: Path) -> None:
     """sensitivity.csv, and blocks.csv with the factor of each block in the pits of the project as given."""
     blocks = found.plan.blocks
     blocks["factor"] = found.answers[Case()].entry[blocks["id"].to_numpy()]
-    blocks.to_csv(stage / files.TABLE, index=False)
+    csv_file.write(stage / files.TABLE, blocks)
     shown(cases).to_csv(stage / TABLE, index=False)
 
 

@@ -10,7 +10,7 @@ from typing import Any
 
 import numpy as np
 
-from .. import files, summary as summaries
+from .. import csv_file, files, summary as summaries
 from ..mine import counted_rows
 from ..money_rules import ByRegion
 from ..plan import Plan
@@ -100,7 +100,7 @@ def write_shared(base: Base, plan: Plan, solver: Solver, stage: Path) -> list[st
     frame = plan.blocks
     grades = [metal.column for metal in base.project.metals]
     costs = ["mining_cost", "revenue", "processing_cost"]
-    frame.drop(columns=[*grades, *costs]).to_csv(stage / BLOCKS, index=False)
+    csv_file.write(stage / BLOCKS, frame.drop(columns=[*grades, *costs]))
     return [folders.BASE, *needs, folders.PROJECT, BLOCKS]
 
 
