@@ -421,7 +421,7 @@ def said_of(value: ByCode) -> str:
 
 def rock_notes(project: Project, rock: np.ndarray, solid: np.ndarray) -> list[str]:
     """What a planner should know of codes: rocks that are never processed, and names that no block bears."""
-    notes, present = [], set(np.unique(rock[solid]))
+    notes, present = [], set(pd.unique(rock[solid]))
     for metal in project.metals:
         if isinstance(metal.recovery, dict):
             for code in sorted(present - set(metal.recovery)):
