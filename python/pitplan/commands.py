@@ -130,7 +130,7 @@ def note_verified(plan: Plan, record: dict[str, Any], stage: Path, verifies: boo
     if verifies:
         files.write_json(stage / files.RECORD, record)
         with progress.step("verifying"):
-            rules = verification.verify(stage, plan.project)
+            rules = verification.verify(stage, plan.project, plan.read)
         verification.demand(rules)
         record["verified"] = [f"{rule.name}: {rule.holds}" for rule in rules]
 

@@ -47,6 +47,7 @@ class Plan:
     fixed   blocks that must be dug, and blocks that may not be
     settled what is dug and what is left for their sake; None where the project has no `[fixed]`
     left_out how many rows of the table no shell can reach, of a model too large for the program
+    read    the table's rows as they were read, before any were put together, added or left out; the second look takes them
     """
 
     project: Project
@@ -62,6 +63,7 @@ class Plan:
     fixed: FixedBlocks = NOTHING
     settled: Optional[Settled] = None
     left_out: int = 0
+    read: Optional[pd.DataFrame] = None
 
     def __repr__(self) -> str:
         """A few lines, since the blocks themselves are thousands."""
@@ -218,6 +220,7 @@ def prepare(
     source = str(project.table.file) if table is None else "table"
     with progress.step(f"reading {source}"):
         checked = tables.read(project) if table is None else tables.checked(table, project)
+    read = checked.frame
     with progress.step("laying the grid"):
         checked, laid = reblock.of_table(checked, project)
         frame, source = checked.frame, checked.source
@@ -236,7 +239,7 @@ def prepare(
             walls, dropped = laying.walls_of(model.region, model.grid, project.slopes), [note]
     with progress.step("weighing the blocks"):
         plan = plan_of(project, model.frame, model.grid, walls, model.source)
-    plan.filled, plan.summary, plan.left_out = checked.filled, summary, whole.known - model.known
+    plan.filled, plan.summary, plan.left_out, plan.read = checked.filled, summary, whole.known - model.known, read
     plan.notes = [*checked.notes, *dropped, *notes_of(plan)]
     return plan
 

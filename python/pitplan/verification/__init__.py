@@ -28,6 +28,8 @@ from decimal import Decimal
 from pathlib import Path
 from typing import Optional
 
+import pandas as pd
+
 from ..errors import PlanError
 from ..project import Project
 from . import absent, answer as answers, fixed, money, phases, planned_table, reach, reblocked, scenarios, schedule, sensitivity, sums
@@ -38,12 +40,13 @@ OF_PITS = (walls.verify, sums.verify, sums.verify_worth, years.verify)
 CHECKS = (fixed.verify_places, absent.verify, walls.verify, walls.verify_steepness, fixed.verify, money.verify, *OF_PITS[1:])
 
 
-def verify(folder: Path, project: Optional[Project] = None) -> list[Rule]:
-    """What was looked at, one rule after the other; a rule without differences holds. The project is the one that the folder names.
+def verify(folder: Path, project: Optional[Project] = None, table: Optional[pd.DataFrame] = None) -> list[Rule]:
+    """What was looked at, one rule after the other; a rule without differences holds. The project is the one that the folder names, and the
+    table as its reader gives it, unless they are given: a run that has read them need not read them again.
 
     Raises PlanError where the folder has no answer, or the table has changed since.
     """
-    answer = answers.read(folder, project)
+    answer = answers.read(folder, project, table)
     more = [reblocked.verify(answer)] if answer.parts is not None else []
     more += [reach.verify(answer)] if answer.beyond is not None else []
     more += [verify_free(answer, answer.free)] if answer.free else []

@@ -105,11 +105,13 @@ def lost_digits(answer: Answer) -> Decimal:
 def millionths(answer: Answer, name: str) -> np.ndarray:
     """Amounts as whole numbers; as Python's, which have no limit of size, where 64 bits could not hold them at each factor. They have no
     more decimals than the project keeps."""
-    decimals = answer.project.money.decimals
-    whole = np.rint(answer.said[name].to_numpy() * 10**decimals).astype(np.int64)
-    factors = (*answer.factors, *map(int, answer.shells.index))
-    most = int(np.abs(whole).max(initial=0)) * 10 ** (6 - decimals) * max(1000, *factors)
-    return (whole if most < MOST_WHOLE else whole.astype(object)) * 10 ** (6 - decimals)
+    if name not in answer.whole:
+        decimals = answer.project.money.decimals
+        whole = np.rint(answer.said[name].to_numpy() * 10**decimals).astype(np.int64)
+        factors = (*answer.factors, *map(int, answer.shells.index))
+        most = int(np.abs(whole).max(initial=0)) * 10 ** (6 - decimals) * max(1000, *factors)
+        answer.whole[name] = (whole if most < MOST_WHOLE else whole.astype(object)) * 10 ** (6 - decimals)
+    return answer.whole[name]
 
 
 def total(amounts: np.ndarray) -> int:
