@@ -37,8 +37,8 @@ def write_rows(file: TextIO, rows: pd.DataFrame) -> None:
 def texts_of(values: np.ndarray) -> Optional[list[str]]:
     """A column in words; None where that takes pandas."""
     if values.dtype == object:
-        found = values.tolist()
-        return found if all(type(it) is str for it in found) and not QUOTED.search("".join(found)) else None
+        is_plain = pd.api.types.infer_dtype(values, skipna=False) == "string" and not QUOTED.search("".join(values))
+        return values.tolist() if is_plain else None
     if values.dtype not in (np.float64, np.int64, np.int32, np.int16):
         return None
     # By the bits of floats, which tell 0 from -0.

@@ -9,7 +9,7 @@ from fractions import Fraction
 
 import numpy as np
 
-from ..money_rules import GRADE_UNITS, Curve, Metal
+from ..money_rules import GRADE_UNITS, Curve, Recovery
 from ..project import Project
 from .answer import PROCESS, TOLD, UNDUG, Answer, Rule, rule
 from .feed import at_grade, by_code, of_code
@@ -104,26 +104,30 @@ def more_for_depth(answer: Answer, elevation: float) -> Decimal:
 
 @dataclass(frozen=True)
 class Costs:
-    """What blocks of one rock and region have in common: mining cost of a tonne without what depth adds, processing cost of a tonne, and
-    the shares that are told of tonnes."""
+    """What blocks of one rock and region have in common: mining cost of a tonne without what depth adds, processing cost of a tonne, the
+    shares that are told of tonnes, and of each metal the recovery and what every tonne at the mill loses of it."""
 
-    rock: str
     mining: Decimal
     processing: Decimal
     mining_recovery: Decimal
     dilution: Decimal
+    recoveries: tuple[Recovery, ...]
+    tails: tuple[Decimal, ...]
 
     @staticmethod
     def of(project: Project, rock: str, region: str) -> Costs:
-        money = project.money
+        money, metals = project.money, project.metals
         told = (money.mining_cost, money.processing_cost, money.mining_recovery, money.dilution)
-        return Costs(rock, *(of_code(value, rock, region) for value in told))
+        shares = [metal.recovery.get(rock, Decimal(0)) if isinstance(metal.recovery, dict) else metal.recovery for metal in metals]
+        tails = [of_code(metal.fixed_tail, rock, "") for metal in metals]
+        return Costs(*(of_code(value, rock, region) for value in told), tuple(shares), tuple(tails))
 
-    def recovered(self, metal: Metal, grade: Decimal) -> Decimal:
-        """The grade that is recovered of each tonne of the block itself that comes to the mill."""
-        of_rock = metal.recovery.get(self.rock, Decimal(0)) if isinstance(metal.recovery, dict) else metal.recovery
-        share = at_grade(of_rock, Fraction(grade) / Fraction(1 + self.dilution)) if isinstance(of_rock, Curve) else of_rock
-        return max(grade - of_code(metal.fixed_tail, self.rock, "") * (1 + self.dilution), Decimal(0)) * share
+    def recovered(self, number: int, grade: Decimal) -> Decimal:
+        """The grade of a metal that is recovered of each tonne of the block itself that comes to the mill."""
+        share, tail = self.recoveries[number], self.tails[number]
+        if isinstance(share, Curve):
+            share = at_grade(share, Fraction(grade) / Fraction(1 + self.dilution))
+        return max(grade - tail * (1 + self.dilution), Decimal(0)) * share
 
 
 @dataclass(frozen=True)
@@ -168,8 +172,10 @@ class Exactly:
         costs = self.costs[codes]
         mining = tonnes * (costs.mining + self.depths[level])
         revenue = selling = Decimal(0)
-        for metal, told in zip(project.metals, grades):
-            grade = costs.recovered(metal, Decimal(repr(told)))
+        for number, (metal, told) in enumerate(zip(project.metals, grades)):
+            if not told:
+                continue
+            grade = costs.recovered(number, Decimal(repr(told)))
             quantity = tonnes * costs.mining_recovery * grade * GRADE_UNITS[metal.unit]
             revenue += quantity * metal.price
             selling += quantity * metal.selling_cost
