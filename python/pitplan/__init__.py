@@ -12,7 +12,7 @@ Functions write what the subcommands do, by default into the project's own folde
 
     table = pitplan.write_shells("project.toml", "out")    # as pitplan shells, verified: one row a factor
     pitplan.view("out")                                    # the path of view.html
-    pitplan.export("out", "csv")                           # that of pit.csv; or "table", "xlsx", "vti", "vtu", or "dxf" with a factor
+    pitplan.export("out", "csv")                           # that of pit.csv; or table, xlsx, vti, vtu; with a factor dxf, stl or obj
     pitplan.audit("out", 800)                              # that of a folder by which others can check the shell
     rules = pitplan.verify("out")                          # each with what holds, differences, and their count
     pits = pitplan.pit("project.toml", 1000)               # a row with the fixed blocks and one without

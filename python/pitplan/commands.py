@@ -415,7 +415,8 @@ def export(folder: Place, kind: str, factor: int = REFERENCE_FACTOR, progress: P
     """Writes the shells of a folder that `write_shells` has written for other programs; gives the file's path.
 
     `table` is the planner's own table, row by row, with each block's factors, phase and year behind it; `xlsx` all tables; `csv`, `vti`
-    and `vtu` hold the shells of all factors, and `dxf` the outline of one at each level, in metres. The factor is in per mille.
+    and `vtu` hold the shells of all factors, `dxf` the outline of one at each level, and `stl` and `obj` the closed surface round its
+    blocks, in metres. The factor is in per mille.
 
     Raises PlanError where the folder has no shells or not this factor, the kind is another, or what is written is not right, and
     MissingPackage without a library.
@@ -425,9 +426,10 @@ def export(folder: Place, kind: str, factor: int = REFERENCE_FACTOR, progress: P
     result = read_factor(folder, factor)
     target = result.path / exports.name_of(kind, factor)
     with progress.step(f"writing {target.name}"), files.staged_file(target) as path:
-        exports.WRITERS[kind](path, result, factor)
+        notes = exports.WRITERS[kind](path, result, factor)
         if kind == "table":
             verification.demand([verification.verify_table(result.path, path)])
+    progress.lines(notes or [])
     return target
 
 

@@ -213,6 +213,12 @@ class Folder:
     def factors(self) -> list[int]:
         return list(self.record["shells"]["factors"])
 
+    def dug(self, factor: int) -> np.ndarray:
+        """Whether the pit of a factor digs rock of a cell; a truth for each level (from the top), row and column."""
+        first, grid = self.blocks["factor"], self.grid
+        dug = (first > 0) & (first <= factor) & (self.blocks[self.record["tonnes"]] > 0)
+        return grid.cube(grid.spread(dug.to_numpy(), fill=False))
+
 
 def read_folder(path: Path) -> Folder:
     """Raises PlanError where `pitplan shells` has not written the folder, or a file has changed since."""

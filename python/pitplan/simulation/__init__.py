@@ -12,12 +12,13 @@ from typing import Optional
 
 import numpy as np
 
-from .. import exports, files
+from .. import files
 from ..errors import MissingPackage, PlanError
 from ..progress import Progress
 from ..project import REFERENCE_FACTOR, Project
 from ..verification import demand
 from ..verification.scenarios import verify
+from ..vtk_files import write_image as write_vti
 from . import answers, folder as folders, job_lists, on_dask, pictures, prepare, work
 from .folder import Shared
 from .result import IMAGE, PROBABILITY, QUANTILES, TABLE, ScenarioResult
@@ -146,7 +147,7 @@ def write_image(shared: Shared, gathered: answers.Gathered, stage: Path) -> list
     }
     tonnes = shared.frame[shared.project.table.tonnes].to_numpy()
     try:
-        exports.write_image(stage / IMAGE, grid, {**arrays, "tonnes": grid.spread(tonnes)})
+        write_vti(stage / IMAGE, grid, {**arrays, "tonnes": grid.spread(tonnes)})
     except MissingPackage as error:
         return [f"{IMAGE} was not written: {error}"]
     return []
