@@ -10,7 +10,8 @@ from pitplan import csv_file
 
 ODD = [0.0, -0.0, np.nan, np.inf, -np.inf, 1e16, 1e-5, 0.1 + 0.2, 5e-324, 1.7976931348623157e308, 123456789012345680.0, 5010.0]
 floats = st.one_of(st.sampled_from(ODD), st.floats())
-texts = st.one_of(st.sampled_from(["", " ", "nan", "OX", "B001-002", "5.0", "Grün", "a,b", 'say "so"', "two\nlines", "\r"]), st.text(max_size=4))
+SAID = ["", " ", "nan", "OX", "B001-002", "5.0", "Grün", "a,b", 'say "so"', "two\nlines", "\r"]
+texts = st.one_of(st.sampled_from(SAID), st.text(max_size=4))
 columns = {
     "float64": (floats, np.float64),
     "int64": (st.integers(-(2**63), 2**63 - 1), np.int64),
