@@ -28,7 +28,8 @@ pitshell = pytest.importorskip("pitshell", reason="make library builds it")
 
 EXAMPLES = ROOT / "examples"
 # What tells the solver, or is the program's own.
-RECORDS = {"prepare.json", "scenarios.json", "sensitivity.json", "report.html", "schedule.xlsx", *files.OF_PROGRAM, "starts.npy", "needs.npy"}
+RECORDS = {"prepare.json", "scenarios.json", "sensitivity.json", "report.html", "schedule.xlsx"}
+RECORDS |= {"starts.npy", "needs.npy", *files.OF_PROGRAM}
 
 
 def written(folder: Path) -> dict[str, bytes]:
@@ -65,7 +66,8 @@ def test_shells_are_the_same_to_the_byte(tmp_path, example):
     assert set(files.of_program(texts)) == {"mine.blocks", "mine.upit", "mine.prec", "shells.txt", *fixed}
     assert files.of_program(arrays) == ()
     told = [json.loads((place / "prepare.json").read_text())["shells"]["solver"] for place in (arrays, texts)]
-    assert [(it["by"], it["sha256"]) for it in told] == [("library", files.hash_of(pitshell.LIBRARY)), ("program", files.hash_of(run.program()))]
+    hashes = [files.hash_of(file) for file in (pitshell.LIBRARY, run.program())]
+    assert [(it["by"], it["sha256"]) for it in told] == [("library", hashes[0]), ("program", hashes[1])]
     for place, it in zip((arrays, texts), told):
         page = (place / "report.html").read_text()
         assert it["sha256"] in page and f"Proved of the {it['by']}, for" in page and ("mine.prec" in page) == (it["by"] == "program")
@@ -86,7 +88,8 @@ def test_phases_and_their_schedule_are_the_same(tmp_path):
 
 
 def test_a_sensitivity_is_the_same_and_keeps_answers_apart(plan_folder, tmp_path):
-    path = plan_folder(ores_and_fixed(), with_section(FIXED_SECTION) + '\n[sensitivity]\nby = [-0.1]\nvary = ["price", "slopes"]\n', UPRIGHT)
+    text = with_section(FIXED_SECTION) + '\n[sensitivity]\nby = [-0.1]\nvary = ["price", "slopes"]\n'
+    path = plan_folder(ores_and_fixed(), text, UPRIGHT)
     arrays, texts = by_both(tmp_path, "sensitivity", path)
     assert {"blocks.csv", "sensitivity.csv"} <= written(arrays).keys()
     answers = [{it.name for it in (place / "cases").iterdir()} for place in (arrays, texts)]
@@ -121,7 +124,8 @@ def test_too_many_needs_are_refused_before_anything_is_solved(monkeypatch):
     monkeypatch.setattr(files, "MOST_PAIRS", 25_000)
     monkeypatch.setattr("pitplan.plan.MOST_PAIRS", 25_000)
     plan = pitplan.prepare(replace(load(EXAMPLES / "plan" / "project.toml"), by="library"))
-    with pytest.raises(PlanError, match=r"25,857 needs, and the program takes at most 25,000: give fewer \[slopes\] levels, or a smaller model"):
+    said = r"25,857 needs, and the program takes at most 25,000: give fewer \[slopes\] levels, or a smaller model"
+    with pytest.raises(PlanError, match=said):
         pitplan.solve(plan)
 
 
@@ -324,7 +328,8 @@ def test_a_worker_with_another_library_solves_nothing(plan_folder, monkeypatch):
     assert shared.solver.by == "library" and work.solve(str(shared.folder), 1).status == 0
     other_library(monkeypatch)
     outcome = work.solve(str(shared.folder), 2)
-    assert outcome.status == 5 and "the library here (libpitshell 9, SHA-256 ffffffffffff..) is another than that with which this was begun" in outcome.why
+    said = "the library here (libpitshell 9, SHA-256 ffffffffffff..) is another than that with which this was begun"
+    assert outcome.status == 5 and said in outcome.why
     monkeypatch.undo()
     monkeypatch.setattr(library, "package", lambda: None)
     assert "there is no libpitshell.so" in work.solve(str(shared.folder), 2).why and len(shared.missing()) == 2
