@@ -33,7 +33,7 @@ from line_coverage import Lines
 from warm_tests import Runner
 
 LAYER = pathlib.Path("python") / "pitplan"
-DRAWING = ("pictures.py", "schedule_pictures.py", "sensitivity_pictures.py", "map_marks.py", "yearly.py", "simulation/pictures.py")
+DRAWING = ("pictures.py", "schedule_pictures.py", "block_pictures.py", "sensitivity_pictures.py", "map_marks.py", "yearly.py", "simulation/pictures.py")
 PICTURES = {LAYER / name for name in DRAWING}
 WANTED = 0.95
 # A change may make a program take all the memory or all the time that it is given.

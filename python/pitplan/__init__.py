@@ -18,6 +18,7 @@ Functions write what the subcommands do, by default into the project's own folde
     pits = pitplan.pit("project.toml", 1000)               # a row with the fixed blocks and one without
     phases = pitplan.pushbacks("project.toml")             # one row a phase
     ways = pitplan.write_schedule("project.toml")          # one row a way: rule and lp
+    found = pitplan.write_block_schedule("project.toml")   # one row: value, bound, below_bound, ..
     cases = pitplan.sensitivity("project.toml")            # one row a case: a number more or less by a share
     found = pitplan.scenarios("project.toml")              # found.probability, found.table, found.quantiles; found.notes
 
@@ -33,6 +34,7 @@ reads. This layer, which writes those files, is not proved; `plan.notes` says wh
 """
 
 from .analyse import blocks, shells, years
+from .block_commands import write_block_schedule
 from .commands import audit, export, gather, pit, pushbacks, scenarios, sensitivity, verify, view, write_schedule, write_shells
 from .errors import BudgetUsedUp, MissingPackage, PlanError, ProgramError
 from .plan import Plan, prepare
@@ -70,6 +72,7 @@ __all__ = [
     "solve",
     "verify",
     "view",
+    "write_block_schedule",
     "write_schedule",
     "write_shells",
     "years",

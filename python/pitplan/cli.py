@@ -13,7 +13,7 @@ import minelib
 import pandas as pd
 from minelib.__main__ import add_arguments as add_minelib
 
-from . import __version__, commands, exports, files, init, report, sensitivity_files, simulation
+from . import __version__, block_commands, commands, exports, files, init, report, sensitivity_files, simulation
 from .errors import PlanError
 from .progress import Progress, on_standard_error, silent
 from .project import REFERENCE_FACTOR, Project, load
@@ -34,7 +34,7 @@ def parser() -> argparse.ArgumentParser:
         "shells": "prepare, run the program, and write tables, pictures and the report",
         "pit": "solve the pit of one factor with the project's fixed blocks and without them, and compare the two",
         "pushbacks": "divide the pit of one factor into phases, and write tables, pictures and the report",
-        "schedule": "schedule the phases of a pit by years, and write tables, pictures and the report",
+        "schedule": "schedule the phases of a pit, or its blocks, by years, and write tables, pictures and the report",
         "sensitivity": "tell how much the pit that is shown hangs on prices, costs, recovery, slopes and capacity, by tables and pictures",
         "view": "write a page that shows the shells in 3D (libjs-three)",
         "export": "write the shells for other programs",
@@ -49,6 +49,9 @@ def parser() -> argparse.ArgumentParser:
             sub.add_argument("--to", required=True, choices=tuple(exports.WRITERS))
         if name in ("pit", "pushbacks", "schedule", "sensitivity", "shells"):
             sub.add_argument("--no-verify", action="store_true", help="leave out the second look at every number")
+        if name == "schedule":
+            text = "schedule benches of phases (phase, the default), or blocks one by one, with the bound of all such schedules (block)"
+            sub.add_argument("--by", choices=("phase", "block"), default="phase", help=text)
         if name == "sensitivity":
             text = "local (processes, by Dask) or tcp://host:port (a Dask scheduler; default: here, one case after the other)"
             sub.add_argument("--on", type=scheduler_of, metavar="WHERE", help=text)
@@ -181,6 +184,12 @@ def run_command(options: argparse.Namespace, project: Project, folder: Path, pro
         folder = options.out or project.folder / "pushbacks"
         table = commands.pushbacks(project, folder, progress, not options.no_verify)
         tell_table(table, report.columns_of_phases(table, project), folder)
+    elif options.command == "schedule" and options.by == "block":
+        folder = options.out or project.folder / "block_schedule"
+        table = block_commands.write_block_schedule(project, folder, progress, not options.no_verify)
+        tell_table(table, report.columns_by_block(table, project), folder)
+        if files.read_json(folder / files.BLOCK_SCHEDULE)["interrupted"]:
+            raise KeyboardInterrupt
     elif options.command == "schedule":
         folder = options.out or project.folder / "schedule"
         table = commands.write_schedule(project, folder, progress, not options.no_verify)

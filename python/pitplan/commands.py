@@ -5,12 +5,12 @@ from __future__ import annotations
 import os
 from dataclasses import dataclass, replace
 from pathlib import Path
-from typing import Any, Optional, Union
+from typing import TYPE_CHECKING, Any, Optional, Union
 
 import numpy as np
 import pandas as pd
 
-from . import absent, analyse, auditing, exports, files, page, phase_pictures, phases as phasing, pictures, report, run
+from . import absent, analyse, auditing, block_pictures, exports, files, page, phase_pictures, phases as phasing, pictures, report, run
 from . import schedule_pictures, sensitivity_files, sensitivity_pictures, simulation, varied_cases, verification, workbook, yearly, yearly_schedule as scheduling
 from .errors import PlanError
 from .phases import Phases
@@ -21,6 +21,9 @@ from .simulation import Request, ScenarioResult
 from .simulation.on_dask import Where
 from .verification import Rule
 from .yearly_schedule import YearlySchedule
+
+if TYPE_CHECKING:
+    from .block_schedule.result import ScheduledBlocks
 
 # A project, or where its project.toml is; and a folder.
 Source = Union[str, Path, Project]
@@ -50,16 +53,13 @@ WRITTEN = {
     files.SHELLS,
     files.YEARS,
     files.PHASES,
-    files.SCHEDULE,
-    files.SCHEDULE_RECORD,
-    files.MILLING,
+    *(files.SCHEDULE, files.SCHEDULE_RECORD, files.MILLING, WORKBOOK),
+    *(files.BLOCK_SCHEDULE, block_pictures.NAME),
     files.ANSWER,
-    REPORT,
-    VIEW,
+    *(REPORT, VIEW),
     *PICTURES.values(),
     *PHASE_PICTURES.values(),
     *SCHEDULE_PICTURES.values(),
-    WORKBOOK,
 }
 WRITTEN |= {PIT_MODEL, PITS, *sensitivity_files.WRITTEN, *sensitivity_pictures.WRITTEN, *exports.WRITTEN}
 
@@ -231,12 +231,13 @@ class Writing:
 
 @dataclass(frozen=True)
 class Answered:
-    """What was found of a plan: its shells, and where they were asked for phases of these and a yearly schedule of the phases."""
+    """What was found of a plan: its shells, and where they were asked for phases of these and a yearly schedule of the phases, or of blocks."""
 
     plan: Plan
     solution: run.Solution
     phases: Optional[Phases] = None
     schedule: Optional[YearlySchedule] = None
+    blocks: Optional[ScheduledBlocks] = None
 
 
 def write_answer(answered: Answered, record: dict[str, Any], writing: Writing) -> pd.DataFrame:
@@ -253,6 +254,8 @@ def write_answer(answered: Answered, record: dict[str, Any], writing: Writing) -
         record["phases"] = len(phases.factors)
     if answered.schedule is not None:
         record["schedule"] = answered.schedule.shown
+    if answered.blocks is not None:
+        record["by_block"] = True
     note_verified(plan, record, stage, writing.verifies, progress)
     formats = project.pictures.formats if project.pictures else ()
     with progress.step("drawing"), pictures.also_as(formats):
@@ -268,6 +271,8 @@ def write_answer(answered: Answered, record: dict[str, Any], writing: Writing) -
         facts |= {"phases": report.table_of(phasing.table(phases), report.columns_of_phases, project)}
     if answered.schedule is not None:
         facts |= {"ways": report.table_of(scheduling.ways(answered.schedule), report.columns_of_ways, project)}
+    if answered.blocks is not None:
+        facts |= {"by_block": report.table_of(answered.blocks.table, report.columns_by_block, project)}
     report.write(stage / REPORT, project, table, facts)
     return table
 
@@ -276,6 +281,7 @@ def tables_of(answered: Answered) -> list[str]:
     """The names of the files of tables that are written."""
     names = [files.ANSWER, files.TABLE, files.SHELLS, files.YEARS, *([files.PHASES] if answered.phases else [])]
     names += [files.SCHEDULE, files.SCHEDULE_RECORD, WORKBOOK] if answered.schedule else []
+    names += [files.BLOCK_SCHEDULE] if answered.blocks else []
     return [*names, files.MILLING] if answered.schedule and answered.schedule.milling else names
 
 
@@ -306,6 +312,9 @@ def write_tables(answered: Answered, stage: Path) -> tuple[pd.DataFrame, pd.Data
         files.write_json(stage / files.SCHEDULE_RECORD, scheduling.record(schedule))
         if schedule.milling:
             shown(scheduling.milling(schedule)).to_csv(stage / files.MILLING, index=False)
+    if answered.blocks is not None:
+        blocks, years = answered.blocks.beside(blocks), pd.concat([years, answered.blocks.years], ignore_index=True)
+        files.write_json(stage / files.BLOCK_SCHEDULE, answered.blocks.record)
     write_table(blocks, stage)
     shown(table).to_csv(stage / files.SHELLS, index=False)
     shown(years).to_csv(stage / files.YEARS, index=False)
@@ -360,7 +369,7 @@ def draw(plan: Plan, solution: run.Solution, table: pd.DataFrame, chosen: int, s
 
 
 def draw_phases(answered: Answered, years: pd.DataFrame, stage: Path) -> dict[str, str]:
-    """Draws phases and their schedule, where there are such; gives the pictures' files by name."""
+    """Draws phases and schedules, where there are such; gives the pictures' files by name."""
     drawn: dict[str, str] = {}
     if answered.phases is not None:
         scene, drawn = phase_pictures.scene_of(answered.phases), PHASE_PICTURES
@@ -371,6 +380,9 @@ def draw_phases(answered: Answered, years: pd.DataFrame, stage: Path) -> dict[st
         schedule_pictures.write_gantt(answered.schedule, stage / drawn["schedule_gantt"])
         schedule_pictures.write_tonnes(answered.schedule, stage / drawn["schedule_tonnes"])
         schedule_pictures.write_cumulative(answered.schedule, years, stage / drawn["schedule_value"])
+    if answered.blocks is not None:
+        drawn = drawn | {"block_schedule": block_pictures.NAME}
+        block_pictures.write(answered.blocks, stage / block_pictures.NAME)
     return drawn
 
 

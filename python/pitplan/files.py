@@ -27,6 +27,7 @@ REST_BLOCKS, REST_PREC = "rest.blocks", "rest.prec"
 RECORD, TABLE, SHELLS, YEARS, ANSWER = "prepare.json", "blocks.csv", "shells.csv", "years.csv", "shells.txt"
 PHASES = "phases.csv"
 SCHEDULE, SCHEDULE_RECORD, MILLING = "schedule.csv", "schedule.json", "milling.csv"
+BLOCK_SCHEDULE = "block_schedule.json"
 CHUNK = 200_000
 
 

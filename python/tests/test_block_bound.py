@@ -12,6 +12,7 @@ from scipy.optimize import Bounds, LinearConstraint, linprog, milp
 from pitplan import PlanError
 from pitplan.block_schedule import nodes as node_module
 from pitplan.block_schedule.closure import priced
+from pitplan.block_schedule.master import Master
 from pitplan.block_schedule.nodes import nodes_of
 from pitplan.block_schedule.problem import BlockProblem, Limit, Needs, demand_sound
 from pitplan.block_schedule.reduction import earliest_years, worth_digging
@@ -192,11 +193,12 @@ def test_at_any_prices_the_bound_is_above_all_schedules_exactly(data):
 
 
 def test_years_whose_pits_do_not_nest_are_solved_together():
-    """At a price that is high in the second year alone, what pays in the first does not pay in the second, and would not wait for it: dug in the
-    first, block 0 earns 5, and 100 less at the price of the second. The pits of the years for themselves are [0] and none."""
+    """At a price that is high in the second year alone, what pays in the first does not pay in the second, and would not wait for it: dug
+    in the first, block 0 earns 5, and 100 less at the price of the second. The pits of the years for themselves are [0] and none."""
     problem = problem_of([[5.0, 4.0, 3.0], [-9.0, 4.0, 1.0]], [], ([1, 1], [1, 1, 1]))
     found = priced(without_first(problem), np.array([[0.0, 100.0, 0.0]]))
-    assert found.parts < 3 and found.bound == pytest.approx(5 + 1 + 100) and found.in_closure.tolist() == [True, False, True, False, True, True]
+    assert found.parts < 3 and found.bound == pytest.approx(5 + 1 + 100)
+    assert found.in_closure.tolist() == [True, False, True, False, True, True]
     assert priced(without_first(problem), np.array([[100.0, 0.0, 0.0]])).parts == 3
 
 
@@ -248,6 +250,26 @@ def test_an_interruption_leaves_the_bound_of_the_rounds_so_far():
     found = relaxed(without_first(problem), EXACT, interrupt)
     assert found.interrupted and len(found.rounds) == 2
     assert found.rounds[1].value - 1e-6 <= linear_optimum(problem) <= found.bound + 1e-6
+
+
+def test_a_programme_that_cannot_be_solved_ends_the_rounds(monkeypatch):
+    """In the first round it is refused."""
+    problem = next(it for it in map(random_problem, range(100)) if len(relaxed(without_first(it), EXACT).rounds) > 4)
+    rounds = []
+    solve = Master.solve
+
+    def fail_later(master, groups):
+        if len(rounds) == most:
+            raise PlanError("HiGHS found no optimum")
+        return solve(master, groups)
+
+    monkeypatch.setattr(Master, "solve", fail_later)
+    most = 3
+    found = relaxed(without_first(problem), EXACT, rounds.append)
+    assert len(found.rounds) == 3 and not found.interrupted and found.bound >= linear_optimum(problem) - 1e-6
+    most, rounds = 0, []
+    with pytest.raises(PlanError, match="HiGHS found no optimum"):
+        relaxed(without_first(problem), EXACT, rounds.append)
 
 
 def test_seconds_end_the_relaxation_behind_a_round():

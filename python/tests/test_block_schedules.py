@@ -57,7 +57,7 @@ def test_two_pillars_by_hand():
     values = np.outer([-1.0, 10.0, -1.0, 5.0], 1.1 ** -np.arange(1.0, 4.0))
     found = solve(problem_of(values, [(1, 0), (3, 2)], ([1, 1, 1, 1], [2, 2, 2])))
     assert found.schedule.year.tolist() == [0, 0, 1, 1]
-    assert found.value == pytest.approx(9 / 1.1 + 4 / 1.21) and found.bound == pytest.approx(found.value) and found.gap == pytest.approx(0, abs=1e-9)
+    assert found.value == pytest.approx(9 / 1.1 + 4 / 1.21) == found.bound and found.gap == pytest.approx(0, abs=1e-9)
 
 
 def test_nothing_to_dig():
@@ -129,8 +129,9 @@ def test_a_circle_has_no_ranks():
 def test_what_keeps_to_a_problem():
     problem = problem_of([[1.0, 1.0], [1.0, 1.0]], [(1, 0)], ([1, 1], [1, 1]))
     assert nothing(problem).keeps(problem)
-    for year, share, keeps in [([0, 1], [1, 1], True), ([1, 0], [1, 1], False), ([0, 0], [1, 1], False), ([0, 1], [1, 0.5], False), ([2, 1], [0, 1], False)]:
-        assert BlockSchedule(np.array(year), np.array(share, dtype=float)[:, None]).keeps(problem) is keeps
+    cases = [([0, 1], [1, 1]), ([1, 0], [1, 1]), ([0, 0], [1, 1]), ([0, 1], [1, 0.5]), ([2, 1], [0, 1])]
+    found = [BlockSchedule(np.array(year), np.array(share, dtype=float)[:, None]).keeps(problem) for year, share in cases]
+    assert found == [True, False, False, False, False]
 
 
 def test_an_interruption_behind_the_bound_gives_the_best_so_far(monkeypatch):

@@ -1,11 +1,11 @@
 """What is left of a problem where each limit has a price: a closure of nodes, solved by the library of pits, and a bound.
 
 With a price of 0 or more on each unit of each limit in each year, what the nodes are worth then and the prices times the limits are
-together at least what any schedule earns (Lagrange). So a bound needs no optimum of the prices, and whatever floats they are it holds: what a
-block earns at them is rounded upward, by more than the floats may have lost.
+together at least what any schedule earns (Lagrange). So a bound needs no optimum of the prices, and whatever floats they are it holds:
+what a block earns at them is rounded upward, by more than the floats may have lost.
 
-Each year is solved for itself first. Where the pit of each year lies within that of the next, all of them are the closure; where it does not,
-these years are solved together.
+Each year is solved for itself first. Where the pit of each year lies within that of the next, all of them are the closure; where it does
+not, these years are solved together.
 """
 
 from __future__ import annotations
@@ -33,7 +33,8 @@ class Priced:
 
 @dataclass(frozen=True)
 class Part:
-    """The closure of the years from `first` up to `last`, without that, solved for itself: a truth for each node, and its worth in the unit."""
+    """The closure of the years from `first` up to `last`, without that, solved for itself: a truth for each node, and its worth in the
+    unit."""
 
     first: int
     last: int

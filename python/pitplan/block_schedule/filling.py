@@ -94,7 +94,8 @@ def schedule_of(problem: BlockProblem, year: NDArray[np.int64], destination: NDA
 
 
 def paying(problem: BlockProblem, schedule: BlockSchedule) -> BlockSchedule:
-    """The schedule without what earns less, at its time, than it costs: the best of its parts that hold with each block all that it needs."""
+    """The schedule without what earns less, at its time, than it costs: the best of its parts that hold with each block all that it
+    needs."""
     is_dug = schedule.year < problem.years
     fixed = np.where(is_dug, pitshell.FREE, pitshell.BARRED).astype(np.uint8)
     whole = upward(schedule.worths(problem)).amounts

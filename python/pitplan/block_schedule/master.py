@@ -76,7 +76,8 @@ class Master:
         if found.status != 0:
             raise PlanError(f"HiGHS found no optimum of the relaxation: {found.message}")
         prices = np.zeros((len(self.nodes.problem.limits), self.nodes.problem.years))
-        prices[tuple(np.array(self.places, dtype=np.int64).reshape(-1, 2).T)] = np.maximum(-found.ineqlin.marginals[: len(scale)], 0.0) * unit / scale
+        rows, columns = np.array(self.places, dtype=np.int64).reshape(-1, 2).T
+        prices[rows, columns] = np.maximum(-found.ineqlin.marginals[: len(scale)], 0.0) * unit / scale
         return Restricted(np.clip(found.x, 0.0, 1.0)[component], -float(found.fun) * unit, prices)
 
     def limits(self, groups: Groups) -> NDArray[np.float64]:

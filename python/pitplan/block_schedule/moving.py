@@ -29,7 +29,8 @@ class Moving:
     def of(filling: Filling, schedule: BlockSchedule) -> Moving:
         problem = filling.problem
         users: list[list[int]] = [[] for _ in range(problem.blocks)]
-        moving = Moving(filling, schedule.year.tolist(), schedule.share.argmax(axis=1).tolist(), Room(problem), users, problem.values.tolist())
+        destination = schedule.share.argmax(axis=1).tolist()
+        moving = Moving(filling, schedule.year.tolist(), destination, Room(problem), users, problem.values.tolist())
         for block in np.flatnonzero(schedule.year < problem.years).tolist():
             moving.room.take(block, moving.destination[block], moving.year[block])
             for needed in filling.needed[block]:

@@ -1,9 +1,9 @@
 """The nodes of a schedule: "this block is dug by the end of this year", and which of them need which.
 
-With several destinations a block has a node for each of them in a year, one after the other: "dug before, or in this year and sent to one of
-the destinations up to this one". A node needs the next one of its block, in the year or in the next year, and the last one of a year those of all
-that its block needs. So a closed set of nodes is a schedule without limits (Bienstock and Zuckerberg, Solving LP relaxations of large-scale
-precedence constrained problems, IPCO 2010).
+With several destinations a block has a node for each of them in a year, one after the other: "dug before, or in this year and sent to one
+of the destinations up to this one". A node needs the next one of its block, in the year or in the next year, and the last one of a year
+those of all that its block needs. So a closed set of nodes is a schedule without limits (Bienstock and Zuckerberg, Solving LP relaxations
+of large-scale precedence constrained problems, IPCO 2010).
 
 Blocks stand by the first year in which they can be dug, so that those of a year, with all that they need, are the first ones.
 """
@@ -89,8 +89,8 @@ class Nodes:
         return Needs(starts, self.of_year.needed[: starts[-1]])
 
     def of_years(self, first: int, last: int) -> Needs:
-        """The needs of the nodes of the years from `first` up to `last`, without that. Raises PlanError where they are more than the library
-        takes."""
+        """The needs of the nodes of the years from `first` up to `last`, without that. Raises PlanError where they are more than the
+        library takes."""
         if last - first == 1:
             return self.first_of_year(first)
         parts = [self.first_of_year(year) for year in range(first, last)]
@@ -99,7 +99,8 @@ class Nodes:
         lengths = np.concatenate([np.diff(part.starts.astype(np.int64)) for part in parts])
         demand_room(size, len(lengths) and int(lengths.sum()) + size)
         # The last node of a block in a year needs its first one of the next year too.
-        last_of_year = [np.arange(self.before[year] - base + destinations - 1, self.before[year + 1] - base, destinations) for year in range(first, last - 1)]
+        ends = [(self.before[year] - base, self.before[year + 1] - base) for year in range(first, last - 1)]
+        last_of_year = [np.arange(start + destinations - 1, end, destinations) for start, end in ends]
         lengths[np.concatenate(last_of_year)] += 1
         starts = np.concatenate([[0], np.cumsum(lengths)])
         needed = np.empty(starts[-1], dtype=np.uint32)
@@ -117,13 +118,14 @@ def demand_room(nodes: int, pairs: int) -> None:
     """Raises PlanError where these are more than the library takes."""
     if nodes > MOST_NODES or pairs > MOST_PAIRS:
         raise PlanError(
-            f"a schedule by block would have {nodes:,} nodes, one for each block, year and destination, and {pairs:,} pairs of them, and at "
-            f"most {MOST_NODES:,} and {MOST_PAIRS:,} can be solved: put blocks together by [table] reblock, or give fewer [schedule] years"
+            f"a schedule by block would have {nodes:,} nodes, one for each block, year and destination, and {pairs:,} pairs of them, and "
+            f"at most {MOST_NODES:,} and {MOST_PAIRS:,} can be solved: put blocks together by [table] reblock, or give fewer years"
         )
 
 
 def nodes_of(problem: BlockProblem, first: NDArray[np.int64]) -> Nodes:
-    """The nodes of a problem whose blocks stand by rising first years. Raises PlanError where those of a year are more than the library takes."""
+    """The nodes of a problem whose blocks stand by rising first years. Raises PlanError where those of a year are more than the library
+    takes."""
     nodes = Nodes(problem, first)
     demand_room(problem.blocks * problem.destinations, len(problem.needs.needed) + problem.blocks * problem.destinations)
     return nodes

@@ -66,7 +66,8 @@ class Needs:
 class BlockProblem:
     """What is scheduled.
 
-    values  what a block earns where it is dug in a year and sent to a destination, discounted, in money: shape (blocks, destinations, years)
+    values  what a block earns where it is dug in a year and sent to a destination, discounted, in money: shape (blocks, destinations,
+            years)
     needs   what must be dug in the same year or before
     limits  what a year may hold
     """

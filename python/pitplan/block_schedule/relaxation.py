@@ -1,8 +1,8 @@
 """The bound of all schedules by block: the linear relaxation, solved by rounds of a small programme and a closure.
 
-Each round solves the relaxation over groups of nodes (`master`), takes the prices of its limits, and solves the closure at these (`closure`).
-The closure's bound holds whatever the prices are, so a run may end at any round with the least bound so far. Where the closure divides no
-group, or its bound is met, the relaxation is solved.
+Each round solves the relaxation over groups of nodes (`master`), takes the prices of its limits, and solves the closure at these
+(`closure`). The closure's bound holds whatever the prices are, so a run may end at any round with the least bound so far. Where the
+closure divides no group, or its bound is met, the relaxation is solved.
 """
 
 from __future__ import annotations
@@ -15,6 +15,7 @@ import numpy as np
 import pitshell
 from numpy.typing import NDArray
 
+from ..errors import PlanError
 from ..schedule_rules import Effort
 from .closure import priced
 from .groups import Groups, renumbered
@@ -62,10 +63,11 @@ class Relaxation:
 
 
 def relaxed(nodes: Nodes, effort: Effort, tell: Callable[[Round], None] = lambda found: None) -> Relaxation:
-    """Solves the relaxation until its value is within the effort's gap, a share of the bound, or its seconds are over; `tell` is called with
-    each round. An interruption (Ctrl-C) behind the first round ends it with what it has.
+    """Solves the relaxation until its value is within the effort's gap, a share of the bound, or its seconds are over; `tell` is called
+    with each round. An interruption (Ctrl-C), or a programme that HiGHS cannot solve, ends it with what it has, once there is a round.
 
-    Raises PlanError where HiGHS finds no optimum of the first round or the nodes are too many, and KeyboardInterrupt within the first round.
+    Raises PlanError where HiGHS finds no optimum of the first round or the nodes are too many, and KeyboardInterrupt within the first
+    round.
     """
     solver = Solver(nodes, Master(nodes), first_groups(nodes), time.monotonic())
     try:
@@ -73,10 +75,10 @@ def relaxed(nodes: Nodes, effort: Effort, tell: Callable[[Round], None] = lambda
             tell(found)
             if found.gap <= effort.gap or (effort.seconds is not None and found.seconds > effort.seconds):
                 break
-    except KeyboardInterrupt:
+    except (KeyboardInterrupt, PlanError) as error:
         if not solver.rounds:
             raise
-        return solver.relaxation(True)
+        return solver.relaxation(isinstance(error, KeyboardInterrupt))
     return solver.relaxation(False)
 
 
@@ -113,8 +115,8 @@ class Solver:
 
 
 def first_groups(nodes: Nodes) -> Groups:
-    """Nodes in groups by the least of nested pits that holds their block, by destination and year. At a factor, in per mille, a block that earns
-    anything earns so much of it."""
+    """Nodes in groups by the least of nested pits that holds their block, by destination and year. At a factor, in per mille, a block that
+    earns anything earns so much of it."""
     problem = nodes.problem
     values = upward(problem.values[:, :, 0].max(axis=1)).amounts
     factors = range(1000 // FIRST_PITS, 1001, 1000 // FIRST_PITS)

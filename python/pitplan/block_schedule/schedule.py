@@ -40,7 +40,8 @@ class BlockSchedule:
         return np.array(by_year).reshape(len(problem.limits), problem.years)
 
     def keeps(self, problem: BlockProblem) -> bool:
-        """Whether no block is dug before one that it needs, each goes whole to destinations, and no year is above a limit but for a hair."""
+        """Whether no block is dug before one that it needs, each goes whole to destinations, and no year is above a limit but for a
+        hair."""
         is_dug = self.year < problem.years
         whole = np.abs(self.share.sum(axis=1) - is_dug) <= HAIR
         most = np.array([limit.most for limit in problem.limits]).reshape(len(problem.limits), problem.years)

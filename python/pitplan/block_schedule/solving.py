@@ -22,7 +22,7 @@ from .relaxation import Relaxation, Round, relaxed
 from .schedule import BlockSchedule, nothing
 from .topological import Ranks, ranks_of
 from .toposort import sequences
-from .windows import window_of, windows_of
+from .windows import widths_of, window_of
 
 # The relaxation is solved to this share of its bound.
 RELAXED = 1e-4
@@ -120,7 +120,8 @@ def solve(problem: BlockProblem, effort: Optional[Effort] = None, progress: Prog
 
 
 def told(found: Round) -> str:
-    return f"round {found.number}: bound {found.bound:,.0f}, relaxation {found.value:,.0f} over {found.groups:,} groups, {found.seconds:.0f} s"
+    relaxation = f"relaxation {found.value:,.0f} over {found.groups:,} groups"
+    return f"round {found.number}: bound {found.bound:,.0f}, {relaxation}, gap {100 * found.gap:.3f} %, {found.seconds:.0f} s"
 
 
 @dataclass
@@ -131,6 +132,7 @@ class Search:
     relaxation: Relaxation
     progress: Progress
     best: BlockSchedule = field(init=False)
+    tried: set[tuple[tuple[int, int], bytes, bytes]] = field(default_factory=set)
 
     def __post_init__(self) -> None:
         self.best = nothing(self.part.problem)
@@ -161,17 +163,25 @@ class Search:
             self.offer(with_best_shares(self.problem, self.best))
 
     def windows(self, effort: Effort, began: float) -> None:
-        """Solves window after window anew, until the gap is reached, the seconds are over, or none has become better."""
-        ended = -1.0
-        while self.best.value(self.problem) > ended:
-            ended = self.best.value(self.problem)
-            for years in windows_of(self.problem):
-                left = np.inf if effort.seconds is None else effort.seconds - (time.monotonic() - began)
-                if left <= 0 or self.gap <= effort.gap:
-                    return
-                window = window_of(self.problem, self.best, self.relaxation.cumulative, years)
-                with self.progress.step(f"solving years {years[0] + 1} to {years[1]} anew, gap {100 * self.gap:.2f} %"):
-                    self.offer(window.solved(Effort(effort.gap, min(left, WINDOW_SECONDS))))
+        """Solves window after window anew, of wider ones once none has become better, until the gap is reached or the seconds are over."""
+        for width in widths_of(self.problem):
+            before = -np.inf
+            while self.best.value(self.problem) > before:
+                before = self.best.value(self.problem)
+                for first in range(self.problem.years - width + 1):
+                    left = np.inf if effort.seconds is None else effort.seconds - (time.monotonic() - began)
+                    if left <= 0 or self.gap <= effort.gap:
+                        return
+                    self.window((first, first + width), Effort(effort.gap, min(left, WINDOW_SECONDS)))
+
+    def window(self, years: tuple[int, int], effort: Effort) -> None:
+        """Solves the years from the first up to the second, without that, anew, unless that was done of the same blocks in the same years."""
+        window = window_of(self.problem, self.best, self.relaxation.cumulative, years)
+        tried = years, window.blocks.tobytes(), self.best.year[window.blocks].tobytes()
+        if len(window.blocks) and tried not in self.tried:
+            self.tried.add(tried)
+            with self.progress.step(f"solving years {years[0] + 1} to {years[1]} anew, gap {100 * self.gap:.2f} %"):
+                self.offer(window.solved(effort))
 
     @property
     def gap(self) -> float:

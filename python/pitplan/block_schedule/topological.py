@@ -36,7 +36,9 @@ class Ranks:
 def ranks_of(needs: Needs) -> Ranks:
     """The ranks of all blocks, whose needs lead in no circle: else ValueError."""
     blocks = len(needs.starts) - 1
-    users = csr_matrix((np.ones(len(needs.needed), dtype=np.int8), needs.needed.astype(np.int64), needs.starts.astype(np.int64)), shape=(blocks, blocks)).tocsc()
+    ones = np.ones(len(needs.needed), dtype=np.int8)
+    rows = csr_matrix((ones, needs.needed.astype(np.int64), needs.starts.astype(np.int64)), shape=(blocks, blocks))
+    users = rows.tocsc()
     waiting = np.diff(needs.starts.astype(np.int64))
     ready, found = np.flatnonzero(waiting == 0), []
     while len(ready):
@@ -67,7 +69,8 @@ def greatest_needed(needs: Needs, ranks: Ranks, keys: NDArray[np.float64]) -> ND
     """For each block the greatest key of itself and of all that it needs, directly or through others."""
     found = keys.copy()
     for rank in list(ranks)[1:]:
-        found[rank] = np.maximum(found[rank], np.maximum.reduceat(found[rows_of(needs.starts, needs.needed, rank)], row_starts(needs, rank)))
+        above = found[rows_of(needs.starts, needs.needed, rank)]
+        found[rank] = np.maximum(found[rank], np.maximum.reduceat(above, row_starts(needs, rank)))
     return found
 
 
@@ -78,7 +81,8 @@ def row_starts(needs: Needs, rows: NDArray[np.int64]) -> NDArray[np.int64]:
 
 
 def cone_sums(needs: Needs, ranks: Ranks, amounts: NDArray[np.float64]) -> NDArray[np.float64]:
-    """What the cone of each block, itself and all that it needs directly or through others, adds up to of amounts of shape (blocks, kinds)."""
+    """What the cone of each block, itself and all that it needs directly or through others, adds up to of amounts of shape (blocks,
+    kinds)."""
     sums = np.zeros_like(amounts)
     for first in range(0, len(amounts), AT_ONCE):
         marked = ranks.order[first : first + AT_ONCE]

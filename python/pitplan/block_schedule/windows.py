@@ -22,7 +22,9 @@ from .schedule import BlockSchedule
 from .topological import places_of
 
 # A window has about so many whole unknowns at most, and so many years unless all blocks fit.
-MOST_UNKNOWNS, YEARS = 4_000, 2
+MOST_UNKNOWNS, MOST_YEARS = 4_000, 4
+# By so many times its seconds a programme may be late.
+PATIENCE = 1.5
 # A share that may be the solver's tolerance alone.
 SLIGHT = 1e-6
 
@@ -70,8 +72,8 @@ class Window:
         )
 
     def bounds(self) -> tuple[NDArray[np.int64], NDArray[np.int64]]:
-        """For each free block the first year in which all that it needs of the others is dug, and the last year by whose end what needs it of
-        the others asks for it; as many as there are years in all where nothing does."""
+        """For each free block the first year in which all that it needs of the others is dug, and the last year by whose end what needs it
+        of the others asks for it; as many as there are years in all where nothing does."""
         problem, year, number = self.problem, self.schedule.year, self.number
         users, needed = problem.needs.users, problem.needs.needed.astype(np.int64)
         soonest, latest = np.full(len(self.blocks), self.first), np.full(len(self.blocks), problem.years)
@@ -130,11 +132,12 @@ class Window:
         return matrix, -np.ones(len(some))
 
     def solved(self, effort: Effort) -> BlockSchedule:
-        """The schedule with the best that was found in the window, or as it was where that is no better.
+        """The schedule with the best that was found in the window, or as it was where that is no better or not found in half as much time
+        again.
 
         Raises PlanError where HiGHS fails, and KeyboardInterrupt where it is interrupted.
         """
-        found = solve(self.programme(), effort)
+        found = solve(self.programme(), effort, None if effort.seconds is None else PATIENCE * effort.seconds)
         if found.unknowns is None:
             return self.schedule
         problem, truths = self.problem, self.place.size
@@ -149,12 +152,11 @@ class Window:
         return better if gains and better.keeps(problem) else self.schedule
 
 
-def windows_of(problem: BlockProblem) -> Iterator[tuple[int, int]]:
-    """The first and the last year, without that, of each window: all years where all blocks fit, else two years after the other."""
-    if problem.blocks * problem.years <= MOST_UNKNOWNS:
-        yield 0, problem.years
-        return
-    yield from ((first, first + YEARS) for first in range(max(problem.years - YEARS, 0) + 1))
+def widths_of(problem: BlockProblem) -> range:
+    """Of how many years windows are, one width after the other: of all where all blocks fit, else of two and then of more."""
+    if problem.blocks * problem.years <= MOST_UNKNOWNS or problem.years == 1:
+        return range(problem.years, problem.years + 1)
+    return range(2, min(MOST_YEARS, problem.years) + 1)
 
 
 def window_of(problem: BlockProblem, schedule: BlockSchedule, cumulative: NDArray[np.float64], years: tuple[int, int]) -> Window:
@@ -166,8 +168,7 @@ def window_of(problem: BlockProblem, schedule: BlockSchedule, cumulative: NDArra
     first, last = years
     is_here = (schedule.year >= first) & (schedule.year < last)
     is_left = (schedule.year == problem.years) & (cumulative[:, last - 1] > SLIGHT)
-    whole = problem.blocks * (last - first) <= MOST_UNKNOWNS
-    blocks = np.arange(problem.blocks) if whole else np.flatnonzero(is_here | is_left)
+    blocks = np.arange(problem.blocks) if last - first == problem.years else np.flatnonzero(is_here | is_left)
     middle, expected = (first + last - 1) / 2, problem.years - cumulative.sum(axis=1)
     nearest = np.argsort(np.abs(expected[blocks] - middle), kind="stable")[: MOST_UNKNOWNS // (last - first)]
     return Window(problem, schedule, first, last, np.sort(blocks[nearest]))

@@ -19,7 +19,8 @@ of the program, for the files that it was given; here is looked whether these sa
 - of `pit`, both rows of pits.csv are right in all this, and the pit without fixed blocks is worth no less;
 - a table that was written back has the planner's own rows and fields, and of each block what blocks.csv says;
 - phases are closed under the whole cones, hold what must be dug in phase 1 and what may not be in none, add up, and are as wide as
-  asked, which is counted anew by sums over squares.
+  asked, which is counted anew by sums over squares;
+- in a schedule by block no block comes before its whole cone, no year is above a limit, and the value is not above the bound.
 """
 
 from __future__ import annotations
@@ -30,7 +31,7 @@ from typing import Optional
 
 from ..errors import PlanError
 from ..project import Project
-from . import absent, answer as answers, fixed, money, phases, planned_table, reach, reblocked, scenarios, schedule, sensitivity, sums
+from . import absent, answer as answers, block_schedule, fixed, money, phases, planned_table, reach, reblocked, scenarios, schedule, sensitivity, sums
 from . import walls, years
 from .answer import TOLD, Answer, Rule, rule
 
@@ -49,6 +50,7 @@ def verify(folder: Path, project: Optional[Project] = None) -> list[Rule]:
     more += [verify_free(answer, answer.free)] if answer.free else []
     more += phases.verify(answer) if answer.phases is not None else []
     more += [planned_table.verify(answer, folder / planned_table.NAME)] if (folder / planned_table.NAME).exists() else []
+    more += block_schedule.verify(answer) if answer.is_by_block else []
     return [*(check(answer) for check in CHECKS), *more, *(schedule.verify(answer) if answer.schedule is not None else [])]
 
 

@@ -31,6 +31,8 @@ PROCESS = "process"
 FREE = ("free_factor", "free_process_factor")
 # Those that `pitplan pushbacks` and `pitplan schedule` write besides.
 PHASE, YEAR = "phase", "year"
+# Of a schedule by block the share of each block that goes to each of several processes.
+SHARE = "share_"
 
 
 @dataclass(frozen=True)
@@ -62,6 +64,7 @@ class Answer:
     found   what was told of it before, by name
     phases  of `pitplan pushbacks` phases.csv, by phase; `said` has each block's phase then
     schedule  of `pitplan schedule` schedule.csv; `said` has each block's year then
+    is_by_block  whether blocks were scheduled one by one; `said` has the year of each then
     parts   where rows are put together to blocks the table's rows; `rows` are then the answer's own, which hold them
     beyond  the table's rows that lie beyond the answer's grid, where some do
     """
@@ -81,6 +84,7 @@ class Answer:
     schedule: Optional[pd.DataFrame] = None
     parts: Optional[pd.DataFrame] = None
     beyond: Optional[pd.DataFrame] = None
+    is_by_block: bool = False
 
     @property
     def shape(self) -> tuple[int, int, int]:
@@ -220,12 +224,17 @@ def read(folder: Path, project: Optional[Project] = None) -> Answer:
     try:
         record = json.loads((folder / "prepare.json").read_text(encoding="utf-8"))
         project = project or load(folder / record["project"])
-        written = read_blocks(folder / "blocks.csv", project, (*said_of(project), *FREE, PHASE, YEAR))
+        written = read_blocks(folder / "blocks.csv", project, (*said_of(project), *FREE, PHASE, YEAR, *shares_of(project)))
         return read_shells(folder, record, project, written) if "shells" in record else read_pits(folder, record, project, written)
     except OSError as error:
         raise PlanError(f"{error.filename}: cannot be read: run pitplan shells first") from error
     except (ValueError, KeyError) as error:
         raise PlanError(f"{folder}: is no folder that pitplan shells or pit has written: {error}") from error
+
+
+def shares_of(project: Project) -> list[str]:
+    """Of a schedule by block the columns of blocks.csv that say which share of a block goes to each of several processes."""
+    return [f"{SHARE}{process.name}" for process in project.processes]
 
 
 def said_of(project: Project) -> tuple[str, ...]:
@@ -243,9 +252,12 @@ def read_shells(folder: Path, record: dict[str, Any], project: Project, written:
     rows, known, order = beside(frame, written, project, record["grid"], "blocks.csv")
     phases = pd.read_csv(folder / "phases.csv").set_index("phase") if "phases" in record else None
     schedule = pd.read_csv(folder / "schedule.csv") if "schedule" in record else None
-    more = [*([PHASE] if phases is not None else []), *([YEAR] if schedule is not None else [])]
+    is_by_block = "by_block" in record
+    shares = shares_of(project) if is_by_block else []
+    more = [*([PHASE] if phases is not None else []), *([YEAR] if schedule is not None or is_by_block else []), *shares]
     said, factors = written[[*said_of(project), *more]].iloc[order].reset_index(drop=True), tuple(record["shells"]["factors"])
-    return Answer(folder, project, rows, known, said, shells, years, record, factors, phases=phases, schedule=schedule, parts=parts, beyond=beyond)
+    found = {"phases": phases, "schedule": schedule, "parts": parts, "beyond": beyond, "is_by_block": is_by_block}
+    return Answer(folder, project, rows, known, said, shells, years, record, factors, **found)
 
 
 def rows_of(
