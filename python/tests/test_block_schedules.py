@@ -11,6 +11,7 @@ from pitplan.block_schedule.moving import moved
 from pitplan.block_schedule.schedule import BlockSchedule, nothing
 from pitplan.block_schedule.topological import ranks_of
 from pitplan.block_schedule.toposort import Sequence, in_order, sequences
+from pitplan.block_schedule.windows import window_of
 from pitplan.schedule_rules import Effort
 
 
@@ -132,6 +133,41 @@ def test_what_keeps_to_a_problem():
     cases = [([0, 1], [1, 1]), ([1, 0], [1, 1]), ([0, 0], [1, 1]), ([0, 1], [1, 0.5]), ([2, 1], [0, 1])]
     found = [BlockSchedule(np.array(year), np.array(share, dtype=float)[:, None]).keeps(problem) for year, share in cases]
     assert found == [True, False, False, False, False]
+
+
+def test_a_window_frees_blocks_of_its_years_and_keeps_the_others():
+    """Years 2 and 3 of four. Block 4 is dug before and block 5 behind, which needs block 3: so 3 is due by then. Block 2 needs 4 and comes
+    with the rest in what block 1, which is not free since it is far from the middle, leaves."""
+    values = np.tile(np.array([[1.0, 2.0, 3.0, 5.0]]), (6, 1))
+    problem = problem_of(values, [(2, 4), (5, 3)], ([1] * 6, [1, 2, 2, 9]))
+    schedule = schedule_of(problem, np.array([1, 2, 1, 2, 0, 3]), np.zeros(6, dtype=int))
+    cumulative = np.zeros((6, 4))
+    cumulative[[0, 2, 3]] = [0, 0.5, 1, 1]
+    window = window_of(problem, schedule, cumulative, (1, 3), 6)
+    assert window.blocks.tolist() == [0, 2, 3] and window.part.limits[0].most.tolist() == [2, 1]
+    assert [bounds.tolist() for bounds in window.bounds()] == [[1, 1, 1], [4, 4, 3]]
+    # Room for one in the third year, where each earns one more than in the second: two stay, and any of them may be the third.
+    found = window.solved(Effort(0.0, 60.0))
+    assert demand_sound(problem, found) == pytest.approx(2 + 2 + 3 + 3 + 1 + 5)
+
+
+def test_an_empty_window_is_passed_over(monkeypatch):
+    monkeypatch.setattr("pitplan.block_schedule.windows.MOST_UNKNOWNS", 1)
+    found = solve(problem_of(np.outer([1.0, 1.0], [1.0, 0.9, 0.8, 0.7]), [], ([1, 1], [2, 2, 2, 2])), Effort(-1.0, 60.0))
+    assert found.schedule.year.tolist() == [0, 0]
+
+
+def test_windows_find_what_filling_misses(monkeypatch):
+    """With few unknowns a window holds a part of the blocks; none is worse than without, and some are better."""
+    monkeypatch.setattr("pitplan.block_schedule.windows.MOST_UNKNOWNS", 60)
+    monkeypatch.setattr("pitplan.block_schedule.windows.FEWER", 30)
+    gains = []
+    for seed in range(4000, 4012):
+        problem = random_problem(seed, most=50, destinations=1)
+        before, after = solve(problem), solve(problem, Effort(0.0, 60.0))
+        assert demand_sound(problem, after.schedule) == pytest.approx(after.value) and after.value <= after.bound + 1e-6 * abs(after.bound)
+        gains.append(after.value - before.value)
+    assert min(gains) > -1e-6 and max(gains) > 1
 
 
 def test_an_interruption_behind_the_bound_gives_the_best_so_far(monkeypatch):

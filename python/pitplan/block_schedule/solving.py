@@ -22,7 +22,7 @@ from .relaxation import Relaxation, Round, relaxed
 from .schedule import BlockSchedule, nothing
 from .topological import Ranks, ranks_of
 from .toposort import sequences
-from .windows import widths_of, window_of
+from .windows import sizes_of, window_of
 
 # The relaxation is solved to this share of its bound.
 RELAXED = 1e-4
@@ -163,8 +163,8 @@ class Search:
             self.offer(with_best_shares(self.problem, self.best))
 
     def windows(self, effort: Effort, began: float) -> None:
-        """Solves window after window anew, of wider ones once none has become better, until the gap is reached or the seconds are over."""
-        for width in widths_of(self.problem):
+        """Solves window after window anew, larger ones once none has become better, until the gap is reached or the seconds are over."""
+        for width, most in sizes_of(self.problem):
             before = -np.inf
             while self.best.value(self.problem) > before:
                 before = self.best.value(self.problem)
@@ -172,11 +172,12 @@ class Search:
                     left = np.inf if effort.seconds is None else effort.seconds - (time.monotonic() - began)
                     if left <= 0 or self.gap <= effort.gap:
                         return
-                    self.window((first, first + width), Effort(effort.gap, min(left, WINDOW_SECONDS)))
+                    self.window((first, first + width), most, Effort(effort.gap, min(left, WINDOW_SECONDS)))
 
-    def window(self, years: tuple[int, int], effort: Effort) -> None:
-        """Solves the years from the first up to the second, without that, anew, unless that was done of the same blocks in the same years."""
-        window = window_of(self.problem, self.best, self.relaxation.cumulative, years)
+    def window(self, years: tuple[int, int], most: int, effort: Effort) -> None:
+        """Solves the years from the first up to the second, without that, anew, unless that was done of the same blocks in the same
+        years."""
+        window = window_of(self.problem, self.best, self.relaxation.cumulative, years, most)
         tried = years, window.blocks.tobytes(), self.best.year[window.blocks].tobytes()
         if len(window.blocks) and tried not in self.tried:
             self.tried.add(tried)

@@ -9,6 +9,7 @@ from __future__ import annotations
 
 from collections.abc import Iterator
 from dataclasses import dataclass
+from functools import cached_property
 
 import numpy as np
 from numpy.typing import NDArray
@@ -17,14 +18,15 @@ from scipy.sparse import coo_matrix, csr_matrix, eye, hstack, kron, vstack
 from ..highs import Programme
 from ..optimiser import solve
 from ..schedule_rules import Effort
-from .problem import BlockProblem
+from .problem import BlockProblem, Limit
+from .reduction import earliest_years
 from .schedule import BlockSchedule
-from .topological import places_of
+from .topological import ranks_of
 
-# A window has about so many whole unknowns at most, and so many years unless all blocks fit.
-MOST_UNKNOWNS, MOST_YEARS = 4_000, 4
+# Windows have about so many whole unknowns at most, at first the fewer ones, and so many years unless all blocks fit.
+FEWER, MOST_UNKNOWNS, MOST_YEARS = 2_500, 5_000, 4
 # By so many times its seconds a programme may be late.
-PATIENCE = 1.5
+PATIENCE = 3.0
 # A share that may be the solver's tolerance alone.
 SLIGHT = 1e-6
 
@@ -57,8 +59,7 @@ class Window:
 
     def programme(self) -> Programme:
         """Most of what the free blocks earn, as a share of the greatest amount that one earns."""
-        problem, truths = self.problem, self.place.size
-        gain = problem.values[self.blocks, :, self.first : self.last].transpose(0, 2, 1).ravel()
+        truths, gain = self.place.size, self.part.values.transpose(0, 2, 1).ravel()
         unit = float(np.abs(gain).max(initial=0.0)) or 1.0
         soonest, latest = self.bounds()
         parts = [*self.shares(), self.order(), self.limits(), self.due(latest)]
@@ -72,13 +73,15 @@ class Window:
         )
 
     def bounds(self) -> tuple[NDArray[np.int64], NDArray[np.int64]]:
-        """For each free block the first year in which all that it needs of the others is dug, and the last year by whose end what needs it
-        of the others asks for it; as many as there are years in all where nothing does."""
+        """For each free block the first year in which all that it needs of the others is dug, and what it needs of the free ones fits into
+        what the others leave; and the last year by whose end what needs it of the others asks for it, as many as there are years in all
+        where nothing does."""
         problem, year, number = self.problem, self.schedule.year, self.number
         users, needed = problem.needs.users, problem.needs.needed.astype(np.int64)
         soonest, latest = np.full(len(self.blocks), self.first), np.full(len(self.blocks), problem.years)
         some = (number[users] >= 0) & (number[needed] < 0)
         np.maximum.at(soonest, number[users[some]], year[needed[some]])
+        soonest = np.maximum(soonest, self.first + earliest_years(self.part, ranks_of(self.part.needs)))
         some = (number[users] < 0) & (number[needed] >= 0)
         np.minimum.at(latest, number[needed[some]], year[users[some]])
         return soonest, latest
@@ -94,11 +97,7 @@ class Window:
 
     def order(self) -> tuple[csr_matrix, NDArray[np.float64]]:
         """No free block is dug before another that it needs."""
-        needs, number = self.problem.needs, self.number
-        places = places_of(needs.starts, self.blocks)
-        counts = np.diff(needs.starts.astype(np.int64))[self.blocks]
-        user, needed = np.repeat(np.arange(len(self.blocks)), counts), number[needs.needed[places]]
-        less, more = (self.place[blocks[needed >= 0]].ravel() for blocks in (user, needed))
+        less, more = self.place[self.part.needs.users].ravel(), self.place[self.part.needs.needed].ravel()
         row = np.tile(np.arange(len(less)), 2)
         signs = np.repeat([1.0, -1.0], len(less))
         matrix = coo_matrix((signs, (row, np.concatenate([less, more]))), shape=(len(less), self.width))
@@ -109,19 +108,28 @@ class Window:
         """How many unknowns there are."""
         return self.place.size * (1 + self.problem.destinations)
 
-    def limits(self) -> tuple[csr_matrix, NDArray[np.float64]]:
-        """A row for each limit and year that has one: what the others leave, as a share of the limit."""
+    @cached_property
+    def part(self) -> BlockProblem:
+        """The free blocks and the window's years alone, with what the others leave as limits."""
         others = self.schedule.share.copy()
         others[self.blocks] = 0.0
         taken = BlockSchedule(self.schedule.year, others).sums(self.problem)[:, self.first : self.last]
+        limits = [
+            Limit(limit.name, limit.amounts[self.blocks], np.maximum(limit.most[self.first : self.last] - sums, 0.0))
+            for limit, sums in zip(self.problem.limits, taken)
+        ]
+        needs = self.problem.needs.within(self.number >= 0)
+        return BlockProblem(self.problem.values[self.blocks, :, self.first : self.last], needs, tuple(limits))
+
+    def limits(self) -> tuple[csr_matrix, NDArray[np.float64]]:
+        """A row for each limit and year that has one, as shares of the greatest amount of a block."""
         truths, rows, left = csr_matrix((self.years, self.place.size)), [csr_matrix((0, self.width))], [np.zeros(0)]
-        for limit, sums in zip(self.problem.limits, taken):
-            most = limit.most[self.first : self.last]
-            some, unit = np.isfinite(most), np.where(most > 0, most, 1.0)
-            shares = limit.amounts[self.blocks][:, None, :] * np.eye(self.years)[:, None, :, None]
-            shares = shares.reshape(self.years, -1) / unit[:, None]
+        for limit in self.part.limits:
+            some, unit = np.isfinite(limit.most), float(limit.amounts.max(initial=0.0)) or 1.0
+            shares = limit.amounts[:, None, :] * np.eye(self.years)[:, None, :, None]
+            shares = shares.reshape(self.years, -1) / unit
             rows.append(hstack([truths, csr_matrix(shares)], format="csr")[some])
-            left.append(np.maximum(most - sums, 0.0)[some] / unit[some])
+            left.append(limit.most[some] / unit)
         return vstack(rows, format="csr"), np.concatenate(left)
 
     def due(self, latest: NDArray[np.int64]) -> tuple[csr_matrix, NDArray[np.float64]]:
@@ -152,16 +160,20 @@ class Window:
         return better if gains and better.keeps(problem) else self.schedule
 
 
-def widths_of(problem: BlockProblem) -> range:
-    """Of how many years windows are, one width after the other: of all where all blocks fit, else of two and then of more."""
+def sizes_of(problem: BlockProblem) -> list[tuple[int, int]]:
+    """Years and most unknowns of windows, one size after the other: all years where all blocks fit, else a few of which only some are
+    free."""
     if problem.blocks * problem.years <= MOST_UNKNOWNS or problem.years == 1:
-        return range(problem.years, problem.years + 1)
-    return range(2, min(MOST_YEARS, problem.years) + 1)
+        return [(problem.years, MOST_UNKNOWNS)]
+    widths = range(2, min(MOST_YEARS, problem.years) + 1)
+    return [(width, most) for most in (FEWER, MOST_UNKNOWNS) for width in widths]
 
 
-def window_of(problem: BlockProblem, schedule: BlockSchedule, cumulative: NDArray[np.float64], years: tuple[int, int]) -> Window:
-    """The window of these years, with the blocks dug in them and those not dug that the relaxation begins by their end; where they are too
-    many those whose expected year is nearest to the middle.
+def window_of(
+    problem: BlockProblem, schedule: BlockSchedule, cumulative: NDArray[np.float64], years: tuple[int, int], most: int = MOST_UNKNOWNS
+) -> Window:
+    """The window of years, with the blocks dug in them and those not dug that the relaxation begins by their end; where they make more than
+    so many unknowns those whose expected year is nearest to the middle.
 
     cumulative  the share of each block that the relaxation has dug by the end of each year: shape (blocks, years)
     """
@@ -170,5 +182,5 @@ def window_of(problem: BlockProblem, schedule: BlockSchedule, cumulative: NDArra
     is_left = (schedule.year == problem.years) & (cumulative[:, last - 1] > SLIGHT)
     blocks = np.arange(problem.blocks) if last - first == problem.years else np.flatnonzero(is_here | is_left)
     middle, expected = (first + last - 1) / 2, problem.years - cumulative.sum(axis=1)
-    nearest = np.argsort(np.abs(expected[blocks] - middle), kind="stable")[: MOST_UNKNOWNS // (last - first)]
+    nearest = np.argsort(np.abs(expected[blocks] - middle), kind="stable")[: most // (last - first)]
     return Window(problem, schedule, first, last, np.sort(blocks[nearest]))
