@@ -264,3 +264,12 @@ def test_the_view_and_the_table_have_the_years(copied):
 
     table = pd.read_csv(commands.export(copied, "table"))
     assert table["year"].tolist() == pd.read_csv(copied / "blocks.csv").set_index("name")["year"].loc[table["name"]].tolist()
+
+
+def test_a_pit_without_ore_has_an_empty_schedule(plan_folder, capsys):
+    """Nothing pays, so nothing is dug, and the bound is 0."""
+    path = plan_folder(rows(3, 1, 2), YEARLY)
+    assert main(["schedule", str(path), "--by", "block", "--quiet"]) == 0
+    assert capsys.readouterr().out.splitlines()[2].split()[:4] == ["0.00", "0.00", "0.00", "0"]
+    folder = path.parent / "plan" / "block_schedule"
+    assert (pd.read_csv(folder / "blocks.csv")["year"] == 0).all() and years_of(folder).empty

@@ -1,9 +1,14 @@
 """Schedules by block: against integer programmes, a walk of the tests' own, and by hand."""
 
+import os
+import signal
+from threading import Timer
+
 import numpy as np
 import pytest
 from test_block_bound import cone_of, integer_optimum, pairs_of, problem_of, random_problem
 
+from pitplan import optimiser
 from pitplan.block_schedule import solve
 from pitplan.block_schedule.destinations import with_best_shares
 from pitplan.block_schedule.filling import Filling, paying, preferences, schedule_of
@@ -181,6 +186,21 @@ def test_an_interruption_behind_the_bound_gives_the_best_so_far(monkeypatch):
     found = solve(problem)
     assert found.interrupted and not whole.interrupted and found.bound == whole.bound
     assert 0 < demand_sound(problem, found.schedule) == pytest.approx(found.value) and found.value <= whole.value
+
+
+def test_an_interruption_while_a_window_is_solved_ends_its_process(monkeypatch):
+    """The process would take ten minutes."""
+    popen, begun = optimiser.subprocess.Popen, []
+
+    def sleep(arguments, **options):
+        begun.append(popen(["/bin/sleep", "600"], **options))
+        Timer(0.3, os.kill, (os.getpid(), signal.SIGINT)).start()
+        return begun[0]
+
+    monkeypatch.setattr(optimiser.subprocess, "Popen", sleep)
+    problem = next(it for it in map(random_problem, range(3000, 3100)) if it.years > 1 and solve(it).gap > 1e-3)
+    found = solve(problem, Effort(0.0, 600.0))
+    assert found.interrupted and begun[0].wait(5) != 0 and demand_sound(problem, found.schedule) == pytest.approx(solve(problem).value)
 
 
 def test_an_interruption_before_there_is_a_bound_is_passed_on(monkeypatch):

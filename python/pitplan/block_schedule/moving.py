@@ -3,6 +3,7 @@
 from __future__ import annotations
 
 from dataclasses import dataclass, field
+from itertools import product
 
 import numpy as np
 
@@ -45,10 +46,9 @@ class Moving:
         worth = self.worth[block]
         self.room.take(block, now[1], now[0], -1)
         best = now
-        for year in range(first, last + 1):
-            for destination in range(len(worth)):
-                if worth[destination][year] > worth[best[1]][best[0]] and self.room.fits(block, destination, year):
-                    best = year, destination
+        for year, destination in product(range(first, last + 1), range(len(worth))):
+            if worth[destination][year] > worth[best[1]][best[0]] and self.room.fits(block, destination, year):
+                best = year, destination
         self.room.take(block, best[1], best[0])
         self.year[block], self.destination[block] = best
         return best != now

@@ -22,12 +22,14 @@ from .relaxation import Relaxation, Round, relaxed
 from .schedule import BlockSchedule, nothing
 from .topological import Ranks, ranks_of
 from .toposort import sequences
-from .windows import sizes_of, window_of
+from .windows import Window, sizes_of, window_of
 
 # The relaxation is solved to this share of its bound.
 RELAXED = 1e-4
-# A window's programme may take so many seconds.
-WINDOW_SECONDS = 60.0
+# A window's programme may take so many seconds, and is given up where it is not through after so many.
+WINDOW_SECONDS, PATIENCE = 60.0, 180.0
+# HiGHS ends so many seconds after its time is up, or much later.
+LATE = 10.0
 
 
 @dataclass(frozen=True)
@@ -164,25 +166,30 @@ class Search:
 
     def windows(self, effort: Effort, began: float) -> None:
         """Solves window after window anew, larger ones once none has become better, until the gap is reached or the seconds are over."""
-        for width, most in sizes_of(self.problem):
-            before = -np.inf
-            while self.best.value(self.problem) > before:
-                before = self.best.value(self.problem)
-                for first in range(self.problem.years - width + 1):
-                    left = np.inf if effort.seconds is None else effort.seconds - (time.monotonic() - began)
-                    if left <= 0 or self.gap <= effort.gap:
-                        return
-                    self.window((first, first + width), most, Effort(effort.gap, min(left, WINDOW_SECONDS)))
+        for size in sizes_of(self.problem):
+            while self.sweep(size, effort, began):
+                pass
 
-    def window(self, years: tuple[int, int], most: int, effort: Effort) -> None:
-        """Solves the years from the first up to the second, without that, anew, unless that was done of the same blocks in the same
-        years."""
-        window = window_of(self.problem, self.best, self.relaxation.cumulative, years, most)
-        tried = years, window.blocks.tobytes(), self.best.year[window.blocks].tobytes()
-        if len(window.blocks) and tried not in self.tried:
-            self.tried.add(tried)
-            with self.progress.step(f"solving years {years[0] + 1} to {years[1]} anew, gap {100 * self.gap:.2f} %"):
-                self.offer(window.solved(effort))
+    def sweep(self, size: tuple[int, int], effort: Effort, began: float) -> bool:
+        """Solves each window of a size, years and most unknowns, once; gives whether the schedule has become better and there is time
+        left."""
+        before = self.best.value(self.problem)
+        for first in range(self.problem.years - size[0] + 1):
+            left = np.inf if effort.seconds is None else effort.seconds - (time.monotonic() - began)
+            if left <= 0 or self.gap <= effort.gap:
+                return False
+            window = window_of(self.problem, self.best, self.relaxation.cumulative, (first, first + size[0]), size[1])
+            self.offer(self.solved(window, Effort(effort.gap, min(left, WINDOW_SECONDS)), min(PATIENCE, left + LATE)))
+        return self.best.value(self.problem) > before
+
+    def solved(self, window: Window, effort: Effort, patience: float) -> BlockSchedule:
+        """The schedule with a window solved anew, unless that was done of the same blocks in the same years."""
+        tried = (window.first, window.last), window.blocks.tobytes(), self.best.year[window.blocks].tobytes()
+        if not len(window.blocks) or tried in self.tried:
+            return self.best
+        self.tried.add(tried)
+        with self.progress.step(f"solving years {window.first + 1} to {window.last} anew, gap {100 * self.gap:.2f} %"):
+            return window.solved(effort, patience)
 
     @property
     def gap(self) -> float:

@@ -86,11 +86,17 @@ def cone_sums(needs: Needs, ranks: Ranks, amounts: NDArray[np.float64]) -> NDArr
     sums = np.zeros_like(amounts)
     for first in range(0, len(amounts), AT_ONCE):
         marked = ranks.order[first : first + AT_ONCE]
-        cones = cones_with(needs, ranks, marked)
-        for start in range(0, len(cones), SUMMED):
-            rows = np.unpackbits(cones[start : start + SUMMED].view(np.uint8), axis=1, bitorder="little", count=len(marked))
-            sums[start : start + SUMMED] += rows.astype(np.float64) @ amounts[marked]
+        sums += summed(cones_with(needs, ranks, marked), amounts[marked])
     return sums
+
+
+def summed(cones: NDArray[np.uint64], amounts: NDArray[np.float64]) -> NDArray[np.float64]:
+    """What the marked blocks of each cone, a bit for each, add up to."""
+    parts = [np.zeros((0, amounts.shape[1]))]
+    for start in range(0, len(cones), SUMMED):
+        rows = np.unpackbits(cones[start : start + SUMMED].view(np.uint8), axis=1, bitorder="little", count=len(amounts))
+        parts.append(rows.astype(np.float64) @ amounts)
+    return np.concatenate(parts)
 
 
 def cones_with(needs: Needs, ranks: Ranks, marked: NDArray[np.int64]) -> NDArray[np.uint64]:

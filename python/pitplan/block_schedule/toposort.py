@@ -5,6 +5,7 @@ from __future__ import annotations
 
 from collections.abc import Iterator
 from dataclasses import dataclass
+from itertools import product
 
 import numpy as np
 from numpy.typing import NDArray
@@ -40,12 +41,11 @@ def sequences(problem: BlockProblem, ranks: Ranks, cumulative: NDArray[np.float6
     years = problem.years
     begun = np.where(cumulative[:, -1] > SLIGHT, (cumulative > SLIGHT).argmax(axis=1), years)
     expected = years - cumulative.sum(axis=1)
-    for key in (expected, *((cumulative < part - SLIGHT).sum(axis=1) for part in PARTS)):
-        order = in_order(problem, ranks, key, expected)
-        for least in (LEFT, SLIGHT):
-            some = order[cumulative[order, -1] >= least]
-            for earlier in EARLIER:
-                yield Sequence(some, np.zeros_like(begun) if earlier is None else np.maximum(begun - earlier, 0))
+    keys = (expected, *((cumulative < part - SLIGHT).sum(axis=1) for part in PARTS))
+    orders = [in_order(problem, ranks, key, expected) for key in keys]
+    for order, least, earlier in product(orders, (LEFT, SLIGHT), EARLIER):
+        earliest = np.zeros_like(begun) if earlier is None else np.maximum(begun - earlier, 0)
+        yield Sequence(order[cumulative[order, -1] >= least], earliest)
 
 
 def in_order(problem: BlockProblem, ranks: Ranks, key: NDArray, second: NDArray) -> NDArray[np.int64]:

@@ -25,8 +25,6 @@ from .topological import ranks_of
 
 # Windows have about so many whole unknowns at most, at first the fewer ones, and so many years unless all blocks fit.
 FEWER, MOST_UNKNOWNS, MOST_YEARS = 2_500, 5_000, 4
-# By so many times its seconds a programme may be late.
-PATIENCE = 3.0
 # A share that may be the solver's tolerance alone.
 SLIGHT = 1e-6
 
@@ -139,13 +137,13 @@ class Window:
         matrix = csr_matrix((-np.ones(len(some)), (np.arange(len(some)), at)), shape=(len(some), self.width))
         return matrix, -np.ones(len(some))
 
-    def solved(self, effort: Effort) -> BlockSchedule:
-        """The schedule with the best that was found in the window, or as it was where that is no better or not found in half as much time
-        again.
+    def solved(self, effort: Effort, patience: float = np.inf) -> BlockSchedule:
+        """The schedule with the best that was found in the window, or as it was where that is no better, or is not found in so many
+        seconds of patience.
 
         Raises PlanError where HiGHS fails, and KeyboardInterrupt where it is interrupted.
         """
-        found = solve(self.programme(), effort, None if effort.seconds is None else PATIENCE * effort.seconds)
+        found = solve(self.programme(), effort, None if np.isinf(patience) else patience)
         if found.unknowns is None:
             return self.schedule
         problem, truths = self.problem, self.place.size

@@ -20,6 +20,8 @@ from .schedule import CENT, discount
 
 FILE, CASE = "block_schedule.json", "block"
 SLIGHT = 1e-6
+# By process the share of each block that goes there.
+Shares = list[tuple[str, np.ndarray]]
 
 
 def verify(answer: Answer) -> list[Rule]:
@@ -35,22 +37,30 @@ def flows_of(answer: Answer) -> pd.DataFrame:
     shares = shares_of(answer)
     columns = {"rock_tonnes": answer.tonnes, "ore_tonnes": sum(share for _, share in shares) * answer.feed}
     columns |= {f"ore_tonnes_{name}": share * answer.feed for name, share in shares if name}
-    cash, said = -answer.said["mining_cost"].to_numpy(), answer.said
-    for (_, share), (revenue, cost) in zip(shares, answer.amounts_of_ways):
-        cash = cash + share * (said[revenue] - said[cost]).to_numpy()
-    for number, metal in enumerate(answer.project.metals):
-        grades = [recovered(way.metals[number], answer.rows, way) for way in answer.project.ways]
-        amount = sum(share * grade for (_, share), grade in zip(shares, grades)) * answer.undiluted * float(GRADE_UNITS[metal.unit])
-        columns[f"metal_{metal.name}"] = amount
-    frame = pd.DataFrame(columns)
-    year = said[YEAR].to_numpy()
+    columns |= {f"metal_{metal.name}": quantity(answer, number, shares) for number, metal in enumerate(answer.project.metals)}
+    frame, said = pd.DataFrame(columns), answer.said
+    amounts = zip(shares, answer.amounts_of_ways)
+    gain = sum(share * (said[revenue] - said[cost]).to_numpy() for (_, share), (revenue, cost) in amounts)
+    return frame.assign(cash=gain - said["mining_cost"].to_numpy() + more_by_years(answer, frame))
+
+
+def quantity(answer: Answer, number: int, shares: Shares) -> np.ndarray:
+    """What is recovered of a metal of each block: tonnes, or grams."""
+    grades = [recovered(way.metals[number], answer.rows, way) for way in answer.project.ways]
+    whole = sum(share * grade for (_, share), grade in zip(shares, grades))
+    return whole * answer.undiluted * float(GRADE_UNITS[answer.project.metals[number].unit])
+
+
+def more_by_years(answer: Answer, flows: pd.DataFrame) -> np.ndarray:
+    """What each block earns more by the prices of its year."""
+    year, more = answer.said[YEAR].to_numpy(), np.zeros(len(flows))
     for each in np.unique(year[year > 0]).tolist():
-        for name, premium in premiums(answer.project, each).items():
-            cash = cash + np.where(year == each, premium * frame[name], 0.0)
-    return frame.assign(cash=cash)
+        premium = sum((price * flows[name].to_numpy() for name, price in premiums(answer.project, each).items()), np.zeros(len(flows)))
+        more += np.where(year == each, premium, 0.0)
+    return more
 
 
-def shares_of(answer: Answer) -> list[tuple[str, np.ndarray]]:
+def shares_of(answer: Answer) -> Shares:
     """The share of each block that goes to each process, by its name: what is ore to the only one, whole."""
     names = [process.name for process in answer.project.processes]
     if not names:
