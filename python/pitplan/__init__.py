@@ -18,10 +18,10 @@ Functions write what the subcommands do, by default into the project's own folde
     pits = pitplan.pit("project.toml", 1000)               # a row with the fixed blocks and one without
     phases = pitplan.pushbacks("project.toml")             # one row a phase
     ways = pitplan.write_schedule("project.toml")          # one row a way: rule and lp
-    found = pitplan.write_block_schedule("project.toml")   # one row: value, bound, below_bound, ..
     cases = pitplan.sensitivity("project.toml")            # one row a case: a number more or less by a share
     found = pitplan.scenarios("project.toml")              # found.probability, found.table, found.quantiles; found.notes
 
+`write_block_schedule("project.toml")`, where no blocks are fixed, gives one row: value, bound, below_bound, years, blocks and tonnes.
 `Request` says where and how scenarios are solved, and `Where` on which Dask cases are; `gather(folder)` gathers what others have solved.
 
 Functions `plot_...` draw on axes of your own, which they give back, and leave matplotlib's backend as it is: those of `pitplan.pictures`
