@@ -10,6 +10,7 @@ from hypothesis import strategies as st
 from scipy.optimize import Bounds, LinearConstraint, linprog, milp
 
 from pitplan import PlanError
+from pitplan.block_schedule import master
 from pitplan.block_schedule import nodes as node_module
 from pitplan.block_schedule.closure import priced
 from pitplan.block_schedule.master import Master
@@ -238,6 +239,16 @@ def test_a_price_that_rises_makes_more_blocks_worth_digging():
     """In the second year the ore pays for its waste; at the prices of the first alone it does not."""
     assert worth_digging(problem_of([[-6, -6], [5, 5]], [(1, 0)])).tolist() == [False, False]
     assert worth_digging(problem_of([[-6, -6], [5, 7]], [(1, 0)])).tolist() == [True, True]
+
+
+def test_pairs_of_many_groups_are_the_same(monkeypatch):
+    """Those by sorting and those by marks."""
+    bounds = []
+    for most in (0, 2**28):
+        monkeypatch.setattr(master, "MOST_MARKS", most)
+        bounds.append([round(relaxed(without_first(random_problem(seed)), EXACT).bound, 9) for seed in range(20)])
+    assert bounds[0] == bounds[1]
+    assert master.distinct([np.array([5, 3, 5]), np.array([3, 1])], 2**30).tolist() == [1, 3, 5]
 
 
 def test_an_interruption_leaves_the_bound_of_the_rounds_so_far():

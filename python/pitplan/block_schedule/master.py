@@ -4,7 +4,7 @@ Bienstock-Zuckerberg algorithm, Computational Optimization and Applications 69, 
 
 from __future__ import annotations
 
-from collections.abc import Iterator
+from collections.abc import Iterable, Iterator
 from dataclasses import dataclass
 from functools import cached_property
 
@@ -18,6 +18,9 @@ from ..errors import PlanError
 from .groups import Groups
 from .nodes import Nodes
 from .whole_values import by_end
+
+# Of so many pairs of groups at most each has a mark, which is faster than to sort them.
+MOST_MARKS = 2**28
 
 
 @dataclass(frozen=True)
@@ -99,12 +102,20 @@ class Master:
 
 def pairs_of(groups: Groups, nodes: Nodes) -> csr_matrix:
     """Which groups need which others, as places of a matrix: some node of one needs some node of the other."""
-    is_pair = np.zeros(groups.count * groups.count, dtype=bool)
-    for user, needed in pairs_by_year(groups, nodes):
-        differ = user != needed
-        is_pair[user[differ].astype(np.int64) * groups.count + needed[differ]] = True
-    rows, columns = np.divmod(np.flatnonzero(is_pair), max(groups.count, 1))
+    differ = ((user[user != needed], needed[user != needed]) for user, needed in pairs_by_year(groups, nodes))
+    places = (user.astype(np.int64) * groups.count + needed for user, needed in differ)
+    rows, columns = np.divmod(distinct(places, groups.count * groups.count), max(groups.count, 1))
     return csr_matrix((np.ones(len(rows), dtype=np.float32), (rows, columns)), shape=(groups.count, groups.count))
+
+
+def distinct(places: Iterable[NDArray[np.int64]], most: int) -> NDArray[np.int64]:
+    """The numbers that are in any of the arrays, rising, each once; they are below `most`."""
+    if most > MOST_MARKS:
+        return np.unique(np.concatenate([np.zeros(0, dtype=np.int64), *map(np.unique, places)]))
+    is_there = np.zeros(most, dtype=bool)
+    for part in places:
+        is_there[part] = True
+    return np.flatnonzero(is_there)
 
 
 def pairs_by_year(groups: Groups, nodes: Nodes) -> Iterator[tuple[NDArray, NDArray]]:
