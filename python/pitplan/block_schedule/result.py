@@ -42,8 +42,8 @@ class ScheduledBlocks:
         return self.found.interrupted
 
     def beside(self, blocks: pd.DataFrame) -> pd.DataFrame:
-        """Rows of blocks, by `id`, with the year of each, from 1, 0 where it is not dug; and of several processes the share of it that
-        goes to each."""
+        """Rows of blocks, by `id`, with the year of each, from 1, 0 where it is not dug; and of several processes share_NAME, the share of it
+        that goes to each."""
         problem, schedule = self.planned.problem, self.found.schedule
         columns = {"year": np.where(schedule.year < problem.years, schedule.year + 1, 0).astype(np.int16)}
         for number, name in enumerate(self.planned.destinations):
