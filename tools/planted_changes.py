@@ -33,7 +33,7 @@ from line_coverage import Lines
 from warm_tests import Runner
 
 LAYER = pathlib.Path("python") / "pitplan"
-DRAWING = ("pictures.py", "schedule_pictures.py", "sensitivity_pictures.py", "map_marks.py", "yearly.py", "simulation/pictures.py")
+DRAWING = ("pictures.py", "schedule_pictures.py", "block_pictures.py", "sensitivity_pictures.py", "map_marks.py", "yearly.py", "simulation/pictures.py")
 PICTURES = {LAYER / name for name in DRAWING}
 WANTED = 0.95
 # A change may make a program take all the memory or all the time that it is given.
@@ -119,7 +119,8 @@ def warm(folder: pathlib.Path, environment: dict[str, str]) -> Iterator[Copy]:
 @contextlib.contextmanager
 def trial(jobs: int) -> Iterator[Trial | None]:
     """Runs the tests once without a change; None where one fails. Then as many changes can be tried at once as there are jobs."""
-    environment = {**os.environ, "PITSHELL": os.environ.get("PITSHELL", str(TOP / "build" / "pitshell"))}
+    built = {"PITSHELL": TOP / "build" / "pitshell", "PITSHELL_LIBRARY": TOP / "build" / "libpitshell.so"}
+    environment = {**{name: str(file) for name, file in built.items() if file.exists()}, **os.environ}
     with contextlib.ExitStack() as stack:
         # All at once, so that the repository may be worked on meanwhile.
         first, *others = [stack.enter_context(clone.clone()) for _ in range(jobs + 1)]

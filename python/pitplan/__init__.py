@@ -1,9 +1,9 @@
-"""The planner's layer over the proved program `pitshell`: from a table of blocks to shells, numbers and pictures.
+"""The planner's layer over the proved solver `pitshell`: from a table of blocks to shells, numbers and pictures.
 
     import pitplan
 
     plan = pitplan.prepare("project.toml")      # plan.blocks: one row a block, with costs and revenue
-    solution = pitplan.solve(plan)              # the program's shells; solution.worth: exact, by factor
+    solution = pitplan.solve(plan)              # the proved shells; solution.worth: exact, by factor
     pitplan.blocks(plan, solution)              # plan.blocks with the least factor of each block
     pitplan.shells(plan, solution)              # one row a factor: tonnes, grades, strip ratio, worth, NPV
     pitplan.years(plan, solution)               # one row a case, factor and year: rock, ore, metal, cash
@@ -12,7 +12,7 @@ Functions write what the subcommands do, by default into the project's own folde
 
     table = pitplan.write_shells("project.toml", "out")    # as pitplan shells, verified: one row a factor
     pitplan.view("out")                                    # the path of view.html
-    pitplan.export("out", "csv")                           # that of pit.csv; or "table", "xlsx", "vti", "vtu", or "dxf" with a factor
+    pitplan.export("out", "csv")                           # that of pit.csv; or table, xlsx, vti, vtu; with a factor dxf, stl or obj
     pitplan.audit("out", 800)                              # that of a folder by which others can check the shell
     rules = pitplan.verify("out")                          # each with what holds, differences, and their count
     pits = pitplan.pit("project.toml", 1000)               # a row with the fixed blocks and one without
@@ -21,6 +21,7 @@ Functions write what the subcommands do, by default into the project's own folde
     cases = pitplan.sensitivity("project.toml")            # one row a case: a number more or less by a share
     found = pitplan.scenarios("project.toml")              # found.probability, found.table, found.quantiles; found.notes
 
+`write_block_schedule("project.toml")`, where no blocks are fixed, gives one row: value, bound, below_bound, years, blocks and tonnes.
 `Request` says where and how scenarios are solved, and `Where` on which Dask cases are; `gather(folder)` gathers what others have solved.
 
 Functions `plot_...` draw on axes of your own, which they give back, and leave matplotlib's backend as it is: those of `pitplan.pictures`
@@ -28,16 +29,19 @@ take a table of shells, or `pictures.scene_of(plan, solution)`; those of `pitpla
 `scene_of(pitplan.phases.divide(plan))`; `pitplan.yearly.plot_years` a table of years; and those of `pitplan.simulation.pictures`
 `found.likely(1000)` or `found.table`; those of `pitplan.sensitivity_pictures` a table of cases.
 
-That a shell is the smallest set of greatest worth that keeps the needs is proved of the program, for the files that it
-reads. This layer, which writes those files, is not proved; `plan.notes` says what it rounded, dropped and clipped.
+The library `libpitshell` solves where it is there, else the program `pitshell`; `dataclasses.replace(project, solver="program")`, or
+"library", asks for one. That a shell is the smallest set of greatest worth that keeps the needs is proved of both, for what they are given.
+This layer, which makes that of a table, is not proved; `plan.notes` says what it rounded, dropped and clipped.
 """
 
 from .analyse import blocks, shells, years
+from .block_commands import write_block_schedule
 from .commands import audit, export, gather, pit, pushbacks, scenarios, sensitivity, verify, view, write_schedule, write_shells
 from .errors import BudgetUsedUp, MissingPackage, PlanError, ProgramError
+from .mine import solve
 from .plan import Plan, prepare
 from .project import Project, load
-from .run import Solution, solve
+from .run import Solution
 from .simulation import Request, ScenarioResult
 from .simulation.on_dask import Where
 from .verification import Rule
@@ -70,6 +74,7 @@ __all__ = [
     "solve",
     "verify",
     "view",
+    "write_block_schedule",
     "write_schedule",
     "write_shells",
     "years",

@@ -2,25 +2,32 @@
 
 The shell of factor f is the pit of the mine whose values are `f * revenue - 1000 * cost`. In money that has up to nine
 decimals; a model has six, so its values are written a thousandfold, exactly.
+
+A folder that the program solved has the mine's files. Where the library solved, they are written here, of project and table, which must be
+as they were. Either way the audited pit is found by the program, and must be the shell that the folder tells of.
 """
 
 from __future__ import annotations
 
 import shutil
+from dataclasses import replace
 from decimal import Decimal
 from pathlib import Path
 
 import numpy as np
 import pandas as pd
 
-from . import files, installation, run
+from . import files, fixed as fixing, installation, run
 from .errors import PlanError
 from .files import Folder
+from .mine import values_at
+from .plan import Plan, prepare
+from .progress import Progress
+from .project import load
 
 CHECKER = installation.checker()
 MODEL, PREC, FIXED, CERTIFICATE = "shell.upit", "shell.prec", "shell.fixed", "shell.cert"
 PIT, RECORD, SCRIPT = "pit.txt", "audit.json", "check.sh"
-GREATEST = 10**18
 
 CHECK_SCRIPT = """#!/bin/sh
 # Checks the shell of factor {factor} of "{title}": the files' hashes, then the certificate by the proved program, then by
@@ -41,33 +48,51 @@ printf 'check_certificate.py: '
 """
 
 
-def values_at(blocks: Path, factor: int) -> np.ndarray:
-    """Each node's value at a factor, in billionths: `factor * revenue - 1000 * cost` of the millionths in the file."""
+def read_nodes(blocks: Path) -> tuple[np.ndarray, np.ndarray]:
+    """Revenue and cost of each node, int64 millionths, of a block model's file."""
     columns = pd.read_csv(blocks, sep=" ", header=None, usecols=[4, 5], dtype=str)
-    revenue, cost = (np.array([int(Decimal(text).scaleb(6)) for text in columns[k]], dtype=object) for k in (4, 5))
-    values = factor * revenue - 1000 * cost
-    if max(abs(values), default=0) >= GREATEST:
-        raise PlanError(
-            f"{blocks}: a value at factor {factor}, a thousandfold, is 10^12 or more and does not fit a model: "
-            "give prices and costs in a greater unit of money"
-        )
-    return values.astype(np.int64)
+    revenue, cost = (np.array([int(Decimal(text).scaleb(6)) for text in columns[k]], dtype=np.int64) for k in (4, 5))
+    return revenue, cost
 
 
-def write(stage: Path, folder: Folder, factor: int) -> None:
-    """Writes model, precedence, certificate, pit, hashes, the program's identity and the script that checks them.
+def prepared_again(folder: Folder, progress: Progress) -> Plan:
+    """The plan that the library solved. Raises PlanError where project or table are not as they were."""
+    project = load(folder.path / folder.record["project"])
+    for path in project.inputs:
+        if files.hash_of(path) != folder.record["inputs"].get(path.name):
+            raise PlanError(f"{path}: has changed since {folder.path / files.RECORD} was written: run pitplan shells again")
+    schedule = replace(project.schedule, factors=tuple(folder.record["factors"]))
+    return prepare(replace(project, schedule=schedule), progress=progress)
 
-    Raises ProgramError where the program refuses, and PlanError where its pit is not the shell of the plan.
+
+def write_mine(stage: Path, folder: Folder, factor: int, progress: Progress) -> None:
+    """Writes the mine at a factor: the model, the needs, and where blocks are fixed these. Raises PlanError where it is not that of the
+    plan any more, or a value does not fit a model."""
+    if files.BLOCKS in folder.record["files"]:
+        nodes = read_nodes(folder.path / files.BLOCKS)
+        for name, copy in ((files.PREC, PREC), (files.FIXED, FIXED)):
+            if name in folder.record["files"]:
+                shutil.copyfile(folder.path / name, stage / copy)
+    else:
+        plan = prepared_again(folder, progress)
+        nodes = plan.values.nodes()
+        plan.write_needs(stage / PREC, plan.needs)
+        if plan.settled is not None:
+            fixing.write(stage / FIXED, plan.fixed)
+    files.write_model(stage / MODEL, f"shell {factor} of {folder.record['title']}", values_at(nodes, factor))
+
+
+def write(stage: Path, folder: Folder, factor: int, progress: Progress) -> None:
+    """Writes model, precedence, certificate, pit, hashes, the identity of what solved and of the program, and the script that checks them.
+
+    Raises ProgramError where the program refuses, and PlanError where its pit is not the shell of the plan, or the plan cannot be made
+    again.
     """
-    values = values_at(folder.path / files.BLOCKS, factor)
-    files.write_model(stage / MODEL, f"shell {factor} of {folder.record['title']}", values)
-    shutil.copyfile(folder.path / files.PREC, stage / PREC)
+    write_mine(stage, folder, factor, progress)
     shutil.copyfile(CHECKER, stage / CHECKER.name)
     options = ["--model", stage / MODEL, "--prec", stage / PREC, "--certificate", stage / CERTIFICATE]
-    fixed = [FIXED] if files.FIXED in folder.record["files"] else []
-    for name in fixed:
-        shutil.copyfile(folder.path / files.FIXED, stage / name)
-        options += ["--fixed", stage / name]
+    fixed = [FIXED] if (stage / FIXED).exists() else []
+    options += [word for name in fixed for word in ("--fixed", stage / name)]
     (stage / PIT).write_bytes(run.call("solve", *options))
     worth = demand_same(stage, folder, factor)
     names = [MODEL, PREC, *fixed, CERTIFICATE, PIT, CHECKER.name]
@@ -79,10 +104,11 @@ def write(stage: Path, folder: Folder, factor: int) -> None:
         "title": folder.record["title"],
         "factor": factor,
         "worth_at_factor": str(worth),
+        "solver": folder.record["shells"]["solver"],
         "program": run.identity(),
         "files": hashes,
         "plan": {**folder.record["inputs"], **folder.record["files"]},
-        "not_proved": "how mine.blocks and mine.prec were made from the table",
+        "not_proved": "how the mine was made from the table",
     }
     files.write_json(stage / RECORD, record)
     words = {
@@ -95,6 +121,13 @@ def write(stage: Path, folder: Folder, factor: int) -> None:
     }
     (stage / SCRIPT).write_text(CHECK_SCRIPT.format(**words), encoding="utf-8")
     (stage / SCRIPT).chmod(0o755)
+
+
+def notes(folder: Path) -> list[str]:
+    """That the shells were found by another release than that of the program which audits, where it is so."""
+    record = files.read_json(folder / RECORD)
+    found, audited = (record[name]["version"] for name in ("solver", "program"))
+    return [] if found.split()[-1] == audited.split()[-1] else [f"WARNING: {found} found the shells, and {audited} has audited them"]
 
 
 def demand_same(stage: Path, folder: Folder, factor: int) -> Decimal:

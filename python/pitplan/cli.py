@@ -6,6 +6,7 @@ import argparse
 import signal
 import sys
 import threading
+from dataclasses import replace
 from pathlib import Path
 from typing import Any, Optional, Sequence
 
@@ -13,11 +14,12 @@ import minelib
 import pandas as pd
 from minelib.__main__ import add_arguments as add_minelib
 
-from . import __version__, commands, exports, files, init, report, sensitivity_files, simulation
+from . import __version__, block_commands, commands, exports, files, init, report, sensitivity_files, simulation
 from .errors import PlanError
 from .progress import Progress, on_standard_error, silent
 from .project import REFERENCE_FACTOR, Project, load
 from .simulation.on_dask import Where
+from .solver import BY
 from .verification import demand
 
 # As a shell has it: 128 and the signal's number.
@@ -31,10 +33,10 @@ def parser() -> argparse.ArgumentParser:
     add_init(subs)
     words = {
         "prepare": "write the program's files and prepare.json, which says what was rounded, dropped and clipped",
-        "shells": "prepare, run the program, and write tables, pictures and the report",
+        "shells": "find the shells, and write tables, pictures and the report",
         "pit": "solve the pit of one factor with the project's fixed blocks and without them, and compare the two",
         "pushbacks": "divide the pit of one factor into phases, and write tables, pictures and the report",
-        "schedule": "schedule the phases of a pit by years, and write tables, pictures and the report",
+        "schedule": "schedule the phases of a pit, or its blocks, by years, and write tables, pictures and the report",
         "sensitivity": "tell how much the pit that is shown hangs on prices, costs, recovery, slopes and capacity, by tables and pictures",
         "view": "write a page that shows the shells in 3D (libjs-three)",
         "export": "write the shells for other programs",
@@ -49,6 +51,10 @@ def parser() -> argparse.ArgumentParser:
             sub.add_argument("--to", required=True, choices=tuple(exports.WRITERS))
         if name in ("pit", "pushbacks", "schedule", "sensitivity", "shells"):
             sub.add_argument("--no-verify", action="store_true", help="leave out the second look at every number")
+            add_solver(sub)
+        if name == "schedule":
+            text = "schedule benches of phases (phase, the default), or blocks one by one, with the bound of all such schedules (block)"
+            sub.add_argument("--by", choices=("phase", "block"), default="phase", help=text)
         if name == "sensitivity":
             text = "local (processes, by Dask) or tcp://host:port (a Dask scheduler; default: here, one case after the other)"
             sub.add_argument("--on", type=scheduler_of, metavar="WHERE", help=text)
@@ -67,6 +73,11 @@ def parser() -> argparse.ArgumentParser:
     return top
 
 
+def add_solver(sub: Any) -> None:
+    text = "what solves: the library on arrays, or the program on files, which are kept (default: the library where it is there)"
+    sub.add_argument("--solver", choices=BY, help=text)
+
+
 def add_init(subs: Any) -> None:
     text = "write a project for a table, with each guess marked, that runs as it stands"
     sub = subs.add_parser("init", help=text, description=text)
@@ -79,7 +90,7 @@ def add_scenarios(subs: Any) -> None:
     words = {
         "scenarios": "solve simulated models at several prices, and tell how often each block is in the pit",
         "gather": "write probabilities, tables and pictures of a folder of scenarios that others have solved",
-        "scenario": "solve one scenario of a folder: ends with 0, the program's status 1 to 4, 5 where pitplan "
+        "scenario": "solve one scenario of a folder: ends with 0, the solver's status 1 to 4, 5 where pitplan "
         "refuses, or 75 where the program was killed and another try may help",
     }
     every, some, one = (subs.add_parser(name, help=text, description=text) for name, text in words.items())
@@ -88,6 +99,7 @@ def add_scenarios(subs: Any) -> None:
     where = "local (processes, by Dask), tcp://host:port (a Dask scheduler), slurm or parallel (lists of jobs to start)"
     every.add_argument("--on", default="local", type=where_of, metavar="WHERE", help=where)
     every.add_argument("--workers", type=positive, help="processes of local (default: one for each processor)")
+    add_solver(every)
     for sub in (some, one):
         sub.add_argument("folder", type=Path, help="the folder that pitplan scenarios wrote")
     for sub in (every, some):
@@ -144,7 +156,7 @@ def main(arguments: Optional[Sequence[str]] = None) -> int:
             tell_notes(minelib.convert(options.files, options.out)["notes"])
             print(options.out)
         else:
-            project = load(options.project)
+            project = project_of(options)
             run_command(options, project, options.out or project.folder, progress)
     except (PlanError, minelib.MinelibError) as error:
         print(f"pitplan: {error}", file=sys.stderr)
@@ -153,6 +165,11 @@ def main(arguments: Optional[Sequence[str]] = None) -> int:
         print("pitplan: interrupted", file=sys.stderr)
         return INTERRUPTED
     return 0
+
+
+def project_of(options: argparse.Namespace) -> Project:
+    """The project of a command, with what it asks for to solve."""
+    return replace(load(options.project), solver=getattr(options, "solver", None))
 
 
 def end_where_asked() -> None:
@@ -181,6 +198,12 @@ def run_command(options: argparse.Namespace, project: Project, folder: Path, pro
         folder = options.out or project.folder / "pushbacks"
         table = commands.pushbacks(project, folder, progress, not options.no_verify)
         tell_table(table, report.columns_of_phases(table, project), folder)
+    elif options.command == "schedule" and options.by == "block":
+        folder = options.out or project.folder / "block_schedule"
+        table = block_commands.write_block_schedule(project, folder, progress, not options.no_verify)
+        tell_table(table, report.columns_by_block(table, project), folder)
+        if files.read_json(folder / files.BLOCK_SCHEDULE)["interrupted"]:
+            raise KeyboardInterrupt
     elif options.command == "schedule":
         folder = options.out or project.folder / "schedule"
         table = commands.write_schedule(project, folder, progress, not options.no_verify)
@@ -223,7 +246,7 @@ def run_scenarios(options: argparse.Namespace, progress: Progress) -> None:
         result = commands.gather(options.folder, request, progress)
     else:
         request = simulation.Request(options.on, options.workers, options.factor, options.partial, not options.no_verify)
-        result = commands.scenarios(options.project, options.out, request, progress)
+        result = commands.scenarios(project_of(options), options.out, request, progress)
     tell_notes(list(result.notes))
     print(result.start or result.folder)
 

@@ -3,30 +3,36 @@
 from __future__ import annotations
 
 import os
-from dataclasses import dataclass, replace
+from dataclasses import asdict, dataclass, replace
 from pathlib import Path
-from typing import Any, Optional, Union
+from typing import TYPE_CHECKING, Any, Optional, Union
 
 import numpy as np
 import pandas as pd
 
-from . import absent, analyse, auditing, exports, files, page, phase_pictures, phases as phasing, pictures, report, run
+from . import absent, analyse, auditing, block_pictures, csv_file, exports, files, mine as mines, page, phase_pictures, phases as phasing, pictures
+from . import report
 from . import schedule_pictures, sensitivity_files, sensitivity_pictures, simulation, varied_cases, verification, workbook, yearly, yearly_schedule as scheduling
 from .errors import PlanError
+from .mine import Mine
 from .phases import Phases
 from .plan import Plan, prepare as prepare_plan
 from .progress import Progress, silent
 from .project import REFERENCE_FACTOR, Project, load
+from .run import Solution
 from .simulation import Request, ScenarioResult
 from .simulation.on_dask import Where
+from .solver import PROGRAM, Solver, chosen
 from .verification import Rule
 from .yearly_schedule import YearlySchedule
+
+if TYPE_CHECKING:
+    from .block_schedule.result import ScheduledBlocks
 
 # A project, or where its project.toml is; and a folder.
 Source = Union[str, Path, Project]
 Place = Union[str, Path]
-PREPARED = [files.BLOCKS, files.MODEL, files.PREC]
-PIT_MODEL, PITS = "pit.upit", "pits.csv"
+PITS = "pits.csv"
 PICTURES = {
     "pit_by_pit": "pit_by_pit.png",
     "years": "years.png",
@@ -41,27 +47,20 @@ SCHEDULE_PICTURES = {
 }
 REPORT, VIEW, WORKBOOK = "report.html", "view.html", "schedule.xlsx"
 WRITTEN = {
-    *PREPARED,
-    files.FIXED,
-    files.REST_BLOCKS,
-    files.REST_PREC,
+    *files.OF_PROGRAM,
     files.RECORD,
     files.TABLE,
     files.SHELLS,
     files.YEARS,
     files.PHASES,
-    files.SCHEDULE,
-    files.SCHEDULE_RECORD,
-    files.MILLING,
-    files.ANSWER,
-    REPORT,
-    VIEW,
+    *(files.SCHEDULE, files.SCHEDULE_RECORD, files.MILLING, WORKBOOK),
+    *(files.BLOCK_SCHEDULE, block_pictures.NAME),
+    *(REPORT, VIEW),
     *PICTURES.values(),
     *PHASE_PICTURES.values(),
     *SCHEDULE_PICTURES.values(),
-    WORKBOOK,
 }
-WRITTEN |= {PIT_MODEL, PITS, *sensitivity_files.WRITTEN, *sensitivity_pictures.WRITTEN, *exports.WRITTEN}
+WRITTEN |= {PITS, *sensitivity_files.WRITTEN, *sensitivity_pictures.WRITTEN, *exports.WRITTEN}
 
 
 def read(project: Source) -> Project:
@@ -73,14 +72,11 @@ def prepare(project: Project, folder: Path, progress: Progress) -> dict[str, Any
     demand_apart(project, folder)
     plan = prepare_plan(project, progress=progress)
     with files.staged(folder) as stage:
-        record = write_prepared(plan, stage, progress)
+        pictures.demand_within(plan)
+        with progress.step("writing blocks and needs"):
+            pairs = plan.write(stage)
         write_table(plan.blocks, stage)
-        return finish(plan, record, [*written(plan), files.TABLE], stage)
-
-
-def written(plan: Plan) -> list[str]:
-    """The files of a plan for the program."""
-    return [*PREPARED, files.FIXED, files.REST_BLOCKS, files.REST_PREC] if plan.project.fixed else PREPARED
+        return finish(plan, plan.record(pairs), [*files.of_program(stage), files.TABLE], stage)
 
 
 def pit(
@@ -107,20 +103,21 @@ def pit(
     schedule = replace(project.schedule, factors=within, chosen=None, reference_added=False)
     project = replace(project, schedule=schedule)
     demand_apart(project, target)
+    solver = chosen(project.solver)
     plan = prepare_plan(project, progress=progress)
-    with files.staged(target) as stage:
-        record = write_prepared(plan, stage, progress)
-        keeping = run.solve(plan, stage, progress)
-        free = run.solve_files(stage / files.BLOCKS, stage / files.PREC, within)
+    with files.staged(target, whole=files.OF_PROGRAM) as stage:
+        mine, record = ready(plan, solver, stage, progress)
+        keeping = mines.solve(plan, mine, progress)
+        free = mine.free_shells(within)
         absent.demand_known(free.entry, plan.grid, project, plan.source)
-        check_fixed(plan, keeping, factor, stage, progress)
+        check_fixed(mine, keeping, factor, progress)
         table = pd.concat([analyse.shells(plan, solution).tail(1) for solution in (keeping, free)], ignore_index=True)
         table.insert(0, "fixed_blocks", ["kept", "free"])
         of_free = analyse.blocks(plan, free)[["factor", "process_factor"]].add_prefix("free_")
         write_table(pd.concat([analyse.blocks(plan, keeping), of_free], axis=1), stage)
         shown(table).to_csv(stage / PITS, index=False)
         note_verified(plan, record, stage, verifies, progress)
-        finish(plan, record, [*written(plan), PIT_MODEL, files.TABLE, PITS], stage)
+        finish(plan, record, [*mine.files, files.TABLE, PITS], stage)
     return table
 
 
@@ -134,25 +131,24 @@ def note_verified(plan: Plan, record: dict[str, Any], stage: Path, verifies: boo
     if verifies:
         files.write_json(stage / files.RECORD, record)
         with progress.step("verifying"):
-            rules = verification.verify(stage, plan.project)
+            rules = verification.verify(stage, plan.project, plan.read)
         verification.demand(rules)
         record["verified"] = [f"{rule.name}: {rule.holds}" for rule in rules]
 
 
-def check_fixed(plan: Plan, solution: run.Solution, factor: int, stage: Path, progress: Progress) -> None:
-    """Writes the mine at a factor, and raises PlanError where the shell is not the pit that the program finds by `--fixed`."""
-    if plan.settled is None:
+def check_fixed(mine: Mine, solution: Solution, factor: int, progress: Progress) -> None:
+    """Raises PlanError where the shell of a factor is not the pit that the solver finds of the whole mine with its fixed blocks."""
+    if mine.plan.settled is None:
         return
     with progress.step(f"solving factor {factor} by itself, with the fixed blocks"):
-        files.write_model(stage / PIT_MODEL, plan.project.title, auditing.values_at(stage / files.BLOCKS, factor))
-        pit = run.solve_pit(stage / PIT_MODEL, stage / files.PREC, stage / files.FIXED, factor)
-    run.demand_same(solution, pit, factor)
+        pit = mine.pit(factor)
+    mines.demand_same(solution, pit, factor)
 
 
 def write_shells(
     project: Source, folder: Optional[Place] = None, progress: Progress = silent, verifies: bool = True
 ) -> pd.DataFrame:
-    """Prepares, runs the program, and writes tables, pictures, the report and the record prepare.json, as `pitplan shells` does.
+    """Prepares, solves, and writes tables, pictures, the report and the record prepare.json, as `pitplan shells` does.
 
     Gives the table that `shells` gives. The folder is by default the project's own. Raises PlanError where the input is not usable, and
     where what is written is not right, unless it is not verified.
@@ -160,12 +156,12 @@ def write_shells(
     project = read(project)
     target = project.folder if folder is None else Path(folder)
     demand_apart(project, target)
-    identity = run.identity()
+    solver = chosen(project.solver)
     plan = prepare_plan(project, progress=progress)
-    with files.staged(target) as stage:
-        record = write_prepared(plan, stage, progress) | {"program": identity}
-        solution = run.solve(plan, stage, progress)
-        return write_answer(Answered(plan, solution), record, Writing(stage, progress, verifies))
+    with files.staged(target, whole=files.OF_PROGRAM) as stage:
+        mine, record = ready(plan, solver, stage, progress)
+        solution = mines.solve(plan, mine, progress)
+        return write_answer(Answered(plan, solution), mine, record, Writing(stage, progress, verifies))
 
 
 def pushbacks(
@@ -182,13 +178,13 @@ def pushbacks(
     project = phasing.ending(read(project))
     target = project.folder / "pushbacks" if folder is None else Path(folder)
     demand_apart(project, target)
-    identity = run.identity()
+    solver = chosen(project.solver)
     plan = prepare_plan(project, progress=progress)
-    with files.staged(target) as stage:
-        record = write_prepared(plan, stage, progress) | {"program": identity}
-        phases = phasing.divide(plan, stage, progress)
+    with files.staged(target, whole=files.OF_PROGRAM) as stage:
+        mine, record = ready(plan, solver, stage, progress)
+        phases = phasing.divide(plan, mine, progress)
         record["notes"] += phases.notes
-        write_answer(Answered(phases.plan, phases.solution, phases), record, Writing(stage, progress, verifies))
+        write_answer(Answered(phases.plan, phases.solution, phases), mine, record, Writing(stage, progress, verifies))
     return phasing.table(phases)
 
 
@@ -209,14 +205,14 @@ def write_schedule(
     target = project.folder / "schedule" if folder is None else Path(folder)
     demand_apart(project, target)
     workbook.demand_library()
-    identity = run.identity()
+    solver = chosen(project.solver)
     plan = prepare_plan(project, progress=progress)
-    with files.staged(target) as stage:
-        record = write_prepared(plan, stage, progress) | {"program": identity}
-        phases = phasing.divide(plan, stage, progress)
+    with files.staged(target, whole=files.OF_PROGRAM) as stage:
+        mine, record = ready(plan, solver, stage, progress)
+        phases = phasing.divide(plan, mine, progress)
         schedule = scheduling.make(phases, progress)
         record["notes"] += [*phases.notes, *scheduling.notes(schedule)]
-        write_answer(Answered(phases.plan, phases.solution, phases, schedule), record, Writing(stage, progress, verifies))
+        write_answer(Answered(phases.plan, phases.solution, phases, schedule), mine, record, Writing(stage, progress, verifies))
     return scheduling.ways(schedule)
 
 
@@ -231,51 +227,57 @@ class Writing:
 
 @dataclass(frozen=True)
 class Answered:
-    """What was found of a plan: its shells, and where they were asked for phases of these and a yearly schedule of the phases."""
+    """What was found of a plan: its shells, and where they were asked for phases of these and a yearly schedule of the phases, or of blocks."""
 
     plan: Plan
-    solution: run.Solution
+    solution: Solution
     phases: Optional[Phases] = None
     schedule: Optional[YearlySchedule] = None
+    blocks: Optional[ScheduledBlocks] = None
 
 
-def write_answer(answered: Answered, record: dict[str, Any], writing: Writing) -> pd.DataFrame:
+def write_answer(answered: Answered, mine: Mine, record: dict[str, Any], writing: Writing) -> pd.DataFrame:
     """Writes tables, pictures, the report and the record of what was found; gives the shells' table."""
     plan, solution, phases = answered.plan, answered.solution, answered.phases
     stage, progress, project = writing.stage, writing.progress, plan.project
     with progress.step("counting the shells"):
         table, years = write_tables(answered, stage)
         record["notes"] += analyse.edge_notes(plan, solution)
-    chosen = analyse.chosen_factor(table, project.schedule)
-    check_fixed(plan, solution, chosen, stage, progress)
-    record["shells"] = {"factors": list(project.schedule.factors), "chosen": chosen, "program": record.pop("program")}
+    factor = analyse.chosen_factor(table, project.schedule)
+    check_fixed(mine, solution, factor, progress)
+    record["shells"] = {"factors": list(project.schedule.factors), "chosen": factor, "solver": record.pop("solver")}
     if phases is not None:
         record["phases"] = len(phases.factors)
     if answered.schedule is not None:
         record["schedule"] = answered.schedule.shown
+    if answered.blocks is not None:
+        record["by_block"] = True
     note_verified(plan, record, stage, writing.verifies, progress)
     formats = project.pictures.formats if project.pictures else ()
     with progress.step("drawing"), pictures.also_as(formats):
-        draw(plan, solution, table, chosen, stage)
-        yearly.write_years(years, project, chosen, stage / PICTURES["years"])
+        draw(plan, solution, table, factor, stage)
+        yearly.write_years(years, project, factor, stage / PICTURES["years"])
         drawn = PICTURES | draw_phases(answered, years, stage)
     if answered.schedule is not None:
         with progress.step("writing the workbook"):
             workbook.write(stage / WORKBOOK, sheets_of(answered, table, years))
-    finish(plan, record, [*written(plan), *([PIT_MODEL] if project.fixed else []), *tables_of(answered), *pictures.files_of(drawn, formats)], stage)
+    finish(plan, record, [*mine.files, *tables_of(answered), *pictures.files_of(drawn, formats)], stage)
     facts = facts_of(record, {name: stage / file for name, file in drawn.items()})
     if phases is not None:
         facts |= {"phases": report.table_of(phasing.table(phases), report.columns_of_phases, project)}
     if answered.schedule is not None:
         facts |= {"ways": report.table_of(scheduling.ways(answered.schedule), report.columns_of_ways, project)}
+    if answered.blocks is not None:
+        facts |= {"by_block": report.table_of(answered.blocks.table, report.columns_by_block, project)}
     report.write(stage / REPORT, project, table, facts)
     return table
 
 
 def tables_of(answered: Answered) -> list[str]:
     """The names of the files of tables that are written."""
-    names = [files.ANSWER, files.TABLE, files.SHELLS, files.YEARS, *([files.PHASES] if answered.phases else [])]
+    names = [files.TABLE, files.SHELLS, files.YEARS, *([files.PHASES] if answered.phases else [])]
     names += [files.SCHEDULE, files.SCHEDULE_RECORD, WORKBOOK] if answered.schedule else []
+    names += [files.BLOCK_SCHEDULE] if answered.blocks else []
     return [*names, files.MILLING] if answered.schedule and answered.schedule.milling else names
 
 
@@ -293,11 +295,12 @@ def sheets_of(answered: Answered, table: pd.DataFrame, years: pd.DataFrame) -> d
 
 
 def write_tables(answered: Answered, stage: Path) -> tuple[pd.DataFrame, pd.DataFrame]:
-    """Writes the program's answer, blocks.csv, shells.csv, years.csv, of phases phases.csv, and of a schedule schedule.csv, schedule.json
-    and where ore is divided into bins milling.csv; gives the shells and the years."""
+    """Writes the program's own answer, if it solved, blocks.csv, shells.csv, years.csv, of phases phases.csv, and of a schedule
+    schedule.csv, schedule.json and where ore is divided into bins milling.csv; gives the shells and the years."""
     plan, solution, phases, schedule = answered.plan, answered.solution, answered.phases, answered.schedule
     table, years = analyse.shells(plan, solution), analyse.years(plan, solution)
-    (stage / files.ANSWER).write_bytes(solution.answer)
+    if solution.answer is not None:
+        (stage / files.ANSWER).write_bytes(solution.answer)
     blocks = analyse.blocks(plan, solution) if phases is None else phasing.blocks(phases)
     if schedule is not None:
         blocks["year"] = scheduling.blocks_year(schedule)[blocks["id"].to_numpy()]
@@ -306,6 +309,9 @@ def write_tables(answered: Answered, stage: Path) -> tuple[pd.DataFrame, pd.Data
         files.write_json(stage / files.SCHEDULE_RECORD, scheduling.record(schedule))
         if schedule.milling:
             shown(scheduling.milling(schedule)).to_csv(stage / files.MILLING, index=False)
+    if answered.blocks is not None:
+        blocks, years = answered.blocks.beside(blocks), pd.concat([years, answered.blocks.years], ignore_index=True)
+        files.write_json(stage / files.BLOCK_SCHEDULE, answered.blocks.record)
     write_table(blocks, stage)
     shown(table).to_csv(stage / files.SHELLS, index=False)
     shown(years).to_csv(stage / files.YEARS, index=False)
@@ -321,19 +327,21 @@ def demand_apart(project: Project, folder: Path) -> None:
             raise PlanError(f"{path}: the plan would be written over it: give another folder by --out")
 
 
-def write_prepared(plan: Plan, stage: Path, progress: Progress) -> dict[str, Any]:
+def ready(plan: Plan, solver: Solver, stage: Path, progress: Progress) -> tuple[Mine, dict[str, Any]]:
+    """The mine of a plan for a solver, and the record of how it was made and what solves it."""
     pictures.demand_within(plan)
-    with progress.step("writing blocks and needs"):
-        return plan.write(stage)
+    with progress.step("writing blocks and needs" if solver.by == PROGRAM else "listing the needs"):
+        mine = mines.ready(plan, solver, stage)
+    return mine, plan.record(mine.pairs) | {"solver": asdict(solver)}
 
 
 def write_table(blocks: pd.DataFrame, stage: Path) -> None:
-    blocks.to_csv(stage / files.TABLE, index=False)
+    csv_file.write(stage / files.TABLE, blocks)
 
 
 def finish(plan: Plan, record: dict[str, Any], names: list[str], stage: Path) -> dict[str, Any]:
     """Writes the record with the hashes of what was read and of what was written."""
-    record["inputs"] = {path.name: files.hash_of(path) for path in (plan.project.path, plan.project.table.file)}
+    record["inputs"] = {path.name: files.hash_of(path) for path in plan.project.inputs}
     record["files"] = files.hashes(stage, names)
     files.write_json(stage / files.RECORD, record)
     return record
@@ -352,7 +360,7 @@ def shown(table: pd.DataFrame) -> pd.DataFrame:
     return result
 
 
-def draw(plan: Plan, solution: run.Solution, table: pd.DataFrame, chosen: int, stage: Path) -> None:
+def draw(plan: Plan, solution: Solution, table: pd.DataFrame, chosen: int, stage: Path) -> None:
     scene = pictures.scene_of(plan, solution, chosen)
     pictures.write_pit_by_pit(table, plan.project.money.currency, chosen, stage / PICTURES["pit_by_pit"])
     pictures.write_plans(scene, stage / PICTURES["plans"])
@@ -360,7 +368,7 @@ def draw(plan: Plan, solution: run.Solution, table: pd.DataFrame, chosen: int, s
 
 
 def draw_phases(answered: Answered, years: pd.DataFrame, stage: Path) -> dict[str, str]:
-    """Draws phases and their schedule, where there are such; gives the pictures' files by name."""
+    """Draws phases and schedules, where there are such; gives the pictures' files by name."""
     drawn: dict[str, str] = {}
     if answered.phases is not None:
         scene, drawn = phase_pictures.scene_of(answered.phases), PHASE_PICTURES
@@ -371,6 +379,9 @@ def draw_phases(answered: Answered, years: pd.DataFrame, stage: Path) -> dict[st
         schedule_pictures.write_gantt(answered.schedule, stage / drawn["schedule_gantt"])
         schedule_pictures.write_tonnes(answered.schedule, stage / drawn["schedule_tonnes"])
         schedule_pictures.write_cumulative(answered.schedule, years, stage / drawn["schedule_value"])
+    if answered.blocks is not None:
+        drawn = drawn | {"block_schedule": block_pictures.NAME}
+        block_pictures.write(answered.blocks, stage / block_pictures.NAME)
     return drawn
 
 
@@ -383,7 +394,7 @@ def facts_of(record: dict[str, Any], drawn: dict[str, Path]) -> dict[str, Any]:
         "notes": record["notes"],
         "verified": record["verified"],
         "files": {**record["inputs"], **record["files"]},
-        "program": record["shells"]["program"],
+        "solver": record["shells"]["solver"],
     }
 
 
@@ -417,7 +428,8 @@ def export(folder: Place, kind: str, factor: int = REFERENCE_FACTOR, progress: P
     """Writes the shells of a folder that `write_shells` has written for other programs; gives the file's path.
 
     `table` is the planner's own table, row by row, with each block's factors, phase and year behind it; `xlsx` all tables; `csv`, `vti`
-    and `vtu` hold the shells of all factors, and `dxf` the outline of one at each level, in metres. The factor is in per mille.
+    and `vtu` hold the shells of all factors, `dxf` the outline of one at each level, and `stl` and `obj` the closed surface round its
+    blocks, in metres. The factor is in per mille.
 
     Raises PlanError where the folder has no shells or not this factor, the kind is another, or what is written is not right, and
     MissingPackage without a library.
@@ -427,22 +439,24 @@ def export(folder: Place, kind: str, factor: int = REFERENCE_FACTOR, progress: P
     result = read_factor(folder, factor)
     target = result.path / exports.name_of(kind, factor)
     with progress.step(f"writing {target.name}"), files.staged_file(target) as path:
-        exports.WRITERS[kind](path, result, factor)
+        notes = exports.WRITERS[kind](path, result, factor)
         if kind == "table":
             verification.demand([verification.verify_table(result.path, path)])
+    progress.lines(notes or [])
     return target
 
 
 def audit(folder: Place, factor: int, progress: Progress = silent) -> Path:
     """Writes a folder by which others can check the shell of a factor, in per mille, with the program and without; gives its path.
 
-    Raises PlanError where the folder has no shells or not this factor, or another pit is found than its shell, and ProgramError where
-    the program refuses.
+    Raises PlanError where the folder has no shells or not this factor, the library found them and project or table have changed since, or
+    another pit is found than its shell, and ProgramError where the program refuses.
     """
     result = read_factor(folder, factor)
     target = result.path / f"audit-{factor}"
     with progress.step(f"writing {target.name}"), files.staged(target) as stage:
-        auditing.write(stage, result, factor)
+        auditing.write(stage, result, factor, progress)
+    progress.lines(auditing.notes(target))
     return target
 
 

@@ -1,7 +1,8 @@
 """Decimals held exactly, so that what is called a rounding is one, and not the noise of binary fractions.
 
 A number that stands in a table as `0.1` is held as 1 of 10**-1. Sums and products are exact; the only rounding is the
-one that is asked for at the end, and it says how many values it changed.
+one that is asked for at the end, and it says how many values it changed. Whole numbers are of 64 bits wherever the greatest of them shows
+beforehand that a result fits, which is many times as fast, and else Python's own.
 """
 
 from __future__ import annotations
@@ -15,6 +16,9 @@ import numpy as np
 # Up to here a float64 holds every whole number, so a decimal of so many digits is told from its float.
 EXACT_WHOLE = 2**53
 MOST_PLACES = 15
+# Powers of ten up to this one are floats.
+EXACT_POWER = 22
+MOST_WHOLE = 2**63 - 1
 
 
 @dataclass(frozen=True)
@@ -31,7 +35,7 @@ class Rounding:
 
 @dataclass(frozen=True)
 class Exact:
-    """Values `whole * 10**-places`; `whole` is an array of Python's whole numbers, without a limit of size."""
+    """Values `whole * 10**-places`; `whole` is an array of int64 or of Python's whole numbers, without a limit of size."""
 
     whole: np.ndarray
     places: int
@@ -40,7 +44,7 @@ class Exact:
     def of(value: Union[int, Decimal], count: int) -> "Exact":
         """The same value `count` times."""
         whole, places = whole_and_places(value)
-        return Exact(np.full(count, whole, dtype=object), places)
+        return Exact(np.full(count, whole, dtype=np.int64 if abs(whole) <= MOST_WHOLE else object), places)
 
     @staticmethod
     def of_floats(values: np.ndarray) -> "Exact":
@@ -51,7 +55,7 @@ class Exact:
             if np.abs(scaled).max(initial=0.0) >= EXACT_WHOLE:
                 break
             if (scaled / 10.0**places == numbers).all():
-                return Exact(scaled.astype(np.int64).astype(object), places)
+                return Exact(scaled.astype(np.int64), places)
         return Exact.of_decimals([Decimal(repr(float(number))) for number in numbers])
 
     @staticmethod
@@ -60,25 +64,27 @@ class Exact:
         most = max((places for _, places in pairs), default=0)
         whole = np.empty(len(pairs), dtype=object)
         whole[:] = [number * 10 ** (most - places) for number, places in pairs]
-        return Exact(whole, most)
+        return Exact(whole.astype(np.int64) if greatest(whole) <= MOST_WHOLE else whole, most)
 
     def at(self, places: int) -> np.ndarray:
         """The whole numbers of 10**-places; `places` may not be less than the value's own."""
-        return self.whole * 10 ** (places - self.places)
+        return product(self.whole, 10 ** (places - self.places))
 
     def times(self, other: "Exact") -> "Exact":
-        return Exact(self.whole * other.whole, self.places + other.places)
+        return Exact(product(self.whole, other.whole), self.places + other.places)
 
     def plus(self, other: "Exact") -> "Exact":
         places = max(self.places, other.places)
-        return Exact(self.at(places) + other.at(places), places)
+        return Exact(total(self.at(places), other.at(places)), places)
 
     def minus(self, other: "Exact") -> "Exact":
         return self.plus(Exact(-other.whole, other.places))
 
     def floats(self) -> np.ndarray:
         """The nearest floats, for pictures and reports."""
-        return np.array([number / 10**self.places for number in self.whole], dtype=np.float64)
+        if self.places <= EXACT_POWER and greatest(self.whole) <= EXACT_WHOLE:
+            return self.whole.astype(np.float64) / 10.0**self.places
+        return np.array([int(number) / 10**self.places for number in self.whole], dtype=np.float64)
 
     def rounded(self, places: int) -> tuple[np.ndarray, Rounding]:
         """Whole numbers of 10**-places, halves to the even one, and what the rounding did."""
@@ -86,16 +92,40 @@ class Exact:
             return self.at(places), Rounding(len(self.whole), 0, Decimal(0))
         unit = 10 ** (self.places - places)
         result = nearest(self.whole, unit)
-        off = np.abs(result * unit - self.whole)
-        largest = Decimal(int(max(off, default=0))).scaleb(-self.places)
+        off = np.abs(total(product(result, unit), -self.whole))
+        largest = Decimal(int(off.max(initial=0))).scaleb(-self.places)
         return result, Rounding(len(off), int(np.count_nonzero(off != 0)), largest)
+
+
+def greatest(whole: Union[int, np.ndarray]) -> int:
+    """The greatest size of whole numbers."""
+    return abs(whole) if isinstance(whole, int) else max(int(whole.max(initial=0)), -int(whole.min(initial=0)))
+
+
+def product(left: np.ndarray, right: Union[int, np.ndarray]) -> np.ndarray:
+    """Products of whole numbers, exact; of a right one that is no array by it."""
+    # Of zeros a product fits by whatever, which may have more than 64 bits.
+    fits = max(greatest(left), 1) * greatest(right) <= MOST_WHOLE
+    return left * right if fits else left.astype(object) * right
+
+
+def total(left: np.ndarray, right: np.ndarray) -> np.ndarray:
+    """Sums of whole numbers, exact."""
+    return left + right if greatest(left) + greatest(right) <= MOST_WHOLE else left.astype(object) + right
+
+
+def at_factor(factor: int, revenue: np.ndarray, cost: np.ndarray) -> np.ndarray:
+    """`factor * revenue - 1000 * cost`, exact: billionths, of a factor in per mille and amounts in millionths."""
+    return total(product(revenue, factor), product(cost, -1000))
 
 
 def nearest(whole: np.ndarray, unit: Union[int, np.ndarray]) -> np.ndarray:
     """The whole numbers nearest to these parts of a unit above 0, one for all or one each; halves to the even one."""
+    if 2 * greatest(unit) > MOST_WHOLE:
+        whole = whole.astype(object)
     below, over = whole // unit, whole % unit
     up = (2 * over > unit) | ((2 * over == unit) & (below % 2 == 1))
-    return below + up.astype(bool).astype(int).astype(object)
+    return below + up.astype(bool).astype(np.int64).astype(whole.dtype)
 
 
 def whole_and_places(value: Union[int, Decimal]) -> tuple[int, int]:

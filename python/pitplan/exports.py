@@ -1,23 +1,25 @@
 """The shells for other programs: the planner's own table or CSV for any, a workbook of all tables for spreadsheets, VTK image data or cells
-for ParaView, and DXF for drawing programs."""
+for ParaView, DXF for drawing programs, and surfaces for any that knows triangles."""
 
 from __future__ import annotations
 
 from pathlib import Path
-from typing import Any, Callable
+from typing import Callable, Optional
 
 import numpy as np
 import pandas as pd
 
-from . import files, planned_table, workbook
-from .errors import PlanError
+from . import csv_file, files, planned_table, surfaces, workbook
 from .files import Folder
-from .grid import Grid
 from .outlines import rings
 from .packages import load
+from .vtk_files import PACKAGE, save, write_image
 
-Writer = Callable[[Path, Folder, int], None]
+# Writes the shells of a folder, or that of a factor; gives what is to be told of it, where that is anything.
+Writer = Callable[[Path, Folder, int], Optional[list[str]]]
 PLANNED = "table.csv"
+# What holds the pit of one factor.
+OF_ONE = ("dxf", "stl", "obj")
 # The tables of a folder, each a sheet of the workbook by its name.
 SHEETS = (files.SHELLS, files.YEARS, files.PHASES, files.SCHEDULE, files.MILLING)
 # The corners of a cell as VTK counts them in a voxel: steps east, north and up.
@@ -25,8 +27,8 @@ CORNERS = np.array([(x, y, z) for z in (0, 1) for y in (0, 1) for x in (0, 1)])
 
 
 def name_of(kind: str, factor: int) -> str:
-    """The file's name: a table and image data hold all factors, a drawing one."""
-    return {"dxf": f"pit-{factor}.dxf", "table": PLANNED}.get(kind, f"pit.{kind}")
+    """The file's name: a table and image data hold all factors, a drawing and a surface one."""
+    return PLANNED if kind == "table" else f"pit-{factor}.{kind}" if kind in OF_ONE else f"pit.{kind}"
 
 
 def write_table(path: Path, folder: Folder, factor: int) -> None:
@@ -37,7 +39,7 @@ def write_table(path: Path, folder: Folder, factor: int) -> None:
 def write_csv(path: Path, folder: Folder, factor: int) -> None:
     """The blocks of the greatest pit by id, with the least factor of each; `factor` is not looked at."""
     blocks = folder.blocks
-    blocks[blocks["factor"] > 0].to_csv(path, index=False)
+    csv_file.write(path, blocks[blocks["factor"] > 0])
 
 
 def write_vti(path: Path, folder: Folder, factor: int) -> None:
@@ -46,36 +48,9 @@ def write_vti(path: Path, folder: Folder, factor: int) -> None:
     write_image(path, folder.grid, {name: folder.grid.spread(folder.blocks[name].to_numpy()) for name in numbers})
 
 
-def write_image(path: Path, grid: Grid, cells: dict[str, np.ndarray]) -> None:
-    """Named arrays of one value a cell as VTK image data (.vti). Raises MissingPackage without VTK."""
-    vtk = load("vtk", "python3-vtk9", "a .vti file")
-    numpy_support = load("vtk.util.numpy_support", "python3-vtk9", "a .vti file")
-    levels, rows, columns = grid.shape
-    west, _, south, _, floor, _ = grid.extent()
-    image = vtk.vtkImageData()
-    image.SetDimensions(columns + 1, rows + 1, levels + 1)
-    image.SetSpacing(*grid.size)
-    image.SetOrigin(west, south, floor)
-    for name, values in cells.items():
-        # VTK counts levels from the floor.
-        array = numpy_support.numpy_to_vtk(np.ascontiguousarray(grid.cube(values)[::-1]).ravel(), deep=True)
-        array.SetName(name)
-        image.GetCellData().AddArray(array)
-    save(vtk.vtkXMLImageDataWriter(), path, image)
-
-
-def save(writer: Any, path: Path, data: Any) -> None:
-    """The file of one of VTK's writers. Raises PlanError where it cannot be written."""
-    writer.SetFileName(str(path))
-    writer.SetInputData(data)
-    if not writer.Write():
-        raise PlanError(f"{path}: cannot be written")
-
-
 def write_vtu(path: Path, folder: Folder, factor: int) -> None:
     """The blocks with rock as VTK cells, in metres, with `factor` and all numbers of blocks.csv; for all factors."""
-    vtk = load("vtk", "python3-vtk9", "a .vtu file")
-    numpy_support = load("vtk.util.numpy_support", "python3-vtk9", "a .vtu file")
+    vtk, numpy_support = load("vtk", PACKAGE, "a .vtu file"), load("vtk.util.numpy_support", PACKAGE, "a .vtu file")
     grid, blocks = folder.grid, folder.blocks[folder.blocks[folder.record["tonnes"]] > 0]
     levels, rows, columns = grid.shape
     column, row, level = grid.indices(blocks["id"].to_numpy())
@@ -106,9 +81,7 @@ def write_xlsx(path: Path, folder: Folder, factor: int) -> None:
 def write_dxf(path: Path, folder: Folder, factor: int) -> None:
     """The outline of the pit at each level's floor, as closed 3D polylines in metres, a layer a level."""
     ezdxf = load("ezdxf", "python3-ezdxf", "export --to dxf")
-    grid, blocks = folder.grid, folder.blocks
-    dug = (blocks["factor"] > 0) & (blocks["factor"] <= factor) & (blocks[folder.record["tonnes"]] > 0)
-    cube = grid.cube(grid.spread(dug.to_numpy(), fill=False))
+    grid, cube = folder.grid, folder.dug(factor)
     west, _, south, _, _, top = grid.extent()
     dx, dy, dz = grid.size
     drawing = ezdxf.new("R2010", units=6)
@@ -121,6 +94,15 @@ def write_dxf(path: Path, folder: Folder, factor: int) -> None:
     drawing.saveas(path)
 
 
-WRITERS: dict[str, Writer] = {"table": write_table, "csv": write_csv, "xlsx": write_xlsx, "vti": write_vti, "vtu": write_vtu, "dxf": write_dxf}
+WRITERS: dict[str, Writer] = {
+    "table": write_table,
+    "csv": write_csv,
+    "xlsx": write_xlsx,
+    "vti": write_vti,
+    "vtu": write_vtu,
+    "dxf": write_dxf,
+    "stl": surfaces.write_stl,
+    "obj": surfaces.write_obj,
+}
 # Those that hold all factors.
-WRITTEN = tuple(name_of(kind, 0) for kind in WRITERS if kind != "dxf")
+WRITTEN = tuple(name_of(kind, 0) for kind in WRITERS if kind not in OF_ONE)

@@ -23,16 +23,22 @@ from .needs import ABSENT, slices
 from .walls import Walls
 
 BLOCKS, MODEL, PREC, FIXED = "mine.blocks", "mine.upit", "mine.prec", "mine.fixed"
-REST_BLOCKS, REST_PREC = "rest.blocks", "rest.prec"
+REST_BLOCKS, REST_PREC, PIT_MODEL = "rest.blocks", "rest.prec", "pit.upit"
 RECORD, TABLE, SHELLS, YEARS, ANSWER = "prepare.json", "blocks.csv", "shells.csv", "years.csv", "shells.txt"
+# What the program reads and writes; where the library solves none of them is there.
+OF_PROGRAM = (BLOCKS, MODEL, PREC, FIXED, REST_BLOCKS, REST_PREC, PIT_MODEL, ANSWER)
 PHASES = "phases.csv"
 SCHEDULE, SCHEDULE_RECORD, MILLING = "schedule.csv", "schedule.json", "milling.csv"
+BLOCK_SCHEDULE = "block_schedule.json"
 CHUNK = 200_000
+# So many needs program and library take.
+MOST_PAIRS = 67_108_864
 
 
 @contextmanager
-def staged(folder: Path, last: str = RECORD) -> Iterator[Path]:
-    """A new folder to write into; where no error comes, its files are moved to `folder`, each whole, the record last.
+def staged(folder: Path, last: str = RECORD, whole: tuple[str, ...] = ()) -> Iterator[Path]:
+    """A new folder to write into; where no error comes, its files are moved to `folder`, each whole, the record last. Of `whole`, files
+    that belong together, those of an earlier run that are not written anew are taken away, since they would be of another answer.
 
     Raises PlanError where the folder cannot be made or written.
     """
@@ -41,6 +47,7 @@ def staged(folder: Path, last: str = RECORD) -> Iterator[Path]:
         stage = Path(tempfile.mkdtemp(prefix=".pitplan-", dir=folder))
         try:
             yield stage
+            take_away(folder, [name for name in whole if not (stage / name).exists()])
             for path in sorted(stage.iterdir(), key=lambda it: it.name == last):
                 os.replace(path, folder / path.name)
         finally:
@@ -49,11 +56,21 @@ def staged(folder: Path, last: str = RECORD) -> Iterator[Path]:
         raise PlanError(f"{error.filename or folder}: cannot be written: {error.strerror or error}") from error
 
 
+def take_away(folder: Path, names: list[str]) -> None:
+    for name in names:
+        (folder / name).unlink(missing_ok=True)
+
+
 @contextmanager
 def staged_file(path: Path) -> Iterator[Path]:
     """A name to write one file to; where no error comes, it is moved to `path`."""
     with staged(path.parent) as stage:
         yield stage / path.name
+
+
+def of_program(folder: Path) -> tuple[str, ...]:
+    """The names of the files for the program that are in a folder."""
+    return tuple(name for name in OF_PROGRAM if (folder / name).is_file())
 
 
 def write_blocks(path: Path, grid: Grid, processed: np.ndarray, nodes: tuple[np.ndarray, np.ndarray]) -> None:
@@ -196,6 +213,12 @@ class Folder:
     @property
     def factors(self) -> list[int]:
         return list(self.record["shells"]["factors"])
+
+    def dug(self, factor: int) -> np.ndarray:
+        """Whether the pit of a factor digs rock of a cell; a truth for each level (from the top), row and column."""
+        first, grid = self.blocks["factor"], self.grid
+        dug = (first > 0) & (first <= factor) & (self.blocks[self.record["tonnes"]] > 0)
+        return grid.cube(grid.spread(dug.to_numpy(), fill=False))
 
 
 def read_folder(path: Path) -> Folder:

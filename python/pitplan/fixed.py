@@ -176,6 +176,13 @@ def numbers_in(file: Path, names: tuple[str, ...]) -> np.ndarray:
     return np.stack(columns, axis=1)
 
 
+def numbers(fixed: FixedBlocks, nodes: int) -> np.ndarray:
+    """For each node 1 where it must be dug, 2 where it may not be, and else 0; uint8, shape (nodes,)."""
+    found = np.zeros(nodes, dtype=np.uint8)
+    found[fixed.forced], found[fixed.barred] = 1, 2
+    return found
+
+
 def write(path: Path, fixed: FixedBlocks) -> None:
     """The program's file of fixed blocks: `in id` and `out id`, ids rising."""
     ids = np.concatenate([fixed.forced, fixed.barred])

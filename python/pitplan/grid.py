@@ -148,7 +148,7 @@ def laid(frame: pd.DataFrame, project: Project, source: str, any_size: bool) -> 
 
 def axis_of(frame: pd.DataFrame, name: str, k: int, rules: GridRules, source: str) -> Axis:
     values = frame[name].to_numpy()
-    distinct = np.unique(values)
+    distinct = np.sort(pd.unique(values))
     first, gaps = float(distinct[0]), np.diff(distinct)
     gaps = gaps[gaps > rules.tolerance]
     if rules.size is not None:
@@ -184,8 +184,8 @@ def most_common_lattice(values: np.ndarray, first: float, size: float, tolerance
     shift = values - first
     shift = shift - np.rint(shift / size) * size
     group = np.rint(shift / max(tolerance, 1e-6))
-    groups, counts = np.unique(group, return_counts=True)
-    return first + float(np.median(shift[group == groups[counts.argmax()]]))
+    place, groups = pd.factorize(group, sort=True)
+    return first + float(np.median(shift[group == groups[np.bincount(place).argmax()]]))
 
 
 def demand_once(cells: np.ndarray, frame: pd.DataFrame, columns: TableColumns, source: str) -> None:

@@ -47,10 +47,25 @@ def mark_sections(ax: Axes, grid: Grid, north_of: float, east_of: float) -> None
         ax.annotate(name, at, xytext=shift, ha="center", **words)
 
 
-def contours(ax: Axes, grid: Grid, floor: np.ndarray) -> int:
+def mark_section_cells(ax: Axes, grid: Grid, row: int, column: int) -> None:
+    """The lines of sections through the middles of a row from the south and of a column from the west."""
+    x, y, _ = grid.centres(np.array(row * grid.shape[2] + column))
+    mark_sections(ax, grid, float(y), float(x))
+
+
+def floor_of(grid: Grid, dug: np.ndarray) -> np.ndarray:
+    """For each row and column the elevation in metres of the floor of what is dug; nan where nothing is. `dug` is a truth for each level
+    (from the top), row and column."""
+    level = np.arange(grid.shape[0])[:, None, None]
+    deepest = np.where(dug, level, -1).max(axis=0)
+    return np.where(deepest >= 0, grid.extent()[5] - (deepest + 1) * grid.size[2], np.nan)
+
+
+def contours(ax: Axes, grid: Grid, floor: np.ndarray, over: bool = False) -> int:
     """Lines round all that is dug down to a bench's floor or deeper, some with their elevation; gives how many benches are between two.
 
     floor  for each row and column the elevation of the pit's floor in metres, nan where there is none
+    over   whether they lie over other lines, from which they are told apart by being dotted then
     """
     west, _, south, _, _, _ = grid.extent()
     size = np.array(grid.size[:2])
@@ -61,7 +76,8 @@ def contours(ax: Axes, grid: Grid, floor: np.ndarray) -> int:
     for number, height in enumerate(drawn):
         with np.errstate(invalid="ignore"):
             lines = edges(floor <= height) * size + (west, south)
-        ax.add_collection(LineCollection(lines, colors="black", linewidths=0.5 if number else 1.3))
+        look = {"linewidths": 0.9, "linestyles": [(0, (1, 1.4))]} if over else {"linewidths": 0.5 if number else 1.3}
+        ax.add_collection(LineCollection(lines, colors="black", **look))
         if number % named == 0:
             # To the north-east and the south-west by turns, where names keep apart and off the sections.
             middles = lines.mean(axis=1)

@@ -23,7 +23,7 @@ import pandas as pd
 
 from . import recoveries
 from .errors import PlanError
-from .exact import Exact, Rounding
+from .exact import Exact, Rounding, at_factor, product, total
 from .fixed import Settled
 from .grid import MOST_BLOCKS, Grid
 from .money_rules import GRADE_UNITS, ByCode, ByRegion, Curve, Metal, Money
@@ -126,10 +126,10 @@ class Values:
     def greatest_value(self, factor: int) -> np.ndarray:
         """The most that each cell can be worth at a factor, in billionths: less than 0 where it cannot pay for itself."""
         if self.cutoff == "fixed":
-            gain = np.where(self.pays, factor * self.revenue.astype(object) - 1000 * self.processing.astype(object), 0)
+            gain = np.where(self.pays, at_factor(factor, self.revenue, self.processing), 0)
         else:
             gain = np.maximum(np.max([worth(way, factor) for way in self.ways], axis=0), 0)
-        return gain - 1000 * self.mining.astype(object)
+        return total(gain, product(self.mining, -1000))
 
 
 @dataclass(frozen=True)
@@ -190,7 +190,7 @@ class Rows:
         name, column, by_code = "rock", self.project.table.rock, price
         if isinstance(price, ByRegion):
             name, column, by_code = "region", self.project.table.region, price.values
-        codes, inverse = np.unique(self.codes(column), return_inverse=True)
+        inverse, codes = pd.factorize(self.codes(column), sort=True)
         for number, code in enumerate(codes):
             lacking = needed & (inverse == number)
             if code not in by_code and lacking.any():
@@ -207,7 +207,7 @@ class Rows:
             more = Exact.of_decimals([added_cost(money, z) for z in self.grid.elevations()])
             deeper = Exact(more.whole[level], more.places)
         else:
-            steps = whole_numbers(np.maximum(level - first_level, 0))
+            steps = np.maximum(level - first_level, 0).astype(np.int64)
             deeper = Exact(steps, 0).times(self.every(money.mining_cost_per_level))
         return self.tonnes.times(self.by_code(money.mining_cost, solid, "mining_cost").plus(deeper))
 
@@ -248,7 +248,7 @@ class Rows:
         """int64 millionths, rounded to the decimals that the project keeps. Raises PlanError from 10^11 on."""
         decimals = self.project.money.decimals
         rounded, rounding = value.rounded(decimals)
-        millionths = rounded * 10 ** (MILLIONTHS - decimals)
+        millionths = Exact(rounded, decimals).at(MILLIONTHS)
         too_great = np.array(millionths >= GREATEST, dtype=bool)
         if too_great.any():
             why = "the amount is 10^11 or more: give prices and costs in a greater unit of money"
@@ -300,7 +300,7 @@ def greatest_gains(frame: pd.DataFrame, project: Project, source: str) -> np.nda
     feed, found = rows.feed(), np.zeros(len(frame), dtype=bool)
     for way in project.ways:
         weighed = replace(rows, project=way).weighed(feed)
-        found |= np.array(factor * weighed.revenue.astype(object) > 1000 * weighed.cost.astype(object), dtype=bool)
+        found |= np.array(at_factor(factor, weighed.revenue, weighed.cost) > 0, dtype=bool)
     return found
 
 
@@ -340,11 +340,6 @@ def added_cost(money: Money, elevation: float) -> Decimal:
         if at <= high:
             return (cost + (then - cost) * (at - low) / (high - low)).quantize(Decimal("1e-6"))
     return pairs[-1][1]
-
-
-def whole_numbers(values: np.ndarray) -> np.ndarray:
-    """The same numbers as Python's own, which have no limit of size."""
-    return np.asarray(values, dtype=np.int64).astype(object)
 
 
 def grade_notes(rows: Rows) -> list[str]:
@@ -426,7 +421,7 @@ def said_of(value: ByCode) -> str:
 
 def rock_notes(project: Project, rock: np.ndarray, solid: np.ndarray) -> list[str]:
     """What a planner should know of codes: rocks that are never processed, and names that no block bears."""
-    notes, present = [], set(np.unique(rock[solid]))
+    notes, present = [], set(pd.unique(rock[solid]))
     for metal in project.metals:
         if isinstance(metal.recovery, dict):
             for code in sorted(present - set(metal.recovery)):

@@ -8,6 +8,7 @@ import subprocess
 import sys
 import tempfile
 from pathlib import Path
+from typing import Optional
 
 import numpy as np
 
@@ -20,8 +21,9 @@ from .schedule_rules import Effort
 FEW = 2_000
 
 
-def solve(programme: Programme, effort: Effort = Effort()) -> Optimum:
-    """The optimum, in a process of its own unless it takes no time.
+def solve(programme: Programme, effort: Effort = Effort(), patience: Optional[float] = None) -> Optimum:
+    """The optimum, in a process of its own unless it takes no time. After so many seconds of `patience` that process is ended, with nothing
+    found, since HiGHS may go on for long when its own time is up.
 
     Raises PlanError where HiGHS finds nothing although its time is not up, and KeyboardInterrupt, with that process ended, where the run
     is interrupted.
@@ -32,7 +34,8 @@ def solve(programme: Programme, effort: Effort = Effort()) -> Optimum:
         folder = Path(name)
         programme.save(folder)
         (folder / highs.EFFORT).write_text(json.dumps({"gap": effort.gap, "seconds": effort.seconds}), encoding="ascii")
-        run(folder)
+        if not run(folder, patience):
+            return Optimum(None, np.inf)
         with np.load(folder / highs.OPTIMUM) as found:
             unknowns = found["unknowns"]
             return Optimum(unknowns if len(unknowns) else None, float(found["bound"]))
@@ -46,16 +49,19 @@ def here(programme: Programme, effort: Effort = Effort()) -> Optimum:
         raise PlanError(f"HiGHS found no schedule: {error}") from error
 
 
-def run(folder: Path) -> None:
-    """Solves what stands in a folder. Raises as `solve` does."""
+def run(folder: Path, patience: Optional[float] = None) -> bool:
+    """Solves what stands in a folder; gives whether that was done in the seconds of patience. Raises as `solve` does."""
     # A session of its own, so that an interruption from the keyboard reaches this process alone, which ends the other.
     options = {"stdout": subprocess.DEVNULL, "stderr": subprocess.PIPE, "start_new_session": True}
     # A program's own folder is the first in which it seeks modules, and this package's has names that others may have.
     child = subprocess.Popen([sys.executable, shutil.copy(highs.__file__, folder), str(folder)], **options)
     try:
-        _, said = child.communicate()
+        _, said = child.communicate(timeout=patience)
+    except subprocess.TimeoutExpired:
+        return False
     finally:
         child.kill()
     if child.returncode:
         last = said.decode(errors="replace").strip().splitlines()[-1:]
         raise PlanError(f"HiGHS found no schedule: {' '.join(last) or f'ended with status {child.returncode}'}")
+    return True

@@ -68,7 +68,7 @@ def model_of(folder: Folder) -> dict[str, Any]:
 def years_of(folder: Folder) -> dict[str, Any]:
     """Of a schedule a byte of the year for each cell, 0 where it has none, and a colour a year; else nothing. Years that a byte does not
     hold have the colour of the last that it does."""
-    if "schedule" not in folder.record:
+    if "year" not in folder.blocks:
         return {}
     year = np.minimum(folder.blocks["year"].to_numpy(), 255)
     last = max(int(year.max()), 1)

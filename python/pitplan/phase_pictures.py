@@ -15,6 +15,7 @@ from matplotlib.colors import BoundaryNorm, ListedColormap
 from matplotlib.figure import Figure
 
 from .grid import Grid, metres
+from .map_marks import contours, floor_of, mark_map, mark_section_cells
 from .outlines import edges
 from .phases import Phases
 from .pictures import GROUND, MAP, MOST_TICKS, STYLE, busiest, finish, list_of, name_axes, write_maps
@@ -44,6 +45,15 @@ class PhaseScene:
         """The cells of all phases that hold rock."""
         return (self.phase > 0) & self.solid
 
+    @property
+    def section_row(self) -> int:
+        """The row of blocks along which a section goes: that in which most of the pit lies."""
+        return busiest(self.dug, 1)
+
+    @property
+    def section_column(self) -> int:
+        return busiest(self.dug, 2)
+
 
 def scene_of(phases: Phases) -> PhaseScene:
     grid = phases.plan.grid
@@ -56,7 +66,7 @@ def write_plans(scene: PhaseScene, path: Path) -> None:
 
 
 def plot_plans(scene: PhaseScene, axes: Any) -> list[Axes]:
-    """The phases where the pit breaks the ground, and on three of its levels, on four axes, which it gives."""
+    """The phases at the surface with contours of the floor, and on three of its levels, on four axes, which it gives."""
     first, *others = found = list_of(axes, 4)
     plot_surface(scene, first)
     for ax, number in zip(others, levels_to_show(scene)):
@@ -76,17 +86,22 @@ def write_sections(scene: PhaseScene, path: Path) -> None:
 def plot_sections(scene: PhaseScene, axes: Any) -> list[Axes]:
     """A section from west to east and one from south to north, where most of the pit lies, on two axes, which it gives."""
     across, along = found = list_of(axes, 2)
-    plot_from_west_to_east(scene, busiest(scene.dug, 1), across)
-    plot_from_south_to_north(scene, busiest(scene.dug, 2), along)
+    plot_from_west_to_east(scene, scene.section_row, across)
+    plot_from_south_to_north(scene, scene.section_column, along)
     return found
 
 
 def plot_surface(scene: PhaseScene, ax: Axes) -> Axes:
-    """On the map the phase of the highest block of rock in each column; gives `ax`."""
+    """On the map the phase of the highest block of rock in each column, contours of the floor when all phases are dug, and the lines of the
+    sections; gives `ax`."""
     west, east, south, north, _, _ = scene.grid.extent()
     highest = scene.solid.argmax(axis=0)[None]
     phase, solid = (np.take_along_axis(cube, highest, axis=0)[0] for cube in (scene.phase, scene.solid))
-    draw(scene, (phase, solid), (west, east, south, north), ax).set_title("Phases where the pit breaks the ground")
+    draw(scene, (phase, solid), (west, east, south, north), ax)
+    between = contours(ax, scene.grid, floor_of(scene.grid, scene.dug), over=True) * scene.grid.size[2]
+    ax.set_title(f"Phases at the surface, contours of the floor each {metres(between)} m")
+    mark_section_cells(ax, scene.grid, scene.section_row, scene.section_column)
+    mark_map(ax, scene.grid)
     name_axes(ax, "east", "north")
     return ax
 
@@ -97,6 +112,7 @@ def plot_level(scene: PhaseScene, number: int, ax: Axes) -> Axes:
     height = scene.grid.size[2]
     draw(scene, (scene.phase[number], scene.solid[number]), (west, east, south, north), ax)
     ax.set_title(f"Phases on the level {metres(top - (number + 1) * height)} to {metres(top - number * height)} m")
+    mark_map(ax, scene.grid)
     name_axes(ax, "east", "north")
     return ax
 
@@ -106,7 +122,7 @@ def plot_from_west_to_east(scene: PhaseScene, row: int, ax: Axes) -> Axes:
     west, east, _, _, bottom, top = scene.grid.extent()
     cut = (slice(None, None, -1), row)
     draw(scene, (scene.phase[cut], scene.solid[cut]), (west, east, bottom, top), ax)
-    ax.set_title(f"Phases, west to east at north {metres(scene.grid.origin[1] + row * scene.grid.size[1])}")
+    ax.set_title(f"Phases, west to east (A) at north {metres(scene.grid.origin[1] + row * scene.grid.size[1])}")
     name_axes(ax, "east", "elevation")
     return ax
 
@@ -116,7 +132,7 @@ def plot_from_south_to_north(scene: PhaseScene, column: int, ax: Axes) -> Axes:
     _, _, south, north, bottom, top = scene.grid.extent()
     cut = (slice(None, None, -1), slice(None), column)
     draw(scene, (scene.phase[cut], scene.solid[cut]), (south, north, bottom, top), ax)
-    ax.set_title(f"Phases, south to north at east {metres(scene.grid.origin[0] + column * scene.grid.size[0])}")
+    ax.set_title(f"Phases, south to north (B) at east {metres(scene.grid.origin[0] + column * scene.grid.size[0])}")
     name_axes(ax, "north", "elevation")
     return ax
 

@@ -8,17 +8,16 @@ jump past a share, no factor divides that rock, which is told as a gap.
 
 from __future__ import annotations
 
-import tempfile
 from dataclasses import dataclass, replace
-from pathlib import Path
 from typing import Callable, Optional
 
 import numpy as np
 import pandas as pd
 from scipy import ndimage
 
-from . import analyse, run, widths
+from . import analyse, mine as mines, widths
 from .errors import PlanError
+from .mine import Mine
 from .phase_rules import MOST_PHASES, PhaseRules
 from .plan import Plan
 from .progress import Progress, silent
@@ -76,21 +75,19 @@ def with_factors(project: Project, factors: tuple[int, ...]) -> Project:
     return replace(project, schedule=replace(project.schedule, factors=factors, chosen=factors[-1], reference_added=False))
 
 
-def divide(plan: Plan, folder: Optional[Path] = None, progress: Progress = silent) -> Phases:
-    """Divides the pit of the plan's last factor as the project asks; the plan's files are those in `folder`, or are written for the time
-    being.
+def divide(plan: Plan, mine: Optional[Mine] = None, progress: Progress = silent) -> Phases:
+    """Divides the pit of the plan's last factor as the project asks; the mine is that of the plan, which is else made for the time being.
 
-    Raises PlanError where that pit is empty, or more than a hundred phases are asked for, and ProgramError where the program refuses.
+    Raises PlanError where that pit is empty, or more than a hundred phases are asked for, and ProgramError where the solver refuses.
     """
-    if folder is None:
-        with tempfile.TemporaryDirectory(prefix="pitplan-") as place:
-            plan.write(Path(place))
-            return divide(plan, Path(place), progress)
+    if mine is None:
+        with mines.temporary(plan) as made:
+            return divide(plan, made, progress)
     rules, last = rules_of(plan.project), plan.project.schedule.factors[-1]
 
     def solved(factors: tuple[int, ...]) -> tuple[Plan, Solution]:
         part = replace(plan, project=with_factors(plan.project, factors))
-        return part, run.solve(part, folder, progress)
+        return part, mines.solve(part, mine, progress)
 
     def tonnes_at(factors: tuple[int, ...]) -> dict[int, float]:
         part, solution = solved(factors)

@@ -27,7 +27,7 @@ from matplotlib.ticker import MaxNLocator
 from . import analyse
 from .errors import PlanError
 from .grid import Grid, metres
-from .map_marks import contours, mark_map, mark_sections
+from .map_marks import contours, floor_of, mark_map, mark_section_cells
 from .outlines import edges
 from .picture_rules import PictureRules
 from .plan import Plan
@@ -300,16 +300,13 @@ def panels(wide: float, high: float, count: int = 4) -> tuple[Figure, list[Axes]
 def plot_floor(scene: Scene, ax: Axes) -> Axes:
     """The elevation of the chosen pit's floor, in metres, on the map, with contours of its benches and the lines of the sections; gives
     `ax`."""
-    west, east, south, north, _, top = scene.grid.extent()
-    level = np.arange(scene.grid.shape[0])[:, None, None]
-    deepest = np.where(scene.dug, level, -1).max(axis=0)
-    floor = np.where(deepest >= 0, top - (deepest + 1) * scene.grid.size[2], np.nan)
+    west, east, south, north, _, _ = scene.grid.extent()
+    floor = floor_of(scene.grid, scene.dug)
     image = ax.imshow(floor, extent=(west, east, south, north), cmap="cividis", **MAP)
     between = contours(ax, scene.grid, floor) * scene.grid.size[2]
     ax.set_title(f"Floor at factor {scene.chosen}, elevation in m, a line each {metres(between)} m")
     ax.figure.colorbar(image, ax=ax, shrink=0.85)
-    x, y, _ = scene.grid.centres(np.array(scene.section_row * scene.grid.shape[2] + scene.section_column))
-    mark_sections(ax, scene.grid, float(y), float(x))
+    mark_section_cells(ax, scene.grid, scene.section_row, scene.section_column)
     mark_map(ax, scene.grid)
     name_axes(ax, "east", "north")
     return ax

@@ -12,7 +12,7 @@ import pandas as pd
 
 from . import absent, files, fixed as fixing, grid as grids, money, reach, reblock, summary as summaries, table as tables, trim, walls as laying, yearly_money
 from .errors import PlanError
-from .files import Needs, Pairs
+from .files import MOST_PAIRS, Needs, Pairs
 from .fixed import NOTHING, FixedBlocks, Settled
 from .grid import Grid
 from .money import Values
@@ -21,7 +21,6 @@ from .project import Project, load
 from .reach import Model
 from .walls import Walls
 
-MOST_PAIRS = 67_108_864
 MILLION = 1_000_000
 # The columns that blocks.csv has of its own; one of the planner's with such a name is called planner_NAME there.
 OWN_COLUMNS = (
@@ -48,6 +47,7 @@ class Plan:
     fixed   blocks that must be dug, and blocks that may not be
     settled what is dug and what is left for their sake; None where the project has no `[fixed]`
     left_out how many rows of the table no shell can reach, of a model too large for the program
+    read    the table's rows as they were read, before any were put together, added or left out; the second look takes them
     """
 
     project: Project
@@ -63,6 +63,7 @@ class Plan:
     fixed: FixedBlocks = NOTHING
     settled: Optional[Settled] = None
     left_out: int = 0
+    read: Optional[pd.DataFrame] = None
 
     def __repr__(self) -> str:
         """A few lines, since the blocks themselves are thousands."""
@@ -109,9 +110,9 @@ class Plan:
         """Those of the blocks that fixed ones settle nothing of; where nothing is fixed, all."""
         return replace(self.needs, settled=self.settled)
 
-    def write(self, folder: Path) -> dict[str, Any]:
+    def write(self, folder: Path) -> Pairs:
         """Writes mine.blocks, mine.upit and mine.prec into a folder, and where the project has `[fixed]` mine.fixed, and the rest's
-        rest.blocks and rest.prec; gives the record of what was done. Raises PlanError."""
+        rest.blocks and rest.prec; gives how many needs the mine has. Raises PlanError where the program takes fewer."""
         nodes = self.values.nodes()
         processed = self.values.processed
         files.write_blocks(folder / files.BLOCKS, self.grid, processed, nodes)
@@ -121,11 +122,16 @@ class Plan:
             fixing.write(folder / files.FIXED, self.fixed)
             files.write_blocks(folder / files.REST_BLOCKS, self.grid, processed, self.values.nodes_of_rest(self.settled))
             self.write_needs(folder / files.REST_PREC, self.needs_of_rest)
-        return self.record(pairs)
+        return pairs
 
     def write_needs(self, path: Path, needs: Needs) -> Pairs:
         """Writes needs of the plan. Raises PlanError where the program takes fewer."""
         pairs = files.write_prec(path, needs, MOST_PAIRS)
+        self.demand_few(pairs)
+        return pairs
+
+    def demand_few(self, pairs: Pairs) -> None:
+        """Raises PlanError where there are more needs than program and library take."""
         count = pairs.written + pairs.processing
         if count > MOST_PAIRS:
             fewer = "give fewer [slopes] levels"
@@ -135,10 +141,9 @@ class Plan:
             raise PlanError(
                 f"{count:,} needs, and the program takes at most {MOST_PAIRS:,}: {fewer}, or a smaller model"
             )
-        return pairs
 
     def record(self, pairs: Pairs) -> dict[str, Any]:
-        """All that was rounded, dropped, clipped or added between the table and the files."""
+        """All that was rounded, dropped, clipped or added between the table and what is solved."""
         project = self.project
         return {
             "title": project.title,
@@ -215,6 +220,7 @@ def prepare(
     source = str(project.table.file) if table is None else "table"
     with progress.step(f"reading {source}"):
         checked = tables.read(project) if table is None else tables.checked(table, project)
+    read = checked.frame
     with progress.step("laying the grid"):
         checked, laid = reblock.of_table(checked, project)
         frame, source = checked.frame, checked.source
@@ -233,7 +239,7 @@ def prepare(
             walls, dropped = laying.walls_of(model.region, model.grid, project.slopes), [note]
     with progress.step("weighing the blocks"):
         plan = plan_of(project, model.frame, model.grid, walls, model.source)
-    plan.filled, plan.summary, plan.left_out = checked.filled, summary, whole.known - model.known
+    plan.filled, plan.summary, plan.left_out, plan.read = checked.filled, summary, whole.known - model.known, read
     plan.notes = [*checked.notes, *dropped, *notes_of(plan)]
     return plan
 

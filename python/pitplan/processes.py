@@ -13,6 +13,8 @@ from dataclasses import dataclass
 
 import numpy as np
 
+from .exact import at_factor
+
 
 @dataclass(frozen=True)
 class Way:
@@ -57,9 +59,8 @@ def best_way(ways: tuple[Way, ...], factor: int) -> np.ndarray:
 
 
 def worth(way: Way, factor: int) -> np.ndarray:
-    """What each cell is worth in a process at a factor, in billionths, without its mining: Python's own whole numbers."""
-    gain: np.ndarray = factor * way.revenue.astype(object) - 1000 * way.cost.astype(object)
-    return gain
+    """What each cell is worth in a process at a factor, in billionths, without its mining."""
+    return at_factor(factor, way.revenue, way.cost)
 
 
 def steps_of(ways: tuple[Way, ...]) -> Steps:

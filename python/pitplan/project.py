@@ -116,7 +116,10 @@ class Scenarios:
 
 @dataclass(frozen=True)
 class Project:
-    """All that `project.toml` says."""
+    """All that `project.toml` says.
+
+    solver  what it does not: which finds the pits, "library" or "program"; None: the library, where there is one
+    """
 
     path: Path
     title: str
@@ -134,11 +137,19 @@ class Project:
     processes: tuple[Process, ...] = ()
     sensitivity: Optional[SensitivityRules] = None
     pictures: Optional[PictureRules] = None
+    solver: Optional[str] = None
 
     @property
     def ways(self) -> tuple[Project, ...]:
         """The project with each of its processes alone, as if it were the only one; itself where it names none."""
         return tuple(self.of_process(process) for process in self.processes) or (self,)
+
+    @property
+    def inputs(self) -> tuple[Path, ...]:
+        """The project's own file, and those that a plan is made of: its table, a surface as mined, and areas."""
+        rules = self.fixed
+        of_fixed = () if rules is None else (*([rules.surface] if rules.surface else []), *(area.polygon for area in rules.areas))
+        return (self.path, self.table.file, *of_fixed)
 
     def of_process(self, process: Process) -> Project:
         metals = tuple(replace(metal, recovery=process.recovery.get(metal.name, Decimal(0))) for metal in self.metals)

@@ -34,9 +34,10 @@ def of_rows(recovery: Union[Recovery, dict[str, Recovery]], rock: np.ndarray, he
         mine = np.flatnonzero(rock == code)
         parts.append((mine, of_rock(share, head.of(mine))))
     places = max((part.places for _, part in parts), default=0)
-    whole = np.zeros(len(rock), dtype=object)
-    for mine, part in parts:
-        whole[mine] = part.at(places)
+    found = [(mine, part.at(places)) for mine, part in parts]
+    whole = np.zeros(len(rock), dtype=np.result_type(np.int64, *(shares for _, shares in found)))
+    for mine, shares in found:
+        whole[mine] = shares
     return Exact(whole, places)
 
 
@@ -52,7 +53,8 @@ def at_grades(curve: Curve, head: Head) -> np.ndarray:
     places = max(head.grade.places, head.tonnes_of.places, *(own for (_, own), _ in points))
     finest = max(own for _, (_, own) in points)
     # A grade at the mill is `grade / unit` of these whole numbers, of which a named grade is `at / one`.
-    grade, unit, one = head.grade.at(places), head.tonnes_of.at(places), 10**places
+    # Their products are of any size.
+    grade, unit, one = head.grade.at(places).astype(object), head.tonnes_of.at(places).astype(object), 10**places
     named = [(at * 10 ** (places - own), share * 10 ** (finest - fine)) for (at, own), (share, fine) in points]
     parts = nearest(np.full(len(grade), named[-1][1] * 10**PLACES, dtype=object), 10**finest)
     for (low, first), (high, last) in reversed(list(zip(named, named[1:]))):

@@ -92,6 +92,22 @@ def columns_of_ways(table: pd.DataFrame, project: Project) -> Columns:
     ]
 
 
+def columns_by_block(table: pd.DataFrame, project: Project) -> Columns:
+    """What is shown of a schedule by block, as `columns_of` of shells."""
+    money, sign = scaled(float(table[["value", "bound"]].abs().max().max()))
+    tonnes, of_tonnes = scaled(float(table["tonnes"].max()))
+    currency = f"{sign} {project.money.currency}".strip()
+    return [
+        ("value", f"NPV, {currency}", money, 2),
+        ("bound", f"bound, {currency}", money, 2),
+        ("below_bound", "below bound, %", 0.01, 2),
+        ("years", "years", 1.0, 0),
+        ("blocks", "blocks", 1.0, 0),
+        ("tonnes", f"rock, {of_tonnes}t", tonnes, 2),
+        ("ore_tonnes", f"ore, {of_tonnes}t", tonnes, 2),
+    ]
+
+
 def of_cases(table: pd.DataFrame) -> pd.DataFrame:
     """A table of a sensitivity with each case in words, and by how much its net present value differs from that of the first."""
     cases = [
@@ -147,7 +163,7 @@ def cells_of(table: pd.DataFrame, columns: Columns) -> list[list[str]]:
 def write(path: Path, project: Project, table: pd.DataFrame, facts: dict[str, Any]) -> None:
     """The page of a table of shells.
 
-    `facts`: chosen factor, pictures by name, the table's summary, notes, what was verified, files with their hashes, the program's identity,
+    `facts`: chosen factor, pictures by name, the table's summary, notes, what was verified, files with their hashes, the solver,
     and where there are such the tables of phases and of a schedule's ways.
     """
     columns = columns_of(table, project)
@@ -162,11 +178,13 @@ def write(path: Path, project: Project, table: pd.DataFrame, facts: dict[str, An
         rows=rows,
         phases=facts.get("phases"),
         ways=facts.get("ways"),
+        by_block=facts.get("by_block"),
         warnings=[note.removeprefix("WARNING: ") for note in warnings],
         notes=[note for note in facts["notes"] if note not in warnings],
         pictures={name: picture(place) for name, place in facts["pictures"].items()},
         rate=project.schedule.rate,
         discounting=DISCOUNTED[project.schedule.discounting],
-        **{name: facts[name] for name in ("chosen", "summary", "verified", "files", "program")},
+        has_fixed=project.fixed is not None,
+        **{name: facts[name] for name in ("chosen", "summary", "verified", "files", "solver")},
     )
     path.write_text(page, encoding="utf-8")

@@ -4,7 +4,6 @@ from __future__ import annotations
 
 import io
 import subprocess
-import tempfile
 from dataclasses import dataclass
 from decimal import Decimal
 from pathlib import Path
@@ -13,29 +12,25 @@ from typing import Optional, Union
 import numpy as np
 import pandas as pd
 
-from . import absent, files
-from .errors import BudgetUsedUp, PlanError, ProgramError
-from .fixed import Settled
+from . import files
+from .errors import BudgetUsedUp, ProgramError
 from .installation import program
-from .money import Values
-from .plan import Plan
-from .progress import Progress, silent
 
 
 @dataclass(frozen=True)
 class Solution:
-    """The shells that the program found.
+    """The shells that the solver found.
 
     worth   Series by factor: the worth of each whole pit in its factor's own values, exact (Decimal)
     nodes   Series by factor: how many nodes the pit has, processing nodes among them
     entry   for each node the least factor whose pit holds it; 0 where none does
-    answer  the program's own text
+    answer  the program's own text; None where the library solved
     """
 
     worth: pd.Series
     nodes: pd.Series
     entry: np.ndarray
-    answer: bytes
+    answer: Optional[bytes] = None
 
 
 def call(*arguments: Union[str, Path], fine: tuple[int, ...] = (0,)) -> bytes:
@@ -43,15 +38,19 @@ def call(*arguments: Union[str, Path], fine: tuple[int, ...] = (0,)) -> bytes:
     ran = subprocess.run([str(program()), *map(str, arguments)], capture_output=True, check=False)
     if ran.returncode in fine:
         return ran.stdout
-    said = ran.stderr.decode(errors="replace").strip()
-    if ran.returncode == 3:
-        raise BudgetUsedUp(f"pitshell {arguments[0]}: {said}", ran.returncode)
-    how = f"was ended by signal {-ran.returncode}" if ran.returncode < 0 else f"ended with status {ran.returncode}"
-    raise ProgramError(f"pitshell {arguments[0]} {how}" + (f": {said}" if said else ""), ran.returncode)
+    raise ended(str(arguments[0]), ran.returncode, ran.stderr.decode(errors="replace").strip())
+
+
+def ended(command: str, status: int, said: str) -> ProgramError:
+    """The error of a command that ended with a status, below 0 by a signal, and said something."""
+    if status == 3:
+        return BudgetUsedUp(f"pitshell {command}: {said}", status)
+    how = f"was ended by signal {-status}" if status < 0 else f"ended with status {status}"
+    return ProgramError(f"pitshell {command} {how}" + (f": {said}" if said else ""), status)
 
 
 def identity() -> dict[str, str]:
-    """What the program says of itself, and the SHA-256 of its file."""
+    """What the program says of itself, and the SHA-256 of its file. Raises ProgramError where there is none."""
     return {"version": call("--version").decode().strip(), "sha256": files.hash_of(program())}
 
 
@@ -94,51 +93,3 @@ def read_answer(answer: bytes) -> Solution:
         entry=entry,
         answer=answer,
     )
-
-
-def solve(plan: Plan, folder: Optional[Path] = None, progress: Progress = silent) -> Solution:
-    """The shells of a plan at all its factors, with its fixed blocks; its files are those in `folder`, or are written for the time
-    being.
-
-    Raises ProgramError where the program is missing or refuses, and PlanError where a shell reaches ground that is not known.
-    """
-    if folder is None:
-        with tempfile.TemporaryDirectory(prefix="pitplan-") as place:
-            plan.write(Path(place))
-            return solve(plan, Path(place), progress)
-    factors = plan.project.schedule.factors
-    names = (files.BLOCKS, files.PREC) if plan.settled is None else (files.REST_BLOCKS, files.REST_PREC)
-    with progress.step(f"solving {len(factors)} factors"):
-        rest = solve_files(folder / names[0], folder / names[1], factors)
-    solution = joined(rest, plan.settled, plan.values)
-    absent.demand_known(solution.entry, plan.grid, plan.project, plan.source)
-    return solution
-
-
-def joined(rest: Solution, settled: Optional[Settled], values: Values) -> Solution:
-    """The shells of the rest with what must be dug, which every pit holds from the first factor on."""
-    if settled is None:
-        return rest
-    factors = list(rest.worth.index)
-    count = len(settled.dug)
-    entry = rest.entry.copy()
-    entry[:count][settled.dug] = factors[0]
-    revenue, cost = (int(amounts[:count][settled.dug].sum(dtype=object)) for amounts in values.nodes())
-    worth = [amount + Decimal(factor * revenue - 1000 * cost).scaleb(-9) for factor, amount in rest.worth.items()]
-    return Solution(
-        worth=pd.Series(worth, index=factors, dtype=object),
-        nodes=rest.nodes + int(np.count_nonzero(settled.dug)),
-        entry=entry,
-        answer=rest.answer,
-    )
-
-
-def demand_same(shells: Solution, pit: Solution, factor: int) -> None:
-    """Raises PlanError where the shell of a factor is not the pit that was found for it alone, block by block."""
-    inside = (shells.entry > 0) & (shells.entry <= factor)
-    other = np.flatnonzero(inside != (pit.entry > 0))
-    if len(other) or shells.worth[factor] != pit.worth[factor]:
-        raise PlanError(
-            f"the shell of factor {factor} is not the program's pit with the fixed blocks: {len(other):,} nodes differ, "
-            f"worth {shells.worth[factor]} for {pit.worth[factor]}; please report this"
-        )

@@ -3,15 +3,16 @@
 from __future__ import annotations
 
 import os
+from dataclasses import asdict
 from pathlib import Path
 from typing import Any
 
 import numpy as np
 import pandas as pd
 
-from . import files, run, sensitivity_pictures, verification
+from . import csv_file, files, sensitivity_pictures, verification
 from .progress import Progress
-from .varied_cases import Case, Sensitivity, rules_of, table
+from .varied_cases import SKIN_WORTH, Case, Sensitivity, rules_of, table
 
 WRITTEN = TABLE, RECORD = "sensitivity.csv", "sensitivity.json"
 
@@ -32,6 +33,7 @@ def write(found: Sensitivity, folder: Path, progress: Progress, verifies: bool) 
         with progress.step("drawing"):
             sensitivity_pictures.write_all(cases, rules_of(project).pairs, project.money.currency, stage)
         files.write_json(stage / RECORD, told)
+    progress.lines([told_of_skin(told["skin"], project.money.currency)])
     return cases
 
 
@@ -40,10 +42,11 @@ def record(found: Sensitivity, project: str) -> dict[str, Any]:
     return {
         "project": project,
         "title": found.project.title,
-        "program": run.identity(),
+        "solver": asdict(found.solver),
         "inputs": {path.name: files.hash_of(path) for path in (found.project.path, found.project.table.file)},
         "grid": found.plan.record_of_grid(),
         "factor": found.factor,
+        "skin": skin_of(found),
         "cases": [
             {"changes": [[name, str(share)] for name, share in case.changes], "key": found.keys[case], "walls": answer.walls}
             for case, answer in found.answers.items()
@@ -52,11 +55,23 @@ def record(found: Sensitivity, project: str) -> dict[str, Any]:
     }
 
 
+def skin_of(found: Sensitivity) -> dict[str, Any]:
+    """The skin of the pit as given: the factor of the shell within it, tonnes of rock, their share of the pit's, and worth."""
+    skin, row = found.answers[Case()].skin, found.answers[Case()].row
+    tonnes = float(found.plan.values.tonnes[skin.cells].sum())
+    return {"factor": skin.factor, "tonnes": tonnes, "share": tonnes / row["tonnes"] if tonnes else 0.0, "worth": row[SKIN_WORTH]}
+
+
+def told_of_skin(skin: dict[str, Any], currency: str) -> str:
+    where = f"beyond the shell of factor {skin['factor']}" if skin["factor"] else "which no lesser shell divides"
+    return f"the pit's skin, {100 * skin['share']:.1f} % of its rock, {where}, is worth {skin['worth']:,.0f} {currency}".rstrip()
+
+
 def write_tables(found: Sensitivity, cases: pd.DataFrame, stage: Path) -> None:
     """sensitivity.csv, and blocks.csv with the factor of each block in the pits of the project as given."""
     blocks = found.plan.blocks
     blocks["factor"] = found.answers[Case()].entry[blocks["id"].to_numpy()]
-    blocks.to_csv(stage / files.TABLE, index=False)
+    csv_file.write(stage / files.TABLE, blocks)
     shown(cases).to_csv(stage / TABLE, index=False)
 
 

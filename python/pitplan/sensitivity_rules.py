@@ -10,18 +10,22 @@ from .section import Section
 NAMES = ("price", "mining_cost", "processing_cost", "selling_cost", "recovery", "slopes", "capacity")
 # Those that may be one metal's alone, as "price copper".
 OF_METALS = ("price", "selling_cost", "recovery")
+# Of the pit's rock.
+SKIN = Decimal("0.05")
 SHARES = (Decimal("-0.2"), Decimal("-0.1"), Decimal("0.1"), Decimal("0.2"))
 MOST_SHARES = 20
 
 
 @dataclass(frozen=True)
 class SensitivityRules:
-    """Shares by which a number is more or less than the project says, rising, without 0; which numbers are varied, each by itself; and
-    pairs that are varied together. Without names those are varied that the project gives."""
+    """Shares by which a number is more or less than the project says, rising, without 0; which numbers are varied, each by itself;
+    pairs that are varied together; and the share of the pit's rock that its skin has at least. Without names those are varied that the
+    project gives."""
 
     by: tuple[Decimal, ...] = SHARES
     vary: tuple[str, ...] = ()
     pairs: tuple[tuple[str, str], ...] = ()
+    skin: Decimal = SKIN
 
 
 def read_sensitivity(section: Section, metals: tuple[str, ...]) -> SensitivityRules:
@@ -30,6 +34,7 @@ def read_sensitivity(section: Section, metals: tuple[str, ...]) -> SensitivityRu
         by=read_shares(section),
         vary=tuple(named(section, "vary", name, metals) for name in section.names("vary") or ()),
         pairs=read_pairs(section, metals),
+        skin=read_skin(section),
     )
     section.finish()
     if len(set(rules.vary)) < len(rules.vary):
@@ -47,6 +52,13 @@ def read_shares(section: Section) -> tuple[Decimal, ...]:
     if any(not -1 < share <= 10 or share == 0 for share in shares) or len(set(shares)) < len(shares):
         raise section.wrong("by", "shares are above -1 and up to 10, none is 0, and each stands once")
     return tuple(shares)
+
+
+def read_skin(section: Section) -> Decimal:
+    share = section.as_number("skin", section.get("skin")) if section.has("skin") else SKIN
+    if not 0 < share < 1:
+        raise section.wrong("skin", "must be a share of the pit's rock above 0 and below 1, such as 0.05 for its last 5 %")
+    return share
 
 
 def read_pairs(section: Section, metals: tuple[str, ...]) -> tuple[tuple[str, str], ...]:

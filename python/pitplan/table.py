@@ -177,8 +177,7 @@ def checked(frame: pd.DataFrame, project: Project, source: str = "table") -> Tab
     filled = 0
     for name in names_of(project):
         if name in codes:
-            # Over a list, since pandas' own strip takes several times as long.
-            result[name] = [code.strip() for code in frame[name].astype(str)]
+            result[name] = stripped(frame[name])
             continue
         may_fill = columns.empty == "zero" and name not in (columns.x, columns.y, columns.z)
         result[name], empty = filled_numbers(frame[name], source, name, may_fill)
@@ -191,6 +190,12 @@ def checked(frame: pd.DataFrame, project: Project, source: str = "table") -> Tab
     demand_codes(result, project, source)
     unused = tuple(str(name) for name in frame.columns if name not in names_of(project))
     return Table(result, source, filled, unused=unused)
+
+
+def stripped(codes: pd.Series) -> np.ndarray:
+    """Codes as texts without blanks at either end; by Python's own strip, since that of pandas takes several times as long."""
+    texts = codes if pd.api.types.infer_dtype(codes, skipna=False) == "string" else codes.astype(str)
+    return np.array(list(map(str.strip, texts.to_numpy())), dtype=object)
 
 
 def filled_numbers(column: pd.Series, source: str, name: str, may_fill: bool) -> tuple[np.ndarray, int]:

@@ -27,7 +27,7 @@ def used_blocks(grid: Grid, walls: Walls, paying: np.ndarray) -> np.ndarray:
 def mark_needs(used: np.ndarray, level: int, grid: Grid, walls: Walls) -> None:
     """Marks in an array of levels, rows and columns what the true cells of a level need."""
     list_of = grid.cube(walls.list_of)[level]
-    for number in np.unique(list_of[used[level]]):
+    for number in np.flatnonzero(np.bincount(list_of[used[level]])):
         mine = used[level] & (list_of == number)
         # A step that goes unwritten is a need all the same, which others lead to.
         for east, north, up in walls.lists[number].steps:
@@ -47,7 +47,7 @@ def users_at(found: np.ndarray, level: int, grid: Grid, walls: Walls) -> np.ndar
     """The cells of a level that need a true cell of the levels above it: a truth for each row and column."""
     list_of = grid.cube(walls.list_of)[level]
     result = np.zeros_like(found[level])
-    for number in np.unique(list_of):
+    for number in np.flatnonzero(np.bincount(list_of.ravel())):
         users = np.zeros_like(result)
         for east, north, up in walls.lists[number].steps:
             if up <= level:

@@ -16,20 +16,23 @@ from typing import Any
 import numpy as np
 import pandas as pd
 
-from . import analyse, files, run, table as tables
+from . import analyse, files, mine, solver, table as tables
 from .errors import PlanError
 from .packages import load
 from .plan import Plan, prepare
 from .progress import Progress, silent
 from .project import Project
 from .sensitivity_rules import SensitivityRules
+from .skin import Skin, of_pit
 from .simulation import on_dask
 from .simulation.folder import key_of
+from .solver import Solver
 from .varied import Change, given, varied
 
 CASES = "cases"
-# What the pit as given earns at a case's numbers.
+# What the pit as given earns at a case's numbers, and what its skin does.
 KEPT = ("worth", "npv_best", "npv_worst", "years")
+SKIN_WORTH = "skin_worth"
 WHOLE = ("blocks",)
 
 
@@ -52,14 +55,17 @@ class Case:
 class Found:
     """The answer of a case.
 
-    row    what the pit holds and earns, by the names of `shells`, and with kept_ before them what the pit as given earns
+    row    what the pit holds and earns, by the names of `shells`, and with kept_ before them what the pit as given earns; and what the skin
+           of that pit is worth
     entry  for each cell the least of the factors whose pit holds it, per mille; 0: none
     walls  the record of the walls' patterns
+    skin   of the project as given the skin of its pit, else None
     """
 
     row: dict[str, Any]
     entry: np.ndarray
     walls: list[dict[str, Any]]
+    skin: Skin | None = None
 
 
 @dataclass(frozen=True)
@@ -67,6 +73,7 @@ class Sensitivity:
     """All cases with their answers, in order; the first is the project as given, whose plan is kept.
 
     factor  that of the pit that is looked at, per mille
+    solver  what found all of them
     """
 
     project: Project
@@ -74,6 +81,7 @@ class Sensitivity:
     factor: int
     answers: dict[Case, Found]
     keys: dict[Case, str]
+    solver: Solver
 
 
 def rules_of(project: Project) -> SensitivityRules:
@@ -93,10 +101,12 @@ def cases_of(rules: SensitivityRules) -> list[Case]:
 
 @dataclass(frozen=True)
 class Asked:
-    """What every case is made of: the project with the factors up to the shown one, its table, and the pit as given, once it is found."""
+    """What every case is made of: the project with the factors up to the shown one, its table, what solves, and the pit as given, once it is
+    found."""
 
     project: Project
     frame: pd.DataFrame
+    solver: Solver
     as_given: Found | None = None
 
 
@@ -104,19 +114,22 @@ def solve(project: Project, folder: Path, where: on_dask.Where | None, progress:
     """Solves the cases that have no answer in the folder yet, one after the other or where it is said, and writes each answer as it is
     found.
 
-    Raises PlanError where the table or a case cannot be planned with, ProgramError where the program refuses, and MissingPackage without
+    Raises PlanError where the table or a case cannot be planned with, ProgramError where the solver refuses, and MissingPackage without
     Dask where it is asked for.
     """
+    found_by = solver.chosen(project.solver)
+    project = replace(project, solver=found_by.by)
     frame = tables.read(project).frame
     plan = prepare(project, frame, progress)
     if plan.left_out:
         why = "is too large for the program, and what shells can reach of it is another with each number: reblock it by [table] reblock"
         raise PlanError(f"{project.table.file}: {why}, or give a smaller model")
-    solution = run.solve(plan, progress=progress)
+    solution = mine.solve(plan, progress=progress)
     factor = analyse.chosen_factor(analyse.shells(plan, solution), project.schedule)
-    asked = Asked(up_to(project, factor), frame)
-    begun = {"project": files.hash_of(project.path), "inputs": hashes_of(project), "program": run.identity()["sha256"], "factor": factor}
-    cases = cases_of(rules_of(project))
+    asked = Asked(up_to(project, factor), frame, found_by)
+    rules = rules_of(project)
+    begun = {"project": files.hash_of(project.path), "inputs": hashes_of(project), "solver": found_by.sha256, "factor": factor, "skin": str(rules.skin)}
+    cases = cases_of(rules)
     keys = {case: key_of({**begun, "changes": [[name, str(share)] for name, share in case.changes]}) for case in cases}
     paths = {case: folder / CASES / f"{keys[case]}.npz" for case in cases}
     if not paths[Case()].is_file():
@@ -129,7 +142,7 @@ def solve(project: Project, folder: Path, where: on_dask.Where | None, progress:
                 answer(case, asked, path)
     elif missing:
         over_dask(missing, asked, where, progress)
-    return Sensitivity(asked.project, plan, factor, {case: read(path) for case, path in paths.items()}, keys)
+    return Sensitivity(asked.project, plan, factor, {case: read(path) for case, path in paths.items()}, keys, found_by)
 
 
 def answer(case: Case, asked: Asked, path: Path) -> None:
@@ -155,23 +168,24 @@ def up_to(project: Project, factor: int) -> Project:
 
 def hashes_of(project: Project) -> dict[str, str]:
     """Hashes of all files that the project names, by their place as told from it."""
-    named = [project.table.file]
-    if project.fixed is not None:
-        named += [*([project.fixed.surface] if project.fixed.surface else []), *(area.polygon for area in project.fixed.areas)]
-    return {os.path.relpath(path, project.path.parent): files.hash_of(path) for path in named}
+    return {os.path.relpath(path, project.path.parent): files.hash_of(path) for path in project.inputs[1:]}
 
 
 def find(case: Case, asked: Asked) -> Found:
-    """The pit of a case, and what the pit as given, where there is one, earns in it."""
+    """The pit of a case, and what the pit as given, where there is one, earns in it. Raises ProgramError where the solver here is another."""
+    solver.demand_same(asked.solver)
     plan = prepare(varied(asked.project, case.changes), asked.frame)
-    solution = run.solve(plan)
+    solution = mine.solve(plan)
     row = of_last(analyse.shells(plan, solution))
     entry = solution.entry[: plan.grid.count]
     kept = entry if asked.as_given is None else asked.as_given.entry
     nodes = np.concatenate([kept, np.zeros(len(plan.values.processed), dtype=kept.dtype)])
     earned = of_last(analyse.shells(plan, replace(solution, entry=nodes)))
     row |= {f"kept_{name}": np.nan if case.moves_walls else earned[name] for name in KEPT}
-    return Found(row, entry, [pattern.as_json() for pattern in plan.walls.patterns])
+    skin = of_pit(plan, rules_of(asked.project).skin) if asked.as_given is None else asked.as_given.skin
+    worth = analyse.cells_of(plan, solution).worth[skin.cells].sum()
+    row[SKIN_WORTH] = np.nan if case.moves_walls else worth
+    return Found(row, entry, [pattern.as_json() for pattern in plan.walls.patterns], skin if asked.as_given is None else None)
 
 
 def of_last(table: pd.DataFrame) -> dict[str, Any]:
@@ -184,25 +198,28 @@ def write(path: Path, found: Found) -> None:
     numbers = {name: float(amount) for name, amount in found.row.items() if name != "worth_at_factor"}
     with files.staged_file(path) as place, open(place, "wb") as file:
         texts = {"worth_at_factor": f"{found.row['worth_at_factor']:f}", "walls": json.dumps(found.walls)}
-        np.savez_compressed(file, entry=found.entry, names=list(numbers), amounts=list(numbers.values()), **texts)
+        skin = {} if found.skin is None else {"skin": found.skin.cells, "skin_factor": found.skin.factor}
+        np.savez_compressed(file, entry=found.entry, names=list(numbers), amounts=list(numbers.values()), **texts, **skin)
 
 
 def read(path: Path) -> Found:
     with np.load(path, allow_pickle=False) as said:
         row: dict[str, Any] = dict(zip(said["names"].tolist(), said["amounts"].tolist()))
         row |= {name: int(row[name]) for name in ("factor", *WHOLE)}
-        return Found(row | {"worth_at_factor": str(said["worth_at_factor"])}, said["entry"], json.loads(str(said["walls"])))
+        skin = Skin(int(said["skin_factor"]), said["skin"]) if "skin" in said else None
+        return Found(row | {"worth_at_factor": str(said["worth_at_factor"])}, said["entry"], json.loads(str(said["walls"])), skin)
 
 
 def table(found: Sensitivity) -> pd.DataFrame:
-    """One row a case: number, share, and of a pair second and second_share; what the pit holds and earns; and kept_ what the pit as given
-    does. Amounts are in tonnes, grams and money at the price as given; npv is the mean of best and worst case."""
+    """One row a case: number, share, and of a pair second and second_share; what the pit holds and earns; kept_ what the pit as given
+    does; and skin_worth what that pit's skin is worth. Amounts are in tonnes, grams and money at the price as given; npv is the mean of best
+    and worst case."""
     rows = []
     for case, answer in found.answers.items():
         (name, share), (second, other) = (*case.changes, ("", 0), ("", 0))[:2]
         rows.append({"number": name, "share": float(share), "second": second, "second_share": float(other), **answer.row})
     frame = pd.DataFrame(rows)
-    kept = [name for name in frame if name.startswith("kept_")]
+    kept = [name for name in frame if name.startswith("kept_") or name == SKIN_WORTH]
     order = [name for name in frame if name not in (*kept, "npv")]
     at = order.index("npv_best")
     return frame[[*order[:at], "npv", *order[at:], *kept]]

@@ -67,7 +67,7 @@ def pattern_codes(region: np.ndarray, slopes: Slopes) -> np.ndarray:
     """For each cell the number of its wall entry. Raises PlanError where a region that blocks are of has no walls."""
     by_region = {name: k for k, wall in enumerate(slopes.walls) for name in wall.regions or ()}
     others = next((k for k, wall in enumerate(slopes.walls) if wall.regions is None), None)
-    codes, inverse = np.unique(region.astype(str), return_inverse=True)
+    inverse, codes = pd.factorize(region.astype(object), sort=True)
     if others is None and not any(codes):
         raise PlanError("[slopes] all [[slopes.walls]] are for regions, and [table] names no column as region")
     numbers = []
@@ -145,11 +145,11 @@ def regions_of(frame: pd.DataFrame, grid: Grid, column: str | None) -> np.ndarra
     """A region's code for each cell. A cell without a row takes that of the next block below it, else of the next above."""
     if column is None:
         return np.full(grid.count, "", dtype="U1")
-    codes, inverse = np.unique(frame[column].to_numpy().astype(str), return_inverse=True)
+    inverse, codes = pd.factorize(frame[column].astype(str).to_numpy(), sort=True)
     cube = grid.cube(grid.spread(inverse.astype(np.int32), -1)).copy()
     for level in range(grid.shape[0] - 2, -1, -1):
         cube[level] = np.where(cube[level] < 0, cube[level + 1], cube[level])
     for level in range(1, grid.shape[0]):
         cube[level] = np.where(cube[level] < 0, cube[level - 1], cube[level])
     flat = cube.ravel()
-    return np.where(flat < 0, "", codes[flat])
+    return np.where(flat < 0, "", codes.astype(str)[flat])

@@ -13,17 +13,20 @@
     shown = pitshell.certificate(values, needs)
     pitshell.check(values, needs, shown.in_pit, shown.flow)      # whether the flow shows that this is the pit
 
-The library below is proved to mark exactly the pits of the mine that the arrays spell, and to judge flows exactly, by one thread
+`LIBRARY` is the file of the library that is called. It is proved to mark exactly the pits of the mine that the arrays spell, and to judge flows exactly, by one thread
 (docs/LIBRARY.md); this package, which turns what it is given into arrays and refusals into exceptions, is tested.
 """
 
 from ._certifying import Certificate, certificate, check
+from ._library import FILE as LIBRARY
 from ._nesting import Shells, shells
 from ._refusals import NoMemory, Refusal
 from ._solving import BARRED, FORCED, FREE, Pit, solve
 
+__version__ = "0.1.0"
+
 __all__ = [
     *("Certificate", "NoMemory", "Pit", "Refusal", "Shells"),
-    *("BARRED", "FORCED", "FREE"),
+    *("BARRED", "FORCED", "FREE", "LIBRARY"),
     *("certificate", "check", "shells", "solve"),
 ]

@@ -37,7 +37,8 @@ def _slice(dtype: type, flags: str = "C_CONTIGUOUS,ALIGNED") -> list:
 
 WRITTEN = "C_CONTIGUOUS,ALIGNED,WRITEABLE"
 # ctypes lets go of Python's lock while a function runs, so other threads go on; they must not write to the arrays meanwhile.
-_library = ctypes.CDLL(str(_find()))
+FILE = _find()
+_library = ctypes.CDLL(str(FILE))
 
 solve = _library.pitshell_solve
 solve.restype = ctypes.c_uint32

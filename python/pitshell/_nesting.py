@@ -50,7 +50,8 @@ def shells(revenues: ArrayLike, costs: ArrayLike, needs: Any, factors: Iterable[
     number = _library.shells(*(part for array in arrays for part in (array, len(array))), ctypes.byref(place))
     if number:
         raise refused(number, place.value, rows, blocks)
-    worths = [Decimal((int(upper) << 64) + int(lower)).scaleb(-9) for upper, lower in zip(high, low)]
+    # From a text, since arithmetic on decimals keeps 28 digits.
+    worths = [Decimal(f"{(int(upper) << 64) + int(lower)}E-9") for upper, lower in zip(high, low)]
     return Shells(first.view(np.int32), worths, revenue.rounded + cost.rounded)
 
 

@@ -133,4 +133,5 @@ def blank_pictures():
         for name in ("write_gantt", "write_tonnes"):
             patch.setattr(commands.schedule_pictures, name, lambda schedule, path: path.touch())
         patch.setattr(commands.schedule_pictures, "write_cumulative", lambda schedule, years, path: path.touch())
+        patch.setattr(commands.block_pictures, "write", lambda made, path: path.touch())
         yield

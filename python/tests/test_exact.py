@@ -1,6 +1,6 @@
 """Decimals against Python's own `decimal`."""
 
-from decimal import ROUND_HALF_EVEN, Decimal
+from decimal import ROUND_HALF_EVEN, Context, Decimal, localcontext
 
 import numpy as np
 import pytest
@@ -8,7 +8,7 @@ from hypothesis import given
 from hypothesis import strategies as st
 
 from pitplan import text
-from pitplan.exact import Exact
+from pitplan.exact import Exact, at_factor
 
 short = st.decimals(-(10**7), 10**7, places=6, allow_nan=False)
 
@@ -32,6 +32,40 @@ def test_products_and_sums_are_exact(pairs):
     for k, (a, b) in enumerate(pairs):
         assert Decimal(int(product.whole[k])).scaleb(-product.places) == a * b
         assert Decimal(int(total.whole[k])).scaleb(-total.places) == a + b
+
+
+# Numbers of which some products and sums fit 64 bits and others do not, by some hairs.
+wide = st.one_of(st.integers(-3, 3), st.sampled_from([s * 2**k + d for k in (31, 32, 53, 62, 63, 64) for s in (1, -1) for d in (-1, 0, 1)]))
+decimals = st.builds(lambda whole, places: Decimal(whole).scaleb(-places), wide, st.integers(0, 12))
+
+
+@given(st.lists(st.tuples(decimals, decimals, decimals), min_size=1, max_size=6), st.integers(0, 20))
+def test_what_64_bits_do_not_hold_is_as_exact(rows, places):
+    first, second, third = (Exact.of_decimals([row[k] for row in rows]) for k in range(3))
+    found = first.times(second).minus(third)
+    with localcontext(Context(prec=200)):
+        expected = [a * b - c for a, b, c in rows]
+        assert [Decimal(int(whole)).scaleb(-found.places) for whole in found.whole] == expected
+        assert [Decimal(int(whole)).scaleb(-(found.places + places)) for whole in found.at(found.places + places)] == expected
+        rounded, said = found.rounded(places)
+        nearest = [number.quantize(Decimal(1).scaleb(-places), ROUND_HALF_EVEN) for number in expected]
+        assert [Decimal(int(whole)).scaleb(-places) for whole in rounded] == nearest
+        assert (said.changed, said.largest) == (sum(a != b for a, b in zip(expected, nearest)), max(abs(a - b) for a, b in zip(expected, nearest)))
+    assert found.floats().tolist() == [float(number) for number in expected]
+
+
+@pytest.mark.parametrize("places", range(17, 23))
+def test_nothing_may_have_any_number_of_places(places):
+    """Times a power of ten that is beyond 63 bits, or beyond 64, it is still a whole number, and so is its sum with another."""
+    number = Decimal(98765432109876543).scaleb(-places)
+    for found in (Exact.of(0, 1).plus(Exact.of_decimals([number])), Exact.of_decimals([number]).minus(Exact.of(0, 1))):
+        assert [int(whole) for whole in found.whole] == [98765432109876543] and found.places == places
+
+
+@given(st.lists(st.tuples(st.integers(0, 10**17), st.integers(0, 10**17)), min_size=1, max_size=6), st.integers(0, 100_000))
+def test_values_at_a_factor_are_exact(amounts, factor):
+    revenue, cost = np.array(amounts, dtype=np.int64).T
+    assert at_factor(factor, revenue, cost).tolist() == [factor * a - 1000 * b for a, b in amounts]
 
 
 @given(st.lists(short, min_size=1, max_size=20), st.integers(0, 6))

@@ -26,9 +26,13 @@ def solved_example():
     return plan, solution, pitplan.shells(plan, solution)
 
 
+def test_the_program_s_own_text_is_the_expected_one():
+    plan = pitplan.prepare(replace(pitplan.load(EXAMPLE / "project.toml"), solver="program"))
+    assert pitplan.solve(plan).answer == (EXAMPLE / "expected" / "shells.txt").read_bytes()
+
+
 def test_the_table_of_shells_is_the_expected_one(solved_example):
-    _, solution, table = solved_example
-    assert solution.answer == (EXAMPLE / "expected" / "shells.txt").read_bytes()
+    _, _, table = solved_example
     expected = pd.read_csv(EXAMPLE / "expected" / "shells.csv", dtype={"worth_at_factor": str})
     pd.testing.assert_frame_equal(commands.shown(table), expected, check_dtype=False, rtol=1e-9)
 

@@ -2,7 +2,6 @@
 
 import csv
 import math
-import os
 import subprocess
 import sys
 from decimal import Decimal
@@ -11,8 +10,6 @@ import pandas as pd
 import pytest
 from conftest import ROOT
 from test_oracle import least_best_pit, whole
-
-from pitplan import run
 
 EXAMPLE = ROOT / "examples" / "scenarios"
 SHAPE = (10, 9, 7)  # columns, rows, levels of blocks of 20 x 20 x 15 m
@@ -28,7 +25,7 @@ def folder(tmp_path_factory):
     """What the command line writes."""
     place = tmp_path_factory.mktemp("scenarios")
     words = [ROOT / "tools" / "pitplan", "scenarios", EXAMPLE / "project.toml", "--out", place, "--workers", "2", "--quiet"]
-    subprocess.run([sys.executable, *words], check=True, env={**os.environ, "PITSHELL": str(run.program())})
+    subprocess.run([sys.executable, *words], check=True)
     return place
 
 

@@ -15,7 +15,7 @@ import pandas as pd
 import pytest
 from conftest import PROJECT, ROOT, rows
 
-from pitplan import BudgetUsedUp, PlanError, ProgramError, auditing, commands, files, load, outlines, packages, run
+from pitplan import BudgetUsedUp, PlanError, ProgramError, auditing, commands, files, load, mine, outlines, packages, run
 from pitplan.cli import main
 from pitplan.progress import silent
 
@@ -23,7 +23,9 @@ ORE = {"cu": lambda i, j, k: {(3, 3, 1): 6, (4, 3, 1): 2.5, (3, 4, 0): 9}.get((i
 
 
 def test_shells_write_tables_pictures_and_a_page_that_needs_no_other_file(solved):
+    """Where the library solves it needs no other file either."""
     project, folder = solved
+    commands.write_shells(replace(project, solver="program"), verifies=False)
     names = {path.name for path in folder.iterdir()}
     pictures = set(commands.PICTURES.values())
     assert (
@@ -66,6 +68,7 @@ def test_the_record_is_json_that_can_be_read(solved):
 
 def test_the_record_has_hashes_of_all_that_was_read_and_written(solved):
     project, folder = solved
+    commands.write_shells(replace(project, solver="program"), verifies=False)
     record = json.loads((folder / "prepare.json").read_text())
     names = [*record["files"], *record["inputs"]]
     places = [folder / name for name in record["files"]] + [project.path.parent / name for name in record["inputs"]]
@@ -81,11 +84,9 @@ def test_the_record_has_hashes_of_all_that_was_read_and_written(solved):
 
 def test_a_file_changed_since_is_refused(solved):
     _, folder = solved
-    with open(folder / "mine.blocks", "a") as file:
+    with open(folder / "years.csv", "a") as file:
         file.write("\n")
-    with pytest.raises(
-        PlanError, match="mine.blocks: has changed since prepare.json was written: run pitplan shells again"
-    ):
+    with pytest.raises(PlanError, match="years.csv: has changed since prepare.json was written: run pitplan shells again"):
         files.read_folder(folder)
 
 
@@ -108,7 +109,7 @@ def test_an_audit_is_confirmed_by_the_program_and_by_the_short_checker(solved, f
     record = json.loads((target / "audit.json").read_text())
     table = pd.read_csv(folder / "shells.csv", dtype={"worth_at_factor": str}).set_index("factor")
     assert Decimal(record["worth_at_factor"]) == Decimal(table["worth_at_factor"][factor])
-    assert record["program"] == run.identity() and record["plan"]["mine.prec"] == files.hash_of(target / "shell.prec")
+    assert record["program"] == run.identity() and record["plan"]["blocks.csv"] == files.hash_of(folder / "blocks.csv")
 
 
 def test_a_bent_audit_is_not_confirmed(solved):
@@ -136,13 +137,19 @@ def test_an_audit_of_other_blocks_or_of_another_worth_is_refused(solved):
 
 
 def test_values_of_an_audit_are_exact(tmp_path):
-    from pitplan.auditing import values_at
+    from pitplan.auditing import read_nodes
 
     (tmp_path / "mine.blocks").write_text("0 0 0 0 0 1.000001\n1 0 0 0 12345.678901 0.1\n")
-    assert values_at(tmp_path / "mine.blocks", 333).tolist() == [-1000001000, 333 * 12345678901 - 100000000]
+    assert mine.values_at(read_nodes(tmp_path / "mine.blocks"), 333).tolist() == [-1000001000, 333 * 12345678901 - 100000000]
     (tmp_path / "mine.blocks").write_text("0 0 0 0 999999999999 0\n")
     with pytest.raises(PlanError, match="does not fit a model: give prices and costs in a greater unit of money"):
-        values_at(tmp_path / "mine.blocks", 1000)
+        mine.values_at(read_nodes(tmp_path / "mine.blocks"), 1000)
+    # Products that 64 bits would not hold, and the greatest and least value that a model takes.
+    most = np.array([10**18 - 1]), np.array([0])
+    assert mine.values_at(most, 1).tolist() == [10**18 - 1] and mine.values_at((np.array([10**17 - 1]), np.array([10**17 - 10**12])), 1000).tolist() == [10**15 - 1000]
+    for amounts, factor in (((np.array([10**17]), np.array([0])), 100_000), ((np.array([0]), np.array([10**15])), 1), ((np.array([10**15]), np.array([0])), 1000)):
+        with pytest.raises(PlanError, match=f"a value at factor {factor}, a thousandfold, is 10.12 or more"):
+            mine.values_at(amounts, factor)
 
 
 def test_a_factor_that_is_not_solved_is_refused(solved):
@@ -369,7 +376,9 @@ def test_the_command_line_tells_table_steps_and_warnings(solved_once):
     assert lines[0].split()[:3] == ["factor", "blocks", "rock"] and lines[1].split()[:3] == ["per", "mille", "t"]
     assert [line.split()[0] for line in lines[2:5]] == ["500", "1000", "1500"]
     assert lines[-1] == str(solved_once.place / "plan" / "report.html")
-    steps = ["reading", "laying the walls", "writing blocks and needs", "solving 3 factors", "drawing"]
+    by = files.read_record(solved_once.place / "plan")["shells"]["solver"]["by"]
+    needs = {"library": "listing the needs", "program": "writing blocks and needs"}[by]
+    steps = ["reading", "laying the walls", needs, f"solving 3 factors by the {by}", "drawing"]
     assert all(f"{step}" in solved_once.err for step in steps)
     assert "WARNING: the greatest pit touches the north side of the model" in solved_once.err
     assert "3 blocks have a node for processing: the cut-off moves with the price" in solved_once.err

@@ -15,7 +15,7 @@ from hypothesis import strategies as st
 from test_shells import BOX, CLOSED, SMALL, best_by_trying, grades, project_of
 
 import pitplan
-from pitplan import commands, files, fixed, load, prepare, run, simulation
+from pitplan import commands, files, fixed, load, mine, prepare, run, simulation
 from pitplan.cli import main
 from pitplan.fixed_rules import FixedRules
 from pitplan.errors import PlanError
@@ -276,11 +276,11 @@ def test_a_pit_of_the_least_factor_of_all_is_compared_too(plan_folder):
     assert table["blocks"].tolist() == [9, 8]
 
 
-def test_a_shell_that_is_not_the_pit_of_the_program_is_refused(plan_folder, monkeypatch):
+def test_a_shell_that_is_not_the_pit_of_the_solver_is_refused(plan_folder, monkeypatch):
     """What is joined to the rest is lost: the pit with the fixed blocks tells."""
     path = plan_folder(ores_and_fixed(), with_section(FIXED_SECTION))
-    monkeypatch.setattr(run, "joined", lambda rest, settled, values: rest)
-    with pytest.raises(PlanError, match="is not the program's pit with the fixed blocks: 3 nodes differ"):
+    monkeypatch.setattr(mine, "joined", lambda rest, settled, values: rest)
+    with pytest.raises(PlanError, match="is not the solver's pit with the fixed blocks: 3 nodes differ"):
         commands.write_shells(load(path), path.parent / "plan", silent)
     assert not (path.parent / "plan" / "report.html").exists()
 
@@ -341,7 +341,7 @@ def test_a_shell_is_compared_with_its_pit_by_blocks_and_worth(entry, worth, coun
     """The shells of factors 1 and 2 against the pit of factor 1, which is the first two nodes, worth 5."""
     shells = solution_of([1, 1, 2], 5)
     if count is None:
-        assert run.demand_same(shells, solution_of(entry, worth), 1) is None
+        assert mine.demand_same(shells, solution_of(entry, worth), 1) is None
         return
     with pytest.raises(PlanError, match=f"the shell of factor 1 .*: {count} nodes differ, worth 5 for {worth}; please"):
-        run.demand_same(shells, solution_of(entry, worth), 1)
+        mine.demand_same(shells, solution_of(entry, worth), 1)

@@ -3,7 +3,7 @@
 import json
 import random
 import subprocess
-from decimal import Decimal
+from decimal import Context, Decimal
 from pathlib import Path
 
 import numpy as np
@@ -108,6 +108,14 @@ def test_shells_in_units_and_past_64_bits():
     # Two blocks of 10^12 at a hundred times their price.
     found = pitshell.shells([10**12, 10**12], [0, 0], NEEDS, [100_000])
     assert found.worths == [2 * 10**14]
+
+
+def test_worths_of_29_digits_are_exact():
+    """A million blocks of the most that there is, of which one yields a millionth less, at nearly a hundred times their price."""
+    revenues = np.full(1_000_001, 10**18)
+    revenues[7] -= 1
+    (worth,) = pitshell.shells(revenues, np.zeros_like(revenues), np.zeros((0, 2)), [99_999], millionths=True).worths
+    assert int(worth.scaleb(9, Context(prec=60))) == 99_999 * (1_000_001 * 10**18 - 1) > 10**28
 
 
 @pytest.mark.parametrize(

@@ -209,6 +209,20 @@ def test_an_interruption_ends_a_process_of_its_own(monkeypatch):
     assert time.monotonic() - started < 30 and begun[0].wait(5) != 0
 
 
+def test_a_process_that_is_late_is_ended(monkeypatch):
+    popen, begun = optimiser.subprocess.Popen, []
+
+    def sleep(arguments, **options):
+        begun.append(popen(["/bin/sleep", "600"], **options))
+        return begun[0]
+
+    monkeypatch.setattr(optimiser, "FEW", 0)
+    monkeypatch.setattr(optimiser.subprocess, "Popen", sleep)
+    programme, _ = lp.programme_of(problem_of(benches_of(*THREE), Limits({"ore_tonnes": 100})), 3)
+    found = optimiser.solve(programme, patience=0.3)
+    assert found.unknowns is None and found.bound == np.inf and begun[0].wait(5) != 0
+
+
 @pytest.mark.parametrize("few", [0, 1000])
 def test_a_programme_that_cannot_be_solved_is_told(monkeypatch, few):
     """x is at most -1 and at least 0."""

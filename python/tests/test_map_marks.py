@@ -9,9 +9,10 @@ from conftest import PROJECT, rows
 from matplotlib.figure import Figure
 
 import pitplan
-from pitplan import PlanError, commands, map_marks, pictures
+from pitplan import PlanError, commands, map_marks, phase_pictures, pictures
 from pitplan.grid import Grid
 from pitplan.picture_rules import PictureRules
+from pitplan.simulation import pictures as many
 
 METALS = '[[metals]]\nname = "gold"\ncolumn = "au"\nunit = "gram_per_tonne"\nprice = 60\nrecovery = 0.9\n[slopes]\n'
 
@@ -103,6 +104,45 @@ def test_sections_and_levels_are_those_asked_for():
 def test_a_picture_of_two_maps_has_no_empty_frames():
     figure, axes = pictures.panels(100.0, 100.0, 3)
     assert len(axes) == 3 and [ax.axison for ax in figure.axes] == [True, True, True, False]
+
+
+def phase_scene():
+    """The scene's pit in two phases, the second of which is the block below."""
+    cube = scene().factor
+    return phase_pictures.PhaseScene(grid(), np.where(cube == 500, 1, np.where(cube == 1000, 2, 0)), np.ones(cube.shape, dtype=bool), 2)
+
+
+def likely():
+    """Half of the scenarios dig the scene's upper level, and all the block below."""
+    cube = scene().factor
+    return many.Likely(grid(), np.where(cube == 500, 0.5, np.where(cube == 1000, 1.0, 0.0)), np.ones(cube.shape, dtype=bool), 1000, 4)
+
+
+@pytest.mark.parametrize("plot", [lambda axes: phase_pictures.plot_plans(phase_scene(), axes), lambda axes: many.plot_plans(likely(), axes)])
+def test_plans_of_phases_and_of_scenarios_are_maps_too(plot):
+    """Each with the north and a scale; the first with the lines of the sections that the other picture shows."""
+    found = plot(Figure().subplots(2, 2))
+    for ax in found:
+        assert {"N", "20 m"} <= {text.get_text() for text in ax.texts}
+    named = [{"A", "A'", "B", "B'"} & {text.get_text() for text in ax.texts} for ax in found]
+    assert [len(letters) for letters in named] == [4, 0, 0, 0]
+    across, along = (line.get_xydata().tolist() for line in found[0].lines[:2])
+    assert across == [[430_000, 6_512_070], [430_150, 6_512_070]] and along == [[430_112.5, 6_512_000], [430_112.5, 6_512_100]]
+
+
+def test_sections_of_phases_and_of_scenarios_go_along_these_lines():
+    for found in (phase_pictures.plot_sections(phase_scene(), Figure().subplots(2)), many.plot_sections(likely(), Figure().subplots(2))):
+        titles = [ax.get_title(loc="left") or ax.get_title() for ax in found]
+        assert titles[0].endswith("est to east (A) at north 6512070") and titles[1].endswith("outh to north (B) at east 430112.5")
+
+
+def test_phases_at_the_surface_have_contours_of_the_last_floor():
+    """Dotted, beside the two lines round phases: nine columns are dug to 90 m or deeper, and one of them to 80."""
+    axes = drawn(lambda ax: phase_pictures.plot_surface(phase_scene(), ax))
+    assert (axes.get_title(loc="left") or axes.get_title()) == "Phases at the surface, contours of the floor each 10 m"
+    dotted = [lines for lines in axes.collections if lines.get_linestyle()[0][1] is not None]
+    assert [len(lines.get_segments()) for lines in dotted] == [12, 4] and len(axes.collections) == 4
+    assert {"90", "80"} <= {text.get_text() for text in axes.texts}
 
 
 @pytest.fixture

@@ -2,12 +2,14 @@
 
 import importlib.util
 import inspect
+import json
 import re
 import typing
 from decimal import Decimal
 
 import pandas as pd
 import pytest
+from conftest import ROOT
 from matplotlib.figure import Figure
 from test_fixed import FIXED_SECTION, ores_and_fixed, with_section
 from test_scenarios import COLUMNS, PRICES, UPRIGHT, pillar
@@ -63,7 +65,7 @@ def test_a_page_exports_and_a_folder_for_auditors_are_told_by_their_paths(solved
 @pytest.mark.parametrize(
     ("call", "said"),
     [
-        (lambda folder: pitplan.export(folder, "dwg"), "dwg is none of table, csv, xlsx, vti, vtu, dxf"),
+        (lambda folder: pitplan.export(folder, "dwg"), "dwg is none of table, csv, xlsx, vti, vtu, dxf, stl, obj"),
         (lambda folder: pitplan.export(folder, "dxf", 900), "factor 900 is not among the factors 500, 1000, 1500"),
         (lambda folder: pitplan.audit(folder, 900), "factor 900 is not among the factors 500, 1000, 1500"),
         (lambda folder: pitplan.view(folder / "nowhere"), "nowhere/prepare.json: cannot be read: run pitplan shells first"),
@@ -115,6 +117,26 @@ def test_scenarios_are_given_as_frames(plan_folder):
     assert [line.get_ydata()[0] for line in right.lines] == [0, 0] and [line.get_ydata()[2] for line in left.lines] == [300, 300]
     with pytest.raises(PlanError, match="probability.csv: has no factor 900"):
         found.likely(900)
+
+
+def test_the_notebook_from_a_frame_to_a_schedule_runs(monkeypatch):
+    """examples/schedule.ipynb: each block of the phases is dug once, within the limits of the project, and no way is above the bound."""
+    monkeypatch.chdir(ROOT / "examples")
+    cells = json.loads((ROOT / "examples" / "schedule.ipynb").read_text())["cells"]
+    code = ["".join(cell["source"]) for cell in cells if cell["cell_type"] == "code"]
+    names: dict = {}
+    for text in code:
+        exec(text, names)
+    assert sum(bool(line) and not line.startswith(("#", "import", "from")) for text in code for line in text.split("\n")) <= 20
+    given = pd.read_csv("plan/blocks.csv").set_index("id")
+    blocks = names["plan"].blocks.set_index("planner_id")
+    assert blocks["cu_pct"].to_numpy() == pytest.approx(0.9 * given["cu_pct"][blocks.index].to_numpy())
+    inside = names["divided"].phase[blocks["id"]] > 0
+    ways = names["yearly_schedule"].ways(names["schedule"])
+    assert (ways["tonnes"] + ways["left_tonnes"]).tolist() == pytest.approx([given["tonnes"][blocks.index[inside]].sum()] * len(ways))
+    years = names["yearly_schedule"].years(names["schedule"])
+    assert (years["ore_tonnes"] <= 800_000 * (1 + 1e-9)).all() and (years["rock_tonnes"] <= 2_000_000 * (1 + 1e-9)).all()
+    assert (ways["below_bound"] >= 0).all() and len(names["figure"].axes) == len(ways) >= 1
 
 
 def test_lists_of_jobs_are_told_by_what_to_start(plan_folder):

@@ -253,7 +253,7 @@ def test_probabilities_have_coordinates_in_full(monkeypatch):
         figure = drawn_of(monkeypatch, many, lambda draw=draw: draw(likely, None))
         demand_plain_coordinates(figure)
         titles = [axis.get_title(loc="left") for axis in figure.axes]
-    assert titles[:2] == ["West to east at north 6512262.5", "South to north at east 430250"]
+    assert titles[:2] == ["West to east (A) at north 6512262.5", "South to north (B) at east 430250"]
 
 
 SHELLS = pd.DataFrame(

@@ -10,6 +10,7 @@ from conftest import ROOT
 
 import pitplan
 from pitplan import yearly_schedule
+from pitplan.block_schedule import result as block_result
 from pitplan.phase_rules import PhaseRules
 from pitplan.schedule_rules import ScheduleRules
 from pitplan.sensitivity_rules import SensitivityRules
@@ -63,9 +64,9 @@ def test_the_levels_that_the_page_says_are_chosen():
 
 def test_the_pairs_of_the_page_are_those_of_the_example(tmp_path):
     plan = pitplan.prepare(EXAMPLE)
-    written = plan.write(tmp_path)["needs"]["written"]
+    written = plan.write(tmp_path).written
     plan.used[:] = True
-    whole = plan.write(tmp_path)["needs"]["written"]
+    whole = plan.write(tmp_path).written
     assert f"of the example's {whole:,} pairs {written:,} are written" in PAGE
 
 
@@ -113,6 +114,13 @@ def test_the_schedule_of_the_page_is_that_of_the_example():
     assert f"it finds one of {binned.value('lp') / 1e6:.2f}, below a bound of {binned.optimum.bound / 1e6:.2f}:" in PAGE
     milling = binned.milling["lp"]
     assert f"in year 2 it mills at once only ore of {milling.cutoffs[1]:.2f} USD a tonne or more" in PAGE
+
+
+def test_the_schedule_by_block_of_the_page_is_that_of_the_example():
+    project = pitplan.load(EXAMPLE)
+    table = block_result.make(pitplan.prepare(replace(project, schedule_rules=ScheduleRules(ramp_up=(0.5, 1.0))))).table.iloc[0]
+    said = f"the example's blocks earn {table['value'] / 1e6:.2f} M USD, {100 * table['below_bound']:.2f} % less than the bound of {table['bound'] / 1e6:.2f}."
+    assert f"With `ramp_up = [0.5, 1.0]` {said}" in PAGE
 
 
 def test_the_widths_of_the_page_are_those_of_the_example():

@@ -267,10 +267,11 @@ def test_a_changed_or_missing_folder_is_status_5(plan_folder):
     shared = prepared(plan_folder(pillar(), COLUMNS))
     assert work.solve(str(shared.folder), 4).why.endswith("has no scenario 4")
     assert work.solve(str(shared.folder / "nowhere"), 1).status == 5
-    (shared.folder / "mine.prec").write_text("")
+    needs = "needs.npy" if shared.solver.by == "library" else "mine.prec"
+    (shared.folder / needs).write_text("")
     work.shared_of.cache_clear()
     outcome = work.solve(str(shared.folder), 1)
-    assert outcome.status == 5 and "mine.prec: has changed since scenarios.json was written" in outcome.why
+    assert outcome.status == 5 and f"{needs}: has changed since scenarios.json was written" in outcome.why
 
 
 def test_what_went_wrong_is_told_by_status(plan_folder, monkeypatch):
@@ -332,7 +333,8 @@ def test_lists_of_jobs_are_shell_and_name_what_is_missing(plan_folder, kind):
 def test_a_task_of_slurm_solves_its_lines(plan_folder, monkeypatch):
     monkeypatch.setattr(job_lists, "MOST_TASKS", 2)
     folder = prepared(plan_folder(pillar(), COLUMNS)).folder
-    job_lists.write("slurm", folder, folders.read_shared(folder).scenarios)
+    shared = folders.read_shared(folder)
+    job_lists.write("slurm", folder, shared.scenarios, shared.solver)
     assert "#SBATCH --array=1-2\n" in (folder / "array.sbatch").read_text()
     script = folder / "array.sbatch"
     subprocess.run(["sh", str(script)], check=True, env={**os.environ, "SLURM_ARRAY_TASK_ID": "2"})
@@ -350,7 +352,8 @@ def test_a_task_of_slurm_solves_its_lines(plan_folder, monkeypatch):
 def test_a_slurm_task_gives_itself_back_only_where_it_was_killed(plan_folder, tmp_path, status, restarts, requeued):
     path = plan_folder(pillar(), COLUMNS)
     folder = prepared(path).folder
-    job_lists.write("slurm", folder, folders.read_shared(folder).missing())
+    shared = folders.read_shared(folder)
+    job_lists.write("slurm", folder, shared.missing(), shared.solver)
     (folder / "scenario.sh").write_text(f"exit {status}\n")
     for name, text in {"scontrol": f'echo "$@" >> {tmp_path}/asked', "sleep": ""}.items():
         (tmp_path / name).write_text(f"#!/bin/sh\n{text}\n")
@@ -508,7 +511,7 @@ def test_a_broken_folder_of_scenarios_is_named(plan_folder, tmp_path):
 def test_a_folder_of_jobs_whose_name_no_script_can_hold_is_refused(plan_folder, tmp_path):
     shared = prepared(plan_folder(pillar(), COLUMNS))
     with pytest.raises(PlanError, match="may not have a line's end or a % in its name"):
-        job_lists.write("slurm", tmp_path / "50 %", shared.scenarios)
+        job_lists.write("slurm", tmp_path / "50 %", shared.scenarios, shared.solver)
 
 
 def test_workers_that_cannot_import_pitplan_end_it_all(plan_folder):

@@ -9,7 +9,7 @@ import pytest
 from conftest import PROJECT, rows
 from matplotlib.figure import Figure
 
-from pitplan import PlanError, Where, commands, load, run, sensitivity_pictures, varied, varied_cases
+from pitplan import PlanError, Where, commands, load, sensitivity_pictures, varied, varied_cases
 from pitplan.cli import main
 from pitplan.verification import verify_folder
 
@@ -203,17 +203,16 @@ def test_a_lower_price_of_all_is_a_lesser_factor(plan_folder):
 
 def test_what_has_an_answer_is_not_solved_again(small, monkeypatch):
     path, solved = small("by = [0.1]"), []
-    solve_files = run.solve_files
-    monkeypatch.setattr(run, "solve_files", lambda *words: solved.append(words) or solve_files(*words))
+    find = varied_cases.find
+    monkeypatch.setattr(varied_cases, "find", lambda *words: solved.append(words) or find(*words))
     first = commands.sensitivity(path)
-    assert len(solved) == 7
+    assert len(solved) == 6
     monkeypatch.chdir(path.parent)
     second = commands.sensitivity("project.toml")
-    # That of the project as given tells the factor.
-    assert len(solved) == 8 and first.astype(str).equals(second.astype(str))
+    assert len(solved) == 6 and first.astype(str).equals(second.astype(str))
     path.write_text(path.read_text().replace("by = [0.1]", "by = [0.1, 0.2]"))
     commands.sensitivity(path)
-    assert len(solved) == 8 + 1 + 11, "the project's text is another"
+    assert len(solved) == 6 + 11, "the project's text is another"
 
 
 def test_files_and_what_the_command_line_tells(small, capsys, monkeypatch, undrawn):
@@ -229,7 +228,7 @@ def test_files_and_what_the_command_line_tells(small, capsys, monkeypatch, undra
         *("blocks.csv", "cases", "sensitivity.csv", "sensitivity.json", "tornado.png", "spider.png", "grid-price-mining_cost.png")
     }
     record = json.loads((folder / "sensitivity.json").read_text())
-    assert len(record["verified"]) == 10 and record["factor"] == 1000
+    assert len(record["verified"]) == 12 and record["factor"] == 1000
     assert main(["verify", str(folder)]) == 0
     assert "in 25 cases: " in capsys.readouterr().out
     assert main(["sensitivity", str(path), "--quiet", "--no-verify"]) == 0
@@ -335,6 +334,7 @@ AMOUNTS = "blocks tonnes ore_tonnes waste_tonnes strip_ratio processed_tonnes gr
         *((column, "years") for column in ("npv", "npv_best", "npv_worst", "years")),
         ("worth_at_factor", "worth"),
         *((column, "kept") for column in KEPT),
+        ("skin_worth", "skin"),
         ("factor", "cases"),
         ("share", "cases"),
         ("second_share", "cases"),

@@ -211,7 +211,7 @@ def test_each_wall_entry_takes_its_own_levels_and_the_record_names_them(plan_fol
     steep = f"angle = {math.degrees(math.atan(10)):.9f}"
     entries = f'region = "hard"\n{steep}\n[[slopes.walls]]\nregion = "soft"\npattern = "1:9"'
     plan = pitplan.prepare(plan_folder(table, PROJECT, ("levels = 3\n", ""), ('pattern = "1:5"', entries)))
-    assert [walls["levels"] for walls in plan.write(tmp_path)["walls"]] == [23, 1]
+    assert [walls["levels"] for walls in plan.record(plan.write(tmp_path))["walls"]] == [23, 1]
     assert any("needs a block over 23 levels make walls" in note for note in plan.notes)
     assert any("9 needs a block over 1 level make walls" in note for note in plan.notes)
 
@@ -281,7 +281,7 @@ def test_needs_that_leave_the_grid_at_its_sides_are_counted(plan_folder, tmp_pat
     plan = pitplan.prepare(plan_folder(rows(3, 3, 2)))
     plan.used[:] = True
     # Of the nine lower blocks the four corners lack two neighbours each, and the four edges one.
-    record = plan.write(tmp_path)
+    record = plan.record(plan.write(tmp_path))
     assert record["needs"]["clipped_at_the_sides"] == 4 * 2 + 4 * 1
     assert "12 needs lead off the model's sides and were clipped: that ground is not known" in record["notes"]
 

@@ -11,7 +11,7 @@ from conftest import PROJECT, rows
 from hypothesis import HealthCheck, given, settings
 from hypothesis import strategies as st
 
-from pitplan import PlanError, absent, commands, files, fixed, load, money, prepare, schedule, slopes, solve
+from pitplan import PlanError, absent, commands, files, fixed, load, money, prepare, schedule, slopes, solve, table as tables
 from pitplan.cli import main
 from pitplan.progress import silent
 from pitplan.verification import answer as answers, demand, sums, verify
@@ -212,11 +212,24 @@ def refused(plan_folder, table=None, text=TEXT, *changes):
     return str(said.value)
 
 
+def test_a_run_reads_its_table_once_and_a_later_look_reads_it_again(plan_folder, monkeypatch):
+    """The second look of a run takes the rows as they were read, and would see what a later look sees."""
+    path, reads, read_table = plan_folder(deposit(), TEXT), [], tables.read
+    monkeypatch.setattr(tables, "read", lambda project: reads.append(project) or read_table(project))
+    commands.write_shells(path)
+    assert len(reads) == 1 and wrong(path.parent / "plan") == set() and len(reads) == 2
+    table = read_table(load(path)).frame
+    bent = table.assign(cu=table["cu"].where(table["cu"] < 6, 5.9))
+    assert {rule.name for rule in verify(path.parent / "plan", None, bent) if rule.differences} == {"money", "shells"}
+    deposit().assign(cu=bent["cu"].to_numpy()).to_csv(path.parent / "blocks.csv", index=False)
+    assert wrong(path.parent / "plan") == {"money", "shells"}
+
+
 def looked_at(plan):
     """What is said of the plan's numbers, without pictures and report."""
     folder = plan.project.folder
     folder.mkdir(exist_ok=True)
-    record = plan.write(folder)
+    record = plan.record(plan.write(folder))
     commands.write_tables(commands.Answered(plan, solve(plan)), folder)
     record["shells"] = {"factors": list(plan.project.schedule.factors)}
     (folder / "prepare.json").write_text(json.dumps(record))
@@ -427,8 +440,9 @@ def test_a_cost_that_is_counted_from_the_tables_highest_block_is_found(plan_fold
 
 
 def test_a_shell_of_other_blocks_is_found(plan_folder, monkeypatch):
-    """The needs are left out of the files for the program; what it answers is right for them and wrong for the mine."""
-    monkeypatch.setattr("pitplan.files.slices", lambda *_: iter(()))
+    """The needs are left out of what the solver is given; what it answers is right for that and wrong for the mine."""
+    for module in ("files", "rows"):
+        monkeypatch.setattr(f"pitplan.{module}.slices", lambda *_: iter(()))
     assert "walls: " in refused(plan_folder, None, TEXT, ('[fixed]\nforced = "must"\nbarred = "never"\n', ""))
 
 

@@ -2,7 +2,9 @@
 
 from dataclasses import replace
 from decimal import Decimal
+from functools import partial
 from itertools import combinations
+from types import SimpleNamespace
 
 import numpy as np
 import pandas as pd
@@ -13,7 +15,7 @@ from test_fixed import FIXED_SECTION, ores_and_fixed, with_section
 from test_scenarios import COLUMNS, UPRIGHT, pillar, prepared, solved_in_turn
 from test_verify import looked_at, ore_everywhere, wrong
 
-from pitplan import PlanError, absent, commands, files, fixed, load, prepare, run, simulation
+from pitplan import PlanError, absent, commands, files, fixed, load, prepare, simulation
 from pitplan.progress import silent
 from pitplan.simulation import Request
 from pitplan.verification import verify
@@ -237,17 +239,19 @@ def test_a_pit_without_fixed_blocks_that_is_worth_less_is_found(pits):
 
 
 def test_a_pit_without_fixed_blocks_that_leaves_a_block_standing_is_refused(plan_folder, monkeypatch):
-    """Its answer is bent after the program: a block that ore needs is dug no more."""
-    solve_files = run.solve_files
+    """Its answer is bent after the solver: a block that ore needs is dug no more."""
+    def bent(ready, *words):
+        made, record = ready(*words)
 
-    def bent(blocks, prec, factors):
-        found = solve_files(blocks, prec, factors)
-        if blocks.name == "mine.blocks":
+        def free_shells(factors):
+            found = made.free_shells(factors)
             found.entry[np.flatnonzero(found.entry > 0)[0]] = 0
-        return found
+            return found
+
+        return SimpleNamespace(plan=made.plan, solver=made.solver, files=made.files, shells=made.shells, pit=made.pit, free_shells=free_shells), record
 
     project = load(plan_folder(ores_and_fixed(), with_section(FIXED_SECTION)))
-    monkeypatch.setattr(run, "solve_files", bent)
+    monkeypatch.setattr(commands, "ready", partial(bent, commands.ready))
     with pytest.raises(PlanError, match="free: walls: block .*, needs a block that is not"):
         commands.pit(project, 1500)
     assert list((project.folder / "pit").iterdir()) == []

@@ -12,12 +12,13 @@ from typing import Optional
 
 import numpy as np
 
-from .. import exports, files
+from .. import files
 from ..errors import MissingPackage, PlanError
 from ..progress import Progress
 from ..project import REFERENCE_FACTOR, Project
 from ..verification import demand
 from ..verification.scenarios import verify
+from ..vtk_files import write_image as write_vti
 from . import answers, folder as folders, job_lists, on_dask, pictures, prepare, work
 from .folder import Shared
 from .result import IMAGE, PROBABILITY, QUANTILES, TABLE, ScenarioResult
@@ -53,7 +54,7 @@ def solve(project: Project, folder: Path, request: Request, progress: Progress) 
     notes = [*shared.record["notes"], f"{count - len(missing):,} of {count:,} scenarios have their answer already"]
     if request.where in ("slurm", "parallel"):
         if missing:
-            return ScenarioResult(folder, tuple(notes), job_lists.write(request.where, folder, missing))
+            return ScenarioResult(folder, tuple(notes), job_lists.write(request.where, folder, missing, shared.solver))
     elif missing:
         where = on_dask.Where(request.where, request.workers)
         outcomes = on_dask.run(where, folder, missing, progress)
@@ -67,7 +68,7 @@ def solve(project: Project, folder: Path, request: Request, progress: Progress) 
 
 def notes_of_outcomes(outcomes: list[work.Outcome]) -> list[str]:
     """How the scenarios ended: how many by each status, and the first sentence of each that is not 0."""
-    words = {0: "solved", 1: "refused by the program", 2: "not understood by the program", 3: "out of budget"}
+    words = {0: "solved", 1: "refused by the solver", 2: "not understood by the program", 3: "out of budget"}
     words |= {4: "answered no", work.REFUSED: "refused by pitplan", work.LOST: "killed again and again"}
     notes = []
     for status, said in words.items():
@@ -146,7 +147,7 @@ def write_image(shared: Shared, gathered: answers.Gathered, stage: Path) -> list
     }
     tonnes = shared.frame[shared.project.table.tonnes].to_numpy()
     try:
-        exports.write_image(stage / IMAGE, grid, {**arrays, "tonnes": grid.spread(tonnes)})
+        write_vti(stage / IMAGE, grid, {**arrays, "tonnes": grid.spread(tonnes)})
     except MissingPackage as error:
         return [f"{IMAGE} was not written: {error}"]
     return []

@@ -3,7 +3,9 @@
     scenarios.json      what there is to solve, and what it was made of
     project.toml        the project as it was
     base.npz            the blocks without grades: cell, tonnes, rock; and of all cells what fixed blocks settle
-    mine.prec           the needs, written once for all scenarios; with fixed blocks those of the rest
+    starts.npy,         the needs as rows for the library, once for all scenarios; with fixed blocks those of the rest
+    needs.npy
+    mine.prec           or the same for the program, where that solves
     models/HASH.npy     the grades of a model, a row a block and a column a metal
     done/KEY.npz        the answer of a scenario; its key names all that the answer depends on
     failed/KEY.json     why a scenario has no answer
@@ -16,6 +18,7 @@ import json
 import os
 from dataclasses import asdict, dataclass, replace
 from decimal import Decimal
+from functools import cached_property
 from pathlib import Path
 from typing import Any, Optional
 
@@ -28,8 +31,11 @@ from ..files import staged_file
 from ..fixed import Settled
 from ..grid import Grid
 from ..project import Project, load
+from ..rows import Rows
+from ..solver import Solver
 
 RECORD, PROJECT, BASE = "scenarios.json", "project.toml", "base.npz"
+STARTS, NEEDS = "starts.npy", "needs.npy"
 MODELS, DONE, FAILED = "models", "done", "failed"
 
 
@@ -59,6 +65,7 @@ class Shared:
 
     frame   tonnes and rock, a row a block of the table
     ore     the blocks that have a node for processing in the shared needs
+    solver  what finds all answers
     settled what is dug and what is left for the sake of fixed blocks; None where the project has none
     """
 
@@ -68,7 +75,14 @@ class Shared:
     grid: Grid
     ore: np.ndarray
     record: dict[str, Any]
+    solver: Solver
     settled: Optional[Settled] = None
+
+    @cached_property
+    def rows(self) -> Rows:
+        """The needs for the library, whose pages all processes of a machine share."""
+        starts, needs = (np.load(self.folder / name, mmap_mode="r", allow_pickle=False) for name in (STARTS, NEEDS))
+        return Rows(starts, needs)
 
     @property
     def scenarios(self) -> list[Scenario]:
@@ -97,15 +111,16 @@ def read_shared(folder: Path) -> Shared:
                 raise PlanError(f"{folder / name}: has changed since {RECORD} was written: run pitplan scenarios again")
         with np.load(folder / BASE, allow_pickle=False) as base:
             arrays = {name: base[name] for name in base.files}
+        solver = Solver(**record["solver"])
     except OSError as error:
         raise PlanError(f"{error.filename}: cannot be read: run pitplan scenarios first") from error
-    except (ValueError, KeyError) as error:
+    except (ValueError, KeyError, TypeError) as error:
         raise PlanError(f"{folder / RECORD}: is no record of scenarios: {error}") from error
     grid = files.grid_of(record["grid"], arrays.pop("cells"))
     ore = arrays.pop("ore")
     settled = Settled(arrays.pop("dug"), arrays.pop("left")) if "dug" in arrays else None
     project = referred(load(folder / PROJECT), record["mining_cost_reference"])
-    return Shared(folder, project, pd.DataFrame(arrays), grid, ore, record, settled)
+    return Shared(folder, project, pd.DataFrame(arrays), grid, ore, record, solver, settled)
 
 
 def key_of(parts: dict[str, Any]) -> str:
@@ -148,7 +163,7 @@ def save_grades(folder: Path, grades: np.ndarray) -> str:
 
 
 def save_failure(shared: Shared, scenario: Scenario, status: Optional[int], sentence: str) -> None:
-    """Notes why a scenario has no answer; `status` is the program's, None where it did not get to run."""
+    """Notes why a scenario has no answer; `status` is the solver's, None where it did not get to run."""
     path = shared.failure(scenario)
     with staged_file(path) as place:
         files.write_json(place, {"number": scenario.number, "label": scenario.label, "status": status, "why": sentence})

@@ -10,9 +10,11 @@ import shlex
 import sys
 from pathlib import Path
 
+from .. import solver as solvers
 from ..errors import PlanError
 from ..files import staged_file
-from ..installation import PACKAGES, program
+from ..installation import PACKAGES
+from ..solver import Solver
 from .folder import Scenario
 
 SCRIPT, ARRAY, GATHER, START, JOBS, LOG = (
@@ -29,8 +31,8 @@ MOST_TASKS = 1000
 
 ONE = """#!/bin/sh
 # Solves one scenario of this folder, by its number.
-# 0: its answer stands. 1 to 4: the program's own status. 5: pitplan refused. Others: killed, to be tried again.
-PITSHELL={program} PYTHONPATH={packages} exec {python} -m pitplan scenario {folder} "$1"
+# 0: its answer stands. 1 to 4: the solver's own status. 5: pitplan refused. Others: killed, to be tried again.
+{variable}={solver} PYTHONPATH={packages} exec {python} -m pitplan scenario {folder} "$1"
 """
 
 SLURM = """#!/bin/sh
@@ -88,13 +90,13 @@ PYTHONPATH={packages} exec {python} -m pitplan gather {folder}
 """
 
 
-def write(kind: str, folder: Path, scenarios: list[Scenario]) -> Path:
+def write(kind: str, folder: Path, scenarios: list[Scenario], solver: Solver) -> Path:
     """Writes the scripts of `slurm` or `parallel`; gives the one to start. Raises PlanError where there is nothing to do
     or a name would not stand in a script."""
     folder = folder.resolve()
     if any(sign in str(folder) for sign in "\n%"):
         raise PlanError(f"{folder}: a folder of jobs may not have a line's end or a % in its name")
-    words = words_of(folder, len(scenarios))
+    words = words_of(folder, len(scenarios), solver)
     texts = {JOBS: "".join(f"{scenario.number}\n" for scenario in scenarios), SCRIPT: ONE.format(**words)}
     if kind == "slurm":
         texts |= {
@@ -111,12 +113,13 @@ def write(kind: str, folder: Path, scenarios: list[Scenario]) -> Path:
     return folder / START
 
 
-def words_of(folder: Path, count: int) -> dict[str, object]:
+def words_of(folder: Path, count: int, solver: Solver) -> dict[str, object]:
     """What the scripts are filled with: paths, quoted for the shell."""
+    variable, file = solvers.place_of(solver)
     paths = {
         "python": Path(sys.executable),
         "packages": PACKAGES,
-        "program": program().resolve(),
+        "solver": file.resolve(),
         "folder": folder,
         "jobs": folder / JOBS,
         "log": folder / LOG,
@@ -125,4 +128,4 @@ def words_of(folder: Path, count: int) -> dict[str, object]:
         "gather": folder / GATHER,
     }
     quoted: dict[str, object] = {name: shlex.quote(str(path)) for name, path in paths.items()}
-    return {**quoted, "count": count, "tasks": min(count, MOST_TASKS), "tries": TRIES, "folder_plain": str(folder)}
+    return {**quoted, "variable": variable, "count": count, "tasks": min(count, MOST_TASKS), "tries": TRIES, "folder_plain": str(folder)}

@@ -1,4 +1,5 @@
-"""Scenarios over Dask: processes of this machine, or the workers of a scheduler. Each task is one run of the program.
+"""Scenarios over Dask: processes of this machine, or the workers of a scheduler. Each task is one call of the library, or one run of
+the program.
 
 Answers are files in the shared folder, so a task moves a number there and a status back. A task whose worker dies is
 given to another by the scheduler, and one whose program was killed is tried again.

@@ -19,6 +19,7 @@ from matplotlib.figure import Figure
 from matplotlib.lines import Line2D
 
 from ..grid import Grid, metres
+from ..map_marks import mark_map, mark_section_cells
 from ..outlines import edges
 from ..pictures import GROUND, MAP, STYLE, busiest, finish, list_of, name_axes, scaled, write_maps
 
@@ -51,6 +52,15 @@ class Likely:
         """The shares in rock alone, 0 elsewhere."""
         return np.where(self.solid, self.share, 0.0)
 
+    @property
+    def section_row(self) -> int:
+        """The row of blocks along which a section goes: that in which most of the pit lies that half of the scenarios hold."""
+        return busiest(self.shown >= 0.5, 1)
+
+    @property
+    def section_column(self) -> int:
+        return busiest(self.shown >= 0.5, 2)
+
 
 def write_plans(likely: Likely, path: Path) -> None:
     write_maps(likely.grid, partial(plot_plans, likely), path)
@@ -63,10 +73,12 @@ def plot_plans(likely: Likely, axes: Any) -> list[Axes]:
     extent, height = (west, east, south, north), likely.grid.size[2]
     draw(first, likely.shown.max(axis=0), likely.solid.any(axis=0), extent)
     first.set_title("Any level")
+    mark_section_cells(first, likely.grid, likely.section_row, likely.section_column)
     for ax, number in zip(others, levels_to_show(likely)):
         draw(ax, likely.shown[number], likely.solid[number], extent)
         ax.set_title(f"Level {metres(top - (number + 1) * height)} to {metres(top - number * height)} m")
     for ax in found:
+        mark_map(ax, likely.grid)
         name_axes(ax, "east", "north")
     explain(found, likely)
     return found
@@ -86,12 +98,12 @@ def plot_sections(likely: Likely, axes: Any) -> list[Axes]:
     gives."""
     found = list_of(axes, 2)
     west, east, south, north, bottom, top = likely.grid.extent()
-    row, column = busiest(likely.shown >= 0.5, 1), busiest(likely.shown >= 0.5, 2)
+    row, column = likely.section_row, likely.section_column
     x, y, _ = likely.grid.centres(np.array(row * likely.grid.shape[2] + column))
     cuts: tuple[Any, ...] = ((slice(None, None, -1), row, slice(None)), (slice(None, None, -1), slice(None), column))
     places = (
-        ((west, east, bottom, top), f"West to east at north {metres(y)}", "east"),
-        ((south, north, bottom, top), f"South to north at east {metres(x)}", "north"),
+        ((west, east, bottom, top), f"West to east (A) at north {metres(y)}", "east"),
+        ((south, north, bottom, top), f"South to north (B) at east {metres(x)}", "north"),
     )
     for ax, cut, (extent, title, label) in zip(found, cuts, places):
         draw(ax, likely.shown[cut], likely.solid[cut], extent)

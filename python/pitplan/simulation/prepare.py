@@ -10,11 +10,13 @@ from typing import Any
 
 import numpy as np
 
-from .. import files, run, summary as summaries
+from .. import csv_file, files, summary as summaries
+from ..mine import counted_rows
 from ..money_rules import ByRegion
 from ..plan import Plan
 from ..progress import Progress
 from ..project import Project
+from ..solver import LIBRARY, Solver, chosen
 from . import folder as folders
 from .ensemble import Base, envelope, models, read_base, scenarios_of
 from .folder import Scenario
@@ -34,7 +36,7 @@ class Models:
 
 def prepare(project: Project, folder: Path, progress: Progress) -> folders.Shared:
     """Reads and checks every model, and writes what solving needs. Raises PlanError with nothing to solve written."""
-    program = run.identity()
+    solver = chosen(project.solver)
     with progress.step(f"reading {project.table.file}"):
         base = read_base(project)
     progress.lines(summaries.of_ground(base.table, base.grid, project))
@@ -44,9 +46,9 @@ def prepare(project: Project, folder: Path, progress: Progress) -> folders.Share
     with progress.step("laying the needs that all scenarios share"):
         plan = envelope(base, read.greatest)
         with files.staged(folder, folders.RECORD) as stage:
-            write_shared(base, plan, stage)
-            scenarios = list_of(base, plan, read, program)
-            write_record(plan, scenarios, program, stage)
+            written = write_shared(base, plan, solver, stage)
+            scenarios = list_of(base, plan, read, solver)
+            write_record(plan, scenarios, solver, written, stage)
     return folders.read_shared(folder)
 
 
@@ -90,25 +92,37 @@ def arrays_of_settled(plan: Plan) -> dict[str, np.ndarray]:
     return {} if plan.settled is None else {"dug": plan.settled.dug, "left": plan.settled.left}
 
 
-def write_shared(base: Base, plan: Plan, stage: Path) -> None:
-    """Base, needs, the project, and the planner's rows, for which probabilities are told."""
+def write_shared(base: Base, plan: Plan, solver: Solver, stage: Path) -> list[str]:
+    """Base, needs, the project, and the planner's rows, for which probabilities are told; gives the names of the files."""
     np.savez_compressed(stage / folders.BASE, ore=plan.values.processed, **arrays_of(base), **arrays_of_settled(plan))
-    plan.write_needs(stage / files.PREC, plan.needs_of_rest)
+    needs = write_needs(plan, solver, stage)
     shutil.copyfile(base.project.path, stage / folders.PROJECT)
     frame = plan.blocks
     grades = [metal.column for metal in base.project.metals]
     costs = ["mining_cost", "revenue", "processing_cost"]
-    frame.drop(columns=[*grades, *costs]).to_csv(stage / BLOCKS, index=False)
+    csv_file.write(stage / BLOCKS, frame.drop(columns=[*grades, *costs]))
+    return [folders.BASE, *needs, folders.PROJECT, BLOCKS]
 
 
-def list_of(base: Base, plan: Plan, read: Models, program: dict[str, str]) -> list[Scenario]:
+def write_needs(plan: Plan, solver: Solver, stage: Path) -> list[str]:
+    """The needs that all scenarios share, as the solver takes them; gives the names of the files."""
+    if solver.by != LIBRARY:
+        plan.write_needs(stage / files.PREC, plan.needs_of_rest)
+        return [files.PREC]
+    rows, _ = counted_rows(plan.needs_of_rest, plan)
+    np.save(stage / folders.STARTS, rows.starts)
+    np.save(stage / folders.NEEDS, rows.needs)
+    return [folders.STARTS, folders.NEEDS]
+
+
+def list_of(base: Base, plan: Plan, read: Models, solver: Solver) -> list[Scenario]:
     """Every model at every set of prices, in this order, with the keys of their answers."""
     project, settled = base.project, arrays_of_settled(plan)
     walls = {"code": base.walls.code, **{str(k): p.cone for k, p in enumerate(base.walls.patterns)}}
     common = {
         "project": folders.meaning(project, plan.reference),
         "blocks": folders.hash_of_arrays({**arrays_of(base), **walls, **settled}),
-        "program": program["sha256"],
+        "solver": solver.sha256,
     }
     sets = scenarios_of(project).prices
     named = [metal for metal in project.metals if any(metal.name in prices for prices in sets)]
@@ -122,13 +136,12 @@ def list_of(base: Base, plan: Plan, read: Models, program: dict[str, str]) -> li
     return scenarios
 
 
-def write_record(plan: Plan, scenarios: list[Scenario], program: dict[str, str], stage: Path) -> None:
-    written = [folders.BASE, files.PREC, folders.PROJECT, BLOCKS]
+def write_record(plan: Plan, scenarios: list[Scenario], solver: Solver, written: list[str], stage: Path) -> None:
     record: dict[str, Any] = {
         "title": plan.project.title,
         "project": os.path.relpath(plan.project.path, stage.parent),
         "factors": list(plan.project.schedule.factors),
-        "program": program,
+        "solver": vars(solver),
         "grid": {"shape": plan.grid.shape, "origin": plan.grid.origin, "size": plan.grid.size},
         "walls": [pattern.as_json() for pattern in plan.walls.patterns],
         "mining_cost_reference": plan.reference,

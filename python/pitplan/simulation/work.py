@@ -1,4 +1,5 @@
-"""One scenario, solved by one run of the program; whoever asks for it, in whatever process, on whatever machine."""
+"""One scenario, solved by one call of the library or one run of the program; whoever asks for it, in whatever process, on whatever
+machine."""
 
 from __future__ import annotations
 
@@ -10,10 +11,11 @@ from pathlib import Path
 
 import numpy as np
 
-from .. import absent, analyse, files, money, run
+from .. import absent, analyse, files, library, mine, money, run, solver
 from ..errors import PlanError, ProgramError
 from ..files import staged_file
 from ..plan import Plan
+from ..run import Solution
 from ..walls import Walls
 from . import folder as folders
 from .ensemble import priced
@@ -94,16 +96,24 @@ def plan_of(shared: Shared, scenario: Scenario) -> Plan:
     return Plan(project, frame, shared.grid, values, walls, used, scenario.label, settled=shared.settled)
 
 
-def write_answer(shared: Shared, scenario: Scenario) -> None:
-    """Raises ProgramError where the program ends without an answer."""
-    plan = plan_of(shared, scenario)
+def shells_of(shared: Shared, plan: Plan) -> Solution:
+    """The shells of a scenario by the solver of all. Raises ProgramError where that is another here, or refuses."""
+    solver.demand_same(shared.solver)
+    factors = plan.project.schedule.factors
+    nodes = plan.values.nodes() if plan.settled is None else plan.values.nodes_of_rest(plan.settled)
+    if shared.solver.by == solver.LIBRARY:
+        return library.shells(nodes, shared.rows, factors)
     with tempfile.TemporaryDirectory(prefix="pitplan-") as place:
         blocks = Path(place) / files.BLOCKS
-        nodes = plan.values.nodes() if plan.settled is None else plan.values.nodes_of_rest(plan.settled)
         files.write_blocks(blocks, plan.grid, plan.values.processed, nodes)
-        solution = run.solve_files(blocks, shared.folder / files.PREC, plan.project.schedule.factors)
-        solution = run.joined(solution, plan.settled, plan.values)
-        absent.demand_known(solution.entry, plan.grid, plan.project, plan.source)
+        return run.solve_files(blocks, shared.folder / files.PREC, factors)
+
+
+def write_answer(shared: Shared, scenario: Scenario) -> None:
+    """Raises ProgramError where the solver ends without an answer."""
+    plan = plan_of(shared, scenario)
+    solution = mine.joined(shells_of(shared, plan), plan.settled, plan.values)
+    absent.demand_known(solution.entry, plan.grid, plan.project, plan.source)
     cells = analyse.cells_of(plan, solution)
     table = analyse.amounts(plan, cells).astype(np.float64)
     factors = np.array(plan.project.schedule.factors)

@@ -19,7 +19,8 @@ of the program, for the files that it was given; here is looked whether these sa
 - of `pit`, both rows of pits.csv are right in all this, and the pit without fixed blocks is worth no less;
 - a table that was written back has the planner's own rows and fields, and of each block what blocks.csv says;
 - phases are closed under the whole cones, hold what must be dug in phase 1 and what may not be in none, add up, and are as wide as
-  asked, which is counted anew by sums over squares.
+  asked, which is counted anew by sums over squares;
+- in a schedule by block no block comes before its whole cone, no year is above a limit, and the value is not above the bound.
 """
 
 from __future__ import annotations
@@ -28,9 +29,11 @@ from decimal import Decimal
 from pathlib import Path
 from typing import Optional
 
+import pandas as pd
+
 from ..errors import PlanError
 from ..project import Project
-from . import absent, answer as answers, fixed, money, phases, planned_table, reach, reblocked, scenarios, schedule, sensitivity, sums
+from . import absent, answer as answers, block_schedule, fixed, money, phases, planned_table, reach, reblocked, scenarios, schedule, sensitivity, sums
 from . import walls, years
 from .answer import TOLD, Answer, Rule, rule
 
@@ -38,17 +41,19 @@ OF_PITS = (walls.verify, sums.verify, sums.verify_worth, years.verify)
 CHECKS = (fixed.verify_places, absent.verify, walls.verify, walls.verify_steepness, fixed.verify, money.verify, *OF_PITS[1:])
 
 
-def verify(folder: Path, project: Optional[Project] = None) -> list[Rule]:
-    """What was looked at, one rule after the other; a rule without differences holds. The project is the one that the folder names.
+def verify(folder: Path, project: Optional[Project] = None, table: Optional[pd.DataFrame] = None) -> list[Rule]:
+    """What was looked at, one rule after the other; a rule without differences holds. The project is the one that the folder names, and the
+    table as its reader gives it, unless they are given: a run that has read them need not read them again.
 
     Raises PlanError where the folder has no answer, or the table has changed since.
     """
-    answer = answers.read(folder, project)
+    answer = answers.read(folder, project, table)
     more = [reblocked.verify(answer)] if answer.parts is not None else []
     more += [reach.verify(answer)] if answer.beyond is not None else []
     more += [verify_free(answer, answer.free)] if answer.free else []
     more += phases.verify(answer) if answer.phases is not None else []
     more += [planned_table.verify(answer, folder / planned_table.NAME)] if (folder / planned_table.NAME).exists() else []
+    more += block_schedule.verify(answer) if answer.is_by_block else []
     return [*(check(answer) for check in CHECKS), *more, *(schedule.verify(answer) if answer.schedule is not None else [])]
 
 

@@ -31,6 +31,10 @@ PROCESS = "process"
 FREE = ("free_factor", "free_process_factor")
 # Those that `pitplan pushbacks` and `pitplan schedule` write besides.
 PHASE, YEAR = "phase", "year"
+# Of a schedule by block the share of each block that goes to each of several processes.
+SHARE = "share_"
+# What `rows_of` gives of a table.
+TableRows = tuple[pd.DataFrame, Optional[pd.DataFrame], Optional[pd.DataFrame]]
 
 
 @dataclass(frozen=True)
@@ -62,6 +66,7 @@ class Answer:
     found   what was told of it before, by name
     phases  of `pitplan pushbacks` phases.csv, by phase; `said` has each block's phase then
     schedule  of `pitplan schedule` schedule.csv; `said` has each block's year then
+    is_by_block  whether blocks were scheduled one by one; `said` has the year of each then
     parts   where rows are put together to blocks the table's rows; `rows` are then the answer's own, which hold them
     beyond  the table's rows that lie beyond the answer's grid, where some do
     """
@@ -81,6 +86,7 @@ class Answer:
     schedule: Optional[pd.DataFrame] = None
     parts: Optional[pd.DataFrame] = None
     beyond: Optional[pd.DataFrame] = None
+    is_by_block: bool = False
 
     @property
     def shape(self) -> tuple[int, int, int]:
@@ -142,6 +148,11 @@ class Answer:
         return [(f"revenue_{name}", f"processing_cost_{name}") for name in names] or [("revenue", "processing_cost")]
 
     @cached_property
+    def whole(self) -> dict[str, np.ndarray]:
+        """Amounts of `said` as whole numbers, by name, once they were asked for."""
+        return {}
+
+    @cached_property
     def ore(self) -> np.ndarray:
         """Whether processing a block pays at the price as given, once it is dug."""
         return (self.said["revenue"] > self.said["processing_cost"]).to_numpy()
@@ -191,9 +202,9 @@ class Answer:
         column, walls = self.project.table.region, self.project.slopes.walls
         others = next((k for k, wall in enumerate(walls) if wall.regions is None), 0)
         by_region = {name: k for k, wall in enumerate(walls) for name in wall.regions or ()}
-        regions = self.rows[column].astype(str) if column else pd.Series("", index=self.rows.index)
+        place, names = pd.factorize(self.rows[column].astype(str) if column else np.full(len(self.rows), ""))
         cube = np.full(self.shape, np.nan)
-        cube[self.cells] = regions.map(lambda name: by_region.get(name, others))
+        cube[self.cells] = np.array([by_region.get(name, others) for name in names])[place]
         columns = pd.DataFrame(cube.reshape(self.shape[0], -1))
         return columns.bfill().ffill().fillna(others).to_numpy(dtype=np.int16).reshape(self.shape)
 
@@ -215,17 +226,26 @@ class Answer:
         return "the block at " + ", ".join(f"{self.rows[axis].iloc[row]:.10g}" for axis in (columns.x, columns.y, columns.z))
 
 
-def read(folder: Path, project: Optional[Project] = None) -> Answer:
-    """The answer in a folder, to the project that it names unless another is given. Raises PlanError where the folder has no answer of `pitplan shells` or `pit`, or the project is not where it was."""
+def read(folder: Path, project: Optional[Project] = None, table: Optional[pd.DataFrame] = None) -> Answer:
+    """The answer in a folder, to the project that it names and to its table, unless these are given.
+
+    Raises PlanError where the folder has no answer of `pitplan shells` or `pit`, or the project is not where it was.
+    """
     try:
         record = json.loads((folder / "prepare.json").read_text(encoding="utf-8"))
         project = project or load(folder / record["project"])
-        written = read_blocks(folder / "blocks.csv", project, (*said_of(project), *FREE, PHASE, YEAR))
-        return read_shells(folder, record, project, written) if "shells" in record else read_pits(folder, record, project, written)
+        written = read_blocks(folder / "blocks.csv", project, (*said_of(project), *FREE, PHASE, YEAR, *shares_of(project)))
+        rows = rows_of(project, written, record["grid"], table)
+        return (read_shells if "shells" in record else read_pits)(folder, record, project, written, rows)
     except OSError as error:
         raise PlanError(f"{error.filename}: cannot be read: run pitplan shells first") from error
     except (ValueError, KeyError) as error:
         raise PlanError(f"{folder}: is no folder that pitplan shells or pit has written: {error}") from error
+
+
+def shares_of(project: Project) -> list[str]:
+    """Of a schedule by block the columns of blocks.csv that say which share of a block goes to each of several processes."""
+    return [f"{SHARE}{process.name}" for process in project.processes]
 
 
 def said_of(project: Project) -> tuple[str, ...]:
@@ -235,25 +255,26 @@ def said_of(project: Project) -> tuple[str, ...]:
     return (*SAID, PROCESS, *(f"{name}_{process.name}" for process in project.processes for name in ("revenue", "processing_cost")))
 
 
-def read_shells(folder: Path, record: dict[str, Any], project: Project, written: pd.DataFrame) -> Answer:
+def read_shells(folder: Path, record: dict[str, Any], project: Project, written: pd.DataFrame, table: TableRows) -> Answer:
     """The answer of `pitplan shells`, `pitplan pushbacks` or `pitplan schedule`."""
     shells = pd.read_csv(folder / "shells.csv", dtype={"worth_at_factor": str}).set_index("factor")
     years = pd.read_csv(folder / "years.csv") if (folder / "years.csv").exists() else None
-    frame, parts, beyond = rows_of(project, written, record["grid"])
+    frame, parts, beyond = table
     rows, known, order = beside(frame, written, project, record["grid"], "blocks.csv")
     phases = pd.read_csv(folder / "phases.csv").set_index("phase") if "phases" in record else None
     schedule = pd.read_csv(folder / "schedule.csv") if "schedule" in record else None
-    more = [*([PHASE] if phases is not None else []), *([YEAR] if schedule is not None else [])]
+    is_by_block = "by_block" in record
+    shares = shares_of(project) if is_by_block else []
+    more = [*([PHASE] if phases is not None else []), *([YEAR] if schedule is not None or is_by_block else []), *shares]
     said, factors = written[[*said_of(project), *more]].iloc[order].reset_index(drop=True), tuple(record["shells"]["factors"])
-    return Answer(folder, project, rows, known, said, shells, years, record, factors, phases=phases, schedule=schedule, parts=parts, beyond=beyond)
+    found = {"phases": phases, "schedule": schedule, "parts": parts, "beyond": beyond, "is_by_block": is_by_block}
+    return Answer(folder, project, rows, known, said, shells, years, record, factors, **found)
 
 
-def rows_of(
-    project: Project, written: pd.DataFrame, grid: dict[str, Any]
-) -> tuple[pd.DataFrame, Optional[pd.DataFrame], Optional[pd.DataFrame]]:
-    """A row a block of the table that lies in the answer's grid; where its rows are put together to blocks these rows; and where some were
-    left out the blocks beyond the grid. Raises PlanError as `beside` does."""
-    frame = tables.read(project).frame
+def rows_of(project: Project, written: pd.DataFrame, grid: dict[str, Any], table: Optional[pd.DataFrame] = None) -> TableRows:
+    """A row a block of the table, which is read unless it is given, that lies in the answer's grid; where its rows are put together to blocks
+    these rows; and where some were left out the blocks beyond the grid. Raises PlanError as `beside` does."""
+    frame = tables.read(project).frame if table is None else table
     if project.table.reblock is None:
         inside, beyond = divided(frame, project, grid)
         return inside, None, beyond
@@ -262,11 +283,11 @@ def rows_of(
     return written_rows(inside, own.loc[:, ~own.columns.duplicated(keep="last")], project, grid), frame, beyond
 
 
-def read_pits(folder: Path, record: dict[str, Any], project: Project, written: pd.DataFrame) -> Answer:
+def read_pits(folder: Path, record: dict[str, Any], project: Project, written: pd.DataFrame, table: TableRows) -> Answer:
     """The two answers of `pitplan pit`: that which keeps to the fixed blocks, and in it the one that does not."""
     pits = pd.read_csv(folder / "pits.csv", dtype={"worth_at_factor": str})
     kept, free = (pits[pits["fixed_blocks"] == name].set_index("factor") for name in ("kept", "free"))
-    frame, parts, beyond = rows_of(project, written, record["grid"])
+    frame, parts, beyond = table
     rows, known, order = beside(frame, written, project, record["grid"], "blocks.csv")
     said = written[[*said_of(project), *FREE]].iloc[order].reset_index(drop=True)
     other = said.assign(**{name: said[f"free_{name}"] for name in ("factor", "process_factor")})

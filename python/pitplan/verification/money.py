@@ -3,13 +3,13 @@
 from __future__ import annotations
 
 import math
-from dataclasses import dataclass, replace
+from dataclasses import dataclass, field, replace
 from decimal import ROUND_HALF_EVEN, Decimal
 from fractions import Fraction
 
 import numpy as np
 
-from ..money_rules import GRADE_UNITS, Metal
+from ..money_rules import GRADE_UNITS, Curve, Recovery
 from ..project import Project
 from .answer import PROCESS, TOLD, UNDUG, Answer, Rule, rule
 from .feed import at_grade, by_code, of_code
@@ -22,7 +22,8 @@ MINING = "mining_cost"
 def verify(answer: Answer) -> Rule:
     """Each amount of blocks.csv is the product of the table's and the project's numbers, rounded once."""
     chosen = sample(answer)
-    parts = [replace(answer, project=way) for way in answer.project.ways]
+    # Of one process alone it is the answer itself, which has found some things already.
+    parts = [answer if way is answer.project else replace(answer, project=way) for way in answer.project.ways]
     found = [near(part, names) for part, names in zip(parts, answer.amounts_of_ways)]
     differences, count = [said for told, _ in found for said in told], sum(count for _, count in found)
     if not count:
@@ -103,26 +104,30 @@ def more_for_depth(answer: Answer, elevation: float) -> Decimal:
 
 @dataclass(frozen=True)
 class Costs:
-    """What blocks of one rock and region have in common: mining cost of a tonne without what depth adds, processing cost of a tonne, and
-    the shares that are told of tonnes."""
+    """What blocks of one rock and region have in common: mining cost of a tonne without what depth adds, processing cost of a tonne, the
+    shares that are told of tonnes, and of each metal the recovery and what every tonne at the mill loses of it."""
 
-    rock: str
     mining: Decimal
     processing: Decimal
     mining_recovery: Decimal
     dilution: Decimal
+    recoveries: tuple[Recovery, ...]
+    tails: tuple[Decimal, ...]
 
     @staticmethod
     def of(project: Project, rock: str, region: str) -> Costs:
-        money = project.money
+        money, metals = project.money, project.metals
         told = (money.mining_cost, money.processing_cost, money.mining_recovery, money.dilution)
-        return Costs(rock, *(of_code(value, rock, region) for value in told))
+        shares = [metal.recovery.get(rock, Decimal(0)) if isinstance(metal.recovery, dict) else metal.recovery for metal in metals]
+        tails = [of_code(metal.fixed_tail, rock, "") for metal in metals]
+        return Costs(*(of_code(value, rock, region) for value in told), tuple(shares), tuple(tails))
 
-    def recovered(self, metal: Metal, grade: Decimal) -> Decimal:
-        """The grade that is recovered of each tonne of the block itself that comes to the mill."""
-        of_rock = metal.recovery.get(self.rock, Decimal(0)) if isinstance(metal.recovery, dict) else metal.recovery
-        share = at_grade(of_rock, Fraction(grade) / Fraction(1 + self.dilution))
-        return max(grade - of_code(metal.fixed_tail, self.rock, "") * (1 + self.dilution), Decimal(0)) * share
+    def recovered(self, number: int, grade: Decimal) -> Decimal:
+        """The grade of a metal that is recovered of each tonne of the block itself that comes to the mill."""
+        share, tail = self.recoveries[number], self.tails[number]
+        if isinstance(share, Curve):
+            share = at_grade(share, Fraction(grade) / Fraction(1 + self.dilution))
+        return max(grade - tail * (1 + self.dilution), Decimal(0)) * share
 
 
 @dataclass(frozen=True)
@@ -132,6 +137,7 @@ class Exactly:
     codes   of each block, of rock and region
     costs   by these codes
     depths  what mining a tonne costs more, by level from the top
+    weighed the amounts of blocks that were asked for, by their numbers, since many blocks of waste have the same
     """
 
     answer: Answer
@@ -141,6 +147,7 @@ class Exactly:
     costs: dict[tuple[str, str], Costs]
     level: list[int]
     depths: list[Decimal]
+    weighed: dict[tuple, tuple[Decimal, Decimal, Decimal]] = field(default_factory=dict)
 
     @staticmethod
     def of(answer: Answer) -> "Exactly":
@@ -154,12 +161,21 @@ class Exactly:
 
     def amounts(self, row: int) -> tuple[Decimal, Decimal, Decimal]:
         """Mining cost, revenue and processing cost of a block."""
-        project, tonnes = self.answer.project, Decimal(repr(self.tonnes[row]))
-        costs = self.costs[self.codes[row]]
-        mining = tonnes * (costs.mining + self.depths[self.level[row]])
+        numbers = (self.tonnes[row], self.codes[row], self.level[row], *(grades[row] for grades in self.grades))
+        if numbers not in self.weighed:
+            self.weighed[numbers] = self.of_numbers(*numbers)
+        return self.weighed[numbers]
+
+    def of_numbers(self, rock: float, codes: tuple[str, str], level: int, *grades: float) -> tuple[Decimal, Decimal, Decimal]:
+        """The amounts of a block of so many tonnes of rock, of these codes, on a level, with a grade of each metal."""
+        project, tonnes = self.answer.project, Decimal(repr(rock))
+        costs = self.costs[codes]
+        mining = tonnes * (costs.mining + self.depths[level])
         revenue = selling = Decimal(0)
-        for metal, grades in zip(project.metals, self.grades):
-            grade = costs.recovered(metal, Decimal(repr(grades[row])))
+        for number, (metal, told) in enumerate(zip(project.metals, grades)):
+            if not told:
+                continue
+            grade = costs.recovered(number, Decimal(repr(told)))
             quantity = tonnes * costs.mining_recovery * grade * GRADE_UNITS[metal.unit]
             revenue += quantity * metal.price
             selling += quantity * metal.selling_cost

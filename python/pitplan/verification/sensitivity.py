@@ -11,7 +11,7 @@ from dataclasses import dataclass, replace
 from decimal import Decimal
 from itertools import product
 from pathlib import Path
-from typing import Any
+from typing import Any, Optional
 
 import numpy as np
 import pandas as pd
@@ -33,17 +33,20 @@ OF_EACH = {
     "worth": "the program's worth of each pit is that of its blocks",
     "years": "net present values follow from the benches by the case's own capacities",
     "kept": "so they do for the pit of the project as given at the numbers of each case",
+    "skin": "what the skin of that pit is worth is the sum of its blocks at these numbers",
 }
 Data = dict[str, Any]
 
 
 @dataclass(frozen=True)
 class Case:
-    """What is changed, as pairs of a number and a share, and where the pits are: for each cell the least factor that holds it."""
+    """What is changed, as pairs of a number and a share; where the pits are: for each cell the least factor that holds it; and of the project
+    as given for each cell whether it is in the skin, else nothing."""
 
     changes: tuple[tuple[str, Decimal], ...]
     entry: np.ndarray
     walls: list[Data]
+    skin: Optional[np.ndarray] = None
 
     @property
     def label(self) -> str:
@@ -93,7 +96,7 @@ class Told:
             for number, case in enumerate(self.cases):
                 for name, it in self.of_case(case, self.rows.iloc[[number]]).items():
                     found[name].append(replace(it, differences=tuple(f"{case.label}: {said}" for said in it.differences)))
-        of_ground = [fixed.verify_places(self.ground), absent.verify(self.ground), listed]
+        of_ground = [fixed.verify_places(self.ground), absent.verify(self.ground), listed, self.outside_skin()]
         count = f"in {len(self.cases):,} cases: "
         return [*of_ground, *(joined(name, count + holds, found[name]) for name, holds in OF_EACH.items())]
 
@@ -109,6 +112,19 @@ class Told:
         if not (self.rows["factor"] == self.factor).all():
             differences.append(f"sensitivity.csv has another factor than {self.factor}")
         return rule("cases", "each number that is varied has a row for each share, and each pair for each two", differences)
+
+    def outside_skin(self) -> Rule:
+        """The pit as given without its skin is a shell, with what must be dug, and has at most the other share of the rock."""
+        given, record, tonnes = self.cases[0], self.ground.record["skin"], self.ground.tonnes
+        shell = self.dug(np.where(given.skin, 0, given.entry), self.ground.project, given.walls)
+        differences = [*walls.verify(shell).differences, *(fixed.verify(shell).differences if record["factor"] else ())]
+        ids = self.ground.said["id"].to_numpy()
+        if (given.skin & (given.entry == 0)).any():
+            differences.append("a block of the skin is not in the pit")
+        whole, part = (float(tonnes[inside[ids]].sum()) for inside in (given.entry > 0, given.skin))
+        if abs(part - record["tonnes"]) > 1e-6 * whole or part < float(share_of(self.ground.project)) * whole * (1 - 1e-9):
+            differences.append(f"the skin has {part:,.0f} t of {whole:,.0f}, and sensitivity.json says {record['tonnes']:,.0f}")
+        return rule("skin's shell", "the pit without its skin is a shell, and the skin has at least the share asked for", differences)
 
     def of_case(self, case: Case, row: pd.DataFrame) -> dict[str, Rule]:
         """Everything that a row says."""
@@ -126,6 +142,7 @@ class Told:
             "worth": rule("worth", "", sums.unlike_worth(pit)),
             "years": rule("years", "", [*npv.differences, *unlike], npv.count + len(unlike)),
             "kept": self.kept(project, row.set_index("factor"), any(name == "slopes" for name, _ in case.changes)),
+            "skin": self.skin(project, float(row["skin_worth"].iloc[0]), any(name == "slopes" for name, _ in case.changes)),
         }
 
     def kept(self, project: Project, row: pd.DataFrame, moves_walls: bool) -> Rule:
@@ -138,6 +155,16 @@ class Told:
         off = abs(float(said["worth"].iloc[0]) - worth) > 6e-4 + 1e-12 * gross
         wrong = [f"kept_worth {said['worth'].iloc[0]:.12g} for {worth:.12g}"] if off or said["worth"].isna().any() else []
         return rule("kept", "", [*wrong, *years.verify(pit).differences])
+
+    def skin(self, project: Project, said: float, moves_walls: bool) -> Rule:
+        """What the skin of the pit as given is worth at the numbers of a case; nothing where walls are others."""
+        if moves_walls:
+            return rule("skin", "", [] if np.isnan(said) else ["skin_worth is given, and walls are others"])
+        given = self.cases[0]
+        skin = weighed(self.dug(np.where(given.skin, self.factor, 0), project, given.walls))
+        worth, gross = sums.sums(skin, self.factor)["worth"], float(np.abs(skin.worths).sum())
+        is_near = abs(said - worth) <= 6e-4 + 1e-12 * gross
+        return rule("skin", "", [] if is_near else [f"skin_worth {said:.12g} for {worth:.12g}"])
 
     def dug(self, entry: np.ndarray, project: Project, patterns: list[Data]) -> Answer:
         """The ground with pits, by the numbers of a case."""
@@ -160,7 +187,8 @@ def joined(name: str, holds: str, found: list[Rule]) -> Rule:
 def cases_in(folder: Path, record: Data) -> Iterator[Case]:
     for entry in record["cases"]:
         with np.load(folder / "cases" / f"{entry['key']}.npz", allow_pickle=False) as said:
-            yield Case(tuple((name, Decimal(share)) for name, share in entry["changes"]), said["entry"], entry["walls"])
+            skin = said["skin"] if "skin" in said else None
+            yield Case(tuple((name, Decimal(share)) for name, share in entry["changes"]), said["entry"], entry["walls"], skin)
 
 
 def padded(changes: list[tuple[str, float]]) -> tuple[str, float, str, float]:
@@ -177,6 +205,10 @@ def due_of(project: Project) -> list[tuple[str, float, str, float]]:
     alone = {*names, *(name for pair in pairs for name in pair)}
     due = [padded([]), *(padded([(name, share)]) for name, share in product(alone, by))]
     return due + [padded([(one, first), (other, second)]) for one, other in pairs for first, second in product(by, by)]
+
+
+def share_of(project: Project) -> Decimal:
+    return text_of(project.path).get("sensitivity", {}).get("skin", Decimal("0.05"))
 
 
 def is_given(project: Project, name: str) -> bool:

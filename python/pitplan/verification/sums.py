@@ -70,25 +70,25 @@ def verify_worth(answer: Answer) -> Rule:
 
 def unlike_worth(answer: Answer) -> list[str]:
     """The factors at which the program's worth is not the sum of what the pit's blocks are worth at that factor."""
-    mining, differences = millionths(answer, "mining_cost"), []
+    mining, lost, differences = millionths(answer, "mining_cost"), lost_digits(answer), []
     for factor in answer.shells.index:
-        inside = within(answer, int(factor))
-        revenue, processing = chosen(answer, int(factor))
-        gain, cost = int(factor) * total(revenue[inside]), 1000 * (total(processing[inside]) + total(mining[inside]))
+        inside = np.flatnonzero(within(answer, int(factor)))
+        revenue, processing = chosen(answer, int(factor), inside)
+        gain, cost = int(factor) * total(revenue), 1000 * (total(processing) + total(mining[inside]))
         said = Decimal(answer.shells["worth_at_factor"][factor]).scaleb(9)
-        if abs(said - (gain - cost)) > lost_digits(answer) * (gain + cost):
+        if abs(said - (gain - cost)) > lost * (gain + cost):
             differences.append(f"factor {factor}: worth_at_factor {said.scaleb(-9)} for {Decimal(gain - cost).scaleb(-9)}")
     return differences
 
 
-def chosen(answer: Answer, factor: int) -> tuple[np.ndarray, np.ndarray]:
-    """Revenue and processing cost of each block in the process that is worth most at a factor; 0 where none pays. With a fixed cut-off in
-    that of the price as given."""
+def chosen(answer: Answer, factor: int, rows: np.ndarray) -> tuple[np.ndarray, np.ndarray]:
+    """Revenue and processing cost of the blocks of these rows in the process that is worth most at a factor; 0 where none pays. With a fixed
+    cut-off in that of the price as given."""
     is_moving = answer.project.money.cutoff == "moving"
     ways, price = (answer.amounts_of_ways, factor) if is_moving else ([("revenue", "processing_cost")], 1000)
-    revenue = processing = gain = np.zeros(len(answer.rows), dtype=np.int64)
+    revenue = processing = gain = np.zeros(len(rows), dtype=np.int64)
     for names in ways:
-        first, second = (millionths(answer, name) for name in names)
+        first, second = (millionths(answer, name)[rows] for name in names)
         worth = price * first - 1000 * second
         better = np.asarray(worth > gain, dtype=bool)
         revenue, processing, gain = (np.where(better, new, old) for new, old in ((first, revenue), (second, processing), (worth, gain)))
@@ -105,11 +105,13 @@ def lost_digits(answer: Answer) -> Decimal:
 def millionths(answer: Answer, name: str) -> np.ndarray:
     """Amounts as whole numbers; as Python's, which have no limit of size, where 64 bits could not hold them at each factor. They have no
     more decimals than the project keeps."""
-    decimals = answer.project.money.decimals
-    whole = np.rint(answer.said[name].to_numpy() * 10**decimals).astype(np.int64)
-    factors = (*answer.factors, *map(int, answer.shells.index))
-    most = int(np.abs(whole).max(initial=0)) * 10 ** (6 - decimals) * max(1000, *factors)
-    return (whole if most < MOST_WHOLE else whole.astype(object)) * 10 ** (6 - decimals)
+    if name not in answer.whole:
+        decimals = answer.project.money.decimals
+        whole = np.rint(answer.said[name].to_numpy() * 10**decimals).astype(np.int64)
+        factors = (*answer.factors, *map(int, answer.shells.index))
+        most = int(np.abs(whole).max(initial=0)) * 10 ** (6 - decimals) * max(1000, *factors)
+        answer.whole[name] = (whole if most < MOST_WHOLE else whole.astype(object)) * 10 ** (6 - decimals)
+    return answer.whole[name]
 
 
 def total(amounts: np.ndarray) -> int:
@@ -126,10 +128,11 @@ def first_processed(answer: Answer) -> np.ndarray:
     expected = np.zeros(len(first), dtype=np.int64)
     if answer.project.money.cutoff == "moving":
         for factor in sorted(answer.factors, reverse=True):
-            pays = np.asarray(chosen(answer, factor)[0] > 0, dtype=bool)
-            expected[pays & (first > 0) & (first <= factor)] = factor
+            inside = np.flatnonzero((first > 0) & (first <= factor))
+            expected[inside[np.asarray(chosen(answer, factor, inside)[0] > 0, dtype=bool)]] = factor
         return expected
-    return np.where(np.asarray(chosen(answer, 1000)[0] > 0, dtype=bool), first, 0)
+    every = np.arange(len(first))
+    return np.where(np.asarray(chosen(answer, 1000, every)[0] > 0, dtype=bool), first, 0)
 
 
 def late(answer: Answer) -> tuple[list[str], int]:

@@ -70,7 +70,9 @@ def latest(above: np.ndarray, run: Run) -> np.ndarray:
     if to.start >= to.stop:
         return found
     wide, margin = run.east - run.west + 1, max(abs(run.west), abs(run.east)) + 1
-    padded = np.pad(above[:, of], ((0, 0), (0, 0), (margin, margin)))
+    # By hand, since numpy's own pad takes longer than the filter on small levels.
+    padded = np.zeros((levels, to.stop - to.start, columns + 2 * margin), dtype=above.dtype)
+    padded[:, :, margin : margin + columns] = above[:, of]
     first = margin + run.west + wide // 2
     found[:, to] = maximum_filter1d(padded, wide, axis=2, mode="constant", cval=0)[:, :, first : first + columns]
     return found

@@ -19,8 +19,8 @@ def verify(answer: Answer) -> Rule:
     if answer.years is None:
         return verify_npv(answer, flows)
     # Those of a schedule are looked at with it.
-    ways = () if answer.schedule is None else answer.schedule["way"].unique()
-    of_shells = answer.years[~answer.years["case"].isin(ways)]
+    ways = [] if answer.schedule is None else answer.schedule["way"].unique().tolist()
+    of_shells = answer.years[~answer.years["case"].isin([*ways, *(["block"] if answer.is_by_block else [])])]
     differences: list[str] = over_capacity(answer, of_shells)
     for (case, factor), years in of_shells.groupby(["case", "factor"]):
         is_one = case in ("best", "worst")

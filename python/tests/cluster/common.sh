@@ -4,7 +4,6 @@ root=$(cd "$(dirname "$0")/../../.." && pwd)
 work=$(mktemp -d "${TMPDIR:-/tmp}/pitplan-cluster-XXXXXX")
 python=/usr/bin/python3
 pitplan="$python $root/tools/pitplan"
-export PITSHELL="${PITSHELL:-$root/build/pitshell}"
 started=""
 
 # What a script starts it ends, by the number of the process.
@@ -36,15 +35,16 @@ compare() {
     echo "same probability.csv, scenarios.csv and quantiles.csv as one after the other: yes"
 }
 
-# A program that is killed the first time that it is asked for shells, and from then on is the real one.
+# A program that is killed the first time that it is asked for shells, and from then on is the real one. It solves instead of the library,
+# where that is there, by which the reference is.
 killed_once() {
     cat > "$work/killed_once" <<END
 #!/bin/sh
 if [ "\$1" = shells ] && mkdir "$work/was_killed" 2>/dev/null; then kill -9 \$\$; fi
-exec "$PITSHELL" "\$@"
+exec "$root/build/pitshell" "\$@"
 END
     chmod 755 "$work/killed_once"
-    PITSHELL="$work/killed_once"
+    export PITSHELL="$work/killed_once"
 }
 
 # wait_for SECONDS COMMAND: until it succeeds.

@@ -1,0 +1,52 @@
+"""`pitplan schedule --by block`: the blocks of a project scheduled one by one."""
+
+from __future__ import annotations
+
+from pathlib import Path
+from types import ModuleType
+from typing import Optional
+
+import pandas as pd
+
+from . import files, mine as mines
+from .commands import Answered, Place, Source, Writing, demand_apart, read, ready, write_answer
+from .errors import MissingPackage
+from .plan import prepare as prepare_plan
+from .progress import Progress, silent
+from .solver import chosen
+
+
+def write_block_schedule(
+    project: Source, folder: Optional[Place] = None, progress: Progress = silent, verifies: bool = True
+) -> pd.DataFrame:
+    """Schedules blocks one by one, as `pitplan schedule --by block` does, and tells what no such schedule exceeds.
+
+    Gives a table of one row: value, bound, and by which share of the bound the value is less. Into the folder (by default block_schedule
+    in the project's own) it writes what `write_shells` writes, with each block's year in blocks.csv and the years in years.csv, and
+    block_schedule.json. An interruption once there is a bound ends the search for better schedules alone: block_schedule.json says so.
+
+    Raises MissingPackage without the library libpitshell.so, and PlanError where the project asks for what is not done by block, the
+    blocks are too many, and where what is written is not right, unless it is not verified.
+    """
+    result = of_library()
+    project = read(project)
+    target = project.folder / "block_schedule" if folder is None else Path(folder)
+    demand_apart(project, target)
+    solver = chosen(project.solver)
+    plan = prepare_plan(project, progress=progress)
+    with files.staged(target, whole=files.OF_PROGRAM) as stage:
+        mine, record = ready(plan, solver, stage, progress)
+        solution = mines.solve(plan, mine, progress)
+        made = result.make(plan, progress)
+        record["notes"] += made.notes
+        write_answer(Answered(plan, solution, blocks=made), mine, record, Writing(stage, progress, verifies))
+    return made.table
+
+
+def of_library() -> ModuleType:
+    """What needs the library of pits. Raises MissingPackage without it."""
+    try:
+        from .block_schedule import result
+    except ImportError as error:
+        raise MissingPackage(f"a schedule by block needs the library of pits: {error}") from error
+    return result

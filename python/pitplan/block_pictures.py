@@ -1,0 +1,69 @@
+"""The picture of a schedule by block: what its years hold beside their limits, and what they earn beside the bound."""
+
+from __future__ import annotations
+
+from pathlib import Path
+from typing import TYPE_CHECKING, Any
+
+import matplotlib
+import numpy as np
+from matplotlib.axes import Axes
+from matplotlib.figure import Figure
+from matplotlib.ticker import MaxNLocator
+
+from .pictures import ORE, PLAIN, STYLE, finish, list_of, scaled
+from .schedule_pictures import draw_bars
+from .yearly import FAR_ABOVE, MARGIN, MILL, SHOVELS
+
+if TYPE_CHECKING:
+    from .block_schedule.result import ScheduledBlocks
+
+NAME = "block_schedule.png"
+
+
+def write(made: ScheduledBlocks, path: Path) -> None:
+    with matplotlib.rc_context(STYLE):
+        figure = Figure(figsize=(12, 4.6), constrained_layout=True)
+        plot(made, figure.subplots(1, 2))
+        finish(figure, path)
+
+
+def plot(made: ScheduledBlocks, axes: Any) -> list[Axes]:
+    """Ore and waste of each year with the limits of mill and shovels, and what is earned by the end of each year, discounted, with the
+    bound, on two axes, which it gives."""
+    tonnes, money = list_of(axes, 2)
+    plot_tonnes(made, tonnes)
+    plot_value(made, money)
+    return [tonnes, money]
+
+
+def plot_tonnes(made: ScheduledBlocks, ax: Axes) -> None:
+    years, limits = made.years, made.planned.limits
+    top = max(float(years["rock_tonnes"].max()), 1.0) if len(years) else 1.0
+    size, sign = scaled(top)
+    if len(years):
+        draw_bars(ax, years, None, size)
+    edges = np.arange(max(len(years), 1) + 1) + 0.5
+    for name, label, colour in (("ore_tonnes", "mill", MILL), ("rock_tonnes", "shovels", SHOVELS)):
+        if name in limits.most and limits.most[name] <= FAR_ABOVE * top:
+            most = limits.of_years(len(edges) - 1)[:, list(limits.most).index(name)] / size
+            label = f"{label}: {round(limits.most[name] / size, 3):,.12g} {sign}t a year"
+            ax.plot(edges, np.append(most, most[-1]), drawstyle="steps-post", color=colour, linestyle="--", linewidth=1.3, label=label)
+            top = max(top, limits.most[name])
+    ax.set_ylim(0, 1.2 * MARGIN * top / size)
+    ax.set_ylabel(f"rock in the year, {sign}t")
+    ax.legend(loc="upper right", ncol=2, facecolor="white", edgecolor="none", framealpha=0.9)
+
+
+def plot_value(made: ScheduledBlocks, ax: Axes) -> None:
+    earned = np.append(0.0, made.years["discounted"].cumsum())
+    size, sign = scaled(max(float(np.abs(earned).max()), made.found.bound))
+    currency = made.planned.plan.project.money.currency
+    marks = {"color": ORE, "marker": "o", "markersize": 3, "linewidth": 1.4}
+    ax.plot(np.arange(len(earned)), earned / size, label=f"schedule: {earned[-1] / size:,.2f}", **marks)
+    ax.axhline(made.found.bound / size, color=PLAIN, linestyle="--", linewidth=1.2, label=f"bound: {made.found.bound / size:,.2f}")
+    ax.axhline(0, color="black", linewidth=0.8)
+    ax.xaxis.set_major_locator(MaxNLocator(integer=True))
+    ax.set_xlabel("end of year")
+    ax.set_ylabel(f"discounted cash so far, {sign} {currency}".replace(",  ", ", "))
+    ax.legend(loc="lower right", facecolor="white", edgecolor="none", framealpha=0.9)

@@ -1,0 +1,63 @@
+"""`python3 -m pitplan.block_schedule NAME.cpit NAME.prec`: the bound of a published problem, and a schedule of it."""
+
+from __future__ import annotations
+
+import argparse
+import sys
+from pathlib import Path
+from typing import Optional, Sequence
+
+import numpy as np
+import pandas as pd
+from minelib import MinelibError
+
+from ..errors import PlanError
+from ..files import staged_file
+from ..progress import on_standard_error, silent
+from ..schedule_rules import Effort
+from .of_minelib import of_minelib
+from .solving import Scheduled, solve
+
+INTERRUPTED = 130
+
+
+def parser() -> argparse.ArgumentParser:
+    top = argparse.ArgumentParser(prog="python3 -m pitplan.block_schedule", description="Bound and schedule of a MineLib .cpit.")
+    top.add_argument("model", type=Path, help="NAME.cpit")
+    top.add_argument("prec", type=Path, help="NAME.prec")
+    top.add_argument("--out", type=Path, help="a table of each block's period (.csv), which is -1 where it is not dug")
+    top.add_argument("--seconds", type=float, help="integer programmes make the schedule better for so long")
+    top.add_argument("--gap", type=float, default=0.0, help="or until it is within this share of the bound (default 0)")
+    top.add_argument("--quiet", action="store_true", help="tell no progress on standard error")
+    return top
+
+
+def main(arguments: Optional[Sequence[str]] = None) -> int:
+    """0 where there is a bound and a schedule, 1 where the files are refused, with a sentence on standard error, 130 where it was
+    interrupted, with the best so far if there is a bound."""
+    options = parser().parse_args(arguments)
+    effort = None if options.seconds is None else Effort(options.gap, options.seconds)
+    try:
+        problem = of_minelib(options.model, options.prec)
+        found = solve(problem, effort, silent if options.quiet else on_standard_error())
+        print(f"BOUND: {found.bound:.6f}\nVALUE: {found.value:.6f}\nGAP: {100 * found.gap:.4f} %")
+        if options.out is not None:
+            write(options.out, found, problem.years)
+    except (PlanError, MinelibError) as error:
+        print(f"pitplan: {error}", file=sys.stderr)
+        return 1
+    except KeyboardInterrupt:
+        print("pitplan: interrupted", file=sys.stderr)
+        return INTERRUPTED
+    return INTERRUPTED if found.interrupted else 0
+
+
+def write(path: Path, found: Scheduled, periods: int) -> None:
+    year = found.schedule.year
+    table = pd.DataFrame({"block": np.arange(len(year)), "period": np.where(year < periods, year, -1)})
+    with staged_file(path) as place:
+        table.to_csv(place, index=False)
+
+
+if __name__ == "__main__":
+    sys.exit(main())

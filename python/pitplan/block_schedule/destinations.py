@@ -1,0 +1,44 @@
+"""Where the blocks of a schedule go, chosen anew: a linear programme a year, whose blocks may go to several destinations in shares."""
+
+from __future__ import annotations
+
+import numpy as np
+from numpy.typing import NDArray
+from scipy.optimize import linprog
+from scipy.sparse import csr_matrix, eye, kron
+
+from .problem import BlockProblem
+from .schedule import BlockSchedule
+
+
+def with_best_shares(problem: BlockProblem, schedule: BlockSchedule) -> BlockSchedule:
+    """The schedule that digs the same blocks in the same years and earns most by where they go."""
+    share = schedule.share.copy()
+    for year in range(problem.years if problem.destinations > 1 else 0):
+        blocks = np.flatnonzero(schedule.year == year)
+        if len(blocks):
+            share[blocks] = best_shares(problem, blocks, year, share[blocks])
+    best = BlockSchedule(schedule.year, share)
+    return best if best.value(problem) > schedule.value(problem) and best.keeps(problem) else schedule
+
+
+def best_shares(problem: BlockProblem, blocks: NDArray[np.int64], year: int, share: NDArray[np.float64]) -> NDArray[np.float64]:
+    """The shares of the blocks of a year; where HiGHS finds none the given ones, which keep the limits."""
+    limits = [limit for limit in problem.limits if np.isfinite(limit.most[year])]
+    scale = np.array([limit.most[year] or 1.0 for limit in limits])
+    rows = np.array([limit.amounts[blocks].ravel() for limit in limits]).reshape(len(limits), share.size) / scale[:, None]
+    gain = problem.values[blocks, :, year].ravel()
+    unit = float(np.abs(gain).max()) or 1.0
+    found = linprog(
+        -gain / unit,
+        A_ub=csr_matrix(rows) if limits else None,
+        b_ub=np.array([limit.most[year] for limit in limits]) / scale if limits else None,
+        A_eq=kron(eye(len(blocks)), np.ones((1, problem.destinations)), format="csr"),
+        b_eq=np.ones(len(blocks)),
+        bounds=(0, 1),
+        method="highs-ds",
+    )
+    if found.status != 0:
+        return share
+    shares = np.clip(found.x.reshape(share.shape), 0.0, 1.0)
+    return shares / shares.sum(axis=1, keepdims=True)

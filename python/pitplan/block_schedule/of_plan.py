@@ -1,0 +1,136 @@
+"""The blocks of a plan as a problem: what they earn by year, what they need, and the limits of `[schedule]`."""
+
+from __future__ import annotations
+
+from dataclasses import dataclass
+
+import numpy as np
+import pitshell
+from numpy.typing import NDArray
+
+from .. import trim
+from ..errors import PlanError
+from ..needs import ABSENT, slices
+from ..phase_benches import CASH, ORE, ROCK
+from ..plan import MILLION, Plan
+from ..project import Project
+from ..schedule import year_discounts
+from ..schedule_rules import MOST_YEARS, ScheduleRules
+from ..sequencing import Limits, limits_of
+from ..yearly_money import YearlyMoney, of_project
+from .problem import BlockProblem, Limit, Needs
+from .topological import greatest_needed, ranks_of
+from .whole_values import upward
+
+# A schedule may take this part of the years more that its limits ask for.
+MORE_YEARS = 0.2
+WASTE = "waste"
+# By block and destination.
+Flows = dict[str, NDArray[np.float64]]
+
+
+@dataclass(frozen=True)
+class PlannedBlocks:
+    """A plan's blocks that may be dug, as a problem.
+
+    cells         the grid's number of each block of the problem, rising
+    destinations  where a block may go: of several processes waste, and each by its name; else one without a name
+    limits        of a year, by the names of amounts
+    flows         what each block holds of each name where it goes to a destination, and last cash at the price as given
+    """
+
+    plan: Plan
+    cells: NDArray[np.int64]
+    destinations: tuple[str, ...]
+    limits: Limits
+    flows: Flows
+    problem: BlockProblem
+
+
+def of_plan(plan: Plan) -> PlannedBlocks:
+    """The blocks of a plan. Raises PlanError where the project asks for what is not done by block, or for too many years."""
+    project, rules = plan.project, plan.project.schedule_rules or ScheduleRules()
+    demand_of_blocks(project, rules)
+    flows, limits, money = flows_of(plan), limits_of(project, rules), of_project(project)
+    best = cash_of(flows, money, 1 + max((len(more) for more in money.premiums.values()), default=0)).max(axis=(1, 2))
+    cells = np.flatnonzero(trim.used_blocks(plan.grid, plan.walls, best > 0))
+    needs = needs_of(plan, cells)
+    is_under_rock = greatest_needed(needs, ranks_of(needs), (plan.values.tonnes[cells] > 0).astype(float)) > 0
+    cells, needs = cells[is_under_rock], needs.within(is_under_rock)
+    flows = {name: amounts[cells] for name, amounts in flows.items()}
+    pit = pitshell.solve(upward(best[cells]).amounts, (needs.starts, needs.needed), millionths=True).in_pit
+    years = rules.years or years_of({name: amounts[pit].max(axis=1).sum() for name, amounts in flows.items()}, limits, project)
+    problem = BlockProblem(
+        values=cash_of(flows, money, years) * year_discounts(project.schedule, years),
+        needs=needs,
+        limits=tuple(Limit(name, flows[name], most) for name, most in zip(limits.most, limits.of_years(years).T)),
+    )
+    return PlannedBlocks(plan, cells, destinations_of(project), limits, flows, problem)
+
+
+def demand_of_blocks(project: Project, rules: ScheduleRules) -> None:
+    """Raises PlanError, with the key, where the project asks for what is not done by block."""
+    path, costs_years = project.path, bool(project.money.fixed_cost_per_year or project.money.capital)
+    asked = {
+        "[schedule] lag: is of phases": rules.lag > 0,
+        "[schedule] sinking_rate: is of the benches of a phase": rules.sinking_rate is not None,
+        "[schedule] bins: are of benches, and a block is ore or waste as a whole": rules.bins is not None,
+        "[fixed]: blocks that must be dug or may not be are not scheduled one by one": project.fixed is not None,
+        "[money] fixed_cost_per_year, capital: what years cost is no part of a schedule by block": costs_years,
+    }
+    for why, is_asked in asked.items():
+        if is_asked:
+            raise PlanError(f"{path}: {why}: leave it out with --by block")
+
+
+def destinations_of(project: Project) -> tuple[str, ...]:
+    return (WASTE, *(process.name for process in project.processes)) if project.processes else ("",)
+
+
+def flows_of(plan: Plan) -> Flows:
+    """What each cell holds of each amount that may be limited, and its cash at the price as given."""
+    values, processes = plan.values, plan.project.processes
+    if not processes:
+        ore = values.pays
+        flows = {ROCK: values.tonnes, ORE: np.where(ore, values.feed, 0.0)}
+        flows |= {f"metal_{name}": np.where(ore, metal, 0.0) for name, metal in values.metal.items()}
+        flows[CASH] = (np.where(ore, values.revenue - values.processing, 0) - values.mining) / MILLION
+        return {name: amounts[:, None] for name, amounts in flows.items()}
+    nothing = np.zeros(plan.grid.count)
+    columns = {ROCK: [values.tonnes] * (1 + len(processes)), ORE: [nothing, *[values.feed] * len(processes)]}
+    for number, process in enumerate(processes, 1):
+        columns[f"{ORE}_{process.name}"] = [values.feed if place == number else nothing for place in range(1 + len(processes))]
+    columns |= {f"metal_{name}": [nothing, *(way.metal[name] for way in values.ways)] for name in values.metal}
+    columns[CASH] = [-values.mining / MILLION, *((way.revenue - way.cost - values.mining) / MILLION for way in values.ways)]
+    return {name: np.stack(amounts, axis=1) for name, amounts in columns.items()}
+
+
+def cash_of(flows: Flows, money: YearlyMoney, years: int) -> NDArray[np.float64]:
+    """The cash of each block by destination and year, at the year's prices."""
+    premiums = money.premium(tuple(flows), years)
+    more = sum(amounts[:, :, None] * premium for amounts, premium in zip(flows.values(), premiums.T) if premium.any())
+    return np.broadcast_to(flows[CASH][:, :, None], (*flows[CASH].shape, years)) + more
+
+
+def needs_of(plan: Plan, cells: NDArray[np.int64]) -> Needs:
+    """The needs among cells, which rise, and with which stand all that they need."""
+    number = np.full(plan.grid.count, -1)
+    number[cells] = np.arange(len(cells))
+    counts, needed = [np.zeros(0, dtype=np.int64)], [np.zeros(0, dtype=np.int64)]
+    for part in slices(plan.grid, plan.walls, cells) if len(cells) else ():
+        is_need = part.needs != ABSENT
+        counts.append(is_need.sum(axis=1))
+        needed.append(number[part.needs[is_need]])
+    starts = np.concatenate([[0], np.cumsum(np.concatenate(counts))])
+    return Needs(starts.astype(np.uint32), np.concatenate(needed).astype(np.uint32))
+
+
+def years_of(sums: dict[str, float], limits: Limits, project: Project) -> int:
+    """The years in which the limits let so much be dug, and a fifth more. Raises PlanError where they are too many."""
+    most = limits.of_years(MOST_YEARS).cumsum(axis=0)
+    taken = max(1 + int(np.searchsorted(done, sums[name] * (1 - 1e-9))) for name, done in zip(limits.most, most.T))
+    years = -int(-taken * (1 + MORE_YEARS) // 1)
+    if years > MOST_YEARS:
+        why = f"the pit would take more than {MOST_YEARS} years: are the limits in tonnes a year? [schedule] years sets how many there are"
+        raise PlanError(f"{project.path}: [shells] ore_per_year, rock_per_year: {why}")
+    return years

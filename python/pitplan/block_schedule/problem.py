@@ -1,0 +1,113 @@
+"""What is scheduled block by block: what each block earns by year, what it needs, and what a year may hold.
+
+With one destination this is the constrained pit limit problem (CPIT), with several the precedence constrained production scheduling
+problem (PCPSP) of Espinoza, Goycoolea, Moreno and Newman (MineLib: a library of open pit mining problems, Annals of Operations Research
+206, 2013).
+"""
+
+from __future__ import annotations
+
+from dataclasses import dataclass, replace
+
+import numpy as np
+from numpy.typing import NDArray
+
+from ..errors import PlanError
+
+
+@dataclass(frozen=True)
+class Limit:
+    """The most of a sum that a year may hold.
+
+    name     as it is told
+    amounts  what each block adds to the sum in each destination, 0 or more: shape (blocks, destinations)
+    most     by year, infinite where there is no limit: shape (years,)
+    """
+
+    name: str
+    amounts: NDArray[np.float64]
+    most: NDArray[np.float64]
+
+
+@dataclass(frozen=True)
+class Needs:
+    """Which blocks each block needs: block u needs `needed[starts[u]:starts[u + 1]]`; both uint32, as the library of pits takes them."""
+
+    starts: NDArray[np.uint32]
+    needed: NDArray[np.uint32]
+
+    @property
+    def users(self) -> NDArray[np.int64]:
+        """For each pair the block that needs the other: shape (pairs,)."""
+        return np.repeat(np.arange(len(self.starts) - 1), np.diff(self.starts.astype(np.int64)))
+
+    def within(self, kept: NDArray[np.bool_]) -> Needs:
+        """The pairs whose two blocks are kept, by the numbers that these have among themselves."""
+        number = np.cumsum(kept, dtype=np.int64) - 1
+        users = self.users
+        both = kept[users] & kept[self.needed]
+        starts = np.zeros(int(kept.sum()) + 1, dtype=np.uint32)
+        np.cumsum(np.bincount(number[users[both]], minlength=len(starts) - 1), out=starts[1:], dtype=np.uint32)
+        return Needs(starts, number[self.needed[both]].astype(np.uint32))
+
+
+    def in_order(self, order: NDArray[np.int64]) -> Needs:
+        """The same needs with the blocks in an order."""
+        number = np.empty(len(order), dtype=np.uint32)
+        number[order] = np.arange(len(order))
+        first = self.starts[order].astype(np.int64)
+        counts = self.starts[order + 1] - first
+        starts = np.concatenate([[0], np.cumsum(counts)])
+        place = np.arange(starts[-1]) + np.repeat(first - starts[:-1], counts)
+        return Needs(starts.astype(np.uint32), number[self.needed[place]])
+
+
+@dataclass(frozen=True)
+class BlockProblem:
+    """What is scheduled.
+
+    values  what a block earns where it is dug in a year and sent to a destination, discounted, in money: shape (blocks, destinations,
+            years)
+    needs   what must be dug in the same year or before
+    limits  what a year may hold
+    """
+
+    values: NDArray[np.float64]
+    needs: Needs
+    limits: tuple[Limit, ...]
+
+    @property
+    def blocks(self) -> int:
+        return len(self.values)
+
+    @property
+    def destinations(self) -> int:
+        return self.values.shape[1]
+
+    @property
+    def years(self) -> int:
+        return self.values.shape[2]
+
+    def in_order(self, order: NDArray[np.int64]) -> BlockProblem:
+        """The same problem with its blocks in an order."""
+        limits = tuple(replace(limit, amounts=limit.amounts[order]) for limit in self.limits)
+        return BlockProblem(self.values[order], self.needs.in_order(order), limits)
+
+    def of_blocks(self, kept: NDArray[np.bool_]) -> BlockProblem:
+        """The problem of these blocks alone, which need none of the others."""
+        limits = tuple(replace(limit, amounts=limit.amounts[kept]) for limit in self.limits)
+        return BlockProblem(self.values[kept], self.needs.within(kept), limits)
+
+
+def demand_sound(problem: BlockProblem) -> None:
+    """Raises PlanError where an amount is negative or no number, a limit is negative, or shapes differ: then no bound would hold."""
+    shape = problem.values.shape
+    if len(shape) != 3 or 0 in shape[1:] or not np.isfinite(problem.values).all():
+        raise PlanError("values of blocks are finite numbers by block, destination and year, of one destination and one year at least")
+    for limit in problem.limits:
+        if limit.amounts.shape != shape[:2] or limit.most.shape != shape[2:]:
+            raise PlanError(f"{limit.name}: amounts are by block and destination, and the most by year")
+        if not np.isfinite(limit.amounts).all() or (limit.amounts < 0).any():
+            raise PlanError(f"{limit.name}: an amount is negative or no number, and limits are of amounts from 0 on")
+        if np.isnan(limit.most).any() or (limit.most < 0).any():
+            raise PlanError(f"{limit.name}: the most of a year is negative or no number")

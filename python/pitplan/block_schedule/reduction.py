@@ -1,0 +1,52 @@
+"""What of a problem can be left out without losing a schedule that is worth most."""
+
+from __future__ import annotations
+
+from itertools import cycle
+
+import numpy as np
+import pitshell
+from numpy.typing import NDArray
+
+from .problem import BlockProblem
+from .topological import Ranks, cone_sums
+from .whole_values import by_end, upward
+
+# Sums of floats may be above a limit by a hair.
+HAIR = 1e-9
+
+
+def worth_digging(problem: BlockProblem) -> NDArray[np.bool_]:
+    """The blocks that a schedule of greatest worth needs to dig: a truth for each, shape (blocks,).
+
+    They are a closed set U such that in no year a closed set gains by what it has besides U, where a block gains what it earns in the year
+    less what it earns in the next one. A schedule without its blocks outside U still keeps every limit, since limits are upper ones and
+    amounts are 0 or more, and it earns no less: what these earn is the sum over years of what they gain with all of them that are dug by
+    then. Where a block earns one value times a discount that falls with the years, U is the ultimate pit.
+
+    Raises pitshell.Refusal where the needs are none.
+    """
+    gains = by_end(upward(problem.values.max(axis=1)).amounts)
+    needs, kept = (problem.needs.starts, problem.needs.needed), np.zeros(problem.blocks, dtype=bool)
+    years_without = 0
+    for year in cycle(range(problem.years)):
+        gain = np.ascontiguousarray(gains[:, year])
+        pit = pitshell.solve(gain, needs, kept.astype(np.uint8), millionths=True).in_pit
+        years_without = 1 if (pit & ~kept).any() else years_without + 1
+        kept = pit
+        if years_without == problem.years:
+            return kept
+    raise AssertionError("there is no year")
+
+
+def earliest_years(problem: BlockProblem, ranks: Ranks) -> NDArray[np.int64]:
+    """The first year, from 0, by whose end a block can be dug with all that it needs, as the limits up to then allow; as many as there are
+    years where there is none. Shape (blocks,)."""
+    first = np.zeros(problem.blocks, dtype=np.int64)
+    if not problem.limits:
+        return first
+    sums = cone_sums(problem.needs, ranks, np.stack([limit.amounts.min(axis=1) for limit in problem.limits], axis=1))
+    for limit, sum_of in zip(problem.limits, sums.T):
+        most = np.cumsum(limit.most) * (1 + HAIR)
+        first = np.maximum(first, np.searchsorted(most, sum_of, side="left"))
+    return first

@@ -1,0 +1,127 @@
+"""The bound of all schedules by block: the linear relaxation, solved by rounds of a small programme and a closure.
+
+Each round solves the relaxation over groups of nodes (`master`), takes the prices of its limits, and solves the closure at these
+(`closure`). The closure's bound holds whatever the prices are, so a run may end at any round with the least bound so far. Where the
+closure divides no group, or its bound is met, the relaxation is solved.
+"""
+
+from __future__ import annotations
+
+import time
+from collections.abc import Callable, Iterator
+from dataclasses import dataclass, field
+
+import numpy as np
+import pitshell
+from numpy.typing import NDArray
+
+from ..errors import PlanError
+from ..schedule_rules import Effort
+from .closure import priced
+from .groups import Groups, renumbered
+from .master import Master, Restricted
+from .nodes import Nodes
+from .whole_values import upward
+
+# Pits by whose rims nodes are in groups at first: those of so many factors.
+FIRST_PITS = 40
+
+
+@dataclass(frozen=True)
+class Round:
+    """What a round has found: its number, from 1; the least bound so far; the value of the relaxation over its groups, in money; how many
+    groups there were; and the seconds so far."""
+
+    number: int
+    bound: float
+    value: float
+    groups: int
+    seconds: float
+
+    @property
+    def gap(self) -> float:
+        """By which share of the bound the value is less."""
+        return (self.bound - self.value) / abs(self.bound) if self.bound else 0.0
+
+
+@dataclass(frozen=True)
+class Relaxation:
+    """The relaxation as far as it is solved.
+
+    bound        in money: no schedule earns more
+    cumulative   the share of each block that is dug by the end of each year: shape (blocks, years)
+    prices       of a unit of each limit in each year, in money: shape (limits, years)
+    rounds       what each round found
+    interrupted  whether it was ended by an interruption
+    """
+
+    bound: float
+    cumulative: NDArray[np.float64]
+    prices: NDArray[np.float64]
+    rounds: tuple[Round, ...]
+    interrupted: bool = False
+
+
+def relaxed(nodes: Nodes, effort: Effort, tell: Callable[[Round], None] = lambda found: None) -> Relaxation:
+    """Solves the relaxation until its value is within the effort's gap, a share of the bound, or its seconds are over; `tell` is called
+    with each round. An interruption (Ctrl-C), or a programme that HiGHS cannot solve, ends it with what it has, once there is a round.
+
+    Raises PlanError where HiGHS finds no optimum of the first round or the nodes are too many, and KeyboardInterrupt within the first
+    round.
+    """
+    solver = Solver(nodes, Master(nodes), first_groups(nodes), time.monotonic())
+    try:
+        for found in solver:
+            tell(found)
+            if found.gap <= effort.gap or (effort.seconds is not None and found.seconds > effort.seconds):
+                break
+    except (KeyboardInterrupt, PlanError) as error:
+        if not solver.rounds:
+            raise
+        return solver.relaxation(isinstance(error, KeyboardInterrupt))
+    return solver.relaxation(False)
+
+
+@dataclass
+class Solver:
+    """The relaxation while it is solved, round by round."""
+
+    nodes: Nodes
+    master: Master
+    groups: Groups
+    began: float
+    rounds: list[Round] = field(default_factory=list)
+    bound: float = np.inf
+    restricted: Restricted | None = None
+    label: NDArray[np.int32] | None = None
+
+    def __iter__(self) -> Iterator[Round]:
+        """Each round, until a closure divides no group."""
+        count = 0
+        while self.groups.count > count:
+            restricted = self.master.solve(self.groups)
+            closure = priced(self.nodes, restricted.prices)
+            self.restricted, self.label = restricted, self.groups.label
+            self.bound, count = min(self.bound, closure.bound), self.groups.count
+            self.groups = self.groups.divided(closure.in_closure)
+            self.rounds.append(Round(len(self.rounds) + 1, self.bound, restricted.value, count, time.monotonic() - self.began))
+            yield self.rounds[-1]
+
+    def relaxation(self, interrupted: bool) -> Relaxation:
+        """As far as it is solved, by one round at least."""
+        assert self.restricted is not None and self.label is not None
+        cumulative = self.nodes.gathered(self.restricted.share[self.label])[:, -1]
+        return Relaxation(self.bound, cumulative, self.restricted.prices, tuple(self.rounds), interrupted)
+
+
+def first_groups(nodes: Nodes) -> Groups:
+    """Nodes in groups by the least of nested pits that holds their block, by destination and year. At a factor, in per mille, a block that
+    earns anything earns so much of it."""
+    problem = nodes.problem
+    values = upward(problem.values[:, :, 0].max(axis=1)).amounts
+    factors = range(1000 // FIRST_PITS, 1001, 1000 // FIRST_PITS)
+    needs = (problem.needs.starts, problem.needs.needed)
+    nested = pitshell.shells(np.maximum(values, 0), np.maximum(-values, 0), needs, factors, millionths=True)
+    steps = problem.destinations * problem.years
+    label = nested.first[:, None, None] * steps + np.arange(steps).reshape(problem.destinations, problem.years)
+    return renumbered(nodes.spread(label.astype(np.int64)), (len(factors) + 1) * steps)

@@ -1,0 +1,131 @@
+"""A plan's schedule by block as tables, a record and notes."""
+
+from __future__ import annotations
+
+from dataclasses import dataclass
+from functools import cached_property
+from typing import Any
+
+import numpy as np
+import pandas as pd
+import scipy
+
+from ..phase_benches import CASH, ORE, ROCK
+from ..plan import Plan
+from ..progress import Progress, silent
+from ..project import REFERENCE_FACTOR
+from ..schedule import year_discounts
+from ..schedule_rules import ScheduleRules
+from ..yearly_money import of_project
+from .of_plan import PlannedBlocks, cash_of, of_plan
+from .solving import Scheduled, solve
+
+# What years.csv calls the case, and how the names of blocks.csv's columns of shares begin.
+CASE, SHARE = "block", "share_"
+
+
+@dataclass(frozen=True)
+class ScheduledBlocks:
+    """The blocks of a plan with their schedule and its bound."""
+
+    planned: PlannedBlocks
+    found: Scheduled
+
+    @property
+    def count(self) -> int:
+        """The last year in which anything is dug, from 1; 0 where nothing is."""
+        year = self.found.schedule.year
+        return int(year[year < self.planned.problem.years].max(initial=-1)) + 1
+
+    @property
+    def is_interrupted(self) -> bool:
+        return self.found.interrupted
+
+    def beside(self, blocks: pd.DataFrame) -> pd.DataFrame:
+        """Rows of blocks, by `id`, with the year of each, from 1, 0 where it is not dug; and of several processes share_NAME, the share of it
+        that goes to each."""
+        problem, schedule = self.planned.problem, self.found.schedule
+        columns = {"year": np.where(schedule.year < problem.years, schedule.year + 1, 0).astype(np.int16)}
+        for number, name in enumerate(self.planned.destinations):
+            if name and number:
+                columns[SHARE + name] = schedule.share[:, number]
+        grid, ids = self.planned.plan.grid, blocks["id"].to_numpy()
+        found = {}
+        for name, values in columns.items():
+            spread = np.zeros(grid.count, dtype=values.dtype)
+            spread[self.planned.cells] = values
+            found[name] = spread[ids]
+        return blocks.assign(**found)
+
+    @cached_property
+    def years(self) -> pd.DataFrame:
+        """A row a year up to the last in which anything is dug, as `pitplan.years` has of cases."""
+        problem, schedule, project = self.planned.problem, self.found.schedule, self.planned.plan.project
+        cash = cash_of(self.planned.flows, of_project(project), problem.years)
+        dug = np.arange(problem.blocks), slice(None), np.minimum(schedule.year, problem.years - 1)
+        sums = {
+            name: np.bincount(schedule.year, (amounts * schedule.share).sum(axis=1), minlength=problem.years + 1)[: self.count]
+            for name, amounts in (self.planned.flows | {CASH: cash[dug]}).items()
+        }
+        discounted = sums[CASH] * year_discounts(project.schedule, problem.years)[: self.count]
+        head = {"case": CASE, "factor": REFERENCE_FACTOR, "year": np.arange(1, self.count + 1)}
+        return pd.DataFrame(head | sums | {"discounted": discounted})
+
+    @property
+    def table(self) -> pd.DataFrame:
+        """One row: value, discounted, and bound, in money; below_bound, by which share of the bound the value is less; years; blocks of
+        rock that are dug; tonnes of rock, and ore_tonnes."""
+        dug = (self.found.schedule.year < self.planned.problem.years) & (self.planned.flows[ROCK][:, 0] > 0)
+        row = {
+            "value": self.found.value,
+            "bound": self.found.bound,
+            "below_bound": self.found.gap,
+            "years": self.count,
+            "blocks": int(dug.sum()),
+            "tonnes": self.years[ROCK].sum(),
+            "ore_tonnes": self.years[ORE].sum(),
+        }
+        return pd.DataFrame([row])
+
+    @property
+    def record(self) -> dict[str, Any]:
+        """What block_schedule.json says: value and bound, the gap as a share of the bound, the years that there were, the limits, how the
+        bound was found, and the solver."""
+        found, limits = self.found, self.planned.limits
+        return {
+            "value": round(found.value, 3),
+            "bound": round(found.bound, 3),
+            "gap": round(found.gap, 9),
+            "years": self.planned.problem.years,
+            "limits": limits.most,
+            "ramp_up": list(limits.ramp_up),
+            "blocks": found.blocks,
+            "nodes": found.nodes,
+            "rounds": [{"bound": round(one.bound, 3), "relaxation": round(one.value, 3), "groups": one.groups} for one in found.rounds],
+            "interrupted": found.interrupted,
+            "solver": f"libpitshell, and HiGHS of scipy {scipy.__version__}",
+        }
+
+    @property
+    def notes(self) -> list[str]:
+        """What a planner should know of the schedule."""
+        found, years = self.found, self.planned.problem.years
+        said = [
+            f"no schedule by block of up to {years} years that keeps these limits earns more than {found.bound:,.0f}; this one earns "
+            f"{found.value:,.0f}, {100 * found.gap:.2f} % less"
+        ]
+        if found.interrupted:
+            said.append("WARNING: the run was interrupted before it was through: this is the best schedule so far, and the bound holds")
+        return said
+
+
+def make(plan: Plan, progress: Progress = silent) -> ScheduledBlocks:
+    """The schedule of a plan's blocks. `[schedule] milp` says how far integer programmes make it better.
+
+    Raises PlanError where the project asks for what is not done by block or the blocks are too many, and KeyboardInterrupt where it is
+    interrupted before there is a bound.
+    """
+    rules = plan.project.schedule_rules or ScheduleRules()
+    with progress.step("gathering the blocks that may be dug"):
+        planned = of_plan(plan)
+    return ScheduledBlocks(planned, solve(planned.problem, rules.milp, progress))

@@ -1,0 +1,54 @@
+"""A schedule by block: the year of each block, and the shares in which it goes to destinations."""
+
+from __future__ import annotations
+
+from dataclasses import dataclass
+
+import numpy as np
+from numpy.typing import NDArray
+
+from .problem import BlockProblem
+
+# By such a share of it a limit may be missed, as sums of floats do.
+HAIR = 1e-9
+
+
+@dataclass(frozen=True)
+class BlockSchedule:
+    """When blocks are dug, and where they go.
+
+    year   of each block, from 0; as many as there are years where it is not dug: shape (blocks,)
+    share  of each block that goes to each destination; of one that is not dug nothing: shape (blocks, destinations)
+    """
+
+    year: NDArray[np.int64]
+    share: NDArray[np.float64]
+
+    def value(self, problem: BlockProblem) -> float:
+        """What it earns, discounted, in money."""
+        return float(self.worths(problem).sum())
+
+    def worths(self, problem: BlockProblem) -> NDArray[np.float64]:
+        """What each block earns, discounted, in money; one that is not dug nothing."""
+        dug = np.minimum(self.year, problem.years - 1)
+        return (problem.values[np.arange(problem.blocks), :, dug] * self.share).sum(axis=1)
+
+    def sums(self, problem: BlockProblem) -> NDArray[np.float64]:
+        """What each limit's amounts add up to in each year: shape (limits, years)."""
+        taken = [(limit.amounts * self.share).sum(axis=1) for limit in problem.limits]
+        by_year = [np.bincount(self.year, amounts, minlength=problem.years + 1)[: problem.years] for amounts in taken]
+        return np.array(by_year).reshape(len(problem.limits), problem.years)
+
+    def keeps(self, problem: BlockProblem) -> bool:
+        """Whether no block is dug before one that it needs, each goes whole to destinations, and no year is above a limit but for a
+        hair."""
+        is_dug = self.year < problem.years
+        whole = np.abs(self.share.sum(axis=1) - is_dug) <= HAIR
+        most = np.array([limit.most for limit in problem.limits]).reshape(len(problem.limits), problem.years)
+        ordered = self.year[problem.needs.users] >= self.year[problem.needs.needed]
+        return bool(whole.all() and (self.share >= 0).all() and ordered.all() and (self.sums(problem) <= most * (1 + HAIR) + HAIR).all())
+
+
+def nothing(problem: BlockProblem) -> BlockSchedule:
+    """The schedule that digs nothing."""
+    return BlockSchedule(np.full(problem.blocks, problem.years), np.zeros((problem.blocks, problem.destinations)))

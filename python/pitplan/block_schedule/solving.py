@@ -1,0 +1,208 @@
+"""From a problem to a bound and a schedule."""
+
+from __future__ import annotations
+
+import time
+from dataclasses import dataclass, field
+from functools import cached_property
+from typing import Optional
+
+import numpy as np
+from numpy.typing import NDArray
+
+from ..progress import Progress, silent
+from ..schedule_rules import Effort
+from .destinations import with_best_shares
+from .filling import Filling, preferences
+from .moving import moved
+from .nodes import Nodes, nodes_of
+from .problem import BlockProblem, demand_sound
+from .reduction import earliest_years, worth_digging
+from .relaxation import Relaxation, Round, relaxed
+from .schedule import BlockSchedule, nothing
+from .topological import Ranks, ranks_of
+from .toposort import sequences
+from .windows import Window, sizes_of, window_of
+
+# The relaxation is solved to this share of its bound.
+RELAXED = 1e-4
+# A window's programme may take so many seconds, and is given up where it is not through after so many.
+WINDOW_SECONDS, PATIENCE = 60.0, 180.0
+# HiGHS ends so many seconds after its time is up, or much later.
+LATE = 10.0
+
+
+@dataclass(frozen=True)
+class Scheduled:
+    """A schedule and the bound of all.
+
+    schedule     the best that was found
+    value        what it earns, discounted, in money
+    bound        no schedule earns more
+    blocks       that some schedule of greatest worth may dig
+    nodes        of the relaxation: such a block by a year in which it can be dug
+    rounds       of the relaxation
+    interrupted  whether the run was ended before it was through
+    """
+
+    schedule: BlockSchedule
+    value: float
+    bound: float
+    blocks: int
+    nodes: int
+    rounds: tuple[Round, ...] = ()
+    interrupted: bool = False
+
+    @property
+    def gap(self) -> float:
+        """By which share of the bound the value is less."""
+        return gap_of(self.value, self.bound)
+
+
+@dataclass(frozen=True)
+class Reduced:
+    """A problem without blocks that no schedule of greatest worth needs, or that no schedule can dig in time.
+
+    kept   the numbers in the whole problem of the blocks that are left
+    nodes  of these
+    ranks  of these
+    """
+
+    kept: NDArray[np.int64]
+    nodes: Nodes
+    ranks: Ranks
+
+    @property
+    def problem(self) -> BlockProblem:
+        return self.nodes.problem
+
+
+def reduced(problem: BlockProblem) -> Reduced:
+    """Raises PlanError where more is left than the library takes."""
+    kept = worth_digging(problem)
+    while True:
+        part = problem.of_blocks(kept)
+        ranks = ranks_of(part.needs)
+        first = earliest_years(part, ranks)
+        if (first < part.years).all():
+            order = np.argsort(first, kind="stable")
+            part = part.in_order(order)
+            return Reduced(np.flatnonzero(kept)[order], nodes_of(part, first[order]), ranks_of(part.needs))
+        kept[kept] = first < part.years
+        # What was worth digging for the others alone is so no more.
+        kept[kept] = worth_digging(problem.of_blocks(kept))
+
+
+def solve(problem: BlockProblem, effort: Optional[Effort] = None, progress: Progress = silent) -> Scheduled:
+    """The bound of all schedules and the best schedule that was found.
+
+    With an effort integer programmes make the schedule better until it is within the effort's gap, a share of the bound, or its seconds are
+    over, those of the bound among them. An interruption (Ctrl-C) ends what is at work, once there is a bound, with the best so far.
+
+    Raises PlanError where the problem has a fault or is too large, and KeyboardInterrupt where it is interrupted before there is a bound.
+    """
+    demand_sound(problem)
+    began = time.monotonic()
+    with progress.step(f"leaving out what no schedule needs to dig, of {problem.blocks:,} blocks"):
+        part = reduced(problem)
+    if not part.problem.blocks:
+        return Scheduled(nothing(problem), 0.0, 0.0, 0, 0)
+    progress.say(f"bounding all schedules of {part.problem.blocks:,} blocks by {len(part.nodes):,} nodes")
+    relaxation = relaxed(part.nodes, Effort(RELAXED, effort and effort.seconds), lambda found: progress.say(told(found)))
+    search = Search(part, relaxation, progress)
+    try:
+        if not relaxation.interrupted:
+            search.fill()
+            search.move()
+            if effort is not None:
+                search.windows(effort, began)
+    except KeyboardInterrupt:
+        return search.scheduled(problem, True)
+    return search.scheduled(problem, relaxation.interrupted)
+
+
+def told(found: Round) -> str:
+    relaxation = f"relaxation {found.value:,.0f} over {found.groups:,} groups"
+    return f"round {found.number}: bound {found.bound:,.0f}, {relaxation}, gap {100 * found.gap:.3f} %, {found.seconds:.0f} s"
+
+
+@dataclass
+class Search:
+    """The best schedule so far of a problem whose relaxation is solved."""
+
+    part: Reduced
+    relaxation: Relaxation
+    progress: Progress
+    best: BlockSchedule = field(init=False)
+    tried: set[tuple[tuple[int, int], bytes, bytes]] = field(default_factory=set)
+
+    def __post_init__(self) -> None:
+        self.best = nothing(self.part.problem)
+
+    @property
+    def problem(self) -> BlockProblem:
+        return self.part.problem
+
+    @cached_property
+    def filling(self) -> Filling:
+        return Filling(self.problem, preferences(self.problem, self.relaxation.prices))
+
+    def offer(self, schedule: BlockSchedule) -> None:
+        """Takes a schedule that is better."""
+        if schedule.value(self.problem) > self.best.value(self.problem):
+            self.best = schedule
+
+    def fill(self) -> None:
+        """Fills years in the orders that the relaxation gives."""
+        with self.progress.step("filling years in the order of the relaxation"):
+            for sequence in sequences(self.problem, self.part.ranks, self.relaxation.cumulative):
+                self.offer(self.filling.without_loss(sequence))
+
+    def move(self) -> None:
+        """Moves blocks of the best schedule, and chooses where they go."""
+        with self.progress.step("moving blocks to years in which they earn more"):
+            self.offer(moved(self.filling, self.part.ranks, self.best))
+            self.offer(with_best_shares(self.problem, self.best))
+
+    def windows(self, effort: Effort, began: float) -> None:
+        """Solves window after window anew, larger ones once none has become better, until the gap is reached or the seconds are over."""
+        for size in sizes_of(self.problem):
+            while self.sweep(size, effort, began):
+                pass
+
+    def sweep(self, size: tuple[int, int], effort: Effort, began: float) -> bool:
+        """Solves each window of a size, years and most unknowns, once; gives whether the schedule has become better and there is time
+        left."""
+        before = self.best.value(self.problem)
+        for first in range(self.problem.years - size[0] + 1):
+            left = np.inf if effort.seconds is None else effort.seconds - (time.monotonic() - began)
+            if left <= 0 or self.gap <= effort.gap:
+                return False
+            window = window_of(self.problem, self.best, self.relaxation.cumulative, (first, first + size[0]), size[1])
+            self.offer(self.solved(window, Effort(effort.gap, min(left, WINDOW_SECONDS)), min(PATIENCE, left + LATE)))
+        return self.best.value(self.problem) > before
+
+    def solved(self, window: Window, effort: Effort, patience: float) -> BlockSchedule:
+        """The schedule with a window solved anew, unless that was done of the same blocks in the same years."""
+        tried = (window.first, window.last), window.blocks.tobytes(), self.best.year[window.blocks].tobytes()
+        if not len(window.blocks) or tried in self.tried:
+            return self.best
+        self.tried.add(tried)
+        with self.progress.step(f"solving years {window.first + 1} to {window.last} anew, gap {100 * self.gap:.2f} %"):
+            return window.solved(effort, patience)
+
+    @property
+    def gap(self) -> float:
+        return gap_of(self.best.value(self.problem), self.relaxation.bound)
+
+    def scheduled(self, problem: BlockProblem, interrupted: bool) -> Scheduled:
+        """The best so far, as a schedule of the whole problem."""
+        year, share = np.full(problem.blocks, problem.years), np.zeros((problem.blocks, problem.destinations))
+        year[self.part.kept], share[self.part.kept] = self.best.year, self.best.share
+        schedule, size = BlockSchedule(year, share), (self.problem.blocks, len(self.part.nodes))
+        return Scheduled(schedule, schedule.value(problem), self.relaxation.bound, *size, self.relaxation.rounds, interrupted)
+
+
+def gap_of(value: float, bound: float) -> float:
+    """By which share of the bound the value is less."""
+    return (bound - value) / abs(bound) if bound else 0.0

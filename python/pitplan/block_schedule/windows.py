@@ -1,0 +1,184 @@
+"""A schedule made better by integer programmes: some years at a time, and of their blocks those of which the relaxation is least sure.
+
+The unknowns of a window are, for each of its free blocks and each of its years, whether the block is dug by the year's end, and in which
+shares it goes to destinations in that year. All other blocks stay as they are: a free block is dug no sooner than what it needs of them and
+no later than what needs it, and what they take of the limits is taken off.
+"""
+
+from __future__ import annotations
+
+from collections.abc import Iterator
+from dataclasses import dataclass
+from functools import cached_property
+
+import numpy as np
+from numpy.typing import NDArray
+from scipy.sparse import coo_matrix, csr_matrix, eye, hstack, kron, vstack
+
+from ..highs import Programme
+from ..optimiser import solve
+from ..schedule_rules import Effort
+from .problem import BlockProblem, Limit
+from .reduction import earliest_years
+from .schedule import BlockSchedule
+from .topological import ranks_of
+
+# Windows have about so many whole unknowns at most, at first the fewer ones, and so many years unless all blocks fit.
+FEWER, MOST_UNKNOWNS, MOST_YEARS = 2_500, 5_000, 4
+# A share that may be the solver's tolerance alone.
+SLIGHT = 1e-6
+
+
+@dataclass(frozen=True)
+class Window:
+    """Years of a schedule from `first` up to `last`, without that, and the blocks that are free in them."""
+
+    problem: BlockProblem
+    schedule: BlockSchedule
+    first: int
+    last: int
+    blocks: NDArray[np.int64]
+
+    @property
+    def years(self) -> int:
+        return self.last - self.first
+
+    @property
+    def place(self) -> NDArray[np.int64]:
+        """Where each truth stands: shape (free blocks, years). Behind them stand the shares, by block, year and destination."""
+        return np.arange(len(self.blocks) * self.years).reshape(len(self.blocks), self.years)
+
+    @property
+    def number(self) -> NDArray[np.int64]:
+        """Of each block of the problem its number among the free ones; -1 of others."""
+        found = np.full(self.problem.blocks, -1)
+        found[self.blocks] = np.arange(len(self.blocks))
+        return found
+
+    def programme(self) -> Programme:
+        """Most of what the free blocks earn, as a share of the greatest amount that one earns."""
+        truths, gain = self.place.size, self.part.values.transpose(0, 2, 1).ravel()
+        unit = float(np.abs(gain).max(initial=0.0)) or 1.0
+        soonest, latest = self.bounds()
+        parts = [*self.shares(), self.order(), self.limits(), self.due(latest)]
+        allowed = np.arange(self.first, self.last) >= soonest[:, None]
+        return Programme(
+            gain=np.concatenate([np.zeros(truths), gain / unit]),
+            matrix=vstack([matrix for matrix, _ in parts], format="csr"),
+            most=np.concatenate([most for _, most in parts]),
+            upper=np.concatenate([allowed.ravel().astype(float), np.ones(len(gain))]),
+            whole=np.arange(truths + len(gain)) < truths,
+        )
+
+    def bounds(self) -> tuple[NDArray[np.int64], NDArray[np.int64]]:
+        """For each free block the first year in which all that it needs of the others is dug, and what it needs of the free ones fits into
+        what the others leave; and the last year by whose end what needs it of the others asks for it, as many as there are years in all
+        where nothing does."""
+        problem, year, number = self.problem, self.schedule.year, self.number
+        users, needed = problem.needs.users, problem.needs.needed.astype(np.int64)
+        soonest, latest = np.full(len(self.blocks), self.first), np.full(len(self.blocks), problem.years)
+        some = (number[users] >= 0) & (number[needed] < 0)
+        np.maximum.at(soonest, number[users[some]], year[needed[some]])
+        soonest = np.maximum(soonest, self.first + earliest_years(self.part, ranks_of(self.part.needs)))
+        some = (number[users] < 0) & (number[needed] >= 0)
+        np.minimum.at(latest, number[needed[some]], year[users[some]])
+        return soonest, latest
+
+    def shares(self) -> Iterator[tuple[csr_matrix, NDArray[np.float64]]]:
+        """The shares of a block and year add up to 1 where it is dug in the year, else to 0."""
+        before = eye(self.years, k=-1)
+        dug = kron(eye(len(self.blocks)), eye(self.years) - before)
+        sums = kron(eye(self.place.size), np.ones((1, self.problem.destinations)))
+        row = hstack([dug, -sums], format="csr")
+        yield row, np.zeros(row.shape[0])
+        yield -row, np.zeros(row.shape[0])
+
+    def order(self) -> tuple[csr_matrix, NDArray[np.float64]]:
+        """No free block is dug before another that it needs."""
+        less, more = self.place[self.part.needs.users].ravel(), self.place[self.part.needs.needed].ravel()
+        row = np.tile(np.arange(len(less)), 2)
+        signs = np.repeat([1.0, -1.0], len(less))
+        matrix = coo_matrix((signs, (row, np.concatenate([less, more]))), shape=(len(less), self.width))
+        return matrix.tocsr(), np.zeros(len(less))
+
+    @property
+    def width(self) -> int:
+        """How many unknowns there are."""
+        return self.place.size * (1 + self.problem.destinations)
+
+    @cached_property
+    def part(self) -> BlockProblem:
+        """The free blocks and the window's years alone, with what the others leave as limits."""
+        others = self.schedule.share.copy()
+        others[self.blocks] = 0.0
+        taken = BlockSchedule(self.schedule.year, others).sums(self.problem)[:, self.first : self.last]
+        limits = [
+            Limit(limit.name, limit.amounts[self.blocks], np.maximum(limit.most[self.first : self.last] - sums, 0.0))
+            for limit, sums in zip(self.problem.limits, taken)
+        ]
+        needs = self.problem.needs.within(self.number >= 0)
+        return BlockProblem(self.problem.values[self.blocks, :, self.first : self.last], needs, tuple(limits))
+
+    def limits(self) -> tuple[csr_matrix, NDArray[np.float64]]:
+        """A row for each limit and year that has one, as shares of the greatest amount of a block."""
+        truths, rows, left = csr_matrix((self.years, self.place.size)), [csr_matrix((0, self.width))], [np.zeros(0)]
+        for limit in self.part.limits:
+            some, unit = np.isfinite(limit.most), float(limit.amounts.max(initial=0.0)) or 1.0
+            shares = limit.amounts[:, None, :] * np.eye(self.years)[:, None, :, None]
+            shares = shares.reshape(self.years, -1) / unit
+            rows.append(hstack([truths, csr_matrix(shares)], format="csr")[some])
+            left.append(limit.most[some] / unit)
+        return vstack(rows, format="csr"), np.concatenate(left)
+
+    def due(self, latest: NDArray[np.int64]) -> tuple[csr_matrix, NDArray[np.float64]]:
+        """What others need is dug by then."""
+        some = np.flatnonzero(latest < self.problem.years)
+        at = self.place[some, np.minimum(latest[some], self.last - 1) - self.first]
+        matrix = csr_matrix((-np.ones(len(some)), (np.arange(len(some)), at)), shape=(len(some), self.width))
+        return matrix, -np.ones(len(some))
+
+    def solved(self, effort: Effort, patience: float = np.inf) -> BlockSchedule:
+        """The schedule with the best that was found in the window, or as it was where that is no better, or is not found in so many
+        seconds of patience.
+
+        Raises PlanError where HiGHS fails, and KeyboardInterrupt where it is interrupted.
+        """
+        found = solve(self.programme(), effort, None if np.isinf(patience) else patience)
+        if found.unknowns is None:
+            return self.schedule
+        problem, truths = self.problem, self.place.size
+        is_dug = found.unknowns[:truths].reshape(self.place.shape) > 0.5
+        parts = np.clip(found.unknowns[truths:].reshape(*self.place.shape, problem.destinations), 0.0, 1.0).sum(axis=1)
+        year, share = self.schedule.year.copy(), self.schedule.share.copy()
+        year[self.blocks] = np.where(is_dug.any(axis=1), self.first + is_dug.argmax(axis=1), problem.years)
+        whole = parts.sum(axis=1, keepdims=True)
+        share[self.blocks] = np.where(is_dug.any(axis=1)[:, None], parts / np.where(whole > 0, whole, 1.0), 0.0)
+        better = BlockSchedule(year, share)
+        gains = better.value(problem) > self.schedule.value(problem)
+        return better if gains and better.keeps(problem) else self.schedule
+
+
+def sizes_of(problem: BlockProblem) -> list[tuple[int, int]]:
+    """Years and most unknowns of windows, one size after the other: all years where all blocks fit, else a few of which only some are
+    free."""
+    if problem.blocks * problem.years <= MOST_UNKNOWNS or problem.years == 1:
+        return [(problem.years, MOST_UNKNOWNS)]
+    widths = range(2, min(MOST_YEARS, problem.years) + 1)
+    return [(width, most) for most in (FEWER, MOST_UNKNOWNS) for width in widths]
+
+
+def window_of(
+    problem: BlockProblem, schedule: BlockSchedule, cumulative: NDArray[np.float64], years: tuple[int, int], most: int = MOST_UNKNOWNS
+) -> Window:
+    """The window of years, with the blocks dug in them and those not dug that the relaxation begins by their end; where they make more than
+    so many unknowns those whose expected year is nearest to the middle.
+
+    cumulative  the share of each block that the relaxation has dug by the end of each year: shape (blocks, years)
+    """
+    first, last = years
+    is_here = (schedule.year >= first) & (schedule.year < last)
+    is_left = (schedule.year == problem.years) & (cumulative[:, last - 1] > SLIGHT)
+    blocks = np.arange(problem.blocks) if last - first == problem.years else np.flatnonzero(is_here | is_left)
+    middle, expected = (first + last - 1) / 2, problem.years - cumulative.sum(axis=1)
+    nearest = np.argsort(np.abs(expected[blocks] - middle), kind="stable")[: most // (last - first)]
+    return Window(problem, schedule, first, last, np.sort(blocks[nearest]))

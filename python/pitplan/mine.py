@@ -1,0 +1,171 @@
+"""The mine of a plan, ready for the solver: arrays for the library, files for the program; and the shells of a plan by either.
+
+With fixed blocks the shells are those of the rest, to which what must be dug is joined."""
+
+from __future__ import annotations
+
+import tempfile
+from contextlib import contextmanager
+from dataclasses import dataclass, replace
+from decimal import Decimal
+from functools import cached_property
+from pathlib import Path
+from typing import Iterator, Optional, Union
+
+import numpy as np
+import pandas as pd
+
+from . import absent, files, fixed as fixing, library, run
+from .errors import PlanError
+from .exact import at_factor, greatest
+from .files import Needs, Pairs
+from .fixed import Settled
+from .money import Values
+from .plan import Plan
+from .progress import Progress, silent
+from .rows import Rows, rows_of
+from .run import Solution
+from .solver import LIBRARY, Solver, chosen
+
+# A model has values below 10^12 with six decimals.
+GREATEST = 10**18
+
+
+@dataclass(frozen=True)
+class MineInFiles:
+    """A mine for the program.
+
+    pairs   how many needs were written
+    folder  where the files are
+    """
+
+    plan: Plan
+    solver: Solver
+    pairs: Pairs
+    folder: Path
+
+    @property
+    def files(self) -> tuple[str, ...]:
+        """Their names."""
+        return files.of_program(self.folder)
+
+    def shells(self, factors: tuple[int, ...]) -> Solution:
+        """The shells of the rest that fixed blocks leave; of all where there are none."""
+        names = (files.BLOCKS, files.PREC) if self.plan.settled is None else (files.REST_BLOCKS, files.REST_PREC)
+        return run.solve_files(*(self.folder / name for name in names), factors)
+
+    def free_shells(self, factors: tuple[int, ...]) -> Solution:
+        """The shells as if nothing were fixed."""
+        return run.solve_files(self.folder / files.BLOCKS, self.folder / files.PREC, factors)
+
+    def pit(self, factor: int) -> Solution:
+        """The pit of a factor, with the fixed blocks."""
+        path = self.folder / files.PIT_MODEL
+        files.write_model(path, self.plan.project.title, values_at(self.plan.values.nodes(), factor))
+        return run.solve_pit(path, self.folder / files.PREC, self.folder / files.FIXED, factor)
+
+
+@dataclass(frozen=True)
+class MineInArrays:
+    """A mine for the library; as `MineInFiles`, without files."""
+
+    plan: Plan
+    solver: Solver
+    rows: Rows
+    pairs: Pairs
+    files: tuple[str, ...] = ()
+
+    @cached_property
+    def rows_of_rest(self) -> Rows:
+        return self.rows if self.plan.settled is None else counted_rows(self.plan.needs_of_rest, self.plan)[0]
+
+    def shells(self, factors: tuple[int, ...]) -> Solution:
+        settled, values = self.plan.settled, self.plan.values
+        nodes = values.nodes() if settled is None else values.nodes_of_rest(settled)
+        return library.shells(nodes, self.rows_of_rest, factors)
+
+    def free_shells(self, factors: tuple[int, ...]) -> Solution:
+        return library.shells(self.plan.values.nodes(), self.rows, factors)
+
+    def pit(self, factor: int) -> Solution:
+        values = values_at(self.plan.values.nodes(), factor)
+        return library.pit(values, self.rows, fixing.numbers(self.plan.fixed, len(values)), factor)
+
+
+Mine = Union[MineInFiles, MineInArrays]
+
+
+def ready(plan: Plan, solver: Solver, folder: Path) -> Mine:
+    """The mine of a plan for a solver, whose files, where it reads any, are written into a folder. Raises PlanError where there are more
+    needs than the solver takes."""
+    if solver.by == LIBRARY:
+        return MineInArrays(plan, solver, *counted_rows(plan.needs, plan))
+    return MineInFiles(plan, solver, plan.write(folder), folder)
+
+
+def counted_rows(needs: Needs, plan: Plan) -> tuple[Rows, Pairs]:
+    rows, pairs = rows_of(needs, files.MOST_PAIRS)
+    plan.demand_few(pairs)
+    return rows, pairs
+
+
+@contextmanager
+def temporary(plan: Plan) -> Iterator[Mine]:
+    """The mine of a plan for the project's solver; its files, where it has any, are there for the time being."""
+    with tempfile.TemporaryDirectory(prefix="pitplan-") as place:
+        yield ready(plan, chosen(plan.project.solver), Path(place))
+
+
+def values_at(nodes: tuple[np.ndarray, np.ndarray], factor: int) -> np.ndarray:
+    """Each node's value at a factor, int64 billionths, of its revenue and cost in millionths: `factor * revenue - 1000 * cost`.
+
+    Raises PlanError where one is 10^18 or more: such values, a thousandfold, are those of a model.
+    """
+    values = at_factor(factor, *nodes)
+    if greatest(values) >= GREATEST:
+        raise PlanError(
+            f"a value at factor {factor}, a thousandfold, is 10^12 or more and does not fit a model: give prices and costs in a greater "
+            "unit of money"
+        )
+    return values.astype(np.int64)
+
+
+def solve(plan: Plan, mine: Optional[Mine] = None, progress: Progress = silent) -> Solution:
+    """The shells of a plan at all its factors, with its fixed blocks; the mine is that of the plan, which is else made for the time being.
+
+    Raises ProgramError where the solver is missing or refuses, and PlanError where a shell reaches ground that is not known.
+    """
+    if mine is None:
+        with temporary(plan) as made:
+            return solve(plan, made, progress)
+    factors = plan.project.schedule.factors
+    with progress.step(f"solving {len(factors)} factors by the {mine.solver.by}"):
+        rest = mine.shells(factors)
+    solution = joined(rest, plan.settled, plan.values)
+    absent.demand_known(solution.entry, plan.grid, plan.project, plan.source)
+    return solution
+
+
+def joined(rest: Solution, settled: Optional[Settled], values: Values) -> Solution:
+    """The shells of the rest with what must be dug, which every pit holds from the first factor on."""
+    if settled is None:
+        return rest
+    factors = list(rest.worth.index)
+    count = len(settled.dug)
+    entry = rest.entry.copy()
+    entry[:count][settled.dug] = factors[0]
+    revenue, cost = (int(amounts[:count][settled.dug].sum(dtype=object)) for amounts in values.nodes())
+    worth = [amount + Decimal(factor * revenue - 1000 * cost).scaleb(-9) for factor, amount in rest.worth.items()]
+    nodes = rest.nodes + int(np.count_nonzero(settled.dug))
+    return replace(rest, worth=pd.Series(worth, index=factors, dtype=object), nodes=nodes, entry=entry)
+
+
+def demand_same(shells: Solution, pit: Solution, factor: int) -> None:
+    """Raises PlanError where the shell of a factor is not the pit that was found for it alone, block by block."""
+    inside = (shells.entry > 0) & (shells.entry <= factor)
+    other = np.flatnonzero(inside != (pit.entry > 0))
+    if len(other) or shells.worth[factor] != pit.worth[factor]:
+        raise PlanError(
+            f"the shell of factor {factor} is not the solver's pit with the fixed blocks: {len(other):,} nodes differ, "
+            f"worth {shells.worth[factor]} for {pit.worth[factor]}; please report this"
+        )

@@ -1,0 +1,136 @@
+"""A schedule by block anew, from the years of blocks, the project and its table: order, limits, what years hold, and what they earn."""
+
+from __future__ import annotations
+
+import json
+import math
+from collections.abc import Iterator
+from dataclasses import replace
+from typing import Any
+
+import numpy as np
+import pandas as pd
+
+from ..money_rules import GRADE_UNITS
+from . import walls
+from .answer import SHARE, TOLD, YEAR, Answer, Rule, rule
+from .feed import recovered
+from .money_of_years import premiums
+from .schedule import CENT, discount
+
+FILE, CASE = "block_schedule.json", "block"
+SLIGHT = 1e-6
+# By process the share of each block that goes there.
+Shares = list[tuple[str, np.ndarray]]
+
+
+def verify(answer: Answer) -> list[Rule]:
+    """Three rules."""
+    told = json.loads((answer.folder / FILE).read_text(encoding="utf-8"))
+    flows = flows_of(answer)
+    sums = flows.groupby(answer.said[YEAR].to_numpy()).sum()
+    return [verify_order(answer, told), verify_limits(answer, told, sums), verify_value(answer, told, sums)]
+
+
+def flows_of(answer: Answer) -> pd.DataFrame:
+    """What each block of rock, dug in its year, holds as it is milled, and its cash at the prices of the year."""
+    shares = shares_of(answer)
+    columns = {"rock_tonnes": answer.tonnes, "ore_tonnes": sum(share for _, share in shares) * answer.feed}
+    columns |= {f"ore_tonnes_{name}": share * answer.feed for name, share in shares if name}
+    columns |= {f"metal_{metal.name}": quantity(answer, number, shares) for number, metal in enumerate(answer.project.metals)}
+    frame, said = pd.DataFrame(columns), answer.said
+    amounts = zip(shares, answer.amounts_of_ways)
+    gain = sum(share * (said[revenue] - said[cost]).to_numpy() for (_, share), (revenue, cost) in amounts)
+    return frame.assign(cash=gain - said["mining_cost"].to_numpy() + more_by_years(answer, frame))
+
+
+def quantity(answer: Answer, number: int, shares: Shares) -> np.ndarray:
+    """What is recovered of a metal of each block: tonnes, or grams."""
+    grades = [recovered(way.metals[number], answer.rows, way) for way in answer.project.ways]
+    whole = sum(share * grade for (_, share), grade in zip(shares, grades))
+    return whole * answer.undiluted * float(GRADE_UNITS[answer.project.metals[number].unit])
+
+
+def more_by_years(answer: Answer, flows: pd.DataFrame) -> np.ndarray:
+    """What each block earns more by the prices of its year."""
+    year, more = answer.said[YEAR].to_numpy(), np.zeros(len(flows))
+    for each in np.unique(year[year > 0]).tolist():
+        premium = sum((price * flows[name].to_numpy() for name, price in premiums(answer.project, each).items()), np.zeros(len(flows)))
+        more += np.where(year == each, premium, 0.0)
+    return more
+
+
+def shares_of(answer: Answer) -> Shares:
+    """The share of each block that goes to each process, by its name: what is ore to the only one, whole."""
+    names = [process.name for process in answer.project.processes]
+    if not names:
+        return [("", answer.ore.astype(float))]
+    return [(name, answer.said[SHARE + name].to_numpy()) for name in names]
+
+
+def verify_order(answer: Answer, told: dict[str, Any]) -> Rule:
+    """No block is dug before one of its whole cone, nor behind the last year, and none goes to processes in more than one whole."""
+    year = answer.said[YEAR].to_numpy()
+    dated = replace(answer, said=answer.said.assign(factor=year))
+    found = walls.verify(dated)
+    differences = [difference.replace("dug at", "dug in year", 1) for difference in found.differences]
+    wrong = (year < 0) | (year > told["years"])
+    whole = sum(share for _, share in shares_of(answer))
+    wrong |= (whole > 1 + SLIGHT) | (np.minimum.reduce([share for _, share in shares_of(answer)]) < -SLIGHT)
+    if answer.project.processes:
+        wrong |= (year == 0) & (whole > SLIGHT)
+    rows = np.flatnonzero(wrong)[:TOLD]
+    differences += [f"{answer.called(row)}: year {year[row]}, of which {whole[row]:.6g} is processed" for row in rows]
+    holds = "no block is dug before all of its own region's whole cone is"
+    return rule("block order", holds, differences, found.count + int(wrong.sum()))
+
+
+def verify_limits(answer: Answer, told: dict[str, Any], sums: pd.DataFrame) -> Rule:
+    """No year is above a limit, the mill's ramp-up among them."""
+    differences = []
+    for name, ramps, most in limits_of(answer):
+        if told["limits"].get(name) != most:
+            differences.append(f"limit of {name} is told as {told['limits'].get(name)} for {most:.10g}")
+        for year, amount in sums[name][sums.index > 0].items():
+            allowed = most * ramps[min(int(year), len(ramps)) - 1]
+            if amount > allowed * (1 + 1e-8) + CENT:
+                differences.append(f"year {year}: {name} {amount:.10g} above {allowed:.10g}")
+    return rule("block limits", "no year is above a limit of ore, rock or metal", differences)
+
+
+def limits_of(answer: Answer) -> Iterator[tuple[str, tuple[float, ...], float]]:
+    """Name of an amount, the shares of its limit in the first years, and the limit."""
+    rules, shells = answer.project.schedule_rules, answer.project.schedule
+    of_mill = rules.ramp_up if rules else (1.0,)
+    yield "ore_tonnes", of_mill, (rules and rules.ore_per_year) or shells.ore_per_year
+    rock = (rules and rules.rock_per_year) or shells.rock_per_year
+    if rock:
+        yield "rock_tonnes", (1.0,), rock
+    for process in answer.project.processes:
+        yield f"ore_tonnes_{process.name}", of_mill, process.per_year
+    for name, most in (rules.metal_per_year if rules else {}).items():
+        yield f"metal_{name}", (1.0,), most
+
+
+def verify_value(answer: Answer, told: dict[str, Any], sums: pd.DataFrame) -> Rule:
+    """Years.csv is the sums of blocks, cash is discounted as the project asks, and the value is the sum of it and not above the bound."""
+    assert answer.years is not None
+    said = answer.years[answer.years["case"] == CASE].set_index("year")
+    last = int(sums.index.max()) if len(sums) else 0
+    differences = [] if said.index.tolist() == list(range(1, last + 1)) else [f"years {said.index.tolist()} for 1 to {last}"]
+    sums = sums.reindex(range(1, last + 1), fill_value=0.0)
+    sums["discounted"] = sums["cash"] * [discount(answer, year) for year in sums.index]
+    for name in sums.columns:
+        off = (said[name].reindex(sums.index) - sums[name]).abs() > CENT + 1e-9 * sums[name].abs()
+        pairs = [(year, said[name].get(year, math.nan), sums[name][year]) for year in sums.index[off]]
+        differences += [f"year {year}: {name} {told_of:.12g} for {expected:.12g}" for year, told_of, expected in pairs]
+    value, bound = sums["discounted"].sum(), told["bound"]
+    if abs(told["value"] - value) > CENT + 1e-9 * abs(value):
+        differences.append(f"value {told['value']:.12g} for {value:.12g}")
+    if value > bound + CENT + 1e-9 * abs(bound):
+        differences.append(f"value {value:.12g} is above bound {bound:.12g}")
+    gap = (bound - value) / abs(bound) if bound else 0.0
+    if abs(told["gap"] - gap) > 1e-6:
+        differences.append(f"gap {told['gap']:.9g} for {gap:.9g}")
+    holds = "cash is discounted as the project asks, years and value are the sums of blocks, and it is not above the bound"
+    return rule("block value", holds, differences)

@@ -1,0 +1,316 @@
+"""The bound of schedules by block: against the whole linear programme, against all schedules one by one, and by hand."""
+
+from fractions import Fraction
+from itertools import product
+
+import numpy as np
+import pytest
+from hypothesis import given
+from hypothesis import strategies as st
+from scipy.optimize import Bounds, LinearConstraint, linprog, milp
+
+from pitplan import PlanError
+from pitplan.block_schedule import master
+from pitplan.block_schedule import nodes as node_module
+from pitplan.block_schedule.closure import priced
+from pitplan.block_schedule.master import Master
+from pitplan.block_schedule.nodes import nodes_of
+from pitplan.block_schedule.problem import BlockProblem, Limit, Needs, demand_sound
+from pitplan.block_schedule.reduction import earliest_years, worth_digging
+from pitplan.block_schedule.relaxation import relaxed
+from pitplan.block_schedule.solving import reduced
+from pitplan.block_schedule.topological import ranks_of
+from pitplan.block_schedule.whole_values import upward
+from pitplan.schedule_rules import Effort
+
+EXACT = Effort(1e-9)
+
+
+def problem_of(values, pairs, *limits):
+    """Of values by block and year, of one destination; pairs (user, needed); and limits (amounts by block, most by year)."""
+    values = np.array(values, dtype=float)
+    values = values if values.ndim == 3 else values[:, None, :]
+    blocks, destinations, _ = values.shape
+    found = []
+    for number, (amounts, most) in enumerate(limits):
+        amounts = np.array(amounts, dtype=float).reshape(blocks, -1)
+        found.append(Limit(f"limit {number}", np.broadcast_to(amounts, (blocks, destinations)).copy(), np.array(most, dtype=float)))
+    return BlockProblem(values, needs_of(blocks, pairs), tuple(found))
+
+
+def needs_of(blocks, pairs):
+    pairs = sorted(pairs)
+    starts = np.searchsorted([user for user, _ in pairs], np.arange(blocks + 1))
+    return Needs(starts.astype(np.uint32), np.array([needed for _, needed in pairs], dtype=np.uint32))
+
+
+def pairs_of(problem):
+    return list(zip(problem.needs.users.tolist(), problem.needs.needed.tolist()))
+
+
+def random_problem(seed, most=60, years=4, destinations=3):
+    """Each block needs about two of those before it. Values are discounted, some by year at prices of their own; a year may hold a
+    twentieth to a half of all, or anything."""
+    rng = np.random.default_rng(seed)
+    blocks, years, destinations = (int(rng.integers(1, top + 1)) for top in (most, years, destinations))
+    pairs = [(user, needed) for user in range(blocks) for needed in range(user) if rng.random() < 2 / user]
+    values = rng.integers(-100, 150, (blocks, destinations, 1)) * (1 + rng.choice([0.0, 0.1, 0.3])) ** -np.arange(1.0, years + 1)
+    if rng.random() < 0.3:
+        values = values * rng.uniform(0.7, 1.3, (1, destinations, years))
+    limits = []
+    for _ in range(rng.integers(0, 4)):
+        amounts = rng.integers(0, 20, (blocks, destinations))
+        shares = np.where(rng.random(years) < 0.15, np.inf, rng.uniform(0.05, 0.5, years))
+        limits.append((amounts, shares * max(amounts.max(axis=1).sum(), 1)))
+    return problem_of(values, pairs, *limits)
+
+
+def programme(problem, first=None):
+    """The whole linear programme by what is dug in a year: gain, rows, what these are at most, and upper limits of the unknowns, by block,
+    destination and year; what is dug before its `first` year is none."""
+    blocks, destinations, years = shape = problem.values.shape
+    place = np.arange(np.prod(shape)).reshape(shape)
+    rows, most = [], []
+
+    def add(right, *parts):
+        row = np.zeros(place.size)
+        for places, factors in parts:
+            row[np.ravel(places)] = np.ravel(factors)
+        rows.append(row)
+        most.append(right)
+
+    for block in range(blocks):
+        add(1.0, (place[block], 1.0))
+    for (user, needed), year in product(pairs_of(problem), range(years)):
+        add(0.0, (place[user, :, : year + 1], 1.0), (place[needed, :, : year + 1], -1.0))
+    for limit, year in product(problem.limits, range(years)):
+        if np.isfinite(limit.most[year]):
+            add(limit.most[year], (place[:, :, year], limit.amounts))
+    upper = np.ones(shape)
+    if first is not None:
+        upper[np.broadcast_to(np.arange(years) < first[:, None, None], shape)] = 0.0
+    return problem.values.ravel(), np.array(rows), np.array(most), upper.ravel()
+
+
+def linear_optimum(problem, first=None):
+    gain, rows, most, upper = programme(problem, first)
+    found = linprog(-gain, A_ub=rows, b_ub=most, bounds=np.column_stack([np.zeros(len(gain)), upper]), method="highs")
+    assert found.status == 0, found.message
+    return -found.fun
+
+
+def integer_optimum(problem):
+    """The most that a schedule earns whose blocks each go to one destination whole."""
+    gain, rows, most, upper = programme(problem)
+    found = milp(-gain, integrality=np.ones(len(gain)), bounds=Bounds(0, upper), constraints=LinearConstraint(rows, -np.inf, most))
+    assert found.status == 0, found.message
+    return -found.fun
+
+
+def cone_of(problem, block):
+    """The block and all that it needs, by a walk."""
+    pairs, found, open_ = pairs_of(problem), {block}, [block]
+    while open_:
+        user = open_.pop()
+        more = {needed for one, needed in pairs if one == user} - found
+        found |= more
+        open_ += more
+    return sorted(found)
+
+
+def first_years(problem):
+    """The first year, from 0, by whose end each block's cone fits into every limit."""
+    found = np.zeros(problem.blocks, dtype=int)
+    for block, limit in product(range(problem.blocks), problem.limits):
+        whole, done = limit.amounts[cone_of(problem, block)].min(axis=1).sum(), limit.most.cumsum()
+        found[block] = max(found[block], next((year for year in range(problem.years) if whole <= done[year] + 1e-9), problem.years))
+    return found
+
+
+def without_first(problem):
+    return nodes_of(problem, np.zeros(problem.blocks, dtype=np.int64))
+
+
+@pytest.mark.parametrize("batch", range(10))
+def test_bound_and_relaxation_are_the_optimum_of_the_whole_programme(batch):
+    """Of 200 cases of up to 60 blocks and 4 years."""
+    for seed in range(20 * batch, 20 * batch + 20):
+        problem = random_problem(seed)
+        found = relaxed(without_first(problem), EXACT)
+        optimum = linear_optimum(problem)
+        slack = 1e-6 * max(1.0, abs(optimum))
+        assert found.bound == pytest.approx(optimum, abs=slack) and found.rounds[-1].value == pytest.approx(optimum, abs=slack), seed
+        assert all(one.bound >= optimum - slack >= one.value - 2 * slack for one in found.rounds), seed
+
+
+@pytest.mark.parametrize("batch", range(4))
+def test_what_is_left_out_changes_no_optimum(batch):
+    """The programme knows only the first years."""
+    for seed in range(1000 + 20 * batch, 1020 + 20 * batch):
+        problem = random_problem(seed, most=40)
+        first, part = first_years(problem), reduced(problem)
+        assert earliest_years(problem, ranks_of(problem.needs)).tolist() == first.tolist()
+        bound = relaxed(part.nodes, EXACT).bound if part.problem.blocks else 0.0
+        optimum = linear_optimum(problem, first)
+        assert bound == pytest.approx(optimum, abs=1e-6 * max(1.0, abs(optimum))), seed
+
+
+def all_schedules(problem):
+    """Each choice of a year and a destination, or of none, by block, that digs nothing before what it needs."""
+    places = [None, *product(range(problem.destinations), range(problem.years))]
+    pairs = pairs_of(problem)
+    for choice in product(places, repeat=problem.blocks):
+        years = [problem.years if place is None else place[1] for place in choice]
+        if all(years[user] >= years[needed] or years[user] == problem.years for user, needed in pairs):
+            yield choice
+
+
+awkward = st.sampled_from([0.1, 1 / 3, 1e-7, 1e12, 123456789.123, 1.0, 0.0, 7e5])
+signed = st.builds(lambda sign, size: sign * size, st.sampled_from([-1, 1]), awkward)
+
+
+@given(st.data())
+def test_at_any_prices_the_bound_is_above_all_schedules_exactly(data):
+    """What a schedule earns at the prices, and they times the limits, in fractions."""
+    blocks, destinations, years = data.draw(st.sampled_from([(3, 1, 2), (2, 2, 2), (4, 1, 1), (1, 3, 3)]))
+    values = np.array(data.draw(st.lists(signed, min_size=blocks * destinations * years, max_size=blocks * destinations * years)))
+    amounts = np.array(data.draw(st.lists(awkward, min_size=blocks * destinations, max_size=blocks * destinations)))
+    pairs = [(user, needed) for user in range(blocks) for needed in range(user) if data.draw(st.booleans())]
+    problem = problem_of(values.reshape(blocks, destinations, years), pairs, (amounts.reshape(blocks, destinations), np.full(years, 3.7)))
+    prices = np.array(data.draw(st.lists(awkward, min_size=years, max_size=years)))
+    sold = sum((Fraction(price) * Fraction(3.7) for price in prices.tolist()), Fraction(0))
+    earned = [
+        sum(
+            Fraction(problem.values[block][place]) - Fraction(prices[place[1]]) * Fraction(problem.limits[0].amounts[block, place[0]])
+            for block, place in enumerate(choice)
+            if place is not None
+        )
+        for choice in all_schedules(problem)
+    ]
+    exact = max(earned) + sold
+    bound = Fraction(priced(without_first(problem), prices[None]).bound)
+    size = sum(abs(value) for value in problem.values.ravel()) + prices.max() * amounts.sum()
+    assert exact <= bound <= exact + Fraction(1e-12) * Fraction(size) + Fraction(1e-15) * abs(exact) + Fraction(1e-300)
+
+
+def test_years_whose_pits_do_not_nest_are_solved_together():
+    """At a price that is high in the second year alone, what pays in the first does not pay in the second, and would not wait for it: dug
+    in the first, block 0 earns 5, and 100 less at the price of the second. The pits of the years for themselves are [0] and none."""
+    problem = problem_of([[5.0, 4.0, 3.0], [-9.0, 4.0, 1.0]], [], ([1, 1], [1, 1, 1]))
+    found = priced(without_first(problem), np.array([[0.0, 100.0, 0.0]]))
+    assert found.parts < 3 and found.bound == pytest.approx(5 + 1 + 100)
+    assert found.in_closure.tolist() == [True, False, True, False, True, True]
+    assert priced(without_first(problem), np.array([[100.0, 0.0, 0.0]])).parts == 3
+
+
+@given(st.lists(signed, min_size=1), awkward)
+def test_whole_values_are_rounded_up_by_less_than_two_units(values, error):
+    numbers = np.array(values)
+    whole = upward(numbers, np.full(len(numbers), error))
+    for value, amount in zip(values, whole.amounts.tolist()):
+        above = Fraction(amount) * Fraction(whole.unit) - Fraction(value) - Fraction(error)
+        assert 0 <= above < 2 * Fraction(whole.unit) or (whole.unit == 1.0 and not above)
+    assert max(map(abs, whole.amounts.tolist())) <= 2**51
+
+
+def test_two_blocks_by_hand():
+    """Waste over ore; a year takes one of them. Halves of both may be dug in the first year, and the others in the second: the ore earns
+    200 / 1.1 and the waste costs 50 / 1.1, half of it each time. As a whole the ore cannot come before the second year, which the bound
+    knows when its first year is told."""
+    values = np.outer([-50.0, 200.0], 1.1 ** -np.arange(1.0, 3.0))
+    problem = problem_of(values, [(1, 0)], ([1, 1], [1, 1]))
+    half = 150 / 1.1 / 2 + 150 / 1.21 / 2
+    assert relaxed(without_first(problem), EXACT).bound == pytest.approx(half)
+    part = reduced(problem)
+    assert part.nodes.first.tolist() == [0, 1]
+    # All of the waste in the first year and the ore in the second, as a schedule does; or the waste in the second with it.
+    assert relaxed(part.nodes, EXACT).bound == pytest.approx(max(-50 / 1.1 + 200 / 1.21, half - 75 / 1.1))
+
+
+def test_what_never_pays_is_left_out():
+    """Block 2 costs more than block 3 below it earns, and block 5 lies too deep for the limits: with it block 4 above it is left."""
+    values = np.outer([-1.0, 5.0, -6.0, 5.0, -1.0, 9.0], [0.9, 0.8])
+    problem = problem_of(values, [(1, 0), (3, 2), (5, 4)], ([1, 1, 1, 1, 1, 8], [2, 2]))
+    assert worth_digging(problem).tolist() == [True, True, False, False, True, True]
+    assert reduced(problem).kept.tolist() == [0, 1]
+
+
+def test_a_price_that_rises_makes_more_blocks_worth_digging():
+    """In the second year the ore pays for its waste; at the prices of the first alone it does not."""
+    assert worth_digging(problem_of([[-6, -6], [5, 5]], [(1, 0)])).tolist() == [False, False]
+    assert worth_digging(problem_of([[-6, -6], [5, 7]], [(1, 0)])).tolist() == [True, True]
+
+
+def test_pairs_of_many_groups_are_the_same(monkeypatch):
+    """Those by sorting and those by marks."""
+    bounds = []
+    for most in (0, 2**28):
+        monkeypatch.setattr(master, "MOST_MARKS", most)
+        bounds.append([round(relaxed(without_first(random_problem(seed)), EXACT).bound, 9) for seed in range(20)])
+    assert bounds[0] == bounds[1]
+    assert master.distinct([np.array([5, 3, 5]), np.array([3, 1])], 2**30).tolist() == [1, 3, 5]
+
+
+def test_an_interruption_leaves_the_bound_of_the_rounds_so_far():
+    problem = next(it for it in map(random_problem, range(100)) if len(relaxed(without_first(it), EXACT).rounds) > 4)
+
+    def interrupt(found):
+        if found.number == 2:
+            raise KeyboardInterrupt
+
+    found = relaxed(without_first(problem), EXACT, interrupt)
+    assert found.interrupted and len(found.rounds) == 2
+    assert found.rounds[1].value - 1e-6 <= linear_optimum(problem) <= found.bound + 1e-6
+
+
+def test_a_programme_that_cannot_be_solved_ends_the_rounds(monkeypatch):
+    """In the first round it is refused."""
+    problem = next(it for it in map(random_problem, range(100)) if len(relaxed(without_first(it), EXACT).rounds) > 4)
+    rounds = []
+    solve = Master.solve
+
+    def fail_later(master, groups):
+        if len(rounds) == most:
+            raise PlanError("HiGHS found no optimum")
+        return solve(master, groups)
+
+    monkeypatch.setattr(Master, "solve", fail_later)
+    most = 3
+    found = relaxed(without_first(problem), EXACT, rounds.append)
+    assert len(found.rounds) == 3 and not found.interrupted and found.bound >= linear_optimum(problem) - 1e-6
+    most, rounds = 0, []
+    with pytest.raises(PlanError, match="HiGHS found no optimum"):
+        relaxed(without_first(problem), EXACT, rounds.append)
+
+
+def test_seconds_end_the_relaxation_behind_a_round():
+    problem = next(it for it in map(random_problem, range(100)) if len(relaxed(without_first(it), EXACT).rounds) > 4)
+    found = relaxed(without_first(problem), Effort(1e-9, 0.0))
+    assert len(found.rounds) == 1 and not found.interrupted and found.bound >= linear_optimum(problem) - 1e-6
+
+
+@pytest.mark.parametrize(
+    ("change", "said"),
+    [
+        (dict(values=np.array([[[np.nan]]])), "finite numbers"),
+        (dict(values=np.zeros((1, 1, 0))), "one year at least"),
+        (dict(limits=(Limit("rock", np.array([[-1.0]]), np.array([1.0])),)), "rock: an amount is negative"),
+        (dict(limits=(Limit("rock", np.array([[1.0]]), np.array([-1.0])),)), "rock: the most of a year is negative"),
+        (dict(limits=(Limit("rock", np.array([[1.0]]), np.array([1.0, 2.0])),)), "rock: amounts are by block and destination"),
+    ],
+)
+def test_what_has_no_bound_is_refused(change, said):
+    whole = {"values": np.ones((1, 1, 1)), "needs": needs_of(1, []), "limits": ()} | change
+    with pytest.raises(PlanError, match=said):
+        demand_sound(BlockProblem(**whole))
+
+
+def test_more_nodes_or_pairs_than_the_library_takes_are_refused(monkeypatch):
+    problem = problem_of(np.ones((3, 5)), [(1, 0)])
+    assert len(without_first(problem)) == 15 and len(without_first(problem).of_years(0, 5).needed) == 17
+    monkeypatch.setattr(node_module, "MOST_NODES", 14)
+    with pytest.raises(PlanError, match="15 nodes, one for each block, year and destination"):
+        without_first(problem).of_years(0, 5)
+    monkeypatch.setattr(node_module, "MOST_NODES", 2)
+    with pytest.raises(PlanError, match="3 nodes"):
+        without_first(problem)

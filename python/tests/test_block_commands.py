@@ -1,0 +1,275 @@
+"""`pitplan schedule --by block`: mines worked by hand, what is refused, and the second look at what is written."""
+
+import json
+import os
+import shutil
+import subprocess
+import sys
+
+import pandas as pd
+import pytest
+from conftest import PROJECT, ROOT, rows
+from test_processes import WITH
+from test_pushbacks import UPRIGHT, pillars
+
+from pitplan import PlanError, block_commands, files, load
+from pitplan.cli import main
+from pitplan.verification import verify
+
+pytestmark = pytest.mark.usefixtures("blank_pictures")
+# The mill takes the ore of one pillar a year, and the shovels a pillar.
+YEARLY = UPRIGHT.replace("ore_per_year = 100", 'ore_per_year = 100\nrock_per_year = 200\ndiscounting = "end_of_year"')
+RULES = ["block order", "block limits", "block value"]
+
+
+def scheduled(plan_folder, words="", text=YEARLY, table=None):
+    project = load(plan_folder(pillars() if table is None else table, text + words))
+    return block_commands.write_block_schedule(project).iloc[0], project.folder / "block_schedule"
+
+
+def wrong(folder):
+    return {rule.name for rule in verify(folder) if rule.differences}
+
+
+def years_of(folder):
+    years = pd.read_csv(folder / "years.csv")
+    return years[years["case"] == "block"]
+
+
+def test_three_pillars_by_hand(plan_folder):
+    """One pillar a year, the richest first; what each is worth is 40 a per cent and tonne, less 10 for processing and 4 for mining. No
+    other schedule earns more, and the bound says so."""
+    row, folder = scheduled(plan_folder)
+    value = 2600 / 1.1 + 1400 / 1.21 + 600 / 1.331
+    assert row["value"] == pytest.approx(value) == row["bound"] and row["below_bound"] == pytest.approx(0, abs=1e-9)
+    assert row[["years", "blocks", "tonnes", "ore_tonnes"]].tolist() == [3, 6, 600, 300]
+    years = years_of(folder)
+    assert years["year"].tolist() == [1, 2, 3] and years["factor"].tolist() == [1000] * 3
+    assert years["rock_tonnes"].tolist() == [200] * 3 and years["ore_tonnes"].tolist() == [100] * 3
+    assert years["metal_copper"].tolist() == pytest.approx([0.5, 0.35, 0.25]) and years["cash"].tolist() == [2600, 1400, 600]
+    assert years["discounted"].tolist() == pytest.approx([2600 / 1.1, 1400 / 1.21, 600 / 1.331], abs=1e-3)
+    blocks = pd.read_csv(folder / "blocks.csv").set_index("name")
+    assert blocks["year"].to_dict() == {f"b{i}-0-{k}": i + 1 for i in range(3) for k in range(2)}
+    told = json.loads((folder / "block_schedule.json").read_text())
+    assert told["value"] == pytest.approx(value, abs=1e-3) and told["bound"] == pytest.approx(value, abs=1e-3)
+    assert told["limits"] == {"ore_tonnes": 100, "rock_tonnes": 200} and told["blocks"] == 6 and not told["interrupted"]
+    # Three years at the limits, and a fifth more.
+    assert told["years"] == 4
+
+
+@pytest.mark.parametrize(
+    ("words", "cash"),
+    [
+        ("years = 2", [2600, 1400]),
+        ("ore_per_year = 200\nrock_per_year = 400", [4000, 600]),
+        # The mill stands still in the first year, in which nothing needs to be dug.
+        ("ramp_up = [0, 1.0]", [0, 2600, 1400, 600]),
+        ("metal_per_year = { copper = 0.85 }\nore_per_year = 1e6\nrock_per_year = 1e6", [4000, 600]),
+        # A block of 100 t does not fit into half of the mill.
+        ("ramp_up = [0.5, 1.0]", [0, 2600, 1400, 600]),
+        ("years = 1\nrock_per_year = 300", [2600]),
+        ("milp = { gap = 0, seconds = 60 }", [2600, 1400, 600]),
+    ],
+)
+def test_each_limit_by_hand(plan_folder, words, cash):
+    row, folder = scheduled(plan_folder, f"[schedule]\n{words}\n")
+    assert years_of(folder)["cash"].tolist() == cash
+    assert row["value"] == pytest.approx(sum(amount / 1.1 ** (year + 1) for year, amount in enumerate(cash)))
+
+
+def test_years_have_prices_of_their_own(plan_folder):
+    """Copper is worth 4000 more in the second year, 20 a per cent and tonne: then the richest pillar waits for it, since 2600 + 2000 in
+    the second year and 1400 in the first are more than 2600 and 1400 + 1400."""
+    text = YEARLY.replace("price = 8000", "price = 8000\nprices = [8000, 12000, 8000]")
+    row, folder = scheduled(plan_folder, text=text)
+    blocks = pd.read_csv(folder / "blocks.csv").set_index("name")
+    assert blocks["year"][["b0-0-0", "b1-0-0", "b2-0-0"]].tolist() == [2, 1, 3]
+    assert row["value"] == pytest.approx(1400 / 1.1 + 4600 / 1.21 + 600 / 1.331) and wrong(folder) == set()
+
+
+def with_processes():
+    """Leach earns 32 a per cent and tonne less 3, and takes 300 t a year; the mill 72 less 13, and 100 t. Shovels take 600 t a year."""
+    text = UPRIGHT.replace("rate = 0.1", 'rate = 0.1\nrock_per_year = 600\ndiscounting = "end_of_year"')
+    for old, new in WITH:
+        assert text.count(old) == 1
+        text = text.replace(old, new)
+    return text
+
+
+def test_each_ore_waits_for_the_process_where_it_is_worth_most(plan_folder):
+    """In the mill: 7200 - 1300, 5040 - 1300 and 3600 - 1300, each in a year, less 400 for each pillar."""
+    row, folder = scheduled(plan_folder, text=with_processes())
+    blocks = pd.read_csv(folder / "blocks.csv").set_index("name")
+    ores = blocks.loc[["b0-0-0", "b1-0-0", "b2-0-0"]]
+    assert ores["year"].tolist() == [1, 2, 3] and ores["share_mill"].tolist() == [1] * 3
+    assert row["value"] == pytest.approx(5500 / 1.1 + 3340 / 1.21 + 1900 / 1.331) and wrong(folder) == set()
+
+
+def test_a_block_goes_to_the_process_that_has_room(plan_folder):
+    """With one year alone the richest ore is worth most in the mill, 7200 - 1300, and the others are leached for 2240 - 300 and 1600 -
+    300."""
+    row, folder = scheduled(plan_folder, "[schedule]\nyears = 1\n", with_processes())
+    blocks = pd.read_csv(folder / "blocks.csv").set_index("name")
+    assert blocks["year"].tolist() == [1] * 6
+    assert blocks["share_mill"][["b0-0-0", "b1-0-0", "b2-0-0"]].tolist() == [1, 0, 0]
+    assert blocks["share_leach"][["b0-0-0", "b1-0-0", "b2-0-0"]].tolist() == [0, 1, 1]
+    assert row["value"] == pytest.approx((7200 - 1300 + 2240 - 300 + 1600 - 300 - 6 * 200) / 1.1)
+    assert row["bound"] == pytest.approx(row["value"]) and wrong(folder) == set()
+    assert years_of(folder)[["ore_tonnes", "ore_tonnes_leach", "ore_tonnes_mill"]].to_numpy().tolist() == [[300, 200, 100]]
+
+
+@pytest.mark.parametrize(
+    ("words", "said"),
+    [
+        ("[schedule]\nlag = 1", "[schedule] lag: is of phases"),
+        ("[schedule]\nsinking_rate = 2", "[schedule] sinking_rate: is of the benches of a phase"),
+        ("[schedule]\nbins = 2", "[schedule] bins: are of benches"),
+        ("[schedule]\nbins = 2\nstockpile = { rehandling_cost = 1 }", "[schedule] bins: are of benches"),
+        ("[fixed]\nforced = 'cu'", "[fixed]: blocks that must be dug"),
+        ("[schedule]\nore_per_year = 1", "the pit would take more than 200 years"),
+    ],
+)
+def test_what_is_refused(plan_folder, words, said):
+    with pytest.raises(PlanError) as error:
+        scheduled(plan_folder, words + "\n")
+    assert said in str(error.value) and "project.toml" in str(error.value)
+
+
+@pytest.mark.parametrize("words", ["fixed_cost_per_year = 5", "capital = [[1, 5]]"])
+def test_what_years_cost_is_refused(plan_folder, words):
+    with pytest.raises(PlanError, match="fixed_cost_per_year, capital: what years cost"):
+        scheduled(plan_folder, text=YEARLY.replace("mining_cost = 2\n", f"mining_cost = 2\n{words}\n"))
+
+
+def test_the_command_line_tells_value_bound_and_gap(plan_folder, capsys):
+    path = plan_folder(pillars(), YEARLY)
+    assert main(["schedule", str(path), "--by", "block"]) == 0
+    said = capsys.readouterr()
+    lines = [line.split() for line in said.out.splitlines()]
+    assert lines[0][:3] == ["NPV", "bound", "below"] and lines[2][:4] == ["3,971.45", "3,971.45", "0.00", "3"]
+    assert "no schedule by block of up to 4 years that keeps these limits earns more than 3,971; this one earns 3,971, 0.00 %" in said.err
+    assert "round 1: bound 3,971, relaxation 3,971 over" in said.err
+    page = (path.parent / "plan" / "block_schedule" / "report.html").read_text()
+    assert "<h2>Schedule by block</h2>" in page and "the schedule and its bound, the other numbers" in page
+
+
+def test_without_the_library_it_is_told_what_is_missing(plan_folder):
+    path = plan_folder(pillars(), YEARLY)
+    words = [sys.executable, str(ROOT / "tools" / "pitplan"), "schedule", str(path), "--by", "block"]
+    ran = subprocess.run(words, capture_output=True, text=True, env=os.environ | {"PITSHELL_LIBRARY": "/nowhere.so"})
+    why = "a schedule by block needs the library of pits: no libpitshell.so at /nowhere.so: make library builds it"
+    assert ran.returncode == 1 and ran.stderr == f"pitplan: {why}\n"
+
+
+def test_an_interrupted_run_keeps_the_best_so_far(plan_folder, capsys, monkeypatch):
+    def interrupt(*given):
+        raise KeyboardInterrupt
+
+    monkeypatch.setattr("pitplan.block_schedule.solving.moved", interrupt)
+    path = plan_folder(pillars(), YEARLY)
+    assert main(["schedule", str(path), "--by", "block", "--quiet"]) == 130
+    folder = path.parent / "plan" / "block_schedule"
+    assert json.loads((folder / "block_schedule.json").read_text())["interrupted"] and wrong(folder) == set()
+    assert "the run was interrupted before it was through" in capsys.readouterr().err
+
+
+@pytest.fixture(scope="module")
+def written(blank_pictures, tmp_path_factory):
+    """A hill under several limits."""
+    place = tmp_path_factory.mktemp("scheduled")
+    grades = {(3, 4, 1): 6, (7, 4, 1): 2, (5, 2, 2): 0.9, (3, 3, 2): 1.5, (8, 4, 2): 0.8}
+    table = rows(11, 9, 4, cu=lambda i, j, k: grades.get((i, j, k), 0))
+    table.to_csv(place / "blocks.csv", index=False)
+    text = PROJECT + "[schedule]\nrock_per_year = 1000\nramp_up = [0.5, 1]\nore_per_year = 200\nmetal_per_year = { copper = 3.5 }\n"
+    (place / "project.toml").write_text(text)
+    block_commands.write_block_schedule(place / "project.toml")
+    return place
+
+
+@pytest.fixture
+def copied(written, tmp_path):
+    return shutil.copytree(written, tmp_path / "mine") / "plan" / "block_schedule"
+
+
+def test_what_is_right_passes(copied, capsys):
+    assert wrong(copied) == set()
+    assert main(["verify", str(copied)]) == 0
+    told = [line.split(":")[0] for line in capsys.readouterr().out.splitlines()]
+    assert told[-3:] == RULES
+    record = files.read_record(copied)
+    assert "block_schedule.json" in record["files"] and any(line.startswith("block order") for line in record["verified"])
+    assert pd.read_csv(copied / "blocks.csv")["year"].max() > 2
+
+
+def rewrite(path, change):
+    table = pd.read_csv(path)
+    change(table)
+    table.to_csv(path, index=False)
+
+
+def test_a_block_before_its_cone_is_found(copied):
+    """The deepest that is dug, in the first year."""
+
+    def change(table):
+        dug = table[table["year"] > 1].sort_values("z")
+        table.loc[dug.index[0], "year"] = 1
+
+    rewrite(copied / "blocks.csv", change)
+    assert "block order" in wrong(copied)
+
+
+@pytest.mark.parametrize("year", [-1, 99])
+def test_a_year_that_is_none_is_found(copied, year):
+    def change(table):
+        table.loc[table["year"].idxmax(), "year"] = year
+
+    rewrite(copied / "blocks.csv", change)
+    assert "block order" in wrong(copied)
+
+
+def test_a_year_above_a_limit_is_found(copied):
+    """All in one year."""
+
+    def change(table):
+        table.loc[table["year"] > 0, "year"] = 1
+
+    rewrite(copied / "blocks.csv", change)
+    assert {"block limits", "block value"} <= wrong(copied)
+
+
+@pytest.mark.parametrize("name", ["rock_tonnes", "ore_tonnes", "metal_copper", "cash", "discounted"])
+def test_a_year_that_is_not_the_sum_of_its_blocks_is_found(copied, name):
+    def change(table):
+        table.loc[table["case"] == "block", name] += 1
+
+    rewrite(copied / "years.csv", change)
+    assert "block value" in wrong(copied)
+
+
+@pytest.mark.parametrize(("key", "change"), [("value", 1), ("bound", -1e9), ("gap", 0.01)])
+def test_a_value_or_a_bound_that_is_not_so_is_found(copied, key, change):
+    told = json.loads((copied / "block_schedule.json").read_text())
+    (copied / "block_schedule.json").write_text(json.dumps(told | {key: told[key] + change}))
+    assert wrong(copied) == {"block value"}
+
+
+def test_a_limit_that_is_not_the_projects_is_found(copied):
+    told = json.loads((copied / "block_schedule.json").read_text())
+    (copied / "block_schedule.json").write_text(json.dumps(told | {"limits": told["limits"] | {"rock_tonnes": 5000}}))
+    assert wrong(copied) == {"block limits"}
+
+
+def test_the_view_and_the_table_have_the_years(copied):
+    from pitplan import commands
+
+    table = pd.read_csv(commands.export(copied, "table"))
+    assert table["year"].tolist() == pd.read_csv(copied / "blocks.csv").set_index("name")["year"].loc[table["name"]].tolist()
+
+
+def test_a_pit_without_ore_has_an_empty_schedule(plan_folder, capsys):
+    """Nothing pays, so nothing is dug, and the bound is 0."""
+    path = plan_folder(rows(3, 1, 2), YEARLY)
+    assert main(["schedule", str(path), "--by", "block", "--quiet"]) == 0
+    assert capsys.readouterr().out.splitlines()[2].split()[:4] == ["0.00", "0.00", "0.00", "0"]
+    folder = path.parent / "plan" / "block_schedule"
+    assert (pd.read_csv(folder / "blocks.csv")["year"] == 0).all() and years_of(folder).empty

@@ -1,0 +1,212 @@
+"""Schedules by block: against integer programmes, a walk of the tests' own, and by hand."""
+
+import os
+import signal
+from threading import Timer
+
+import numpy as np
+import pytest
+from test_block_bound import cone_of, integer_optimum, pairs_of, problem_of, random_problem
+
+from pitplan import optimiser
+from pitplan.block_schedule import solve
+from pitplan.block_schedule.destinations import with_best_shares
+from pitplan.block_schedule.filling import Filling, paying, preferences, schedule_of
+from pitplan.block_schedule.moving import moved
+from pitplan.block_schedule.schedule import BlockSchedule, nothing
+from pitplan.block_schedule.topological import ranks_of
+from pitplan.block_schedule.toposort import Sequence, in_order, sequences
+from pitplan.block_schedule.windows import window_of
+from pitplan.schedule_rules import Effort
+
+
+def demand_sound(problem, schedule):
+    """Each block with its whole cone by then, whole, and no year above a limit; gives what it earns."""
+    years, earned = problem.years, 0.0
+    left = [limit.most * (1 + 1e-9) + 1e-9 for limit in problem.limits]
+    for block, year in enumerate(schedule.year.tolist()):
+        share = schedule.share[block]
+        assert share.sum() == pytest.approx(float(year < years)) and (share >= 0).all()
+        if year == years:
+            continue
+        assert max(schedule.year[cone_of(problem, block)]) <= year
+        earned += float(share @ problem.values[block, :, year])
+        for limit, most in zip(problem.limits, left):
+            most[year] -= share @ limit.amounts[block]
+    assert all((most >= 0).all() for most in left)
+    return earned
+
+
+@pytest.mark.parametrize("batch", range(4))
+def test_small_schedules_are_the_best_that_there_are(batch):
+    """Of up to 12 blocks, since one window holds them all; with several destinations shares may earn more than whole blocks."""
+    for seed in range(2000 + 10 * batch, 2010 + 10 * batch):
+        problem = random_problem(seed, most=12)
+        found = solve(problem, Effort(0.0, 600.0))
+        best = integer_optimum(problem)
+        slack = 1e-6 * max(1.0, abs(best))
+        assert demand_sound(problem, found.schedule) == pytest.approx(found.value, abs=slack)
+        assert best - slack <= found.value <= found.bound + slack and (problem.destinations > 1 or found.value <= best + slack), seed
+
+
+@pytest.mark.parametrize("batch", range(4))
+def test_schedules_without_integer_programmes_keep_to_all(batch):
+    for seed in range(3000 + 10 * batch, 3010 + 10 * batch):
+        problem = random_problem(seed, most=50)
+        found = solve(problem)
+        assert demand_sound(problem, found.schedule) == pytest.approx(found.value)
+        assert 0 <= found.value <= found.bound + 1e-6 * max(1.0, abs(found.bound)), seed
+
+
+def test_two_pillars_by_hand():
+    """A year takes two blocks: the richer pillar first, then the other. That is worth what the bound is."""
+    values = np.outer([-1.0, 10.0, -1.0, 5.0], 1.1 ** -np.arange(1.0, 4.0))
+    found = solve(problem_of(values, [(1, 0), (3, 2)], ([1, 1, 1, 1], [2, 2, 2])))
+    assert found.schedule.year.tolist() == [0, 0, 1, 1]
+    assert found.value == pytest.approx(9 / 1.1 + 4 / 1.21) == found.bound and found.gap == pytest.approx(0, abs=1e-9)
+
+
+def test_nothing_to_dig():
+    found = solve(problem_of([[-1.0, -1.0]], []), Effort(0.0, 1.0))
+    assert (found.value, found.bound, found.gap, found.schedule.year.tolist()) == (0.0, 0.0, 0.0, [2])
+
+
+def filling_of(problem):
+    return Filling(problem, preferences(problem, np.zeros((len(problem.limits), problem.years))))
+
+
+def test_each_block_comes_in_the_first_year_with_room():
+    """Two units a year: 0 and 1 fill the first; 2, which may not come before the second, takes one of it, and 3 of two units waits for the
+    third; 4 needs 3, and no year is left for it."""
+    problem = problem_of(np.ones((5, 3)), [(4, 3)], ([1, 1, 1, 2, 1], [2, 2, 2]))
+    earliest = np.array([0, 0, 1, 0, 0])
+    assert filling_of(problem).fill(Sequence(np.arange(5), earliest)).year.tolist() == [0, 0, 1, 2, 3]
+    assert filling_of(problem).fill(Sequence(np.array([3, 4, 2]), earliest)).year.tolist() == [3, 3, 1, 0, 1]
+
+
+def test_a_block_goes_to_the_destination_that_has_room():
+    """Each earns more in the mill, which takes one block a year."""
+    values = np.tile(np.array([[1.0], [5.0]]), (3, 1, 1))
+    problem = problem_of(values, [], ([[0, 1]] * 3, [1]))
+    schedule = filling_of(problem).fill(Sequence(np.arange(3), np.zeros(3, dtype=int)))
+    assert schedule.year.tolist() == [0, 0, 0] and schedule.share.tolist() == [[0, 1], [1, 0], [1, 0]]
+
+
+def test_what_does_not_pay_at_its_time_is_left():
+    """Block 1 pays for block 0 above it, and not for block 2 too."""
+    problem = problem_of([[-5.0], [9.0], [-6.0], [1.0]], [(1, 0), (3, 1), (3, 2)])
+    assert paying(problem, schedule_of(problem, np.zeros(4, dtype=int), np.zeros(4, dtype=int))).year.tolist() == [0, 0, 1, 1]
+
+
+def test_waste_is_moved_back_and_ore_forward():
+    """Waste that is dug in the first year, and its ore in the third: the ore may come in the second, and with it the waste."""
+    values = np.outer([-10.0, 20.0], [0.9, 0.8, 0.7])
+    problem = problem_of(values, [(1, 0)], ([0, 1], [0, 1, 1]))
+    schedule = schedule_of(problem, np.array([0, 2]), np.array([0, 0]))
+    assert moved(filling_of(problem), ranks_of(problem.needs), schedule).year.tolist() == [1, 1]
+
+
+def test_destinations_are_shared_where_that_earns_more():
+    """Two blocks in a year whose mill takes one and a half: the richer one whole, and half of the other."""
+    values = np.array([[[0.0], [8.0]], [[0.0], [6.0]]])
+    problem = problem_of(values, [], ([[0, 1], [0, 1]], [1.5]))
+    schedule = schedule_of(problem, np.array([0, 0]), np.array([0, 1]))
+    better = with_best_shares(problem, schedule)
+    assert better.share.tolist() == [[0, 1], [pytest.approx(0.5), pytest.approx(0.5)]] and better.value(problem) == pytest.approx(11)
+
+
+def test_orders_hold_each_block_behind_what_it_needs():
+    """Also where the relaxation has dug a hair more of a block than of what it needs."""
+    problem = random_problem(3000, most=50)
+    cumulative = np.sort(np.random.default_rng(1).random((problem.blocks, problem.years)), axis=1)
+    ranks = ranks_of(problem.needs)
+    order = in_order(problem, ranks, problem.years - cumulative.sum(axis=1), np.zeros(problem.blocks))
+    place = np.argsort(order)
+    assert sorted(order.tolist()) == list(range(problem.blocks))
+    assert all(place[user] > place[needed] for user, needed in pairs_of(problem))
+    assert all(set(sequence.order.tolist()) <= set(range(problem.blocks)) for sequence in sequences(problem, ranks, cumulative))
+
+
+def test_a_circle_has_no_ranks():
+    with pytest.raises(ValueError, match="circle"):
+        ranks_of(problem_of(np.ones((3, 1)), [(0, 1), (1, 2), (2, 0)]).needs)
+
+
+def test_what_keeps_to_a_problem():
+    problem = problem_of([[1.0, 1.0], [1.0, 1.0]], [(1, 0)], ([1, 1], [1, 1]))
+    assert nothing(problem).keeps(problem)
+    cases = [([0, 1], [1, 1]), ([1, 0], [1, 1]), ([0, 0], [1, 1]), ([0, 1], [1, 0.5]), ([2, 1], [0, 1])]
+    found = [BlockSchedule(np.array(year), np.array(share, dtype=float)[:, None]).keeps(problem) for year, share in cases]
+    assert found == [True, False, False, False, False]
+
+
+def test_a_window_frees_blocks_of_its_years_and_keeps_the_others():
+    """Years 2 and 3 of four. Block 4 is dug before and block 5 behind, which needs block 3: so 3 is due by then. Block 2 needs 4 and comes
+    with the rest in what block 1, which is not free since it is far from the middle, leaves."""
+    values = np.tile(np.array([[1.0, 2.0, 3.0, 5.0]]), (6, 1))
+    problem = problem_of(values, [(2, 4), (5, 3)], ([1] * 6, [1, 2, 2, 9]))
+    schedule = schedule_of(problem, np.array([1, 2, 1, 2, 0, 3]), np.zeros(6, dtype=int))
+    cumulative = np.zeros((6, 4))
+    cumulative[[0, 2, 3]] = [0, 0.5, 1, 1]
+    window = window_of(problem, schedule, cumulative, (1, 3), 6)
+    assert window.blocks.tolist() == [0, 2, 3] and window.part.limits[0].most.tolist() == [2, 1]
+    assert [bounds.tolist() for bounds in window.bounds()] == [[1, 1, 1], [4, 4, 3]]
+    # Room for one in the third year, where each earns one more than in the second: two stay, and any of them may be the third.
+    found = window.solved(Effort(0.0, 60.0))
+    assert demand_sound(problem, found) == pytest.approx(2 + 2 + 3 + 3 + 1 + 5)
+
+
+def test_an_empty_window_is_passed_over(monkeypatch):
+    monkeypatch.setattr("pitplan.block_schedule.windows.MOST_UNKNOWNS", 1)
+    found = solve(problem_of(np.outer([1.0, 1.0], [1.0, 0.9, 0.8, 0.7]), [], ([1, 1], [2, 2, 2, 2])), Effort(-1.0, 60.0))
+    assert found.schedule.year.tolist() == [0, 0]
+
+
+def test_windows_find_what_filling_misses(monkeypatch):
+    """With few unknowns a window holds a part of the blocks; none is worse than without, and some are better."""
+    monkeypatch.setattr("pitplan.block_schedule.windows.MOST_UNKNOWNS", 60)
+    monkeypatch.setattr("pitplan.block_schedule.windows.FEWER", 30)
+    gains = []
+    for seed in range(4000, 4012):
+        problem = random_problem(seed, most=50, destinations=1)
+        before, after = solve(problem), solve(problem, Effort(0.0, 60.0))
+        assert demand_sound(problem, after.schedule) == pytest.approx(after.value) and after.value <= after.bound + 1e-6 * abs(after.bound)
+        gains.append(after.value - before.value)
+    assert min(gains) > -1e-6 and max(gains) > 1
+
+
+def test_an_interruption_behind_the_bound_gives_the_best_so_far(monkeypatch):
+    problem = random_problem(3003, most=50)
+    whole = solve(problem)
+
+    def interrupt(*given):
+        raise KeyboardInterrupt
+
+    monkeypatch.setattr("pitplan.block_schedule.solving.moved", interrupt)
+    found = solve(problem)
+    assert found.interrupted and not whole.interrupted and found.bound == whole.bound
+    assert 0 < demand_sound(problem, found.schedule) == pytest.approx(found.value) and found.value <= whole.value
+
+
+def test_an_interruption_while_a_window_is_solved_ends_its_process(monkeypatch):
+    """The process would take ten minutes."""
+    popen, begun = optimiser.subprocess.Popen, []
+
+    def sleep(arguments, **options):
+        begun.append(popen(["/bin/sleep", "600"], **options))
+        Timer(0.3, os.kill, (os.getpid(), signal.SIGINT)).start()
+        return begun[0]
+
+    monkeypatch.setattr(optimiser.subprocess, "Popen", sleep)
+    problem = next(it for it in map(random_problem, range(3000, 3100)) if it.years > 1 and solve(it).gap > 1e-3)
+    found = solve(problem, Effort(0.0, 600.0))
+    assert found.interrupted and begun[0].wait(5) != 0 and demand_sound(problem, found.schedule) == pytest.approx(solve(problem).value)
+
+
+def test_an_interruption_before_there_is_a_bound_is_passed_on(monkeypatch):
+    def interrupt(*given):
+        raise KeyboardInterrupt
+
+    monkeypatch.setattr("pitplan.block_schedule.relaxation.priced", interrupt)
+    with pytest.raises(KeyboardInterrupt):
+        solve(random_problem(3003, most=50))

@@ -1,0 +1,358 @@
+"""The library and the program write the same; which of them solved is told, and an answer that one has begun no other goes on with."""
+
+import json
+import os
+import shutil
+import signal
+import subprocess
+import sys
+import time
+from dataclasses import replace
+from decimal import Decimal
+from pathlib import Path
+
+import numpy as np
+import pytest
+from conftest import PROJECT, ROOT, rows
+from test_fixed import FIXED_SECTION, ores_and_fixed, with_section
+from test_scenarios import COLUMNS, PRICES, UPRIGHT, pillar
+
+import pitplan
+from pitplan import PlanError, ProgramError, commands, files, library, load, run, simulation, solver, table as tables, varied_cases
+from pitplan.cli import main
+from pitplan.mine import counted_rows
+from pitplan.rows import Rows
+from pitplan.simulation import folder as folders, prepare, work
+
+pitshell = pytest.importorskip("pitshell", reason="make library builds it")
+
+EXAMPLES = ROOT / "examples"
+# What tells the solver, or is the program's own.
+RECORDS = {"prepare.json", "scenarios.json", "sensitivity.json", "report.html", "schedule.xlsx"}
+RECORDS |= {"starts.npy", "needs.npy", *files.OF_PROGRAM}
+
+
+def written(folder: Path) -> dict[str, bytes]:
+    """The files of a folder that must be the same by either solver."""
+    return {path.name: path.read_bytes() for path in folder.iterdir() if path.is_file() and path.name not in RECORDS}
+
+
+def by_both(tmp_path: Path, command: str, project: Path, *options: str) -> tuple[Path, Path]:
+    """The folders of a command that the library and the program have solved; their files are the same."""
+    places = {by: tmp_path / f"{command}-{by}" for by in solver.BY}
+    for by, place in places.items():
+        assert main([command, str(project), "--out", str(place), "--solver", by, "--quiet", *options]) == 0
+    found = {by: written(place) for by, place in places.items()}
+    assert found["library"].keys() == found["program"].keys()
+    assert [name for name, text in found["library"].items() if text != found["program"][name]] == []
+    return places["library"], places["program"]
+
+
+def without_solver(path: Path) -> dict:
+    """A record without what names the solver or its files."""
+    record = json.loads(path.read_text())
+    for told in (record, record.get("shells", {})):
+        told.pop("solver", None)
+    record["files"] = {name: digest for name, digest in record["files"].items() if name not in files.OF_PROGRAM}
+    return record
+
+
+@pytest.mark.parametrize("example", ["plan", "fixed"])
+def test_shells_are_the_same_to_the_byte(tmp_path, example):
+    arrays, texts = by_both(tmp_path, "shells", EXAMPLES / example / "project.toml")
+    assert {"blocks.csv", "shells.csv", "years.csv", "plans.png", "sections.png"} <= written(arrays).keys()
+    assert without_solver(arrays / "prepare.json") == without_solver(texts / "prepare.json")
+    fixed = {"mine.fixed", "rest.blocks", "rest.prec", "pit.upit"} if example == "fixed" else set()
+    assert set(files.of_program(texts)) == {"mine.blocks", "mine.upit", "mine.prec", "shells.txt", *fixed}
+    assert files.of_program(arrays) == ()
+    told = [json.loads((place / "prepare.json").read_text())["shells"]["solver"] for place in (arrays, texts)]
+    hashes = [files.hash_of(file) for file in (pitshell.LIBRARY, run.program())]
+    assert [(it["by"], it["sha256"]) for it in told] == [("library", hashes[0]), ("program", hashes[1])]
+    for place, it in zip((arrays, texts), told):
+        page = (place / "report.html").read_text()
+        assert it["sha256"] in page and f"Proved of the {it['by']}, for" in page and ("mine.prec" in page) == (it["by"] == "program")
+
+
+def test_a_pit_with_fixed_blocks_and_without_is_the_same(tmp_path):
+    arrays, _ = by_both(tmp_path, "pit", EXAMPLES / "fixed" / "project.toml")
+    assert {"blocks.csv", "pits.csv"} == written(arrays).keys()
+
+
+def test_phases_and_their_schedule_are_the_same(tmp_path):
+    """Of a division that asks the solver again and again for shells of other factors."""
+    shutil.copytree(EXAMPLES / "plan", tmp_path / "plan")
+    with open(tmp_path / "plan" / "project.toml", "a") as file:
+        file.write("\n[pushbacks]\ncount = 3\nwidth = 40\n[schedule]\nlag = 1\n")
+    arrays, _ = by_both(tmp_path, "schedule", tmp_path / "plan" / "project.toml")
+    assert {"phases.csv", "schedule.csv", "schedule.json", "blocks.csv"} <= written(arrays).keys()
+
+
+def test_a_sensitivity_is_the_same_and_keeps_answers_apart(plan_folder, tmp_path):
+    text = with_section(FIXED_SECTION) + '\n[sensitivity]\nby = [-0.1]\nvary = ["price", "slopes"]\n'
+    path = plan_folder(ores_and_fixed(), text, UPRIGHT)
+    arrays, texts = by_both(tmp_path, "sensitivity", path)
+    assert {"blocks.csv", "sensitivity.csv"} <= written(arrays).keys()
+    answers = [{it.name for it in (place / "cases").iterdir()} for place in (arrays, texts)]
+    assert len(answers[0]) == len(answers[1]) == 3 and not answers[0] & answers[1]
+
+
+def test_scenarios_are_the_same_and_keep_answers_apart(tmp_path):
+    pytest.importorskip("distributed", reason="needs the Debian package python3-distributed")
+    arrays, texts = by_both(tmp_path, "scenarios", EXAMPLES / "scenarios" / "project.toml", "--workers", "1")
+    assert {"probability.csv", "scenarios.csv", "quantiles.csv", "gathered.json", "blocks.csv"} <= written(arrays).keys()
+    answers = [{it.name for it in (place / "done").iterdir()} for place in (arrays, texts)]
+    assert len(answers[0]) == len(answers[1]) > 3 and not answers[0] & answers[1]
+    assert (arrays / "needs.npy").is_file() and not (arrays / "mine.prec").exists() and (texts / "mine.prec").is_file()
+
+
+@pytest.mark.parametrize("example", ["plan", "fixed"])
+def test_rows_are_the_lines_of_the_program_s_files(tmp_path, example):
+    """Of the whole mine, and of what fixed blocks leave of it."""
+    plan = pitplan.prepare(EXAMPLES / example / "project.toml")
+    written = plan.write(tmp_path)
+    for needs, name in ((plan.needs, "mine.prec"), (plan.needs_of_rest, "rest.prec" if plan.settled else "mine.prec")):
+        found, pairs = counted_rows(needs, plan)
+        lines = (list(map(int, line.split())) for line in open(tmp_path / name))
+        listed = {block: needed for block, _, *needed in lines}
+        starts, ends = found.starts[:-1].tolist(), found.starts[1:].tolist()
+        assert [listed.get(node, []) for node in range(len(starts))] == [found.needs[a:b].tolist() for a, b in zip(starts, ends)]
+        assert pairs == written or plan.settled
+        assert found.starts.dtype == found.needs.dtype == np.uint32
+
+
+def test_too_many_needs_are_refused_before_anything_is_solved(monkeypatch):
+    monkeypatch.setattr(files, "MOST_PAIRS", 25_000)
+    monkeypatch.setattr("pitplan.plan.MOST_PAIRS", 25_000)
+    plan = pitplan.prepare(replace(load(EXAMPLES / "plan" / "project.toml"), solver="library"))
+    said = r"25,857 needs, and the program takes at most 25,000: give fewer \[slopes\] levels, or a smaller model"
+    with pytest.raises(PlanError, match=said):
+        pitplan.solve(plan)
+
+
+def test_arrays_are_handed_over_as_they_are(monkeypatch):
+    """What is held twice would be tens of megabytes of a large mine."""
+    given = []
+    monkeypatch.setattr(pitshell._nesting._library, "shells", lambda *words: given.extend(words) or 0)
+    revenue, cost = np.array([0, 5], dtype=np.int64), np.array([3, 0], dtype=np.int64)
+    listed = Rows(np.array([0, 0, 1], dtype=np.uint32), np.array([0], dtype=np.uint32))
+    library.shells((revenue, cost), listed, (500, 1000))
+    for array in (revenue, cost, listed.starts, listed.needs):
+        assert any(array is it for it in given)
+
+
+def test_shells_of_arrays_by_hand():
+    """Ore of 5 under waste of 3: dug at 1000 and worth 2 there; at 700 it is worth half a unit."""
+    millions = np.array([[0, 5_000_000], [3_000_000, 0]])
+    listed = Rows(np.array([0, 0, 1], dtype=np.uint32), np.array([0], dtype=np.uint32))
+    found = library.shells((millions[0], millions[1]), listed, (500, 700, 1000))
+    assert found.entry.tolist() == [700, 700] and found.answer is None
+    assert found.worth.to_dict() == {500: 0, 700: Decimal("0.5"), 1000: 2} and found.nodes.to_dict() == {500: 0, 700: 2, 1000: 2}
+    forced = library.pit(np.array([-3 * 10**9, 2 * 10**9]), listed, np.array([0, 1], dtype=np.uint8), 700)
+    assert forced.entry.tolist() == [700, 700] and forced.worth[700] == -1 and forced.nodes[700] == 2
+
+
+def lines_of(tmp_path, *lines):
+    """The program's files of two blocks, of which these lines say what needs what."""
+    (tmp_path / "mine.blocks").write_text("0 0 0 0 0 3\n1 0 0 1 5 0\n")
+    (tmp_path / "mine.prec").write_text("".join(f"{line}\n" for line in lines))
+    return tmp_path / "mine.blocks", tmp_path / "mine.prec", (1000,)
+
+
+@pytest.mark.parametrize(
+    ("lines", "starts", "needs", "said"),
+    [
+        (["0 1 1", "1 1 0"], [0, 1, 2], [1, 0], "error 14: cycle"),
+        (["0 1 7"], [0, 1, 1], [7], "error 8: predecessor out of range"),
+        (["0 2 1 1"], [0, 2, 2], [1, 1], "error 10: predecessor named twice"),
+    ],
+)
+def test_refusals_are_those_of_the_program(tmp_path, lines, starts, needs, said):
+    told = []
+    listed = Rows(np.array(starts, dtype=np.uint32), np.array(needs, dtype=np.uint32))
+    amounts = np.array([0, 5]), np.array([3, 0])
+    for solve in (lambda: run.solve_files(*lines_of(tmp_path, *lines)), lambda: library.shells(amounts, listed, (1000,))):
+        with pytest.raises(ProgramError, match=f"^pitshell shells ended with status 1: {said}") as refused:
+            solve()
+        told.append((type(refused.value), refused.value.status, work.status_of(refused.value)))
+    assert told[0] == told[1] == (ProgramError, 1, 1)
+
+
+def test_a_block_that_must_be_dug_and_may_not_be_is_refused_as_by_the_program():
+    listed = Rows(np.array([0, 0, 1], dtype=np.uint32), np.array([0], dtype=np.uint32))
+    with pytest.raises(ProgramError, match="^pitshell solve ended with status 1: error 21: fixed blocks clash at block 0$"):
+        library.pit(np.array([-1, 1]), listed, np.array([2, 1], dtype=np.uint8), 1000)
+
+
+MEMORY = """
+import resource, numpy as np
+from pitplan import ProgramError, library
+from pitplan.rows import Rows
+nodes = 4_000_000
+amounts = np.ones(nodes, dtype=np.int64)
+rows = Rows(np.arange(nodes + 1, dtype=np.uint32).clip(1) - 1, np.arange(nodes - 1, dtype=np.uint32))
+rows.starts[-1] = nodes - 1
+library.loaded()
+held = int(open("/proc/self/statm").read().split()[0]) * resource.getpagesize()
+resource.setrlimit(resource.RLIMIT_AS, (held + 2**27,) * 2)
+try:
+    library.shells((amounts, amounts), rows, (1000,))
+except ProgramError as error:
+    print(error.status, error)
+"""
+
+
+def by_itself(text: str, **options) -> subprocess.Popen:
+    """A script in an interpreter of its own, which heeds interruptions."""
+    heeding = {"preexec_fn": lambda: signal.signal(signal.SIGINT, signal.default_int_handler)}
+    environment = {**os.environ, "PYTHONPATH": str(ROOT / "python")}
+    return subprocess.Popen([sys.executable, "-c", text], env=environment, stdout=subprocess.PIPE, text=True, **heeding, **options)
+
+
+def test_memory_that_is_refused_is_the_program_s_status_of_it():
+    out, _ = by_itself(MEMORY).communicate(timeout=60)
+    assert out == "1 pitshell shells ended with status 1: error 1: no memory\n"
+
+
+@pytest.mark.parametrize(("asked", "status", "said"), [(signal.SIGINT, 130, "pitplan: interrupted"), (signal.SIGTERM, 143, None)])
+def test_a_solve_that_takes_long_is_ended_at_once(plan_folder, asked, status, said):
+    """A single column of blocks, the deeper half ore, takes the library many seconds, and time that grows with the square of its depth."""
+    deep = 40_000
+    table = rows(1, 1, deep, cu=lambda i, j, k: 2 if k < deep // 2 else 0)
+    path = plan_folder(table, PROJECT, UPRIGHT, ("levels = 3", "levels = 1"), ("[500, 1000, 1500]", "[1000]"))
+    words = [sys.executable, str(ROOT / "tools" / "pitplan"), "shells", str(path), "--solver", "library"]
+    ran = subprocess.Popen(words, stderr=subprocess.PIPE, text=True, preexec_fn=lambda: signal.signal(signal.SIGINT, signal.SIG_DFL))
+    told = ""
+    while not told.endswith("by the library .."):
+        told += ran.stderr.read(1)
+    time.sleep(0.5)
+    began = time.monotonic()
+    assert ran.poll() is None
+    ran.send_signal(asked)
+    _, err = ran.communicate(timeout=30)
+    assert time.monotonic() - began < 1.5 and ran.returncode == status
+    assert err.strip().splitlines()[-1:] == ([said] if said else [])
+    assert list((path.parent / "plan").iterdir()) == []
+
+
+def test_what_is_asked_for_solves_else_what_is_named_else_the_library(monkeypatch):
+    for name in ("PITSHELL", "PITSHELL_LIBRARY"):
+        monkeypatch.delenv(name, raising=False)
+    assert [solver.chosen(by).by for by in ("program", "library", None)] == ["program", "library", "library"]
+    assert solver.chosen("library").version == f"libpitshell {pitplan.__version__}"
+    monkeypatch.setattr(library, "package", lambda: None)
+    library.identity.cache_clear()
+    assert solver.chosen().by == "program"
+    with pytest.raises(ProgramError, match=r"there is no libpitshell.so: .*, build it by make library, or name it by PITSHELL_LIBRARY"):
+        solver.chosen("library")
+    monkeypatch.setenv("PITSHELL_LIBRARY", "/nowhere/libpitshell.so")
+    with pytest.raises(ProgramError, match="there is no libpitshell.so"):
+        solver.chosen()
+    monkeypatch.undo()
+    monkeypatch.delenv("PITSHELL_LIBRARY", raising=False)
+    monkeypatch.setenv("PITSHELL", str(run.program()))
+    assert solver.chosen().by == "program"
+    monkeypatch.setenv("PITSHELL_LIBRARY", str(pitshell.LIBRARY))
+    assert solver.chosen().by == "library"
+    with pytest.raises(PlanError, match="magic is none of library, program"):
+        solver.chosen("magic")
+
+
+def test_a_library_that_cannot_be_loaded_is_named(tmp_path):
+    """Instead of going on with the program, which would not be told."""
+    broken = tmp_path / "libpitshell.so"
+    broken.write_text("no library")
+    environment = {**os.environ, "PITSHELL_LIBRARY": str(broken)}
+    words = [sys.executable, str(ROOT / "tools" / "pitplan"), "shells", str(EXAMPLES / "plan" / "project.toml"), "--out", str(tmp_path)]
+    ran = subprocess.run(words, env=environment, capture_output=True, text=True)
+    assert ran.returncode == 1 and f"libpitshell.so cannot be loaded: {broken}: " in ran.stderr and ran.stderr.count("\n") == 1
+
+
+def test_both_packages_are_of_one_release():
+    assert pitshell.__version__ == pitplan.__version__
+
+
+def test_an_audit_of_what_the_library_solved_writes_the_mine_itself(tmp_path):
+    """Blocks, needs and fixed blocks are those that the program would have read."""
+    arrays, texts = by_both(tmp_path, "shells", EXAMPLES / "fixed" / "project.toml", "--no-verify")
+    first, second = (commands.audit(place, 800) for place in (arrays, texts))
+    for name in ("shell.upit", "shell.prec", "shell.fixed", "pit.txt", "shell.cert"):
+        assert (first / name).read_bytes() == (second / name).read_bytes(), name
+    environment = {**os.environ, "PITSHELL": str(run.program()), "PYTHON": sys.executable}
+    ran = subprocess.run(["sh", str(first / "check.sh")], env=environment, capture_output=True, text=True)
+    assert ran.stdout == "hashes: yes\npitshell check: yes\ncheck_certificate.py: yes\n", ran.stderr
+    record = json.loads((first / "audit.json").read_text())
+    assert (record["solver"]["by"], record["program"]) == ("library", run.identity())
+
+
+@pytest.fixture
+def solved_by_library(plan_folder):
+    path = plan_folder(ores_and_fixed(), with_section(FIXED_SECTION + 'surface = "mined.csv"\n'))
+    (path.parent / "mined.csv").write_text("x,y,z\n0,0,900\n")
+    commands.write_shells(replace(load(path), solver="library"), verifies=False)
+    return path.parent
+
+
+@pytest.mark.parametrize("name", ["project.toml", "blocks.csv", "mined.csv"])
+def test_an_audit_is_refused_where_what_the_mine_was_made_of_has_changed(solved_by_library, name):
+    with open(solved_by_library / name, "a") as file:
+        file.write("\n")
+    with pytest.raises(PlanError, match=f"{name}: has changed since .*prepare.json was written: run pitplan shells again"):
+        commands.audit(solved_by_library / "plan", 1000)
+    assert not (solved_by_library / "plan" / "audit-1000").exists() or not list((solved_by_library / "plan" / "audit-1000").iterdir())
+
+
+def test_files_of_an_earlier_run_by_the_program_are_taken_away(plan_folder):
+    """They would be another mine's beside the new tables; a run that is refused takes none away."""
+    path = plan_folder(rows(4, 4, 3, cu=lambda i, j, k: 6 * ((i, j, k) == (2, 2, 1))))
+    project = load(path)
+    commands.write_shells(replace(project, solver="program"), verifies=False)
+    there = {"mine.blocks", "mine.upit", "mine.prec", "shells.txt"}
+    assert set(files.of_program(project.folder)) == there
+    with pytest.MonkeyPatch.context() as patch:
+        patch.setattr(commands, "draw", lambda *_: (_ for _ in ()).throw(PlanError("no pictures")))
+        with pytest.raises(PlanError, match="no pictures"):
+            commands.write_shells(replace(project, solver="library"), verifies=False)
+    assert set(files.of_program(project.folder)) == there
+    commands.write_shells(replace(project, solver="library"), verifies=False)
+    assert files.of_program(project.folder) == () and pitplan.verify(project.folder)
+
+
+def other_library(monkeypatch):
+    monkeypatch.setattr(library, "identity", lambda: {"version": "libpitshell 9", "sha256": "f" * 64})
+
+
+def test_a_worker_with_another_library_solves_nothing(plan_folder, monkeypatch):
+    """Nor goes it on with its program."""
+    project = replace(load(plan_folder(pillar(), COLUMNS, UPRIGHT)), solver="library")
+    shared = prepare.prepare(project, project.folder, pitplan.progress.silent)
+    assert shared.solver.by == "library" and work.solve(str(shared.folder), 1).status == 0
+    other_library(monkeypatch)
+    outcome = work.solve(str(shared.folder), 2)
+    said = "the library here (libpitshell 9, SHA-256 ffffffffffff..) is another than that with which this was begun"
+    assert outcome.status == 5 and said in outcome.why
+    monkeypatch.undo()
+    monkeypatch.setattr(library, "package", lambda: None)
+    assert "there is no libpitshell.so" in work.solve(str(shared.folder), 2).why and len(shared.missing()) == 2
+
+
+def test_cases_of_a_sensitivity_are_not_begun_with_another_library(plan_folder, monkeypatch):
+    project = load(plan_folder(rows(3, 1, 2, cu=lambda i, j, k: 3), PROJECT))
+    asked = varied_cases.Asked(project, tables.read(project).frame, solver.chosen("library"))
+    assert varied_cases.find(varied_cases.Case(), asked).row["blocks"] == 6
+    other_library(monkeypatch)
+    with pytest.raises(ProgramError, match="the library here .* is another than that with which this was begun"):
+        varied_cases.find(varied_cases.Case(), asked)
+
+
+@pytest.mark.parametrize("kind", ["slurm", "parallel"])
+@pytest.mark.parametrize("by", solver.BY)
+def test_jobs_name_the_solver_and_find_it(plan_folder, kind, by):
+    pytest.importorskip("distributed")
+    path = plan_folder(pillar(), PRICES, UPRIGHT)
+    found = simulation.solve(replace(load(path), solver=by), load(path).folder, simulation.Request(where=kind), pitplan.progress.silent)
+    named = {"library": f"PITSHELL_LIBRARY={pitshell.LIBRARY.resolve()} ", "program": f"PITSHELL={run.program().resolve()} "}
+    script = (found.folder / "scenario.sh").read_text()
+    assert named[by] in script
+    alone = {"PATH": "/usr/bin:/bin", "HOME": "/"}
+    assert subprocess.run(["sh", str(found.folder / "scenario.sh"), "1"], env=alone).returncode == 0
+    assert len(folders.read_shared(found.folder).missing()) == 5

@@ -1,0 +1,109 @@
+"""The skin of a pit by hand: two blocks of ore at the surface, of which the poor one comes in from a factor on."""
+
+import json
+
+import numpy as np
+import pandas as pd
+import pytest
+from conftest import PROJECT, rows
+
+from pitplan import PlanError, commands, load
+from pitplan.cli import main
+from pitplan.verification import verify_folder
+
+# Of 100 t each: 24,000 and 2,000 of revenue, 1,000 for processing and 200 for mining. The poor one breaks even at 1,200 / 2,000.
+ORE = {"cu": lambda i, j, k: {(1, 1): 6, (3, 1): 0.5}.get((i, j), 0)}
+
+
+@pytest.fixture
+def project(plan_folder):
+    def write(words=""):
+        text = PROJECT.replace("ore_per_year = 100", "ore_per_year = 100\nchosen = 1000")
+        return plan_folder(rows(5, 3, 1, **ORE), f"{text}\n[sensitivity]\n{words}\n")
+
+    return write
+
+
+def record_of(path):
+    return json.loads((load(path).folder / "sensitivity" / "sensitivity.json").read_text())
+
+
+def test_what_the_skin_earns_in_each_case(project):
+    path = project("by = [-0.1, 0.1]")
+    table = commands.sensitivity(path).set_index(["number", "share"])["skin_worth"]
+    due = {("", 0.0): 800, ("price", -0.1): 600, ("price", 0.1): 1000, ("mining_cost", -0.1): 820, ("mining_cost", 0.1): 780}
+    due |= {("processing_cost", -0.1): 900, ("processing_cost", 0.1): 700, ("recovery", -0.1): 600, ("recovery", 0.1): 1000}
+    assert table.to_dict() == pytest.approx(due | {("capacity", -0.1): 800, ("capacity", 0.1): 800})
+    assert record_of(path)["skin"] == {"factor": 600, "tonnes": 100, "share": 0.5, "worth": 800}
+
+
+def test_a_greater_share_reaches_a_lesser_shell(project):
+    """A shell of at most 80 of 200 t has neither block; the rich one breaks even at 1,200 / 24,000."""
+    path = project('by = [0.1]\nvary = "price"\nskin = 0.6')
+    assert commands.sensitivity(path)["skin_worth"].tolist() == pytest.approx([23_600, 23_600 + 2_600])
+    assert record_of(path)["skin"] == {"factor": 50, "tonnes": 200, "share": 1.0, "worth": 23_600}
+
+
+def test_a_pit_that_no_lesser_factor_divides_is_all_skin(plan_folder):
+    """The one block of ore pays at every factor."""
+    text = PROJECT.replace("ore_per_year = 100", "ore_per_year = 100\nchosen = 1000").replace("price = 8000", "price = 80000000")
+    path = plan_folder(rows(5, 3, 1, **ORE), text + '\n[sensitivity]\nby = [0.1]\nvary = "mining_cost"\n')
+    commands.sensitivity(path)
+    assert (record_of(path)["skin"]["factor"], record_of(path)["skin"]["tonnes"]) == (0, 200)
+
+
+def test_where_walls_move_nothing_is_told_of_it(plan_folder):
+    text = PROJECT.replace("ore_per_year = 100", "ore_per_year = 100\nchosen = 1000")
+    path = plan_folder(rows(5, 3, 1, **ORE), text.replace('pattern = "1:5"', "angle = 45") + '\n[sensitivity]\nby = [0.2]\nvary = "slopes"\n')
+    worth = commands.sensitivity(path)["skin_worth"]
+    assert worth[0] == pytest.approx(800) and np.isnan(worth[1])
+
+
+def test_the_command_line_tells_of_it(project, capsys):
+    assert main(["sensitivity", str(project('by = [0.1]\nvary = "price"'))]) == 0
+    assert "the pit's skin, 50.0 % of its rock, beyond the shell of factor 600, is worth 800" in capsys.readouterr().err
+
+
+@pytest.mark.parametrize("share", ["0", "1", "-0.1", '"some"'])
+def test_what_is_no_share_is_refused(project, share):
+    with pytest.raises(PlanError, match=r"\[sensitivity\] skin"):
+        load(project(f"skin = {share}"))
+
+
+def wrong(folder):
+    return {rule.name for rule in verify_folder(folder) if rule.differences}
+
+
+def test_the_second_look_finds_another_skin(project):
+    """One that lacks a block, one that takes more than it may, and one whose tonnes are others."""
+    path = project("by = [0.1]")
+    commands.sensitivity(path)
+    folder = load(path).folder / "sensitivity"
+    assert wrong(folder) == set()
+    record = folder / "sensitivity.json"
+    said = json.loads(record.read_text())
+    record.write_text(json.dumps(said | {"skin": said["skin"] | {"tonnes": 90}}))
+    assert wrong(folder) == {"skin's shell"}
+    record.write_text(json.dumps(said))
+    answer = folder / "cases" / f"{said['cases'][0]['key']}.npz"
+    arrays = dict(np.load(answer))
+    np.savez_compressed(answer, **arrays | {"skin": np.zeros_like(arrays["skin"])})
+    assert wrong(folder) == {"skin's shell", "skin"}
+    np.savez_compressed(answer, **arrays | {"skin": arrays["entry"] == 0})
+    assert {"skin's shell", "skin"} <= wrong(folder)
+
+
+def test_the_second_look_finds_a_skin_that_others_need(plan_folder):
+    """A block above one that stays may not be the skin's."""
+    text = PROJECT.replace("ore_per_year = 100", "ore_per_year = 100\nchosen = 1000")
+    path = plan_folder(rows(5, 5, 2, cu=lambda i, j, k: {(2, 2, 0): 9}.get((i, j, k), 0)), text + '\n[sensitivity]\nby = [0.1]\nvary = "price"\n')
+    commands.sensitivity(path)
+    folder = load(path).folder / "sensitivity"
+    said = json.loads((folder / "sensitivity.json").read_text())
+    answer = folder / "cases" / f"{said['cases'][0]['key']}.npz"
+    arrays = dict(np.load(answer))
+    blocks = pd.read_csv(folder / "blocks.csv")
+    above = np.zeros_like(arrays["skin"])
+    above[blocks["id"][(blocks["factor"] > 0) & (blocks["z"] == blocks["z"].max())].to_numpy()[:1]] = True
+    np.savez_compressed(answer, **arrays | {"skin": above})
+    assert "skin's shell" in wrong(folder)

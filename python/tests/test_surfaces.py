@@ -1,0 +1,96 @@
+"""The closed surface of a pit, read by a few lines of the test's own and summed up by the divergence theorem."""
+
+import re
+import sys
+from collections import Counter
+
+import numpy as np
+import pandas as pd
+import pytest
+from conftest import PROJECT, rows
+
+from pitplan import MissingPackage, PlanError, commands, surfaces
+from pitplan.cli import main
+
+
+def triangles_of(path):
+    """Corners of each triangle, shape (triangles, 3, 3)."""
+    text = path.read_text()
+    if path.suffix == ".stl":
+        return np.array(re.findall(r"vertex (\S+) (\S+) (\S+)", text), dtype=float).reshape(-1, 3, 3)
+    corners = np.array(re.findall(r"^v (\S+) (\S+) (\S+)", text, re.MULTILINE), dtype=float)
+    faces = re.findall(r"^f (\d+)\S* (\d+)\S* (\d+)\S*$", text, re.MULTILINE)
+    return corners[np.array(faces, dtype=int) - 1]
+
+
+def volume_of(triangles):
+    """What triangles that face outwards hold."""
+    a, b, c = (triangles - triangles.reshape(-1, 3).mean(axis=0)).transpose(1, 0, 2)
+    return float((np.cross(a, b) * c).sum() / 6)
+
+
+def is_closed(triangles):
+    """Whether along each edge go as many triangles one way as the other."""
+    edges = Counter()
+    for corners in triangles.round(3).tolist():
+        for begin, end in zip(corners, [*corners[1:], corners[0]]):
+            edges[tuple(begin), tuple(end)] += 1
+    return all(edges[end, begin] == count for (begin, end), count in edges.items())
+
+
+@pytest.fixture
+def far(plan_folder):
+    """The two ores of a mine at coordinates of seven digits, with halves of metres, whose pits meet along an edge at factor 1500; one block
+    within is air."""
+    pytest.importorskip("vtk", reason="needs the Debian package python3-vtk9")
+    ore = {(2, 3, 1): 6, (6, 3, 2): 0.9}
+    table = rows(9, 8, 4, cu=lambda i, j, k: ore.get((i, j, k), 0), tonnes=lambda i, j, k: 100 * int((i, j, k) != (2, 3, 3)))
+    table = table.assign(x=table["x"] + 430_000.5, y=table["y"] + 6_512_000.25)
+    path = plan_folder(table)
+    commands.write_shells(path, verifies=False)
+    return path
+
+
+@pytest.mark.parametrize("kind", ["stl", "obj"])
+@pytest.mark.parametrize("factor", [500, 1500])
+def test_a_surface_holds_what_its_blocks_do(far, capsys, kind, factor):
+    assert main(["export", str(far), "--to", kind, "--factor", str(factor)]) == 0
+    said = capsys.readouterr()
+    path = far.parent / "plan" / f"pit-{factor}.{kind}"
+    assert said.out.strip() == str(path)
+    blocks = pd.read_csv(far.parent / "plan" / "blocks.csv")
+    dug = blocks[(blocks["factor"] > 0) & (blocks["factor"] <= factor) & (blocks["tonnes"] > 0)]
+    triangles = triangles_of(path)
+    assert volume_of(triangles) == pytest.approx(1000 * len(dug), rel=1e-3) and is_closed(triangles)
+    assert f"{len(triangles):,} triangles hold {1000 * len(dug):,} m3, and the {len(dug):,} blocks {1000 * len(dug):,} m3" in said.err
+    low, high = triangles.min(axis=(0, 1)), triangles.max(axis=(0, 1))
+    assert low.tolist() == [dug[axis].min() - 5 for axis in "xyz"] and high.tolist() == [dug[axis].max() + 5 for axis in "xyz"]
+
+
+def test_an_empty_pit_has_no_surface(plan_folder):
+    pytest.importorskip("vtk")
+    path = plan_folder(rows(3, 3, 2), PROJECT)
+    commands.write_shells(path, verifies=False)
+    with pytest.raises(PlanError, match="the pit of factor 1000 is empty: it has no surface"):
+        commands.export(path.parent / "plan", "stl")
+    assert not (path.parent / "plan" / "pit-1000.stl").exists()
+
+
+def test_a_surface_that_holds_something_else_is_not_kept(far, monkeypatch):
+    """Its blocks are by a fiftieth of a metre too high, a fifth of a per cent. Ore of the second level has 5 and 13 blocks above it, one of
+    which is air."""
+
+    def higher(vtk, image, made=surfaces.round_cells):
+        image.SetSpacing(10, 10, 10.02)
+        return made(vtk, image)
+
+    monkeypatch.setattr(surfaces, "round_cells", higher)
+    with pytest.raises(PlanError, match=r"pit-500.obj: \d+ triangles hold 18,036 m3, and the 18 blocks 18,000 m3: please report this"):
+        commands.export(far.parent / "plan", "obj", 500)
+    assert not (far.parent / "plan" / "pit-500.obj").exists()
+
+
+def test_a_missing_library_is_named(far, monkeypatch):
+    monkeypatch.setitem(sys.modules, "vtk", None)
+    with pytest.raises(MissingPackage, match="export --to stl needs the Debian package python3-vtk9"):
+        commands.export(far.parent / "plan", "stl")
