@@ -8,12 +8,10 @@ from typing import Optional
 
 import pandas as pd
 
-from . import files, mine as mines
-from .commands import Answered, Place, Source, Writing, demand_apart, read, ready, write_answer
+from . import mine as mines
+from .commands import Answered, Place, Source, Writing, begun, read, write_answer
 from .errors import MissingPackage
-from .plan import prepare as prepare_plan
 from .progress import Progress, silent
-from .solver import chosen
 
 
 def write_block_schedule(
@@ -31,15 +29,11 @@ def write_block_schedule(
     result = of_library()
     project = read(project)
     target = project.folder / "block_schedule" if folder is None else Path(folder)
-    demand_apart(project, target)
-    solver = chosen(project.solver)
-    plan = prepare_plan(project, progress=progress)
-    with files.staged(target, whole=files.OF_PROGRAM) as stage:
-        mine, record = ready(plan, solver, stage, progress)
-        solution = mines.solve(plan, mine, progress)
-        made = result.make(plan, progress)
+    with begun(project, target, progress) as (mine, record, stage):
+        solution = mines.solve(mine.plan, mine, progress)
+        made = result.make(mine.plan, progress)
         record["notes"] += made.notes
-        write_answer(Answered(plan, solution, blocks=made), mine, record, Writing(stage, progress, verifies))
+        write_answer(Answered(mine.plan, solution, blocks=made), mine, record, Writing(stage, progress, verifies))
     return made.table
 
 

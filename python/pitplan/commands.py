@@ -3,9 +3,10 @@
 from __future__ import annotations
 
 import os
+from contextlib import contextmanager
 from dataclasses import asdict, dataclass, replace
 from pathlib import Path
-from typing import TYPE_CHECKING, Any, Optional, Union
+from typing import TYPE_CHECKING, Any, Iterator, Optional, Union
 
 import numpy as np
 import pandas as pd
@@ -22,7 +23,7 @@ from .project import REFERENCE_FACTOR, Project, load
 from .run import Solution
 from .simulation import Request, ScenarioResult
 from .simulation.on_dask import Where
-from .solver import PROGRAM, Solver, chosen
+from .solver import PROGRAM, chosen
 from .verification import Rule
 from .yearly_schedule import YearlySchedule
 
@@ -102,11 +103,8 @@ def pit(
     within = tuple(sorted({factor, *(inner for inner in project.schedule.factors if inner < factor)}))
     schedule = replace(project.schedule, factors=within, chosen=None, reference_added=False)
     project = replace(project, schedule=schedule)
-    demand_apart(project, target)
-    solver = chosen(project.solver)
-    plan = prepare_plan(project, progress=progress)
-    with files.staged(target, whole=files.OF_PROGRAM) as stage:
-        mine, record = ready(plan, solver, stage, progress)
+    with begun(project, target, progress) as (mine, record, stage):
+        plan = mine.plan
         keeping = mines.solve(plan, mine, progress)
         free = mine.free_shells(within)
         absent.demand_known(free.entry, plan.grid, project, plan.source)
@@ -155,13 +153,9 @@ def write_shells(
     """
     project = read(project)
     target = project.folder if folder is None else Path(folder)
-    demand_apart(project, target)
-    solver = chosen(project.solver)
-    plan = prepare_plan(project, progress=progress)
-    with files.staged(target, whole=files.OF_PROGRAM) as stage:
-        mine, record = ready(plan, solver, stage, progress)
-        solution = mines.solve(plan, mine, progress)
-        return write_answer(Answered(plan, solution), mine, record, Writing(stage, progress, verifies))
+    with begun(project, target, progress) as (mine, record, stage):
+        solution = mines.solve(mine.plan, mine, progress)
+        return write_answer(Answered(mine.plan, solution), mine, record, Writing(stage, progress, verifies))
 
 
 def pushbacks(
@@ -177,12 +171,8 @@ def pushbacks(
     """
     project = phasing.ending(read(project))
     target = project.folder / "pushbacks" if folder is None else Path(folder)
-    demand_apart(project, target)
-    solver = chosen(project.solver)
-    plan = prepare_plan(project, progress=progress)
-    with files.staged(target, whole=files.OF_PROGRAM) as stage:
-        mine, record = ready(plan, solver, stage, progress)
-        phases = phasing.divide(plan, mine, progress)
+    with begun(project, target, progress) as (mine, record, stage):
+        phases = phasing.divide(mine.plan, mine, progress)
         record["notes"] += phases.notes
         write_answer(Answered(phases.plan, phases.solution, phases), mine, record, Writing(stage, progress, verifies))
     return phasing.table(phases)
@@ -203,13 +193,9 @@ def write_schedule(
     """
     project = phasing.ending(read(project))
     target = project.folder / "schedule" if folder is None else Path(folder)
-    demand_apart(project, target)
     workbook.demand_library()
-    solver = chosen(project.solver)
-    plan = prepare_plan(project, progress=progress)
-    with files.staged(target, whole=files.OF_PROGRAM) as stage:
-        mine, record = ready(plan, solver, stage, progress)
-        phases = phasing.divide(plan, mine, progress)
+    with begun(project, target, progress) as (mine, record, stage):
+        phases = phasing.divide(mine.plan, mine, progress)
         schedule = scheduling.make(phases, progress)
         record["notes"] += [*phases.notes, *scheduling.notes(schedule)]
         write_answer(Answered(phases.plan, phases.solution, phases, schedule), mine, record, Writing(stage, progress, verifies))
@@ -327,12 +313,21 @@ def demand_apart(project: Project, folder: Path) -> None:
             raise PlanError(f"{path}: the plan would be written over it: give another folder by --out")
 
 
-def ready(plan: Plan, solver: Solver, stage: Path, progress: Progress) -> tuple[Mine, dict[str, Any]]:
-    """The mine of a plan for a solver, and the record of how it was made and what solves it."""
-    pictures.demand_within(plan)
-    with progress.step("writing blocks and needs" if solver.by == PROGRAM else "listing the needs"):
-        mine = mines.ready(plan, solver, stage)
-    return mine, plan.record(mine.pairs) | {"solver": asdict(solver)}
+@contextmanager
+def begun(project: Project, folder: Path, progress: Progress) -> Iterator[tuple[Mine, dict[str, Any], Path]]:
+    """The mine of a project's plan for its solver, the record of how it was made and what solves it, and a folder in which files are written
+    that go to `folder` where no error comes.
+
+    Raises PlanError where the input is not usable or a file would take its place, and ProgramError where there is no solver.
+    """
+    demand_apart(project, folder)
+    solver = chosen(project.solver)
+    plan = prepare_plan(project, progress=progress)
+    with files.staged(folder, whole=files.OF_PROGRAM) as stage:
+        pictures.demand_within(plan)
+        with progress.step("writing blocks and needs" if solver.by == PROGRAM else "listing the needs"):
+            mine = mines.ready(plan, solver, stage)
+        yield mine, plan.record(mine.pairs) | {"solver": asdict(solver)}, stage
 
 
 def write_table(blocks: pd.DataFrame, stage: Path) -> None:

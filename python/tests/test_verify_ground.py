@@ -15,7 +15,7 @@ from test_fixed import FIXED_SECTION, ores_and_fixed, with_section
 from test_scenarios import COLUMNS, UPRIGHT, pillar, prepared, solved_in_turn
 from test_verify import looked_at, ore_everywhere, wrong
 
-from pitplan import PlanError, absent, commands, files, fixed, load, prepare, simulation
+from pitplan import PlanError, absent, commands, files, fixed, load, mine, prepare, simulation
 from pitplan.progress import silent
 from pitplan.simulation import Request
 from pitplan.verification import verify
@@ -241,17 +241,18 @@ def test_a_pit_without_fixed_blocks_that_is_worth_less_is_found(pits):
 def test_a_pit_without_fixed_blocks_that_leaves_a_block_standing_is_refused(plan_folder, monkeypatch):
     """Its answer is bent after the solver: a block that ore needs is dug no more."""
     def bent(ready, *words):
-        made, record = ready(*words)
+        made = ready(*words)
 
         def free_shells(factors):
             found = made.free_shells(factors)
             found.entry[np.flatnonzero(found.entry > 0)[0]] = 0
             return found
 
-        return SimpleNamespace(plan=made.plan, solver=made.solver, files=made.files, shells=made.shells, pit=made.pit, free_shells=free_shells), record
+        kept = {name: getattr(made, name) for name in ("plan", "solver", "pairs", "files", "shells", "pit")}
+        return SimpleNamespace(**kept, free_shells=free_shells)
 
     project = load(plan_folder(ores_and_fixed(), with_section(FIXED_SECTION)))
-    monkeypatch.setattr(commands, "ready", partial(bent, commands.ready))
+    monkeypatch.setattr(mine, "ready", partial(bent, mine.ready))
     with pytest.raises(PlanError, match="free: walls: block .*, needs a block that is not"):
         commands.pit(project, 1500)
     assert list((project.folder / "pit").iterdir()) == []
