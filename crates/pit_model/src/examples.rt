@@ -5,6 +5,9 @@ ghost use Rattle.pit_model.specs.ExampleTraces.{JournalsOfForks, TracesOfForks};
 ghost use Rattle.pit_model.specs.ExamplePits.{CertificatesOfSmallMines, FixedPitsOfField, PitsOfTwoBlocks, ShellsOfPair};
 ghost use Rattle.pit_model.specs.ExampleGraphs.{CyclesOfSmallGraphs, LimitsOfMines, PartsOfFive};
 ghost use Rattle.pit_model.specs.ExampleTexts.{TextsOfSmallAnswers};
+ghost use Rattle.pit_model.specs.ExampleLists.{ShortLists};
+ghost use Rattle.pit_model.specs.FactorLimits.{LimitsOfFactors};
+ghost use Rattle.pit_model.specs.PriceLimits.{LimitsOfPrices};
 
 /// What three mergers make of a fork of four blocks: a link that is cut, one cut between two strong branches, and a residual
 /// that is used up exactly, which keeps its link; and which merger arc the first run takes each time.
@@ -56,4 +59,19 @@ pub fn limits_of_mines()
 /// The texts of a pit, a journal and a list of shells, byte by byte.
 pub fn texts_of_small_answers()
     ensures { TextsOfSmallAnswers }
+{}
+
+/// Which short lists are pits, pairs that stand apart, fixable blocks, entries of a journal and nested shells, and which are not.
+pub fn short_lists()
+    ensures { ShortLists }
+{}
+
+/// Which lists of factors are lawful, at each limit.
+pub fn limits_of_factors()
+    ensures { LimitsOfFactors }
+{}
+
+/// Which revenues and costs are lawful, at each limit.
+pub fn limits_of_prices()
+    ensures { LimitsOfPrices }
 {}

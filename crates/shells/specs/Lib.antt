@@ -1,6 +1,4 @@
 pub mod FactorList
-pub mod FactorLimits
-pub mod PriceLimits
 pub mod Prices
 pub mod Grown
 pub mod Risen

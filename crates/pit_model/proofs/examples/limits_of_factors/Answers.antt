@@ -1,7 +1,7 @@
 use Rattle.std.proofs.Common.{arith, ℕ, zero, suc, List, [], ◌∷◌, length, get_or, subst, ◌≡◌, ◌<◌, ◌≤◌, ◌+◌}
 use Rattle.std.specs.List.{range_with_len}
 use Rattle.std.proofs.lemmas.List.FromFn.{get_or-range_with_len, length-range_with_len}
-use Rattle.shells.proofs.laws.limits_of_factors.Goals as goal
+use Rattle.pit_model.proofs.examples.limits_of_factors.Goals as goal
 
 abbrev two : List ℕ
 two = 0 ∷ 100000 ∷ []

@@ -1,6 +1,6 @@
 use Rattle.std.proofs.Common.{arith, refl, ℕ, zero, suc, ℤ, pos, [], ◌∷◌, get_or, ◌<◌, ◌^◌, ◌≤ℤ◌}
 use Rattle.pit_model.specs.Deposit.{IsAmount}
-use Rattle.shells.proofs.laws.limits_of_prices.Goals as goal
+use Rattle.pit_model.proofs.examples.limits_of_prices.Goals as goal
 
 of_none : IsAmount 0 []
 of_none = record { count = refl; least = λ u l. absurd (omega (arith, l)); most = λ u l. absurd (omega (arith, l)) }
