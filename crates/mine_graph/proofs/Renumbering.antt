@@ -45,6 +45,16 @@ later_first pairs i k rising l inside = ⊎_elim
     (λ (h : (first_of pairs i ≡ first_of pairs k) × (second_of pairs i < second_of pairs k)). let e = h.0 in omega arith)
     (rising i k l inside)
 
+-- where the row begins, the pairs of the blocks below are inside so far
+pub row_begins : (pairs : List (ℕ × ℕ)) (labels : List ℕ) (label block begin : ℕ) → ((k : ℕ) → k < length pairs → first_of pairs k ≡ block → begin ≤ k)
+    → members (length pairs) (inside_so_far pairs labels label block begin) ≡ members (length pairs) (is_inside_before pairs labels label block)
+row_begins pairs labels label block begin own = members_ext (length pairs) (inside_so_far pairs labels label block begin) (is_inside_before pairs labels label block) (λ i l. ⊎_elim
+    (λ (e : first_of pairs i ≡ block).
+    let low = own i l e in
+    at_row pairs labels label block i begin e ∙ ap (λ b. is_inside pairs labels label i && b) (le-ltb i begin low ∙ sym (le-ltb (first_of pairs i) block (omega arith))))
+    (λ (ne : first_of pairs i ≡ block → ⊥). off_row pairs labels label block begin i ne)
+    (cases_eq (first_of pairs i) block))
+
 pub row_ends : (pairs : List (ℕ × ℕ)) (labels : List ℕ) (label block end : ℕ) → ((k : ℕ) → k < length pairs → first_of pairs k ≡ block → k < end)
     → members (length pairs) (inside_so_far pairs labels label block end) ≡ members (length pairs) (is_inside_before pairs labels label (block + 1))
 row_ends pairs labels label block end own = members_ext (length pairs) (inside_so_far pairs labels label block end) (is_inside_before pairs labels label (block + 1)) (λ i l. ⊎_elim

@@ -19,74 +19,73 @@ pub struct Part {
     pub graph: Graph,
 }
 
-/// Adds the pairs by which a block needs blocks with that label, renumbered.
+/// The label of each block of a graph, the label of the blocks that are chosen, and the place of each of these among them.
+#[derive(Clone, Copy)]
+pub(crate) struct Chosen<'a> {
+    pub labels: &'a [u32],
+    pub label: u32,
+    pub places: &'a [u32],
+}
+
+/// Adds the pairs by which a block needs chosen blocks, renumbered.
 fn add_row(
     graph: &Graph,
     block: u32,
-    labels: &[u32],
-    label: u32,
-    places: &[u32],
+    chosen: Chosen<'_>,
     pairs: &mut Vec<(u32, u32)>,
 ) -> Result<(), AllocError>
     requires inside { block < graph.now.blocks }
-    requires labelled { length labels.now ≡ graph.now.blocks }
-    requires placed { length places.now ≡ graph.now.blocks }
-    requires own { get_or labels.now block 0 ≡ label }
-    requires before { pairs.old.items ≡ map (placed_pair graph.now.pairs places.now) (members (length graph.now.pairs) (is_inside_before graph.now.pairs labels.now label block)) }
-    ensures after { IfOk result (λ _. pairs.new.items ≡ map (placed_pair graph.now.pairs places.now) (members (length graph.now.pairs) (is_inside_before graph.now.pairs labels.now label (block + 1)))) }
+    requires labelled { length chosen.labels.now ≡ graph.now.blocks }
+    requires placed { length chosen.places.now ≡ graph.now.blocks }
+    requires own { get_or chosen.labels.now block 0 ≡ chosen.label }
+    requires before { pairs.old.items ≡ map (placed_pair graph.now.pairs chosen.places.now) (members (length graph.now.pairs) (is_inside_before graph.now.pairs chosen.labels.now chosen.label block)) }
+    ensures after { IfOk result (λ _. pairs.new.items ≡ map (placed_pair graph.now.pairs chosen.entry.places.now) (members (length graph.now.pairs) (is_inside_before graph.now.pairs chosen.entry.labels.now chosen.entry.label (block + 1)))) }
 {
     graph.law();
     let arcs = graph.arcs_of(block);
     for k in arcs.start..arcs.end {
         let needed = graph.arc(k).1;
-        if labels[needed as usize] == label {
-            pairs.push((places[block as usize], places[needed as usize]))?;
+        if chosen.labels[needed as usize] == chosen.label {
+            pairs.push((
+                chosen.places[block as usize],
+                chosen.places[needed as usize],
+            ))?;
         }
     }
     Ok(())
 }
 
-/// The pairs among the blocks with that label, renumbered.
+/// The pairs among the chosen blocks, renumbered.
 fn pairs_within(
-    alloc: Global,
     graph: &Graph,
     blocks: &[u32],
-    labels: &[u32],
-    label: u32,
-    places: &[u32],
+    chosen: Chosen<'_>,
 ) -> Result<Vec<(u32, u32)>, AllocError>
-    requires labelled { length labels.now ≡ graph.now.blocks }
-    requires placed { length places.now ≡ graph.now.blocks }
-    requires blocks { blocks.now ≡ members graph.now.blocks (has_label labels.now label) }
-    ensures { IfOk result (λ v. v.items ≡ map (placed_pair graph.now.pairs places.now) (members (length graph.now.pairs) (is_inside graph.now.pairs labels.now label))) }
+    requires labelled { length chosen.labels.now ≡ graph.now.blocks }
+    requires placed { length chosen.places.now ≡ graph.now.blocks }
+    requires blocks { blocks.now ≡ members graph.now.blocks (has_label chosen.labels.now chosen.label) }
+    ensures { IfOk result (λ v. v.items ≡ map (placed_pair graph.now.pairs chosen.entry.places.now) (members (length graph.now.pairs) (is_inside graph.now.pairs chosen.entry.labels.now chosen.entry.label))) }
 {
     graph.law();
-    let mut pairs = Vec::new(alloc);
+    let mut pairs = Vec::new(graph.alloc());
     for i in 0..blocks.len() {
-        add_row(graph, blocks[i], labels, label, places, &mut pairs)?;
+        add_row(graph, blocks[i], chosen, &mut pairs)?;
     }
     Ok(pairs)
 }
 
-/// The part of the blocks with that label, where each block of it knows its place.
-pub(crate) fn part_of(
-    alloc: Global,
-    graph: &Graph,
-    blocks: Vec<u32>,
-    labels: &[u32],
-    label: u32,
-    places: &[u32],
-) -> Result<Part, Fault>
-    requires labelled { length labels.now ≡ graph.now.blocks }
-    requires placed { length places.now ≡ graph.now.blocks }
-    requires blocks { blocks.items ≡ members graph.now.blocks (has_label labels.now label) }
-    requires places { IsPlaced blocks.items (length blocks.items) places.now }
-    ensures part { IfOk result (λ p. IsPart graph.now (has_label labels.now label) p.blocks.items p.graph) }
+/// The part of the chosen blocks, where each of them knows its place.
+pub(crate) fn part_of(graph: &Graph, blocks: Vec<u32>, chosen: Chosen<'_>) -> Result<Part, Fault>
+    requires labelled { length chosen.labels.now ≡ graph.now.blocks }
+    requires placed { length chosen.places.now ≡ graph.now.blocks }
+    requires blocks { blocks.items ≡ members graph.now.blocks (has_label chosen.labels.now chosen.label) }
+    requires places { IsPlaced blocks.items (length blocks.items) chosen.places.now }
+    ensures part { IfOk result (λ p. IsPart graph.now (has_label chosen.entry.labels.now chosen.entry.label) p.blocks.items p.graph) }
     ensures no_memory { IfErr result (λ e. e ≡ no_memory) }
 {
     graph.law();
-    let pairs = pairs_within(alloc, graph, &blocks, labels, label, places)?;
-    let graph = Graph::of_ordered(alloc, blocks.len() as u32, pairs)?;
+    let pairs = pairs_within(graph, &blocks, chosen)?;
+    let graph = Graph::of_ordered(graph.alloc(), blocks.len() as u32, pairs)?;
     Ok(Part { blocks, graph })
 }
 
@@ -138,6 +137,11 @@ impl Graph {
         let blocks = blocks_with(alloc, &labels, 0)?;
         let mut places = vec![in alloc; 0; self.n() as usize]?;
         place_blocks(&blocks, &mut places);
-        part_of(alloc, self, blocks, &labels, 0, &places)
+        let chosen = Chosen {
+            labels: &labels,
+            label: 0,
+            places: &places,
+        };
+        part_of(self, blocks, chosen)
     }
 }

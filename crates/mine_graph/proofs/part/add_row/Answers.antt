@@ -5,33 +5,39 @@ use Rattle.std.proofs.lemmas.List.{map-append}
 use Rattle.pit_model.specs.Graph.{first_of, second_of}
 use Rattle.pit_model.specs.Mine.{members}
 use Rattle.mine_graph.specs.Renumbered.{has_label, is_inside, placed_pair}
-use Rattle.mine_graph.proofs.Renumbering.{inside_so_far, row_adds, row_skips, row_ends}
+use Rattle.mine_graph.proofs.Renumbering.{inside_so_far, row_adds, row_begins, row_skips, row_ends}
 use Rattle.mine_graph.proofs.part.add_row.Goals as goal
-use Rattle.mine_graph.proofs.part.add_row.Goals.{then-labels-needed+in_ok-push, else-labels-needed}
+use Rattle.mine_graph.proofs.part.add_row.Goals.{then-chosen-needed+in_ok-push, else-chosen-needed}
+
+pub loop-k-init : goal.loop-k-init
+loop-k-init c =
+    let ps = c.args.graph.now.pairs in
+    let labels = c.args.chosen.labels.now in
+    c.requires.before ∙ ap (map (placed_pair ps c.args.chosen.places.now)) (sym (row_begins ps labels c.args.chosen.label c.args.block c.arcs_of-arcs.result.start (λ i l e. ((c.arcs_of-arcs.ensures.own i l).0 e).0)))
 
 pub loop-k-preserved : goal.loop-k-preserved
 loop-k-preserved c =
     let ps = c.args.graph.now.pairs in
-    let labels = c.args.labels.now in
-    let places = c.args.places.now in
+    let labels = c.args.chosen.labels.now in
+    let places = c.args.chosen.places.now in
     let k = c.loop-k.k in
     let inside : k < length ps = omega (arith, c.loop-k-test.true, c.arcs_of-arcs.ensures.inside) in
     let own : first_of ps k ≡ c.args.block = (c.arcs_of-arcs.ensures.own k inside).1 (c.loop-k.auto.k, c.loop-k-test.true) in
     let to : c.arc-needed.result.1 ≡ second_of ps k = ap (λ q. q.1) c.arc-needed.ensures in
-    let left : has_label labels c.args.label (first_of ps k) ≡ true = eq-eqb (get_or labels (first_of ps k) 0) c.args.label (ap (λ u. get_or labels u 0) own ∙ c.requires.own) in
-    let both : is_inside ps labels c.args.label k ≡ has_label labels c.args.label (second_of ps k) = ap (λ b. b && has_label labels c.args.label (second_of ps k)) left in
-    elim c.if-labels-needed.branch [
-      | then-labels-needed+in_ok-push w ↦
-          let is : is_inside ps labels c.args.label k ≡ true = both ∙ eq-eqb (get_or labels (second_of ps k) 0) c.args.label (ap (λ u. get_or labels u 0) (sym to) ∙ w.if-labels-needed.true) in
-          let grown = row_adds ps labels c.args.label c.args.block k c.law.ensures.graph.rising inside own is in
+    let left : has_label labels c.args.chosen.label (first_of ps k) ≡ true = eq-eqb (get_or labels (first_of ps k) 0) c.args.chosen.label (ap (λ u. get_or labels u 0) own ∙ c.requires.own) in
+    let both : is_inside ps labels c.args.chosen.label k ≡ has_label labels c.args.chosen.label (second_of ps k) = ap (λ b. b && has_label labels c.args.chosen.label (second_of ps k)) left in
+    elim c.if-chosen-needed.branch [
+      | then-chosen-needed+in_ok-push w ↦
+          let is : is_inside ps labels c.args.chosen.label k ≡ true = both ∙ eq-eqb (get_or labels (second_of ps k) 0) c.args.chosen.label (ap (λ u. get_or labels u 0) (sym to) ∙ w.if-chosen-needed.true) in
+          let grown = row_adds ps labels c.args.chosen.label c.args.block k c.law.ensures.graph.rising inside own is in
           let row : placed_pair ps places k ≡ (get_or places c.args.block 0, get_or places c.arc-needed.result.1 0) =
           ap (λ u. (get_or places u 0, get_or places (second_of ps k) 0)) own ∙ ap (λ u. (get_or places c.args.block 0, get_or places u 0)) (sym to) in
           ap (λ (v : Vec (ℕ × ℕ) Global). v.items) w.pairs-is ∙ w.in_ok-push.ensures.items ∙ ap (λ xs. xs ++ (get_or places c.args.block 0, get_or places c.arc-needed.result.1 0) ∷ []) c.loop-k.invariant
-          ∙ ap (λ q. map (placed_pair ps places) (members (length ps) (inside_so_far ps labels c.args.label c.args.block k)) ++ q ∷ []) (sym row)
-          ∙ sym (ap (map (placed_pair ps places)) grown ∙ map-append (placed_pair ps places) (members (length ps) (inside_so_far ps labels c.args.label c.args.block k)) (k ∷ []))
-      | else-labels-needed w ↦
-          let off : is_inside ps labels c.args.label k ≡ false = both ∙ ne_eqb (get_or labels (second_of ps k) 0) c.args.label (λ e. w.if-labels-needed.false (ap (λ u. get_or labels u 0) to ∙ e)) in
-          ap (λ (v : Vec (ℕ × ℕ) Global). v.items) w.pairs-is ∙ c.loop-k.invariant ∙ ap (map (placed_pair ps places)) (sym (row_skips ps labels c.args.label c.args.block k off))
+          ∙ ap (λ q. map (placed_pair ps places) (members (length ps) (inside_so_far ps labels c.args.chosen.label c.args.block k)) ++ q ∷ []) (sym row)
+          ∙ sym (ap (map (placed_pair ps places)) grown ∙ map-append (placed_pair ps places) (members (length ps) (inside_so_far ps labels c.args.chosen.label c.args.block k)) (k ∷ []))
+      | else-chosen-needed w ↦
+          let off : is_inside ps labels c.args.chosen.label k ≡ false = both ∙ ne_eqb (get_or labels (second_of ps k) 0) c.args.chosen.label (λ e. w.if-chosen-needed.false (ap (λ u. get_or labels u 0) to ∙ e)) in
+          ap (λ (v : Vec (ℕ × ℕ) Global). v.items) w.pairs-is ∙ c.loop-k.invariant ∙ ap (map (placed_pair ps places)) (sym (row_skips ps labels c.args.chosen.label c.args.block k off))
     ]
 
 pub returns : goal.returns
@@ -39,6 +45,6 @@ returns c =
     let ps = c.args.graph.now.pairs in
     let end : c.loop-k.k ≡ c.arcs_of-arcs.result.end = let below = c.loop-k.auto.k-end c.arcs_of-arcs.ensures.order in omega (arith, c.loop-k-test.false) in
     record {
-      after = c.loop-k.invariant ∙ ap (λ k. map (placed_pair ps c.args.places.now) (members (length ps) (inside_so_far ps c.args.labels.now c.args.label c.args.block k))) end
-          ∙ ap (map (placed_pair ps c.args.places.now)) (row_ends ps c.args.labels.now c.args.label c.args.block c.arcs_of-arcs.result.end (λ i l e. ((c.arcs_of-arcs.ensures.own i l).0 e).1));
+      after = c.loop-k.invariant ∙ ap (λ k. map (placed_pair ps c.args.chosen.places.now) (members (length ps) (inside_so_far ps c.args.chosen.labels.now c.args.chosen.label c.args.block k))) end
+          ∙ ap (map (placed_pair ps c.args.chosen.places.now)) (row_ends ps c.args.chosen.labels.now c.args.chosen.label c.args.block c.arcs_of-arcs.result.end (λ i l e. ((c.arcs_of-arcs.ensures.own i l).0 e).1));
     }

@@ -6,4 +6,4 @@ use Rattle.mine_graph.proofs.Renumbering.{inside_so_far}
 use Rattle.mine_graph.proofs.part.add_row.Given as goal
 
 abbrev pub invariant-loop-k : goal.invariant-loop-k
-invariant-loop-k l = l.pairs.items ≡ map (placed_pair l.graph.pairs l.places) (members (length l.graph.pairs) (inside_so_far l.graph.pairs l.labels l.label l.block l.k))
+invariant-loop-k l = l.pairs.items ≡ map (placed_pair l.graph.pairs l.chosen.places.now) (members (length l.graph.pairs) (inside_so_far l.graph.pairs l.chosen.labels.now l.chosen.label l.block l.k))

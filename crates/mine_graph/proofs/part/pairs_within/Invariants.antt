@@ -6,5 +6,5 @@ use Rattle.pit_model.proofs.Members.{bound_of}
 use Rattle.mine_graph.proofs.part.pairs_within.Given as goal
 
 abbrev pub invariant-loop-i : goal.invariant-loop-i
-invariant-loop-i l = l.pairs.items ≡ map (placed_pair l.graph.pairs l.places) (members (length l.graph.pairs)
-    (is_inside_before l.graph.pairs l.labels l.label (bound_of l.graph.blocks (has_label l.labels l.label) l.i)))
+invariant-loop-i l = l.pairs.items ≡ map (placed_pair l.graph.pairs l.chosen.places.now) (members (length l.graph.pairs)
+    (is_inside_before l.graph.pairs l.chosen.labels.now l.chosen.label (bound_of l.graph.blocks (has_label l.chosen.labels.now l.chosen.label) l.i)))

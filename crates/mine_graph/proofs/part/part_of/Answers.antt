@@ -7,30 +7,30 @@ use Rattle.mine_graph.proofs.part.part_of.Goals as goal
 
 pub overflow_cast-len : goal.overflow_cast-len
 overflow_cast-len c =
-    let few = members_few c.args.graph.now.blocks (has_label c.args.labels.now c.args.label) in
+    let few = members_few c.args.graph.now.blocks (has_label c.args.chosen.labels.now c.args.chosen.label) in
     let same = ap (λ (xs : List ℕ). length xs) c.requires.blocks in
     let size : c.len.result ≡ length c.args.blocks.items = c.len.ensures ∙ c.args.blocks.ok.0 in
     omega (arith, c.law.ensures.few_blocks)
 
 pub of_ordered-requires-clause-few_blocks : goal.of_ordered-requires-clause-few_blocks
 of_ordered-requires-clause-few_blocks c =
-    let few = members_few c.args.graph.now.blocks (has_label c.args.labels.now c.args.label) in
+    let few = members_few c.args.graph.now.blocks (has_label c.args.chosen.labels.now c.args.chosen.label) in
     let same = ap (λ (xs : List ℕ). length xs) c.requires.blocks in
     let size : c.len.result ≡ length c.args.blocks.items = c.len.ensures ∙ c.args.blocks.ok.0 in
     omega (arith, c.law.ensures.few_blocks)
 
 pub of_ordered-requires-clause-few_pairs : goal.of_ordered-requires-clause-few_pairs
 of_ordered-requires-clause-few_pairs c =
-    let few = renumbered_few c.args.graph.now.blocks c.args.graph.now.pairs c.args.labels.now c.args.blocks.items c.args.places.now c.args.label c.law.ensures.graph c.requires.blocks c.requires.places in
+    let few = renumbered_few c.args.graph.now.blocks c.args.graph.now.pairs c.args.chosen.labels.now c.args.blocks.items c.args.chosen.places.now c.args.chosen.label c.law.ensures.graph c.requires.blocks c.requires.places in
     let same = ap (λ (xs : List (ℕ × ℕ)). length xs) c.in_ok-pairs.ensures in
     omega (arith, c.law.ensures.few_arcs)
 
 pub of_ordered-requires-clause-graph : goal.of_ordered-requires-clause-graph
 of_ordered-requires-clause-graph c =
     let size : c.len.result ≡ length c.args.blocks.items = c.len.ensures ∙ c.args.blocks.ok.0 in
-    rw (size, c.in_ok-pairs.ensures) (renumbered_graph c.args.graph.now.blocks c.args.graph.now.pairs c.args.labels.now c.args.blocks.items c.args.places.now c.args.label c.law.ensures.graph c.requires.blocks c.requires.places)
+    rw (size, c.in_ok-pairs.ensures) (renumbered_graph c.args.graph.now.blocks c.args.graph.now.pairs c.args.chosen.labels.now c.args.blocks.items c.args.chosen.places.now c.args.chosen.label c.law.ensures.graph c.requires.blocks c.requires.places)
 
 pub returns-clause-part : goal.returns-clause-part
 returns-clause-part c =
     let size : c.len.result ≡ length c.args.blocks.items = c.len.ensures ∙ c.args.blocks.ok.0 in
-    part_is c.args.graph.now.blocks c.args.graph.now.pairs c.args.labels.now c.args.blocks.items c.args.places.now c.args.label c.law.ensures.graph c.requires.blocks c.requires.places c.in_ok-graph.graph (c.in_ok-graph.ensures.blocks ∙ size) (c.in_ok-graph.ensures.pairs ∙ c.in_ok-pairs.ensures)
+    part_is c.args.graph.now.blocks c.args.graph.now.pairs c.args.chosen.labels.now c.args.blocks.items c.args.chosen.places.now c.args.chosen.label c.law.ensures.graph c.requires.blocks c.requires.places c.in_ok-graph.graph (c.in_ok-graph.ensures.blocks ∙ size) (c.in_ok-graph.ensures.pairs ∙ c.in_ok-pairs.ensures)
