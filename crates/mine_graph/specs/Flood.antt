@@ -2,6 +2,7 @@
 use Rattle.std.specs.Prelude.{◌≡◌, ◌⊎◌, ℕ, ◌<◌, ◌≤◌, Bool, true, List, length, get_or}
 use Rattle.pit_model.specs.Graph.{first_of, second_of}
 use Rattle.pit_model.specs.Fixed.{IsClosedAlong, turned}
+use Rattle.pit_model.specs.Part.{AreConnected, AreNeighbours}
 use Rattle.mine_graph.specs.FixedBlocks.{mark_of}
 use Rattle.mine_graph.specs.declared.flood.Flood.{Flood}
 use Rattle.mine_graph.specs.declared.flood.Way.{Way}
@@ -51,3 +52,17 @@ pub record IsSpread (pairs : List (ℕ × ℕ)) (seeds : ℕ → Bool) (flood : 
   pub least : (other : ℕ → Bool) → ((u : ℕ) → seeds u ≡ true → other u ≡ true) → IsClosedAlong pairs other
       → (u : ℕ) → is_in flood u ≡ true → other u ≡ true
   pub handled : (i u : ℕ) → i < head → LeadsTo pairs (queued flood i) u → is_in flood u ≡ true
+
+-- pairs join a block with the root, directly or through others
+abbrev pub IsJoinedWith : List (ℕ × ℕ) → ℕ → ℕ → Type 0
+IsJoinedWith pairs root u = (steps : ℕ) × AreConnected pairs steps root u
+
+-- with each block that is in its neighbours are in
+abbrev pub HasNeighbours : List (ℕ × ℕ) → Flood → Type 0
+HasNeighbours pairs flood = (a u : ℕ) → is_in flood a ≡ true → AreNeighbours pairs a u → is_in flood u ≡ true
+
+-- what is joined with the root, so far as the blocks of the queue before `head` lead that were not in before
+pub record IsJoined (pairs : List (ℕ × ℕ)) (root : ℕ) (before flood : Flood) (head : ℕ) : Type 0 where
+  pub takes : TakesIn (λ u. (is_in flood u ≡ true) × IsJoinedWith pairs root u) before flood
+  pub holds : is_in flood root ≡ true
+  pub handled : (i u : ℕ) → before.tail ≤ i → i < head → AreNeighbours pairs (queued flood i) u → is_in flood u ≡ true

@@ -1,11 +1,11 @@
-//! The closure of some blocks along pairs: a queue takes in block after block, each once, and after each those that its pairs
-//! lead to. So time is linear in blocks and pairs.
+//! What pairs lead to from some blocks: a queue takes in block after block, each once, and after each those that its pairs lead
+//! to. So time is linear in blocks and pairs.
 ghost use Rattle.std.specs.Prelude.{◌≡◌, ◌<◌, ◌≤◌, ℕ, false, length, get_or, IfOk};
 ghost use Rattle.std.specs.List.{All};
 ghost use Rattle.pit_model.specs.Graph.{first_of, second_of};
 ghost use Rattle.pit_model.specs.Fixed.{IsClosure, is_among};
 ghost use Rattle.mine_graph.specs.FixedBlocks.{mark_of};
-ghost use Rattle.mine_graph.specs.Flood.{IsAt, IsTrail, LeadsTo, TakesIn, is_in, pairs_along};
+ghost use Rattle.mine_graph.specs.Flood.{HasNeighbours, IsAt, IsJoinedWith, IsTrail, LeadsTo, TakesIn, is_in, pairs_along};
 
 use crate::graph::Graph;
 use std::alloc::{AllocError, Global};
@@ -104,6 +104,26 @@ impl Flood {
         match way {
             Way::ToNeeds => self.take_needs(graph, graph.arcs_of(block)),
             Way::ToUsers => self.take_users(graph, graph.users(block)),
+        }
+    }
+
+    /// Takes in a block and all that pairs join with it, in whichever direction, directly or through others.
+    pub fn take_joined(&mut self, graph: &Graph, root: u32)
+        requires size { length self.old.marks.items ≡ graph.now.blocks }
+        requires below { root < graph.now.blocks }
+        requires trail { IsTrail self.old }
+        requires whole { HasNeighbours graph.now.pairs self.old }
+        ensures { TakesIn (IsJoinedWith graph.now.pairs root) self.old self.new }
+    {
+        let begin = self.tail;
+        self.take_in(root);
+        for head in begin..graph.n() as usize {
+            if head == self.tail {
+                break;
+            }
+            let block = self.queue[head];
+            self.take_next(graph, Way::ToNeeds, block);
+            self.take_next(graph, Way::ToUsers, block);
         }
     }
 }
