@@ -1,13 +1,14 @@
 -- Reading the predecessors of a block one after the other, with marks for those that were seen.
-use Rattle.std.proofs.Common.{◌≡◌, ◌≢◌, ℕ, ◌+◌, ◌<◌, Bool, true, false, eqb, ◌||◌, List, [], ◌∷◌, ◌++◌, length, get_or, set, Result, Ok, Err, refl, sym, ap, ◌∙◌, append_assoc, arith, tests, rules, Some, ltb, ◌≤◌, get_or-set_same, get_or-set_other, eq-eqb}
-use Rattle.std.proofs.lemmas.List.{append-nil}
+use Rattle.std.proofs.Common.{◌≡◌, ◌≢◌, ℕ, ◌+◌, ◌-◌, ◌<◌, drop, map, take, Bool, true, false, eqb, ◌||◌, List, [], ◌∷◌, ◌++◌, length, get_or, set, Result, Ok, Err, refl, sym, ap, ◌∙◌, append_assoc, arith, tests, rules, Some, ltb, ◌≤◌, get_or-set_same, get_or-set_other, eq-eqb}
+use Rattle.std.proofs.lemmas.List.{append-nil, map-append, take_rest}
+use Rattle.std.proofs.Math.Seq.{drop-append_seam}
 use Rattle.std.proofs.lemmas.Bool.{eqb-true, eqb-false, ne_eqb}
 use Rattle.std.proofs.lemmas.List.Folds.{list_any-append, list_any_none}
-use Rattle.std.proofs.lemmas.List.Elements.{All-push, All-weaker}
+use Rattle.std.proofs.lemmas.List.Elements.{All-map, All-push, All-weaker}
 use Rattle.std.specs.List.{All}
 use Rattle.faults.specs.declared.fault.Fault.{Fault}
 use Rattle.minelib_reader.specs.Checks.{◌>>=◌}
-use Rattle.minelib_reader.specs.Marks.{AreMarked}
+use Rattle.minelib_reader.specs.Marks.{AddsFirst, AreMarked, with_seen}
 use Rattle.pit_model.specs.Fixed.{is_among}
 use Rattle.minelib_reader.specs.Number.{whole_of}
 use Rattle.minelib_reader.specs.Prec.{need_of, needs_from, pairs_of}
@@ -15,23 +16,16 @@ use Rattle.minelib_reader.specs.Prec.{need_of, needs_from, pairs_of}
 abbrev Needs : Type 0
 Needs = Result (List ℕ) Fault
 
-abbrev pub seen_then : List ℕ → Needs → Needs
-seen_then seen read = read >>= λ ps. Ok (seen ++ ps)
-
--- what a loop over the fields keeps
-pub record SoFar (n id line : ℕ) (marks : List ℕ) (rest : List (List ℕ)) (total : Needs) (old now : List (ℕ × ℕ)) : Type 0 where
+-- what a loop over the fields keeps, behind the blocks that were seen first
+pub record SoFar (n id line : ℕ) (first marks : List ℕ) (rest : List (List ℕ)) (total : Needs) (old now : List (ℕ × ℕ)) : Type 0 where
   pub seen : List ℕ
-  pub read : seen_then seen (needs_from n id line seen rest) ≡ total
-  pub marked : AreMarked n id marks seen
+  pub read : with_seen seen (needs_from n id line (first ++ seen) rest) ≡ total
+  pub marked : AreMarked n id marks (first ++ seen)
   pub pushed : now ≡ old ++ pairs_of id seen
 
-regroup : (seen : List ℕ) (p : ℕ) (read : Needs) → seen_then seen (read >>= λ ps. Ok (p ∷ ps)) ≡ seen_then (seen ++ p ∷ []) read
+regroup : (seen : List ℕ) (p : ℕ) (read : Needs) → with_seen seen (read >>= λ ps. Ok (p ∷ ps)) ≡ with_seen (seen ++ p ∷ []) read
 regroup seen p (Ok ps) = ap (λ (xs : List ℕ). Ok xs) (simp append_assoc)
 regroup seen p (Err e) = refl
-
-map-append_pairs : (id : ℕ) (xs : List ℕ) (p : ℕ) → pairs_of id xs ++ (id, p) ∷ [] ≡ pairs_of id (xs ++ p ∷ [])
-map-append_pairs id [] p = refl
-map-append_pairs id (x ∷ xs) p = ap (λ (ys : List (ℕ × ℕ)). (id, x) ∷ ys) (map-append_pairs id xs p)
 
 or_true : (b : Bool) → (b || (true || false)) ≡ true
 or_true true = refl
@@ -54,31 +48,66 @@ marked_by n id p marks seen len lt marked q below false e =
     rw get_or-set_other (marked q below)
     ∙ sym (list_any-append (λ x. eqb x q) seen (p ∷ []) ∙ ap (λ (b : Bool). is_among seen q || (b || false)) e ∙ or_false (is_among seen q))
 
-pub goes_on : (n id line : ℕ) (marks : List ℕ) (f : List ℕ) (rest : List (List ℕ)) (total : Needs) (old now : List (ℕ × ℕ)) (p : ℕ) → length marks ≡ n → p < n
-    → (s : SoFar n id line marks (f ∷ rest) total old now) → need_of n id line s.seen f ≡ Ok p → SoFar n id line (set marks p (id + 1)) rest total old (now ++ (id, p) ∷ [])
-unfolding needs_from
-goes_on n id line marks f rest total old now p len lt s h = record {
-  seen = s.seen ++ p ∷ [];
-  read = let one : seen_then s.seen (needs_from n id line s.seen (f ∷ rest)) ≡ seen_then (s.seen ++ p ∷ []) (needs_from n id line (s.seen ++ p ∷ []) rest) = rw h (regroup s.seen p (needs_from n id line (s.seen ++ p ∷ []) rest)) in sym one ∙ s.read;
-  marked = λ q below. marked_by n id p marks s.seen len lt s.marked q below (eqb p q) refl;
-  pushed = ap (λ (ps : List (ℕ × ℕ)). ps ++ (id, p) ∷ []) s.pushed ∙ append_assoc old (pairs_of id s.seen) ((id, p) ∷ []) ∙ ap (λ (ps : List (ℕ × ℕ)). old ++ ps) (map-append_pairs id s.seen p);
-}
+same : (r : Needs) → with_seen [] r ≡ r
+same (Ok ps) = refl
+same (Err e) = refl
 
-pub stops : (e : Fault) (n id line : ℕ) (marks : List ℕ) (f : List ℕ) (rest : List (List ℕ)) (total : Needs) (old now : List (ℕ × ℕ)) → (s : SoFar n id line marks (f ∷ rest) total old now) → need_of n id line s.seen f ≡ Err e → total ≡ Err e
-unfolding needs_from
-stops e n id line marks f rest total old now s h =
-    let one : seen_then s.seen (needs_from n id line s.seen (f ∷ rest)) ≡ Err e = rw h refl in sym s.read ∙ one
+module _ (n id line : ℕ) (first marks : List ℕ) where
+  pub goes_on : (f : List ℕ) (rest : List (List ℕ)) (total : Needs) (old now : List (ℕ × ℕ)) (p : ℕ) → length marks ≡ n → p < n
+      → (s : SoFar n id line first marks (f ∷ rest) total old now) → need_of n id line (first ++ s.seen) f ≡ Ok p
+      → SoFar n id line first (set marks p (id + 1)) rest total old (now ++ (id, p) ∷ [])
+  unfolding needs_from
+  goes_on f rest total old now p len lt s h =
+      let all : List ℕ = first ++ s.seen in
+      let same : all ++ p ∷ [] ≡ first ++ (s.seen ++ p ∷ []) = append_assoc first s.seen (p ∷ []) in
+      let one : with_seen s.seen (needs_from n id line all (f ∷ rest)) ≡ with_seen (s.seen ++ p ∷ []) (needs_from n id line (all ++ p ∷ []) rest) =
+      rw h (regroup s.seen p (needs_from n id line (all ++ p ∷ []) rest)) in
+      record {
+        seen = s.seen ++ p ∷ [];
+        read = ap (λ (xs : List ℕ). with_seen (s.seen ++ p ∷ []) (needs_from n id line xs rest)) (sym same) ∙ sym one ∙ s.read;
+        marked = λ q below. marked_by n id p marks all len lt s.marked q below (eqb p q) refl ∙ ap (λ (xs : List ℕ). is_among xs q) same;
+        pushed = ap (λ (ps : List (ℕ × ℕ)). ps ++ (id, p) ∷ []) s.pushed ∙ append_assoc old (pairs_of id s.seen) ((id, p) ∷ []) ∙ ap (λ (ps : List (ℕ × ℕ)). old ++ ps) (sym (map-append (λ (q : ℕ). (id, q)) s.seen (p ∷ [])));
+      }
 
-pub ends : (n id line : ℕ) (marks : List ℕ) (total : Needs) (old now : List (ℕ × ℕ)) → (s : SoFar n id line marks [] total old now) → total ≡ Ok s.seen
-unfolding needs_from
-ends n id line marks total old now s = sym s.read ∙ ap (λ (xs : List ℕ). Ok xs) (append-nil s.seen)
+  pub stops : (e : Fault) (f : List ℕ) (rest : List (List ℕ)) (total : Needs) (old now : List (ℕ × ℕ)) → (s : SoFar n id line first marks (f ∷ rest) total old now)
+      → need_of n id line (first ++ s.seen) f ≡ Err e → total ≡ Err e
+  unfolding needs_from
+  stops e f rest total old now s h =
+      let one : with_seen s.seen (needs_from n id line (first ++ s.seen) (f ∷ rest)) ≡ Err e = rw h refl in sym s.read ∙ one
 
-pub begins : (n id line : ℕ) (marks : List ℕ) (rest : List (List ℕ)) (old : List (ℕ × ℕ)) → AreMarked n id marks [] → SoFar n id line marks rest (needs_from n id line [] rest) old old
-begins n id line marks rest old marked = record { seen = []; read = same (needs_from n id line [] rest); marked = marked; pushed = sym (append-nil old) }
-  where
-    same : (r : Needs) → seen_then [] r ≡ r
-    same (Ok ps) = refl
-    same (Err e) = refl
+  pub ends : (total : Needs) (old now : List (ℕ × ℕ)) → (s : SoFar n id line first marks [] total old now) → total ≡ Ok s.seen
+  unfolding needs_from
+  ends total old now s = sym s.read ∙ ap (λ (xs : List ℕ). Ok xs) (append-nil s.seen)
+
+  pub begins : (rest : List (List ℕ)) (old : List (ℕ × ℕ)) → AreMarked n id marks first → SoFar n id line first marks rest (needs_from n id line first rest) old old
+  begins rest old marked =
+      let none : first ++ [] ≡ first = append-nil first in
+      record {
+        seen = [];
+        read = ap (λ (xs : List ℕ). with_seen [] (needs_from n id line xs rest)) none ∙ same (needs_from n id line first rest);
+        marked = λ q below. marked q below ∙ ap (λ (xs : List ℕ). is_among xs q) (sym none);
+        pushed = sym (append-nil old);
+      }
+
+-- behind the blocks that rise stand those that were marked
+pub both_added : (n id line : ℕ) (fields left : List (List ℕ)) (old between new : List (ℕ × ℕ)) (ps : List ℕ) (first : AddsFirst n id fields left old between)
+    → needs_from n id line first.seen left ≡ Ok ps → new ≡ between ++ pairs_of id ps
+    → (qs : List ℕ) × (needs_from n id line [] fields ≡ Ok qs) × (new ≡ old ++ pairs_of id qs)
+both_added n id line fields left old between new ps first behind pushed = (
+  first.seen ++ ps,
+  sym (first.read line) ∙ ap (with_seen first.seen) behind,
+  pushed ∙ ap (λ (xs : List (ℕ × ℕ)). xs ++ pairs_of id ps) first.pairs ∙ append_assoc old (pairs_of id first.seen) (pairs_of id ps)
+      ∙ ap (λ (xs : List (ℕ × ℕ)). old ++ xs) (sym (map-append (λ (p : ℕ). (id, p)) first.seen ps)),
+)
+
+pub first_alone : (n id line : ℕ) (fields : List (List ℕ)) (old new : List (ℕ × ℕ)) (first : AddsFirst n id fields [] old new)
+    → (qs : List ℕ) × (needs_from n id line [] fields ≡ Ok qs) × (new ≡ old ++ pairs_of id qs)
+unfolding needs_from
+first_alone n id line fields old new first = (first.seen, sym (first.read line) ∙ ap (λ (xs : List ℕ). Ok xs) (append-nil first.seen), first.pairs)
+
+pub first_stops : (n id line : ℕ) (fields left : List (List ℕ)) (old between : List (ℕ × ℕ)) (e : Fault) (first : AddsFirst n id fields left old between)
+    → needs_from n id line first.seen left ≡ Err e → needs_from n id line [] fields ≡ Err e
+first_stops n id line fields left old between e first behind = sym (first.read line) ∙ ap (with_seen first.seen) behind
 
 -- a block that is none of those seen, nor the block itself, is read
 pub need_new : (n id line : ℕ) (seen field : List ℕ) (p : ℕ) → whole_of field ≡ Some p → p < n → p ≢ id → All (λ q. q < p) seen → need_of n id line seen field ≡ Ok p
@@ -90,26 +119,41 @@ need_new n id line seen field p whole below other under =
     rw (whole, a, b, c) refl
 
 -- what a loop over the fields keeps as long as the blocks rise
-pub record Rises (n id : ℕ) (rest all : List (List ℕ)) (least : ℕ) (old now : List (ℕ × ℕ)) : Type 0 where
-  pub seen : List ℕ
-  pub read : (line : ℕ) → seen_then seen (needs_from n id line seen rest) ≡ needs_from n id line [] all
-  pub under : All (λ q. q < least) seen
-  pub pushed : now ≡ old ++ pairs_of id seen
+pub record Rises (n id : ℕ) (all rest : List (List ℕ)) (least : ℕ) (old now : List (ℕ × ℕ)) : Type 0 where
+  pub adds : AddsFirst n id all rest old now
+  pub under : All (λ q. q < least) adds.seen
 
 pub rises_on : (n id : ℕ) (f : List ℕ) (rest all : List (List ℕ)) (least : ℕ) (old now : List (ℕ × ℕ)) (p : ℕ) → whole_of f ≡ Some p → p < n → p ≢ id → least ≤ p
-    → Rises n id (f ∷ rest) all least old now → Rises n id rest all (p + 1) old (now ++ (id, p) ∷ [])
+    → Rises n id all (f ∷ rest) least old now → Rises n id all rest (p + 1) old (now ++ (id, p) ∷ [])
 unfolding needs_from
 rises_on n id f rest all least old now p whole below other le s =
-    let under : All (λ q. q < p) s.seen = All-weaker (λ q. q < least) (λ q. q < p) (λ q lt. omega (arith, lt, le)) s.seen s.under in
+    let seen = s.adds.seen in
+    let under : All (λ q. q < p) seen = All-weaker (λ q. q < least) (λ q. q < p) (λ q lt. omega (arith, lt, le)) seen s.under in
     record {
-      seen = s.seen ++ p ∷ [];
-      read = λ line.
-          let h = need_new n id line s.seen f p whole below other under in
-          let one : seen_then s.seen (needs_from n id line s.seen (f ∷ rest)) ≡ seen_then (s.seen ++ p ∷ []) (needs_from n id line (s.seen ++ p ∷ []) rest) = rw h (regroup s.seen p (needs_from n id line (s.seen ++ p ∷ []) rest)) in sym one ∙ s.read line;
-      under = All-push (λ q. q < p + 1) s.seen p (All-weaker (λ q. q < p) (λ q. q < p + 1) (λ q lt. omega (arith, lt)) s.seen under) (omega arith);
-      pushed = ap (λ (ps : List (ℕ × ℕ)). ps ++ (id, p) ∷ []) s.pushed ∙ append_assoc old (pairs_of id s.seen) ((id, p) ∷ []) ∙ ap (λ (ps : List (ℕ × ℕ)). old ++ ps) (map-append_pairs id s.seen p);
+      adds = record {
+        seen = seen ++ p ∷ [];
+        read = λ line.
+            let h = need_new n id line seen f p whole below other under in
+            let one : with_seen seen (needs_from n id line seen (f ∷ rest)) ≡ with_seen (seen ++ p ∷ []) (needs_from n id line (seen ++ p ∷ []) rest) = rw h (regroup seen p (needs_from n id line (seen ++ p ∷ []) rest)) in sym one ∙ s.adds.read line;
+        below = All-push (λ q. q < n) seen p s.adds.below below;
+        pairs = ap (λ (ps : List (ℕ × ℕ)). ps ++ (id, p) ∷ []) s.adds.pairs ∙ append_assoc old (pairs_of id seen) ((id, p) ∷ []) ∙ ap (λ (ps : List (ℕ × ℕ)). old ++ ps) (sym (map-append (λ (q : ℕ). (id, q)) seen (p ∷ [])));
+      };
+      under = All-push (λ q. q < p + 1) seen p (All-weaker (λ q. q < p) (λ q. q < p + 1) (λ q lt. omega (arith, lt)) seen under) (omega arith);
     }
 
-pub rises_to_end : (n id : ℕ) (all : List (List ℕ)) (least : ℕ) (old now : List (ℕ × ℕ)) → Rises n id [] all least old now → (ps : List ℕ) × ((line : ℕ) → needs_from n id line [] all ≡ Ok ps) × (now ≡ old ++ pairs_of id ps)
-unfolding needs_from
-rises_to_end n id all least old now s = (s.seen, λ line. sym (s.read line) ∙ ap (λ (xs : List ℕ). Ok xs) (append-nil s.seen), s.pushed)
+pub rises_none : (n id : ℕ) (all : List (List ℕ)) (old : List (ℕ × ℕ)) → Rises n id all all 0 old old
+rises_none n id all old = record {
+  adds = record { seen = []; read = λ line. same (needs_from n id line [] all); below = λ k d l. absurd (omega (arith, l)); pairs = sym (append-nil old) };
+  under = λ k d l. absurd (omega (arith, l));
+}
+
+-- the pairs that were added last, and the blocks that they name
+pub added_last : (old more : List (ℕ × ℕ)) (new : List (ℕ × ℕ)) (count : ℕ) → count ≡ length old → new ≡ old ++ more → take (length new - count) (drop count new) ≡ more
+added_last old more new count same is = take_rest new count ∙ ap (λ (k : ℕ). drop k new) same ∙ ap (λ (ps : List (ℕ × ℕ)). drop (length old) ps) is ∙ drop-append_seam old more
+
+pub needs_named : (id : ℕ) (needs : List ℕ) → map (λ pair. pair.1) (pairs_of id needs) ≡ needs
+needs_named id [] = refl
+needs_named id (p ∷ ps) = ap (λ (xs : List ℕ). p ∷ xs) (needs_named id ps)
+
+pub needs_below : (n id : ℕ) (needs : List ℕ) → All (λ p. p < n) needs → All (λ pair. pair.1 < n) (pairs_of id needs)
+needs_below n id needs below = All-map (λ (pair : ℕ × ℕ). pair.1 < n) (λ (p : ℕ). (id, p)) needs below

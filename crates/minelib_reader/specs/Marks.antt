@@ -1,14 +1,26 @@
 -- What the reading of a precedence file keeps: the marks of the blocks seen on a line, and the pairs so far.
-use Rattle.std.specs.Prelude.{◌≡◌, ℕ, ◌+◌, ◌<◌, ◌==◌, ◌++◌, List, length, slice_index, Result, Ok}
+use Rattle.std.specs.Prelude.{◌≡◌, ℕ, ◌+◌, ◌<◌, ◌==◌, ◌++◌, List, [], length, slice_index, Result, Ok}
+use Rattle.std.specs.List.{All}
 use Rattle.faults.specs.declared.fault.Fault.{Fault}
 use Rattle.pit_model.specs.Fixed.{is_among}
-use Rattle.minelib_reader.specs.Prec.{needs_line, pairs_from, pairs_of}
+use Rattle.minelib_reader.specs.Prec.{needs_from, needs_line, pairs_from, pairs_of}
 use Rattle.minelib_reader.specs.Checks.{◌>>=◌}
 use Rattle.minelib_reader.specs.Text.{Row}
 
 -- the marks id + 1 stand at the blocks that were seen on the line of block id
 abbrev pub AreMarked : ℕ → ℕ → List ℕ → List ℕ → Type 0
 AreMarked n id marks seen = (p : ℕ) → p < n → (slice_index marks p == id + 1) ≡ is_among seen p
+
+-- the blocks seen before, and those still read
+abbrev pub with_seen : List ℕ → Result (List ℕ) Fault → Result (List ℕ) Fault
+with_seen seen read = read >>= λ ps. Ok (seen ++ ps)
+
+-- the first fields name blocks whose pairs were added: what all fields give are these, and what the fields left give behind them
+pub record AddsFirst (n id : ℕ) (fields left : List (List ℕ)) (old new : List (ℕ × ℕ)) : Type 0 where
+  pub seen : List ℕ
+  pub read : (line : ℕ) → with_seen seen (needs_from n id line seen left) ≡ needs_from n id line [] fields
+  pub below : All (λ p. p < n) seen
+  pub pairs : new ≡ old ++ pairs_of id seen
 
 -- the line is lawful, its pairs stand behind those before, and this is the least id and the sum behind it
 pub record AddsLine (n from total : ℕ) (r : Row) (old new : List (ℕ × ℕ)) (from_after total_after : ℕ) : Type 0 where

@@ -1,15 +1,17 @@
 //! The text of a precedence file (`.prec`): for a block a line with its id, how many blocks it needs, and these.
 //! Each line is checked in the order of `specs/Prec.antt`; the first fault ends the reading.
-//! Blocks seen on a line are marked by its id plus one, so that ids, which rise, need no clearing of the marks.
-ghost use Rattle.std.specs.Prelude.{◌≡◌, ◌≢◌, ◌==◌, if◌then◌else◌, ◌↔◌, ℕ, List, ◌≤◌, ◌+◌, ◌<◌, ◌^◌, ◌++◌, [], length, IfOk, IfErr, IsTrue, Ok, Err};
+//! Blocks seen on a line are marked by its id plus one, so that ids, which rise, need no clearing of the marks; as long as the
+//! blocks of a line rise, none can stand twice, and none is marked.
+ghost use Rattle.std.specs.Prelude.{◌≡◌, ◌≢◌, ◌==◌, if◌then◌else◌, ◌↔◌, ℕ, List, ◌≤◌, ◌+◌, ◌<◌, ◌^◌, ◌++◌, [], length, map, IfOk, IfErr, Ok, Err};
 ghost use Rattle.std.specs.Io.KnownBytes.{Keeps};
 ghost use Rattle.std.specs.List.{All};
+ghost use Rattle.faults.specs.Refused.{no_memory};
 ghost use Rattle.faults.specs.declared.fault.Fault.{Fault as AnyFault};
 ghost use Rattle.faults.specs.declared.refusal.Refusal.TheVariants.{OverLimit, WrongFieldCount};
 ghost use Rattle.faults.specs.declared.source.Source.TheVariants as sources;
 ghost use Rattle.pit_model.specs.Size.{most_pairs};
 ghost use Rattle.minelib_reader.specs.Answer.{Gives, Answers, AnswersBy, FailsBy, FailsAt};
-ghost use Rattle.minelib_reader.specs.Marks.{AreMarked, AddsLine, AddsRows, with_pairs};
+ghost use Rattle.minelib_reader.specs.Marks.{AddsFirst, AddsLine, AddsRows, AreMarked, with_pairs};
 ghost use Rattle.minelib_reader.specs.Number.{whole_of};
 ghost use Rattle.minelib_reader.specs.Prec.{in_precedence, need_of, needs_from, front_of, needs_line, pairs_from, pairs_of, prec_of};
 ghost use Rattle.minelib_reader.specs.PrecFault.{IsFirstPrecFault};
@@ -54,109 +56,128 @@ fn in_precedence(refusal: Refusal, line: u64) -> Fault
     Fault::at_line(Source::Precedence, refusal, line)
 }
 
+/// A block of so many, and the line that names the blocks that it needs.
+#[derive(Clone, Copy)]
+struct Block {
+    n: u32,
+    id: u32,
+    line: u64,
+}
+
 /// One predecessor of a block, by the whole number of its field, where the marks tell those that were seen on its line.
 #[tactic(auto, unfolding(crate::specs::Prec::need_of))]
-fn read_need(n: u32, id: u32, line: u64, marks: &[u32], whole: Option<u64>) -> Result<u32, Fault>
-    requires sizes { length marks.now ≡ n }
-    requires known { id < n }
-    ensures gives { (seen field : List ℕ) → whole ≡ whole_of field → AreMarked n id marks.now seen → Gives (λ p. p) result (need_of n id line seen field) }
-    ensures below { IfOk result (λ p. p < n) }
+fn read_need(block: Block, marks: &[u32], whole: Option<u64>) -> Result<u32, Fault>
+    requires sizes { length marks.now ≡ block.n }
+    requires known { block.id < block.n }
+    ensures gives { (seen field : List ℕ) → whole ≡ whole_of field → AreMarked block.n block.id marks.now seen → Gives (λ p. p) result (need_of block.n block.id block.line seen field) }
+    ensures below { IfOk result (λ p. p < block.n) }
 {
     let Some(p) = whole else {
-        return Err(in_precedence(Refusal::NotWhole, line));
+        return Err(in_precedence(Refusal::NotWhole, block.line));
     };
-    if p >= u64::from(n) {
-        return Err(in_precedence(Refusal::PredecessorOutOfRange, line));
+    if p >= u64::from(block.n) {
+        return Err(in_precedence(Refusal::PredecessorOutOfRange, block.line));
     }
     let p = p as u32;
-    if p == id {
-        return Err(in_precedence(Refusal::NeedsItself, line));
+    if p == block.id {
+        return Err(in_precedence(Refusal::NeedsItself, block.line));
     }
-    if marks[p as usize] == id + 1 {
-        return Err(in_precedence(Refusal::PredecessorTwice, line));
+    if marks[p as usize] == block.id + 1 {
+        return Err(in_precedence(Refusal::PredecessorTwice, block.line));
     }
     Ok(p)
 }
 
-/// Adds the pairs of a block as long as its predecessors rise, so that none stands twice and no mark is wanted. Answers whether
-/// these were all; where not, also for a fault, there may be pairs too many.
-fn push_rising(n: u32, id: u32, text: &[u8], pairs: &mut Vec<(u32, u32)>) -> bool
-    requires known { id < n }
-    ensures all { IsTrue result → (ps : List ℕ) × ((line : ℕ) → needs_from n id line [] (fields_of text.now) ≡ Ok ps) × (pairs.new.items ≡ pairs.old.items ++ pairs_of id ps) }
-    ensures kept { (more : List (ℕ × ℕ)) × (pairs.new.items ≡ pairs.old.items ++ more) }
+/// Adds the pairs of a block as long as its predecessors rise, so that none stands twice and no mark is wanted. Answers what is left
+/// of the text, or that memory was refused.
+fn push_rising<'a>(
+    block: Block,
+    text: &'a [u8],
+    pairs: &mut Vec<(u32, u32)>,
+) -> Result<&'a [u8], Fault>
+    requires known { block.id < block.n }
+    ensures ok { IfOk result (λ rest. AddsFirst block.n block.id (fields_of text.now) (fields_of rest.now) pairs.old.items pairs.new.items) }
+    ensures err { IfErr result (λ e. e ≡ no_memory) }
 {
     let mut least = 0u64;
     let mut rest = text;
     while let Some((p, behind)) = plain_whole(rest) {
-        if p < least || p >= u64::from(n) || p == u64::from(id) {
-            return false;
+        if p < least || p >= u64::from(block.n) || p == u64::from(block.id) {
+            break;
         }
-        let Ok(()) = pairs.push((id, p as u32)) else {
-            return false;
-        };
+        pairs.push((block.id, p as u32))?;
         least = p + 1;
         rest = behind;
     }
-    if has_fields(rest) {
-        return false;
-    }
-    true
+    Ok(rest)
 }
 
-/// Adds the pairs of a block, from left to right, and answers how many they are. Predecessors seen on the line are marked, in
-/// whatever order they come.
-fn marked_needs(
-    n: u32,
-    id: u32,
-    line: u64,
+/// Marks the blocks that pairs of one block name as needed.
+fn mark_needs(block: Block, pairs: &[(u32, u32)], marks: &mut Vec<u32>)
+    requires sizes { length marks.old.items ≡ block.n }
+    requires known { block.id < block.n }
+    requires below { All (λ pair. pair.1 < block.n) pairs.now }
+    requires old_marks { All (λ m. m ≤ block.id) marks.old.items }
+    ensures marked { AreMarked block.n block.id marks.new.items (map (λ pair. pair.1) pairs.now) }
+    ensures sizes { length marks.new.items ≡ block.n }
+    ensures new_marks { All (λ m. m ≤ block.id + 1) marks.new.items }
+{
+    for i in 0..pairs.len() {
+        marks[pairs[i].1 as usize] = block.id + 1;
+    }
+}
+
+/// Adds the pairs of a block, from left to right, behind those of the blocks that are marked. Predecessors seen are marked, in whatever
+/// order they come.
+fn push_marked(
+    block: Block,
     marks: &mut Vec<u32>,
     text: &[u8],
     pairs: &mut Vec<(u32, u32)>,
-) -> Result<u64, Fault>
-    requires sizes { length marks.old.items ≡ n }
-    requires known { id < n }
-    requires old_marks { All (λ m. m ≤ id) marks.old.items }
-    ensures ok { IfOk result (λ _. (ps : List ℕ) × (needs_from n id line [] (fields_of text.now) ≡ Ok ps) × (pairs.new.items ≡ pairs.old.items ++ pairs_of id ps)) }
-    ensures named { IfOk result (λ named. named ≡ length (fields_of text.now)) }
-    ensures err { IfErr result (λ e. FailsBy e.refusal e (needs_from n id line [] (fields_of text.now))) }
-    ensures sizes { length marks.new.items ≡ n }
-    ensures new_marks { All (λ m. m ≤ id + 1) marks.new.items }
+) -> Result<(), Fault>
+    requires sizes { length marks.old.items ≡ block.n }
+    requires known { block.id < block.n }
+    requires old_marks { All (λ m. m ≤ block.id + 1) marks.old.items }
+    ensures ok { IfOk result (λ _. (seen : List ℕ) → AreMarked block.n block.id marks.old.items seen
+        → (ps : List ℕ) × (needs_from block.n block.id block.line seen (fields_of text.now) ≡ Ok ps) × (pairs.new.items ≡ pairs.old.items ++ pairs_of block.id ps)) }
+    ensures err { IfErr result (λ e. (seen : List ℕ) → AreMarked block.n block.id marks.old.items seen → FailsBy e.refusal e (needs_from block.n block.id block.line seen (fields_of text.now))) }
+    ensures sizes { length marks.new.items ≡ block.n }
+    ensures new_marks { All (λ m. m ≤ block.id + 1) marks.new.items }
 {
-    let before = pairs.len();
     let mut rest = text;
     while let Some((whole, behind)) = next_whole(rest) {
-        let p = read_need(n, id, line, marks, whole)?;
-        marks[p as usize] = id + 1;
-        pairs.push((id, p))?;
+        let p = read_need(block, marks, whole)?;
+        marks[p as usize] = block.id + 1;
+        pairs.push((block.id, p))?;
         rest = behind;
     }
-    Ok((pairs.len() - before) as u64)
+    Ok(())
 }
 
-/// Adds the pairs of a block, from left to right, and answers how many they are.
+/// Adds the pairs of a block, from left to right, and answers how many they are. No mark is wanted as long as predecessors rise; from
+/// the first on that does not, those before are marked.
 fn read_needs(
-    n: u32,
-    id: u32,
-    line: u64,
+    block: Block,
     marks: &mut Vec<u32>,
     text: &[u8],
     pairs: &mut Vec<(u32, u32)>,
 ) -> Result<u64, Fault>
-    requires sizes { length marks.old.items ≡ n }
-    requires known { id < n }
-    requires old_marks { All (λ m. m ≤ id) marks.old.items }
-    ensures ok { IfOk result (λ _. (ps : List ℕ) × (needs_from n id line [] (fields_of text.now) ≡ Ok ps) × (pairs.new.items ≡ pairs.old.items ++ pairs_of id ps)) }
+    requires sizes { length marks.old.items ≡ block.n }
+    requires known { block.id < block.n }
+    requires old_marks { All (λ m. m ≤ block.id) marks.old.items }
+    ensures ok { IfOk result (λ _. (ps : List ℕ) × (needs_from block.n block.id block.line [] (fields_of text.now) ≡ Ok ps) × (pairs.new.items ≡ pairs.old.items ++ pairs_of block.id ps)) }
     ensures named { IfOk result (λ named. named ≡ length (fields_of text.now)) }
-    ensures err { IfErr result (λ e. FailsBy e.refusal e (needs_from n id line [] (fields_of text.now))) }
-    ensures sizes { length marks.new.items ≡ n }
-    ensures new_marks { All (λ m. m ≤ id + 1) marks.new.items }
+    ensures err { IfErr result (λ e. FailsBy e.refusal e (needs_from block.n block.id block.line [] (fields_of text.now))) }
+    ensures sizes { length marks.new.items ≡ block.n }
+    ensures new_marks { All (λ m. m ≤ block.id + 1) marks.new.items }
 {
     let before = pairs.len();
-    if push_rising(n, id, text, pairs) {
-        return Ok((pairs.len() - before) as u64);
+    let rest = push_rising(block, text, pairs)?;
+    if has_fields(rest) {
+        mark_needs(block, &pairs[before..], marks);
+        push_marked(block, marks, rest, pairs)?;
     }
-    pairs.truncate(before);
-    marked_needs(n, id, line, marks, text, pairs)
+    Ok((pairs.len() - before) as u64)
 }
 
 /// The fault of a line with too many predecessors in all, as it says itself.
@@ -221,7 +242,12 @@ fn read_line(
     ensures new_marks { IfOk result (λ after. All (λ m. m ≤ after.from) marks.new.items) }
 {
     let front = read_front(n, before, r)?;
-    match read_needs(n, front.id, r.line, marks, front.rest, pairs) {
+    let block = Block {
+        n,
+        id: front.id,
+        line: r.line,
+    };
+    match read_needs(block, marks, front.rest, pairs) {
         Ok(named) => {
             if named != front.count {
                 return Err(in_precedence(Refusal::WrongFieldCount, r.line));

@@ -5,7 +5,7 @@ use Rattle.minelib_reader.proofs.PrecLemmas.{Rises}
 use Rattle.minelib_reader.proofs.prec.push_rising.Given as goal
 
 abbrev pub invariant-loop-p : goal.invariant-loop-p
-invariant-loop-p l = Rises l.n l.id (fields_of l.rest) (fields_of l.fn.text) l.least l.initial.pairs.items l.pairs.items
+invariant-loop-p l = Rises l.block.n l.block.id (fields_of l.fn.text) (fields_of l.rest) l.least l.initial.pairs.items l.pairs.items
 
 abbrev pub decreases-loop-p : goal.decreases-loop-p
 decreases-loop-p l = length l.rest
