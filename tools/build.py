@@ -18,6 +18,7 @@ import subprocess
 import sys
 import time
 
+import ahead
 import clone
 from crates import TOP, crates, in_order
 
@@ -66,7 +67,7 @@ def prove(crate: str) -> bool:
     told = Told(names)
     print(f"{len(names)} crates are proved and linked, {', '.join(longest_chain(told.left))} one behind the other", flush=True)
     with clone.clone(only=names) as copy:
-        if clone.prove(copy, told):
+        if not ahead.prove_ahead(copy, names, told) or clone.prove(copy, told):
             print("".join(told.lines))
             return False
         take(copy, crate)
