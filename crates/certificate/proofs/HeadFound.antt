@@ -14,8 +14,8 @@ use Rattle.report.specs.HeadLines.{same_line, SpellsNumber}
 use Rattle.report.specs.LineByLine.{read_from}
 use Rattle.report.proofs.HeadRead.{same_found}
 use Rattle.report.proofs.ReadingOn.{read_back}
-use Rattle.certificate.specs.declared.due.Due.{Due}
-use Rattle.certificate.specs.declared.due.Due.TheVariants.{Head, Block}
+use Rattle.certificate.specs.declared.due.CertificateLine.{CertificateLine}
+use Rattle.certificate.specs.declared.due.CertificateLine.TheVariants.{Head, Block}
 use Rattle.certificate.specs.declared.due.Head.{Head as HeadLine}
 use Rattle.certificate.specs.declared.due.Head.TheVariants.{Title, Blocks, Arcs, FixedCount, FixedBlock, Count}
 use Rattle.certificate.specs.declared.due.Kind.{Kind}
@@ -38,12 +38,12 @@ module _ (graph : Graph) (lists : FixedLists) (count : ℕ) (pit : List ℕ) (fl
     line : Row
     rest : List Row
     are : rows ≡ line ∷ rest
-    due : Due
+    due : CertificateLine
     gives : head_line graph lists head line ≡ Ok due
     read : reading (state due pit flow) rest ≡ Ok c
 
   step_back : (head : HeadLine) (r : Row) (t : State) → step_at graph lists (Head head) pit flow r ≡ Ok t
-      → (due : Due) × (head_line graph lists head r ≡ Ok due) × (state due pit flow ≡ t)
+      → (due : CertificateLine) × (head_line graph lists head r ≡ Ok due) × (state due pit flow ≡ t)
   unfolding step_at
   step_back head r t e =
       let a = passed (head_line graph lists head r) (λ due. passing (state due pit flow)) t e in
@@ -68,16 +68,16 @@ module _ (graph : Graph) (lists : FixedLists) (count : ℕ) (pit : List ℕ) (fl
     rest : List Row
     are : rows ≡ blocks ++ next ∷ rest
     spelled : SpellsBlocks graph.blocks from blocks ids
-    due : Due
+    due : CertificateLine
     gives : behind_fixed graph.blocks lists kind next ≡ Ok due
     read : reading (state due pit flow) rest ≡ Ok c
 
-  line_of_block : (kind : Kind) (at from : ℕ) (o : Option ℕ) (r : Row) (due : Due) → slice_get (list_of lists kind) at ≡ o → head_line graph lists (FixedBlock kind at from) r ≡ Ok due
+  line_of_block : (kind : Kind) (at from : ℕ) (o : Option ℕ) (r : Row) (due : CertificateLine) → slice_get (list_of lists kind) at ≡ o → head_line graph lists (FixedBlock kind at from) r ≡ Ok due
       → fixed_block_line graph.blocks lists kind at from o r ≡ Ok due
   unfolding head_line
   line_of_block kind at from o r due is e = ap (λ (x : Option ℕ). fixed_block_line graph.blocks lists kind at from x r) (sym is) ∙ e
 
-  behind_last : (kind : Kind) (at from : ℕ) (r : Row) (due : Due) → fixed_block_line graph.blocks lists kind at from None r ≡ Ok due → behind_fixed graph.blocks lists kind r ≡ Ok due
+  behind_last : (kind : Kind) (at from : ℕ) (r : Row) (due : CertificateLine) → fixed_block_line graph.blocks lists kind at from None r ≡ Ok due → behind_fixed graph.blocks lists kind r ≡ Ok due
   unfolding fixed_block_line
   behind_last kind at from r due e = e
 
@@ -103,7 +103,7 @@ module _ (graph : Graph) (lists : FixedLists) (count : ℕ) (pit : List ℕ) (fl
       let b = fixed_block_found graph.blocks lists kind (length front) from id a.line a.due (line_of_block kind (length front) from (Some id) a.line a.due here a.gives) in
       let size : length (front ++ id ∷ []) ≡ length front + 1 = length_push front id in
       let f = kind_found kind (front ++ id ∷ []) ids (id + 1) a.rest (is ∙ sym (append_assoc front (id ∷ []) ids))
-      (ap (λ (k : ℕ). reading (at_head (FixedBlock kind k (id + 1))) a.rest) size ∙ ap (λ (due : Due). reading (state due pit flow) a.rest) b.1 ∙ a.read) in
+      (ap (λ (k : ℕ). reading (at_head (FixedBlock kind k (id + 1))) a.rest) size ∙ ap (λ (due : CertificateLine). reading (state due pit flow) a.rest) b.1 ∙ a.read) in
       record {
         blocks = a.line ∷ f.blocks;
         next = f.next;
@@ -124,10 +124,10 @@ module _ (graph : Graph) (lists : FixedLists) (count : ℕ) (pit : List ℕ) (fl
     pub few : many ≤ graph.blocks
     pub read : reading (state (Block many 0) pit flow) rest ≡ Ok c
 
-  inside_back : (line : Row) (rest : List Row) (due : Due) → behind_fixed graph.blocks lists Barred line ≡ Ok due → reading (state due pit flow) rest ≡ Ok c → InsideFound line rest
+  inside_back : (line : Row) (rest : List Row) (due : CertificateLine) → behind_fixed graph.blocks lists Barred line ≡ Ok due → reading (state due pit flow) rest ≡ Ok c → InsideFound line rest
   inside_back line rest due e read =
       let f = inside_found graph.blocks line due e in
-      record { many = f.0; names = f.1; few = f.2; read = ap (λ (d : Due). reading (state d pit flow) rest) f.3 ∙ read }
+      record { many = f.0; names = f.1; few = f.2; read = ap (λ (d : CertificateLine). reading (state d pit flow) rest) f.3 ∙ read }
 
   -- the lines of the fixed blocks, and the line behind them
   pub record FixedFound (title : Row) (rows : List Row) : Type 0 where
@@ -138,12 +138,12 @@ module _ (graph : Graph) (lists : FixedLists) (count : ℕ) (pit : List ℕ) (fl
     pub format : SpellsFormat graph.blocks lists title fixed
     pub inside : InsideFound line rest
 
-  count_back : (kind : Kind) (r : Row) (due : Due) → head_line graph lists (FixedCount kind) r ≡ Ok due
+  count_back : (kind : Kind) (r : Row) (due : CertificateLine) → head_line graph lists (FixedCount kind) r ≡ Ok due
       → SpellsNumber (word_of kind) (length (list_of lists kind)) r × (length (list_of lists kind) ≤ graph.blocks) × (Head (FixedBlock kind 0 0) ≡ due)
   unfolding head_line
   count_back kind r due e = fixed_count_found graph.blocks lists kind r due e
 
-  plain_back : (r : Row) (due : Due) → head_line graph lists Count r ≡ Ok due → behind_fixed graph.blocks lists Barred r ≡ Ok due
+  plain_back : (r : Row) (due : CertificateLine) → head_line graph lists Count r ≡ Ok due → behind_fixed graph.blocks lists Barred r ≡ Ok due
   unfolding head_line
   plain_back r due e = e
 
@@ -155,9 +155,9 @@ module _ (graph : Graph) (lists : FixedLists) (count : ℕ) (pit : List ℕ) (fl
   fixed_found true title rows t e =
       let a = head_back (FixedCount Forced) rows e in
       let b = count_back Forced a.line a.due a.gives in
-      let f = kind_found Forced [] lists.forced 0 a.rest refl (ap (λ (due : Due). reading (state due pit flow) a.rest) b.2 ∙ a.read) in
+      let f = kind_found Forced [] lists.forced 0 a.rest refl (ap (λ (due : CertificateLine). reading (state due pit flow) a.rest) b.2 ∙ a.read) in
       let g = fixed_count_found graph.blocks lists Barred f.next f.due f.gives in
-      let h = kind_found Barred [] lists.barred 0 f.rest refl (ap (λ (due : Due). reading (state due pit flow) f.rest) g.2 ∙ f.read) in
+      let h = kind_found Barred [] lists.barred 0 f.rest refl (ap (λ (due : CertificateLine). reading (state due pit flow) f.rest) g.2 ∙ f.read) in
       let forced : List Row = a.line ∷ f.blocks in
       let barred : List Row = f.next ∷ h.blocks in
       record {
@@ -183,19 +183,19 @@ module _ (graph : Graph) (lists : FixedLists) (count : ℕ) (pit : List ℕ) (fl
     pub names_arcs : SpellsNumber (codes "ARCS:") (length graph.pairs) arcs
     pub fixed : FixedFound title behind
 
-  title_back : (r : Row) (due : Due) → head_line graph lists Title r ≡ Ok due → (names_fixed : Bool) × IsFormat lists r names_fixed × (Head (Blocks names_fixed) ≡ due)
+  title_back : (r : Row) (due : CertificateLine) → head_line graph lists Title r ≡ Ok due → (names_fixed : Bool) × IsFormat lists r names_fixed × (Head (Blocks names_fixed) ≡ due)
   unfolding head_line
   title_back r due e =
       let a = passed (format_line lists r) (λ names_fixed. passing (Head (Blocks names_fixed))) due e in
       (a.value, format_found lists r a.value a.here, same_value (Head (Blocks a.value)) due a.behind)
 
-  blocks_back : (names_fixed : Bool) (r : Row) (due : Due) → head_line graph lists (Blocks names_fixed) r ≡ Ok due → SpellsNumber (codes "BLOCKS:") graph.blocks r × (Head (Arcs names_fixed) ≡ due)
+  blocks_back : (names_fixed : Bool) (r : Row) (due : CertificateLine) → head_line graph lists (Blocks names_fixed) r ≡ Ok due → SpellsNumber (codes "BLOCKS:") graph.blocks r × (Head (Arcs names_fixed) ≡ due)
   unfolding head_line
   blocks_back names_fixed r due e =
       let a = passed (same_line Certificate (codes "BLOCKS:") graph.blocks r) (λ same. passing (Head (Arcs names_fixed))) due e in
       (same_found Certificate (codes "BLOCKS:") graph.blocks r a.value a.here, same_value (Head (Arcs names_fixed)) due a.behind)
 
-  arcs_back : (names_fixed : Bool) (r : Row) (due : Due) → head_line graph lists (Arcs names_fixed) r ≡ Ok due
+  arcs_back : (names_fixed : Bool) (r : Row) (due : CertificateLine) → head_line graph lists (Arcs names_fixed) r ≡ Ok due
       → SpellsNumber (codes "ARCS:") (length graph.pairs) r × (Head (if names_fixed then FixedCount Forced else Count) ≡ due)
   unfolding head_line
   arcs_back names_fixed r due e =
@@ -206,9 +206,9 @@ module _ (graph : Graph) (lists : FixedLists) (count : ℕ) (pit : List ℕ) (fl
   head_found rows e =
       let a = head_back Title rows e in
       let t = title_back a.line a.due a.gives in
-      let b = head_back (Blocks t.0) a.rest (ap (λ (due : Due). reading (state due pit flow) a.rest) t.2 ∙ a.read) in
+      let b = head_back (Blocks t.0) a.rest (ap (λ (due : CertificateLine). reading (state due pit flow) a.rest) t.2 ∙ a.read) in
       let u = blocks_back t.0 b.line b.due b.gives in
-      let d = head_back (Arcs t.0) b.rest (ap (λ (due : Due). reading (state due pit flow) b.rest) u.1 ∙ b.read) in
+      let d = head_back (Arcs t.0) b.rest (ap (λ (due : CertificateLine). reading (state due pit flow) b.rest) u.1 ∙ b.read) in
       let v = arcs_back t.0 d.line d.due d.gives in
       record {
         title = a.line;
@@ -218,5 +218,5 @@ module _ (graph : Graph) (lists : FixedLists) (count : ℕ) (pit : List ℕ) (fl
         are = a.are ∙ ap (λ (xs : List Row). a.line ∷ xs) (b.are ∙ ap (λ (xs : List Row). b.line ∷ xs) d.are);
         names_blocks = u.0;
         names_arcs = v.0;
-        fixed = fixed_found t.0 a.line d.rest t.1 (ap (λ (due : Due). reading (state due pit flow) d.rest) v.1 ∙ d.read);
+        fixed = fixed_found t.0 a.line d.rest t.1 (ap (λ (due : CertificateLine). reading (state due pit flow) d.rest) v.1 ∙ d.read);
       }

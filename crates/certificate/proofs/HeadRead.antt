@@ -12,8 +12,8 @@ use Rattle.pit_model.specs.Graph.{Graph}
 use Rattle.report.specs.HeadLines.{SpellsNumber}
 use Rattle.report.proofs.HeadRead.{reads_same}
 use Rattle.report.proofs.ReadingOn.{read_on}
-use Rattle.certificate.specs.declared.due.Due.{Due}
-use Rattle.certificate.specs.declared.due.Due.TheVariants.{Head, Block}
+use Rattle.certificate.specs.declared.due.CertificateLine.{CertificateLine}
+use Rattle.certificate.specs.declared.due.CertificateLine.TheVariants.{Head, Block}
 use Rattle.certificate.specs.declared.due.Head.{Head as HeadLine}
 use Rattle.certificate.specs.declared.due.Head.TheVariants.{Title, Blocks, Arcs, FixedCount, FixedBlock, Count}
 use Rattle.certificate.specs.declared.due.Kind.{Kind}
@@ -40,7 +40,7 @@ module _ (graph : Graph) (lists : FixedLists) (count : ℕ) (pit : List ℕ) (fl
   at_head head = state (Head head) pit flow
 
   -- one line
-  head_on : (head : HeadLine) (due : Due) (r : Row) (rows : List Row) → head_line graph lists head r ≡ Ok due → reading (at_head head) (r ∷ rows) ≡ reading (state due pit flow) rows
+  head_on : (head : HeadLine) (due : CertificateLine) (r : Row) (rows : List Row) → head_line graph lists head r ≡ Ok due → reading (at_head head) (r ∷ rows) ≡ reading (state due pit flow) rows
   unfolding step_at
   head_on head due r rows h =
       let one : step_at graph lists (Head head) pit flow r ≡ Ok (state due pit flow) = rw h refl in
@@ -48,7 +48,7 @@ module _ (graph : Graph) (lists : FixedLists) (count : ℕ) (pit : List ℕ) (fl
 
   -- ---- the fixed blocks of a kind
 
-  fixed_block_on : (kind : Kind) (at from : ℕ) (o : Option ℕ) (due : Due) (r : Row) (rows : List Row) → slice_get (list_of lists kind) at ≡ o
+  fixed_block_on : (kind : Kind) (at from : ℕ) (o : Option ℕ) (due : CertificateLine) (r : Row) (rows : List Row) → slice_get (list_of lists kind) at ≡ o
       → fixed_block_line graph.blocks lists kind at from o r ≡ Ok due → reading (at_head (FixedBlock kind at from)) (r ∷ rows) ≡ reading (state due pit flow) rows
   unfolding head_line
   fixed_block_on kind at from o due r rows is h = head_on (FixedBlock kind at from) due r rows
@@ -68,7 +68,7 @@ module _ (graph : Graph) (lists : FixedLists) (count : ℕ) (pit : List ℕ) (fl
       ∙ ap (λ (k : ℕ). reading (at_head (FixedBlock kind k (id + 1))) (rows ++ rest)) size
       ∙ fixed_blocks_read kind (front ++ id ∷ []) ids (id + 1) rows rest (is ∙ sym (append_assoc front (id ∷ []) ids)) s.1
 
-  fixed_kind_read : (kind : Kind) (rows : List Row) (next : Row) (rest : List Row) (due : Due) → SpellsBlocks graph.blocks 0 rows (list_of lists kind)
+  fixed_kind_read : (kind : Kind) (rows : List Row) (next : Row) (rest : List Row) (due : CertificateLine) → SpellsBlocks graph.blocks 0 rows (list_of lists kind)
       → behind_fixed graph.blocks lists kind next ≡ Ok due → reading (at_head (FixedBlock kind 0 0)) (rows ++ next ∷ rest) ≡ reading (state due pit flow) rest
   unfolding fixed_block_line
   fixed_kind_read kind rows next rest due s h =

@@ -16,8 +16,8 @@ use Rattle.mine_graph.specs.FixedBlocks.{lists_of, no_lists}
 use Rattle.faults.specs.declared.source.Source.TheVariants.{Certificate}
 use Rattle.report.specs.HeadLines.{three_of, title_line, number_line, SpellsNumber}
 use Rattle.report.proofs.HeadRead.{pair_found, three_fields, reads_number, reads_title, number_found, title_found}
-use Rattle.certificate.specs.declared.due.Due.{Due}
-use Rattle.certificate.specs.declared.due.Due.TheVariants.{Head, Block}
+use Rattle.certificate.specs.declared.due.CertificateLine.{CertificateLine}
+use Rattle.certificate.specs.declared.due.CertificateLine.TheVariants.{Head, Block}
 use Rattle.certificate.specs.declared.due.Head.TheVariants.{FixedBlock}
 use Rattle.certificate.specs.declared.due.Kind.{Kind}
 use Rattle.certificate.specs.CertificateLines.{in_certificate, one_of, arc_of, count_line, id_line, arc_line, is_empty, fixes_nothing, list_of, word_of, first_format, format_line, fixed_count_line, fixed_id_line, fixed_block_line, inside_line}
@@ -127,7 +127,7 @@ format_found lists r names_fixed e = by_title (is_pair (codes "PITCERT") (codes 
     by_title true is h = subst (IsFormat lists r) (same_value true names_fixed h) (both_fields r.fields (codes "PITCERT", codes "2") (pair_found (codes "PITCERT") (codes "2") (two_of r.fields) is))
     by_title false is h = first_format_found lists r names_fixed h
 
-pub fixed_count_found : (n : ℕ) (lists : FixedLists) (kind : Kind) (r : Row) (due : Due) → fixed_count_line n lists kind r ≡ Ok due
+pub fixed_count_found : (n : ℕ) (lists : FixedLists) (kind : Kind) (r : Row) (due : CertificateLine) → fixed_count_line n lists kind r ≡ Ok due
     → SpellsNumber (word_of kind) (length (list_of lists kind)) r × (length (list_of lists kind) ≤ n) × (Head (FixedBlock kind 0 0) ≡ due)
 unfolding fixed_count_line
 fixed_count_found n lists kind r due e =
@@ -140,7 +140,7 @@ fixed_count_found n lists kind r due e =
       same_value (Head (FixedBlock kind 0 0)) due b.behind,
     )
 
-pub inside_found : (n : ℕ) (r : Row) (due : Due) → inside_line n r ≡ Ok due → (count : ℕ) × SpellsNumber (codes "IN:") count r × (count ≤ n) × (Block count 0 ≡ due)
+pub inside_found : (n : ℕ) (r : Row) (due : CertificateLine) → inside_line n r ≡ Ok due → (count : ℕ) × SpellsNumber (codes "IN:") count r × (count ≤ n) × (Block count 0 ≡ due)
 unfolding inside_line
 inside_found n r due e =
     let a = passed (count_line (codes "IN:") n r) (λ count. passing (Block count 0)) due e in
@@ -178,7 +178,7 @@ fixed_id_found n from id r named e =
     let is = eqb-true a.value id (test_holds (eqb a.value id) (in_certificate CountsDiffer r.line) b.value b.here) in
     (subst (λ (k : ℕ). SpellsBlock n from r k) is (id_found n from r a.value a.here), sym is ∙ same_value a.value named b.behind)
 
-pub fixed_block_found : (n : ℕ) (lists : FixedLists) (kind : Kind) (at from id : ℕ) (r : Row) (due : Due) → fixed_block_line n lists kind at from (Some id) r ≡ Ok due
+pub fixed_block_found : (n : ℕ) (lists : FixedLists) (kind : Kind) (at from id : ℕ) (r : Row) (due : CertificateLine) → fixed_block_line n lists kind at from (Some id) r ≡ Ok due
     → SpellsBlock n from r id × (Head (FixedBlock kind (at + 1) (id + 1)) ≡ due)
 unfolding fixed_block_line
 fixed_block_found n lists kind at from id r due e =

@@ -5,7 +5,7 @@ use Rattle.faults.specs.declared.fault.Fault.{Fault}
 use Rattle.faults.specs.declared.refusal.Refusal.TheVariants.{AfterEnd}
 use Rattle.minelib_reader.specs.Text.{Row}
 use Rattle.pit_model.specs.Graph.{Graph}
-use Rattle.certificate.specs.declared.due.Due.TheVariants.{Block, Arc}
+use Rattle.certificate.specs.declared.due.CertificateLine.TheVariants.{Block, Arc}
 use Rattle.certificate.specs.CertificateLines.{in_certificate, count_line, id_line, arc_line, block_step, arc_step, state}
 
 module _ (graph : Graph) (from : ℕ) (r : Row) where

@@ -13,8 +13,8 @@ use Rattle.minelib_reader.specs.Number.{whole_of, digits_of}
 use Rattle.minelib_reader.specs.Upit.{is_pair}
 use Rattle.pit_model.specs.Fixed.{FixedLists}
 use Rattle.pit_model.specs.Graph.{Graph}
-use Rattle.certificate.specs.declared.due.Due.{Due}
-use Rattle.certificate.specs.declared.due.Due.TheVariants.{Head, Block, Arc}
+use Rattle.certificate.specs.declared.due.CertificateLine.{CertificateLine}
+use Rattle.certificate.specs.declared.due.CertificateLine.TheVariants.{Head, Block, Arc}
 use Rattle.certificate.specs.declared.due.Head.{Head as HeadLine}
 use Rattle.certificate.specs.declared.due.Head.TheVariants.{Title, Blocks, Arcs, FixedCount, FixedBlock, Count}
 use Rattle.certificate.specs.declared.due.Kind.{Kind}
@@ -95,20 +95,20 @@ unfoldable pub format_line : FixedLists → Row → Result Bool Fault
 format_line lists r = if is_pair (codes "PITCERT") (codes "2") (two_of r.fields) then Ok true else first_format lists r
 
 -- how many blocks of a kind follow, which are as many as the list has
-unfoldable pub fixed_count_line : ℕ → FixedLists → Kind → Row → Result Due Fault
+unfoldable pub fixed_count_line : ℕ → FixedLists → Kind → Row → Result CertificateLine Fault
 fixed_count_line n lists kind r = do
   count ← count_line (word_of kind) n r
   same ← ok_if (count == length (list_of lists kind)) (in_certificate CountsDiffer r.line)
   Ok (Head (FixedBlock kind 0 0))
 
 -- how many blocks of the pit follow
-unfoldable pub inside_line : ℕ → Row → Result Due Fault
+unfoldable pub inside_line : ℕ → Row → Result CertificateLine Fault
 inside_line n r = do
   count ← count_line (codes "IN:") n r
   Ok (Block count 0)
 
 -- the line behind the last block of a kind
-abbrev pub behind_fixed : ℕ → FixedLists → Kind → Row → Result Due Fault
+abbrev pub behind_fixed : ℕ → FixedLists → Kind → Row → Result CertificateLine Fault
 behind_fixed n lists Forced r = fixed_count_line n lists Barred r
 behind_fixed n lists Barred r = inside_line n r
 
@@ -120,14 +120,14 @@ fixed_id_line n from id r = do
   Ok named
 
 -- a block of a kind, which is the one of the list, or behind the last the line that follows
-unfoldable pub fixed_block_line : ℕ → FixedLists → Kind → ℕ → ℕ → Option ℕ → Row → Result Due Fault
+unfoldable pub fixed_block_line : ℕ → FixedLists → Kind → ℕ → ℕ → Option ℕ → Row → Result CertificateLine Fault
 fixed_block_line n lists kind at from None r = behind_fixed n lists kind r
 fixed_block_line n lists kind at from (Some id) r = do
   named ← fixed_id_line n from id r
   Ok (Head (FixedBlock kind (at + 1) (named + 1)))
 
 -- which line is due behind a line before the blocks of the pit
-unfoldable pub head_line : Graph → FixedLists → HeadLine → Row → Result Due Fault
+unfoldable pub head_line : Graph → FixedLists → HeadLine → Row → Result CertificateLine Fault
 head_line graph lists Title r = do
   names_fixed ← format_line lists r
   Ok (Head (Blocks names_fixed))
@@ -143,11 +143,11 @@ head_line graph lists Count r = inside_line graph.blocks r
 
 -- what the lines so far give, and which line is due
 pub record State : Type 0 where
-  pub due : Due
+  pub due : CertificateLine
   pub pit : List ℕ
   pub flow : List ℤ
 
-abbrev pub state : Due → List ℕ → List ℤ → State
+abbrev pub state : CertificateLine → List ℕ → List ℤ → State
 state due pit flow = record { due = due; pit = pit; flow = flow }
 
 -- a block, while some are left, and then how many arcs follow
@@ -167,7 +167,7 @@ arc_step graph (suc left) from pit flow r = do
   Ok (state (Arc left (arc.0 + 1)) pit (set flow arc.0 (pos arc.1)))
 
 -- what a line gives where it is the one that is due
-unfoldable pub step_at : Graph → FixedLists → Due → List ℕ → List ℤ → Row → Result State Fault
+unfoldable pub step_at : Graph → FixedLists → CertificateLine → List ℕ → List ℤ → Row → Result State Fault
 step_at graph lists (Head head) pit flow r = do
   due ← head_line graph lists head r
   Ok (state due pit flow)
@@ -183,7 +183,7 @@ abbrev pub pit_and_flow : List ℕ → List ℤ → PitAndFlow
 pit_and_flow pit flow = record { pit = pit; flow = flow }
 
 -- the text ends here: nothing may be left; count is the number of its lines
-unfoldable pub end_at : ℕ → Due → List ℕ → List ℤ → Result PitAndFlow Fault
+unfoldable pub end_at : ℕ → CertificateLine → List ℕ → List ℤ → Result PitAndFlow Fault
 end_at count (Arc zero from) pit flow = Ok (pit_and_flow pit flow)
 end_at count _ pit flow = Err (in_certificate EndsEarly (count + 1))
 

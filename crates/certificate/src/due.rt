@@ -3,7 +3,7 @@
 
 /// The line that is due.
 #[derive(Clone, Copy)]
-pub enum Due {
+pub enum CertificateLine {
     /// A line before the blocks of the pit.
     Head(Head),
     /// So many blocks, of which the next is at least `from`; then `FLOW:` with how many arcs follow.

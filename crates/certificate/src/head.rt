@@ -5,7 +5,7 @@ ghost use Rattle.minelib_reader.specs.Answer.{Gives};
 ghost use Rattle.minelib_reader.specs.Text.{row, fields_of};
 ghost use Rattle.certificate.specs.CertificateLines.{behind_fixed, fixed_count_line, fixed_id_line, fixes_nothing, format_line, head_line, inside_line, list_of, word_of};
 
-use crate::due::{Due, Head, Kind};
+use crate::due::{CertificateLine, Head, Kind};
 use crate::lines::{in_certificate, read_count, read_id};
 use faults::{Fault, Refusal, Source};
 use mine_graph::{Fixed, Graph};
@@ -59,14 +59,19 @@ fn read_format(fixed: &Fixed, r: Row) -> Result<bool, Fault>
 
 /// How many blocks of a kind follow.
 #[tactic(auto, unfolding(crate::specs::CertificateLines::fixed_count_line))]
-fn take_fixed_count(graph: &Graph, fixed: &Fixed, kind: Kind, r: Row) -> Result<Due, Fault>
+fn take_fixed_count(
+    graph: &Graph,
+    fixed: &Fixed,
+    kind: Kind,
+    r: Row,
+) -> Result<CertificateLine, Fault>
     ensures { Gives (λ due. due) result (fixed_count_line graph.now.blocks fixed.now.lists kind (row r.entry.line (fields_of r.entry.text.now))) }
 {
     let count = read_count(word_of(kind), graph.n(), r)?;
     if count as usize != list_of(fixed, kind).len() {
         return Err(in_certificate(Refusal::CountsDiffer, r.line));
     }
-    Ok(Due::Head(Head::FixedBlock {
+    Ok(CertificateLine::Head(Head::FixedBlock {
         kind,
         at: 0,
         from: 0,
@@ -75,15 +80,15 @@ fn take_fixed_count(graph: &Graph, fixed: &Fixed, kind: Kind, r: Row) -> Result<
 
 /// How many blocks of the pit follow.
 #[tactic(auto, unfolding(crate::specs::CertificateLines::inside_line))]
-fn take_inside(graph: &Graph, r: Row) -> Result<Due, Fault>
+fn take_inside(graph: &Graph, r: Row) -> Result<CertificateLine, Fault>
     ensures { Gives (λ due. due) result (inside_line graph.now.blocks (row r.entry.line (fields_of r.entry.text.now))) }
 {
     let left = read_count(b"IN:", graph.n(), r)?;
-    Ok(Due::Block { left, from: 0 })
+    Ok(CertificateLine::Block { left, from: 0 })
 }
 
 /// The line behind the last block of a kind.
-fn take_behind(graph: &Graph, fixed: &Fixed, kind: Kind, r: Row) -> Result<Due, Fault>
+fn take_behind(graph: &Graph, fixed: &Fixed, kind: Kind, r: Row) -> Result<CertificateLine, Fault>
     ensures { Gives (λ due. due) result (behind_fixed graph.now.blocks fixed.now.lists kind (row r.entry.line (fields_of r.entry.text.now))) }
 {
     match kind {
@@ -107,24 +112,24 @@ fn read_fixed_id(n: u32, from: u32, id: u32, r: Row) -> Result<u32, Fault>
 
 /// A line before the blocks of the pit; it answers which one is due next.
 #[tactic(auto, unfolding(crate::specs::CertificateLines::head_line, crate::specs::CertificateLines::fixed_block_line))]
-pub fn take_head(graph: &Graph, fixed: &Fixed, head: Head, r: Row) -> Result<Due, Fault>
+pub fn take_head(graph: &Graph, fixed: &Fixed, head: Head, r: Row) -> Result<CertificateLine, Fault>
     ensures { Gives (λ due. due) result (head_line graph.now fixed.now.lists head (row r.entry.line (fields_of r.entry.text.now))) }
 {
     match head {
         Head::Title => {
             let names_fixed = read_format(fixed, r)?;
-            Ok(Due::Head(Head::Blocks { names_fixed }))
+            Ok(CertificateLine::Head(Head::Blocks { names_fixed }))
         }
         Head::Blocks { names_fixed } => {
             check_count(Source::Certificate, b"BLOCKS:", graph.n(), r)?;
-            Ok(Due::Head(Head::Arcs { names_fixed }))
+            Ok(CertificateLine::Head(Head::Arcs { names_fixed }))
         }
         Head::Arcs { names_fixed } => {
             check_count(Source::Certificate, b"ARCS:", graph.arcs(), r)?;
             if names_fixed {
-                return Ok(Due::Head(Head::FixedCount(Kind::Forced)));
+                return Ok(CertificateLine::Head(Head::FixedCount(Kind::Forced)));
             }
-            Ok(Due::Head(Head::Count))
+            Ok(CertificateLine::Head(Head::Count))
         }
         Head::FixedCount(kind) => take_fixed_count(graph, fixed, kind, r),
         Head::FixedBlock { kind, at, from } => match list_of(fixed, kind).get(at) {
@@ -132,7 +137,7 @@ pub fn take_head(graph: &Graph, fixed: &Fixed, head: Head, r: Row) -> Result<Due
             Some(&id) => {
                 let named = read_fixed_id(graph.n(), from, id, r)?;
                 let (at, from) = (at + 1, named + 1);
-                Ok(Due::Head(Head::FixedBlock { kind, at, from }))
+                Ok(CertificateLine::Head(Head::FixedBlock { kind, at, from }))
             }
         },
         Head::Count => take_inside(graph, r),

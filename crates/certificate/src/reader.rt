@@ -1,5 +1,5 @@
 //! The text of a certificate: its head (`head`), the blocks of the pit, how many arcs carry something, and these.
-//! Each line is the one that is `Due`, checked by a function of `lines`; the first fault ends the reading.
+//! Each line is the one that is `CertificateLine`, checked by a function of `lines`; the first fault ends the reading.
 ghost use Rattle.std.specs.Prelude.{◌≡◌, ◌↔◌, ℕ, ℤ, List, Ok, Err, ◌≤◌, ◌<◌, ◌^◌, length, IfOk, IfErr};
 ghost use Rattle.std.specs.Io.KnownBytes.{Keeps};
 ghost use Rattle.faults.specs.declared.fault.Fault.{Fault as AnyFault};
@@ -13,7 +13,7 @@ ghost use Rattle.certificate.specs.CertificateLines.{arc_step, block_step, certi
 ghost use Rattle.certificate.specs.CertificateFault.{IsFirstCertificateFault};
 ghost use Rattle.certificate.specs.CertificateGrammar.{SpellsCertificate};
 
-use crate::due::{Due, Head};
+use crate::due::{CertificateLine, Head};
 use crate::head::take_head;
 use crate::lines::{in_certificate, read_arc, read_count, read_id};
 use crate::pit_with_flow::Certificate;
@@ -23,28 +23,40 @@ use minelib_reader::{InBytes, Row, Rows, read_all};
 use std::alloc::Global;
 
 /// The line of a block, while some are left; then how many arcs follow.
-fn take_block(graph: &Graph, left: u32, from: u32, r: Row, pit: &mut Vec<u32>) -> Result<Due, Fault>
+fn take_block(
+    graph: &Graph,
+    left: u32,
+    from: u32,
+    r: Row,
+    pit: &mut Vec<u32>,
+) -> Result<CertificateLine, Fault>
     ensures ok { IfOk result (λ due. (flow : List ℤ) → block_step graph.now left from pit.old.items flow (row r.entry.line (fields_of r.entry.text.now)) ≡ Ok (state due pit.new.items flow)) }
     ensures err { IfErr result (λ e. (flow : List ℤ) → FailsBy e.refusal e (block_step graph.now left from pit.old.items flow (row r.entry.line (fields_of r.entry.text.now)))) }
 {
     graph.law();
     if left == 0 {
         let count = read_count(b"FLOW:", graph.arcs(), r)?;
-        return Ok(Due::Arc {
+        return Ok(CertificateLine::Arc {
             left: count,
             from: 0,
         });
     }
     let id = read_id(graph.n(), from, r)?;
     pit.push(id)?;
-    Ok(Due::Block {
+    Ok(CertificateLine::Block {
         left: left - 1,
         from: id + 1,
     })
 }
 
 /// The line of an arc, while some are left.
-fn take_arc(graph: &Graph, left: u32, from: u32, r: Row, flow: &mut Vec<i128>) -> Result<Due, Fault>
+fn take_arc(
+    graph: &Graph,
+    left: u32,
+    from: u32,
+    r: Row,
+    flow: &mut Vec<i128>,
+) -> Result<CertificateLine, Fault>
     requires { length flow.old.items ≡ length graph.now.pairs }
     ensures ok { IfOk result (λ due. (pit : List ℕ) → arc_step graph.now left from pit flow.old.items (row r.entry.line (fields_of r.entry.text.now)) ≡ Ok (state due pit flow.new.items)) }
     ensures err { IfErr result (λ e. (pit : List ℕ) → FailsBy e.refusal e (arc_step graph.now left from pit flow.old.items (row r.entry.line (fields_of r.entry.text.now)))) }
@@ -56,7 +68,7 @@ fn take_arc(graph: &Graph, left: u32, from: u32, r: Row, flow: &mut Vec<i128>) -
     }
     let (arc, amount) = read_arc(graph, from, r)?;
     flow[arc as usize] = amount as i128;
-    Ok(Due::Arc {
+    Ok(CertificateLine::Arc {
         left: left - 1,
         from: arc + 1,
     })
@@ -67,30 +79,30 @@ fn take_arc(graph: &Graph, left: u32, from: u32, r: Row, flow: &mut Vec<i128>) -
 fn take_line(
     graph: &Graph,
     fixed: &Fixed,
-    due: Due,
+    due: CertificateLine,
     r: Row,
     found: &mut Certificate,
-) -> Result<Due, Fault>
+) -> Result<CertificateLine, Fault>
     requires { length found.old.flow.items ≡ length graph.now.pairs }
     ensures ok { IfOk result (λ next. step_at graph.now fixed.now.lists due found.old.pit.items found.old.flow.items (row r.entry.line (fields_of r.entry.text.now)) ≡ Ok (state next found.new.pit.items found.new.flow.items)) }
     ensures err { IfErr result (λ e. FailsBy e.refusal e (step_at graph.now fixed.now.lists due found.old.pit.items found.old.flow.items (row r.entry.line (fields_of r.entry.text.now)))) }
     ensures counted { length found.new.flow.items ≡ length graph.now.pairs }
 {
     match due {
-        Due::Head(head) => take_head(graph, fixed, head, r),
-        Due::Block { left, from } => take_block(graph, left, from, r, &mut found.pit),
-        Due::Arc { left, from } => take_arc(graph, left, from, r, &mut found.flow),
+        CertificateLine::Head(head) => take_head(graph, fixed, head, r),
+        CertificateLine::Block { left, from } => take_block(graph, left, from, r, &mut found.pit),
+        CertificateLine::Arc { left, from } => take_arc(graph, left, from, r, &mut found.flow),
     }
 }
 
 /// Nothing is due any more, in a text of so many lines.
 #[tactic(auto, unfolding(crate::specs::CertificateLines::end_at))]
-fn check_end(due: Due, count: u64) -> Result<(), Fault>
+fn check_end(due: CertificateLine, count: u64) -> Result<(), Fault>
     requires { count < 2 ^ 63 }
     ensures { (pit : List ℕ) (flow : List ℤ) → Gives (λ _. pit_and_flow pit flow) result (end_at count due pit flow) }
 {
     match due {
-        Due::Arc { left: 0, .. } => Ok(()),
+        CertificateLine::Arc { left: 0, .. } => Ok(()),
         _ => Err(in_certificate(Refusal::EndsEarly, count + 1)),
     }
 }
@@ -109,7 +121,7 @@ fn parse_lines(
     let pit = Vec::new(alloc);
     let flow = vec![in alloc; 0i128; graph.arcs() as usize]?;
     let mut found = Certificate { pit, flow };
-    let mut due = Due::Head(Head::Title);
+    let mut due = CertificateLine::Head(Head::Title);
     while let Some(row) = rows.next_row() {
         due = take_line(graph, fixed, due, row, &mut found)?;
     }

@@ -10,7 +10,7 @@ use Rattle.pit_model.specs.declared.journal.Entry.{Entry}
 use Rattle.pit_model.specs.Graph.{Graph}
 use Rattle.pit_model.specs.JournalText.{most_seat, AreSeatedBelow}
 use Rattle.std.proofs.lemmas.List.Elements.{All-cons, All-nil}
-use Rattle.report.specs.declared.due.Due.TheVariants.{Title, Blocks, Arcs, Budget, Count, Entries}
+use Rattle.report.specs.declared.due.JournalLine.TheVariants.{Title, Blocks, Arcs, Budget, Count, Entries}
 use Rattle.report.specs.HeadLines.{title_line, same_line, SpellsNumber}
 use Rattle.report.specs.LineByLine.{read_from}
 use Rattle.report.specs.JournalLines.{State, BudgetAndEntries, budget_and_entries, state, first_state, decision_line, budget_line, count_line, entry_step, step_at, end_at, step, end}

@@ -16,8 +16,8 @@ use Rattle.minelib_reader.proofs.TextFaults.{IsOfText, FailsOfText, MaybeOfText,
 use Rattle.pit_model.specs.declared.journal.Entry.{Entry}
 use Rattle.pit_model.specs.Graph.{Graph}
 use Rattle.pit_model.specs.JournalText.{most_seat}
-use Rattle.report.specs.declared.due.Due.{Due}
-use Rattle.report.specs.declared.due.Due.TheVariants.{Title, Blocks, Arcs, Budget, Count, Entries}
+use Rattle.report.specs.declared.due.JournalLine.{JournalLine}
+use Rattle.report.specs.declared.due.JournalLine.TheVariants.{Title, Blocks, Arcs, Budget, Count, Entries}
 use Rattle.report.specs.HeadLines.{three_of, title_line, field_line, number_line, same_line}
 use Rattle.report.specs.LineByLine.{state_behind, line_fault}
 use Rattle.report.specs.JournalLines.{wide_field, budget_field, budget_line, count_line, verdict_of, decision_line, State, state, entry_step, step_at, end_at, step, end, first_state}
@@ -87,7 +87,7 @@ entry_of_text graph budget zero entries r = tt
 entry_of_text graph budget (suc left) entries r =
     then_of_text (decision_line (length graph.pairs) r) (λ entry. Ok (state (Entries budget left) (entries ++ entry ∷ []))) (decision_of_text (length graph.pairs) r) (λ entry. tt)
 
-step_of_text : (graph : Graph) (due : Due) (entries : List Entry) (r : Row) → FailsOfText (step_at graph due entries r)
+step_of_text : (graph : Graph) (due : JournalLine) (entries : List Entry) (r : Row) → FailsOfText (step_at graph due entries r)
 unfolding step_at
 step_of_text graph Title entries r = then_of_text (title_line Journal (codes "PITJOURNAL") r) (λ title. Ok (state Blocks entries)) (title_of_text Journal (codes "PITJOURNAL") r) (λ title. tt)
 step_of_text graph Blocks entries r = then_of_text (same_line Journal (codes "BLOCKS:") graph.blocks r) (λ same. Ok (state Arcs entries)) (same_of_text Journal (codes "BLOCKS:") graph.blocks r) (λ same. tt)
@@ -96,7 +96,7 @@ step_of_text graph Budget entries r = then_of_text (budget_line r) (λ budget. O
 step_of_text graph (Count budget) entries r = then_of_text (count_line r) (λ count. Ok (state (Entries budget count) entries)) (count_of_text r) (λ count. tt)
 step_of_text graph (Entries budget left) entries r = entry_of_text graph budget left entries r
 
-end_of_text : (count : ℕ) (due : Due) (entries : List Entry) → FailsOfText (end_at count due entries)
+end_of_text : (count : ℕ) (due : JournalLine) (entries : List Entry) → FailsOfText (end_at count due entries)
 unfolding end_at
 end_of_text count Title entries = tt
 end_of_text count Blocks entries = tt

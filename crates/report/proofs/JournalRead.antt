@@ -8,7 +8,7 @@ use Rattle.faults.specs.declared.source.Source.TheVariants.{Journal}
 use Rattle.minelib_reader.specs.Text.{Row}
 use Rattle.pit_model.specs.declared.journal.Entry.{Entry}
 use Rattle.pit_model.specs.Graph.{Graph}
-use Rattle.report.specs.declared.due.Due.TheVariants.{Entries}
+use Rattle.report.specs.declared.due.JournalLine.TheVariants.{Entries}
 use Rattle.report.specs.HeadLines.{SpellsNumber}
 use Rattle.report.specs.LineByLine.{read_from}
 use Rattle.report.specs.JournalLines.{BudgetAndEntries, budget_and_entries, in_journal, state, first_state, decision_line, budget_line, count_line, entry_step, step_at, end_at, step, end}

@@ -15,8 +15,8 @@ use Rattle.pit_model.specs.declared.journal.Verdict.{Verdict}
 use Rattle.pit_model.specs.declared.journal.Verdict.TheVariants.{Applied, Stale, Spent}
 use Rattle.pit_model.specs.Graph.{Graph}
 use Rattle.pit_model.specs.JournalText.{most_seat}
-use Rattle.report.specs.declared.due.Due.{Due}
-use Rattle.report.specs.declared.due.Due.TheVariants.{Title, Blocks, Arcs, Budget, Count, Entries}
+use Rattle.report.specs.declared.due.JournalLine.{JournalLine}
+use Rattle.report.specs.declared.due.JournalLine.TheVariants.{Title, Blocks, Arcs, Budget, Count, Entries}
 use Rattle.report.specs.HeadLines.{three_of, title_line, field_line, same_line}
 use Rattle.report.specs.LineByLine.{read_from}
 
@@ -63,10 +63,10 @@ decision_line m r = do
 
 -- which line is due, and the entries of the lines so far
 pub record State : Type 0 where
-  pub due : Due
+  pub due : JournalLine
   pub entries : List Entry
 
-abbrev pub state : Due → List Entry → State
+abbrev pub state : JournalLine → List Entry → State
 state due entries = record { due = due; entries = entries }
 
 -- an entry, while some are left
@@ -77,7 +77,7 @@ entry_step graph budget (suc left) entries r = do
   Ok (state (Entries budget left) (entries ++ entry ∷ []))
 
 -- what a line gives where it is the one that is due
-unfoldable pub step_at : Graph → Due → List Entry → Row → Result State Fault
+unfoldable pub step_at : Graph → JournalLine → List Entry → Row → Result State Fault
 step_at graph Title entries r = do
   title ← title_line Journal (codes "PITJOURNAL") r
   Ok (state Blocks entries)
@@ -104,7 +104,7 @@ abbrev pub budget_and_entries : Option ℕ → List Entry → BudgetAndEntries
 budget_and_entries budget entries = record { budget = budget; entries = entries }
 
 -- the text ends here: nothing may be left; count is the number of its lines
-unfoldable pub end_at : ℕ → Due → List Entry → Result BudgetAndEntries Fault
+unfoldable pub end_at : ℕ → JournalLine → List Entry → Result BudgetAndEntries Fault
 end_at count (Entries budget zero) entries = Ok (budget_and_entries budget entries)
 end_at count _ entries = Err (in_journal EndsEarly (count + 1))
 

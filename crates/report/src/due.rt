@@ -3,7 +3,7 @@
 
 /// The line that is due.
 #[derive(Clone, Copy)]
-pub enum Due {
+pub enum JournalLine {
     /// `PITJOURNAL 1`.
     Title,
     /// `BLOCKS:` with the count of the graph.

@@ -1,5 +1,5 @@
 //! The text of a journal: a head of five lines, and a line for each entry.
-//! Each line is the one that is `Due`, checked by a function of `head` or `journal_lines`; the first fault ends the reading.
+//! Each line is the one that is `JournalLine`, checked by a function of `head` or `journal_lines`; the first fault ends the reading.
 //! Room is made entry by entry, and never for the count that a text names.
 ghost use Rattle.std.specs.Prelude.{◌≡◌, ◌↔◌, ℕ, List, Ok, Err, ◌≤◌, ◌<◌, ◌^◌, length, IfOk, IfErr};
 ghost use Rattle.std.specs.Io.KnownBytes.{Keeps};
@@ -13,7 +13,7 @@ ghost use Rattle.report.specs.JournalLines.{budget_and_entries, end_at, entry_st
 ghost use Rattle.report.specs.JournalFault.{IsFirstJournalFault};
 ghost use Rattle.report.specs.JournalGrammar.{JournalReadsBack, SpellsJournal};
 
-use crate::due::Due;
+use crate::due::JournalLine;
 use crate::head::{check_count, check_title};
 use crate::journal_lines::{in_journal, read_budget, read_count, read_entry};
 use crate::journal_text::JournalText;
@@ -30,7 +30,7 @@ fn take_entry(
     left: u64,
     r: Row,
     entries: &mut Vec<Entry>,
-) -> Result<Due, Fault>
+) -> Result<JournalLine, Fault>
     ensures ok { IfOk result (λ next. entry_step graph.now budget left entries.old.items (row r.entry.line (fields_of r.entry.text.now)) ≡ Ok (state next entries.new.items)) }
     ensures err { IfErr result (λ e. FailsBy e.refusal e (entry_step graph.now budget left entries.old.items (row r.entry.line (fields_of r.entry.text.now)))) }
 {
@@ -39,7 +39,7 @@ fn take_entry(
     }
     let entry = read_entry(graph.arcs(), r)?;
     entries.push(entry)?;
-    Ok(Due::Entries {
+    Ok(JournalLine::Entries {
         budget,
         left: left - 1,
     })
@@ -47,43 +47,48 @@ fn take_entry(
 
 /// The line that is due; it answers which one is due next.
 #[tactic(auto, unfolding(crate::specs::JournalLines::step_at))]
-fn take_line(graph: &Graph, due: Due, r: Row, entries: &mut Vec<Entry>) -> Result<Due, Fault>
+fn take_line(
+    graph: &Graph,
+    due: JournalLine,
+    r: Row,
+    entries: &mut Vec<Entry>,
+) -> Result<JournalLine, Fault>
     ensures ok { IfOk result (λ next. step_at graph.now due entries.old.items (row r.entry.line (fields_of r.entry.text.now)) ≡ Ok (state next entries.new.items)) }
     ensures err { IfErr result (λ e. FailsBy e.refusal e (step_at graph.now due entries.old.items (row r.entry.line (fields_of r.entry.text.now)))) }
 {
     match due {
-        Due::Title => {
+        JournalLine::Title => {
             check_title(Source::Journal, b"PITJOURNAL", r)?;
-            Ok(Due::Blocks)
+            Ok(JournalLine::Blocks)
         }
-        Due::Blocks => {
+        JournalLine::Blocks => {
             check_count(Source::Journal, b"BLOCKS:", graph.n(), r)?;
-            Ok(Due::Arcs)
+            Ok(JournalLine::Arcs)
         }
-        Due::Arcs => {
+        JournalLine::Arcs => {
             check_count(Source::Journal, b"ARCS:", graph.arcs(), r)?;
-            Ok(Due::Budget)
+            Ok(JournalLine::Budget)
         }
-        Due::Budget => {
+        JournalLine::Budget => {
             let budget = read_budget(r)?;
-            Ok(Due::Count { budget })
+            Ok(JournalLine::Count { budget })
         }
-        Due::Count { budget } => {
+        JournalLine::Count { budget } => {
             let left = read_count(r)?;
-            Ok(Due::Entries { budget, left })
+            Ok(JournalLine::Entries { budget, left })
         }
-        Due::Entries { budget, left } => take_entry(graph, budget, left, r, entries),
+        JournalLine::Entries { budget, left } => take_entry(graph, budget, left, r, entries),
     }
 }
 
 /// The budget, where nothing is due any more, in a text of so many lines.
 #[tactic(auto, unfolding(crate::specs::JournalLines::end_at))]
-fn check_end(due: Due, count: u64) -> Result<Option<u64>, Fault>
+fn check_end(due: JournalLine, count: u64) -> Result<Option<u64>, Fault>
     requires { count < 2 ^ 63 }
     ensures { (entries : _) → Gives (λ budget. budget_and_entries budget entries) result (end_at count due entries) }
 {
     match due {
-        Due::Entries { budget, left: 0 } => Ok(budget),
+        JournalLine::Entries { budget, left: 0 } => Ok(budget),
         _ => Err(in_journal(Refusal::EndsEarly, count + 1)),
     }
 }
@@ -95,7 +100,7 @@ fn parse_lines(alloc: Global, text: &[u8], graph: &Graph) -> Result<JournalText,
 {
     let mut rows = Rows::new(text);
     let mut entries = Vec::new(alloc);
-    let mut due = Due::Title;
+    let mut due = JournalLine::Title;
     while let Some(row) = rows.next_row() {
         due = take_line(graph, due, row, &mut entries)?;
     }

@@ -8,7 +8,7 @@ ghost use Rattle.shells.specs.Prices.{deposit_of};
 use crate::columns::Columns;
 use crate::factors::Factors;
 use crate::outermost::{lifted, outermost_alone};
-use crate::plan::Plan;
+use crate::plan::ShellPlan;
 use crate::rising::rising_shells;
 use faults::Fault;
 use mine_graph::Graph;
@@ -30,7 +30,7 @@ pub fn shells_alone(
     if factors.len() == 0 {
         return Ok(Vec::new(alloc));
     }
-    let plan = Plan {
+    let plan = ShellPlan {
         columns,
         graph,
         factors,

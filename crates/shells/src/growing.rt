@@ -12,7 +12,7 @@ ghost use Rattle.shells.specs.Planned.{deposit_in, HasRows};
 ghost use Rattle.pit_model.specs.Size.{most_blocks};
 
 use crate::columns::Columns;
-use crate::plan::Plan;
+use crate::plan::ShellPlan;
 use faults::Fault;
 use mine_graph::{Graph, Instance, all_numbers, marked_numbers};
 use pit_model::Shell;
@@ -110,7 +110,7 @@ fn join(alloc: Global, graph: &Graph, growing: &mut Growing, found: &[u32]) -> R
 /// started (22).
 pub fn next_shell<G: Gate + Sync, R: Threads + Wait + Sync>(
     search: &Search<'_, R, G>,
-    plan: &Plan<'_>,
+    plan: &ShellPlan<'_>,
     k: usize,
     growing: &mut Growing,
 ) -> Result<Shell, Fault>
@@ -124,7 +124,7 @@ pub fn next_shell<G: Gate + Sync, R: Threads + Wait + Sync>(
     ensures refused { IfErr result (λ e. RefusesShells search.now.mode search.now.direction (deposit_in plan.now) plan.now.factors.now e.refusal e) }
 {
     let alloc = search.alloc;
-    let Plan {
+    let ShellPlan {
         columns,
         graph,
         factors,

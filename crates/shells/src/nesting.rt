@@ -10,7 +10,7 @@ use crate::columns::Columns;
 use crate::factors::Factors;
 use crate::growing::{next_shell, start};
 use crate::outermost::{is_free, lifted, outermost_shell};
-use crate::plan::Plan;
+use crate::plan::ShellPlan;
 use crate::rising::rising_shells;
 use faults::Fault;
 use mine_graph::Graph;
@@ -23,7 +23,7 @@ use std::thread::Threads;
 /// The shell of each factor, in their order.
 fn each_shell<G: Gate + Sync, R: Threads + Wait + Sync>(
     search: &Search<'_, R, G>,
-    plan: &Plan<'_>,
+    plan: &ShellPlan<'_>,
 ) -> Result<Vec<Shell>, Fault>
     requires { HasRows plan.now }
     ensures shells { IfOk result (λ list. AreShells search.now.direction (deposit_in plan.now) plan.now.factors.now list.items) }
@@ -49,7 +49,7 @@ fn each_shell<G: Gate + Sync, R: Threads + Wait + Sync>(
 /// alone.
 fn inner_shells<G: Gate + Sync, R: Threads + Wait + Sync>(
     search: &Search<'_, R, G>,
-    plan: &Plan<'_>,
+    plan: &ShellPlan<'_>,
 ) -> Result<Vec<Shell>, Fault>
     requires rows { HasRows plan.now }
     requires some { 0 < length plan.now.factors.now }
@@ -66,7 +66,7 @@ fn inner_shells<G: Gate + Sync, R: Threads + Wait + Sync>(
 /// The shell of each factor, found among the blocks of the last one. Refused for want of memory alone.
 fn shells_within<G: Gate + Sync, R: Threads + Wait + Sync>(
     search: &Search<'_, R, G>,
-    plan: &Plan<'_>,
+    plan: &ShellPlan<'_>,
 ) -> Result<Vec<Shell>, Fault>
     requires rows { HasRows plan.now }
     requires some { 0 < length plan.now.factors.now }
@@ -82,7 +82,7 @@ fn shells_within<G: Gate + Sync, R: Threads + Wait + Sync>(
 /// The shell of each factor, in their order, by the way that the mode allows.
 fn all_shells<G: Gate + Sync, R: Threads + Wait + Sync>(
     search: &Search<'_, R, G>,
-    plan: &Plan<'_>,
+    plan: &ShellPlan<'_>,
 ) -> Result<Vec<Shell>, Fault>
     requires { HasRows plan.now }
     ensures shells { IfOk result (λ list. AreShells search.now.direction (deposit_in plan.now) plan.now.factors.now list.items) }
@@ -118,7 +118,7 @@ pub fn shells<G: Gate + Sync, R: Threads + Wait + Sync>(
     ensures within { IfOk result (λ _. EachEndsWithin mode.now direction (deposit_of columns.now graph.now.value) factors.now) }
     ensures refused { IfErr result (λ e. RefusesShells mode.now direction (deposit_of columns.now graph.now.value) factors.now e.refusal e) }
 {
-    let plan = Plan {
+    let plan = ShellPlan {
         columns,
         graph,
         factors,

@@ -18,7 +18,7 @@ ghost use Rattle.pit_model.specs.Size.{most_blocks};
 use crate::columns::Columns;
 use crate::factors::Factors;
 use crate::growing::mark;
-use crate::plan::Plan;
+use crate::plan::ShellPlan;
 use crate::whole::{marks_of, mine_at};
 use faults::Fault;
 use mine_graph::{Fixed, Graph, Instance, marked_numbers};
@@ -57,12 +57,12 @@ fn opposite(alloc: Global, marks: &[bool]) -> Result<Vec<bool>, AllocError>
 
 impl Outermost {
     /// The part as the mine of a plan, with these factors.
-    pub fn plan<'a>(&'a self, factors: &'a Factors) -> Plan<'a>
+    pub fn plan<'a>(&'a self, factors: &'a Factors) -> ShellPlan<'a>
         ensures columns { result.columns.now ≡ self.now.columns }
         ensures graph { result.graph.now ≡ self.now.graph }
         ensures factors { result.factors.now ≡ factors.now }
     {
-        Plan {
+        ShellPlan {
             columns: &self.columns,
             graph: &self.graph,
             factors,
@@ -70,14 +70,14 @@ impl Outermost {
     }
 
     /// The pit that was found of a plan's mine at a factor, as a deposit of its own. Refused for want of memory alone.
-    fn of(alloc: Global, plan: &Plan<'_>, factor: u32, pit: &[u32]) -> Result<Outermost, Fault>
+    fn of(alloc: Global, plan: &ShellPlan<'_>, factor: u32, pit: &[u32]) -> Result<Outermost, Fault>
         requires rows { HasRows plan.now }
         requires pit { (direction : AnyDirection) × ListsPit direction (mine_at (deposit_in plan.now) factor) nothing pit.now }
         ensures is { IfOk result (λ o. (direction : AnyDirection) → ListsPit direction (mine_at (deposit_in plan.now) factor) nothing pit.now
             → IsOutermost direction plan.now.columns.now plan.now.graph.now.value factor o.blocks.items o.columns o.graph.value) }
         ensures refused { IfErr result (λ e. e ≡ no_memory) }
     {
-        let Plan { columns, graph, .. } = *plan;
+        let ShellPlan { columns, graph, .. } = *plan;
         columns.law();
         graph.law();
         let marks = marks_of(alloc, graph.n(), pit)?;
@@ -97,7 +97,7 @@ impl Outermost {
 /// The pit at a factor toward the search's direction, as a deposit of its own. Refused for want of memory alone.
 pub fn outermost_shell<G: Gate + Sync, R: Threads + Wait + Sync>(
     search: &Search<'_, R, G>,
-    plan: &Plan<'_>,
+    plan: &ShellPlan<'_>,
     factor: u32,
 ) -> Result<Outermost, Fault>
     requires rows { HasRows plan.now }
@@ -120,7 +120,7 @@ fn least_pit(alloc: Global, mine: Instance) -> Result<FoundPit, Fault>
 }
 
 /// The least pit at a factor by one thread, as a deposit of its own. Refused for want of memory alone.
-pub fn outermost_alone(alloc: Global, plan: &Plan<'_>, factor: u32) -> Result<Outermost, Fault>
+pub fn outermost_alone(alloc: Global, plan: &ShellPlan<'_>, factor: u32) -> Result<Outermost, Fault>
     requires rows { HasRows plan.now }
     requires factor { factor ≤ 100000 }
     ensures is { IfOk result (λ o. IsOutermost Least plan.now.columns.now plan.now.graph.now.value factor o.blocks.items o.columns o.graph.value) }
@@ -170,7 +170,7 @@ fn lift_all(
 /// The shells of a plan, by those among the blocks of its outermost one. Refused for want of memory alone.
 pub fn lifted(
     alloc: Global,
-    plan: &Plan<'_>,
+    plan: &ShellPlan<'_>,
     outer: &Outermost,
     inner: &[Shell],
 ) -> Result<Vec<Shell>, Fault>

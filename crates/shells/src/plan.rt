@@ -9,13 +9,13 @@ use std::sync::Arc;
 
 /// A mine with the revenues and the costs of its blocks, and the factors at which its shells are wanted.
 #[derive(Clone, Copy)]
-pub struct Plan<'a> {
+pub struct ShellPlan<'a> {
     pub columns: &'a Columns,
     pub graph: &'a Arc<Graph>,
     pub factors: &'a Factors,
 }
 
-impl Plan<'_> {
+impl ShellPlan<'_> {
     /// The greatest factor, in per mille.
     pub fn last_factor(&self) -> u32
         requires { 0 < length self.now.factors.now }

@@ -13,7 +13,7 @@ ghost use Rattle.shells.specs.Risen.{IsHeld, IsRisen, IsSolvedAt};
 ghost use Rattle.shells.specs.Planned.{deposit_in, HasRows};
 
 use crate::columns::Columns;
-use crate::plan::Plan;
+use crate::plan::ShellPlan;
 use crate::whole::{marks_of, mine_at};
 use faults::Fault;
 use merging::RisingMine;
@@ -82,7 +82,7 @@ fn solve(
 }
 
 /// The shell of the first factor, and the mine in which it was found.
-fn first_shell(alloc: Global, plan: &Plan<'_>) -> Result<(Risen, Shell), Fault>
+fn first_shell(alloc: Global, plan: &ShellPlan<'_>) -> Result<(Risen, Shell), Fault>
     requires rows { HasRows plan.now }
     requires some { 0 < length plan.now.factors.now }
     ensures held { IfOk result (λ r. IsHeld (deposit_in plan.now) (factor_of plan.now.factors.now 0) r.0.marks.items r.0.mine) }
@@ -100,7 +100,7 @@ fn first_shell(alloc: Global, plan: &Plan<'_>) -> Result<(Risen, Shell), Fault>
 /// The shell of the factor after that with a number, by the mine in which the shell of the latter was found.
 fn next_shell(
     alloc: Global,
-    plan: &Plan<'_>,
+    plan: &ShellPlan<'_>,
     k: usize,
     risen: Risen,
 ) -> Result<(Risen, Shell), Fault>
@@ -122,7 +122,7 @@ fn next_shell(
 }
 
 /// The least shell of each factor, in their order, by one thread. Refused for want of memory alone.
-pub fn rising_shells(alloc: Global, plan: &Plan<'_>) -> Result<Vec<Shell>, Fault>
+pub fn rising_shells(alloc: Global, plan: &ShellPlan<'_>) -> Result<Vec<Shell>, Fault>
     requires rows { HasRows plan.now }
     requires some { 0 < length plan.now.factors.now }
     ensures shells { IfOk result (λ list. AreShells Least (deposit_in plan.now) plan.now.factors.now list.items) }

@@ -1,7 +1,7 @@
 -- Cells of the book: the word stands in cell 0, and a cell that is at home stays there.
 use Rattle.std.proofs.Common.{◌≡◌, ℕ, zero, suc, ◌<◌, true, false, List, [], ◌∷◌, ◌++◌, length, slice_set, refl, arith}
 use Rattle.logbook.specs.Pages.{Cell, cell}
-use Rattle.versions.specs.declared.link.Link.{Link}
+use Rattle.versions.specs.declared.link.ArcLink.{ArcLink}
 use Rattle.versions.specs.ArcList.{IsHome, AreUsedAfter, last_after}
 
 pub home_set : (cells : List Cell) (j k n : ℕ) → IsHome cells j → IsHome (slice_set cells k (n, true)) j
@@ -46,18 +46,18 @@ pub some_more : (cells : List Cell) (new : Cell) → 0 < length (cells ++ new �
 some_more [] new = omega arith
 some_more (c ∷ cs) new = omega arith
 
-pub used_where : (cells next : List Cell) → ((j : ℕ) → IsHome cells j → IsHome next j) → (x : Link) (xs : List Link) → AreUsedAfter cells x xs → AreUsedAfter next x xs
+pub used_where : (cells next : List Cell) → ((j : ℕ) → IsHome cells j → IsHome next j) → (x : ArcLink) (xs : List ArcLink) → AreUsedAfter cells x xs → AreUsedAfter next x xs
 used_where cells next to x [] used = tt
 used_where cells next to x (y ∷ ys) used = (to x.next used.0, used_where cells next to y ys used.1)
 
 pub used-snoc :
-    (cells : List Cell) (x : Link) (xs : List Link) (new : Link) → AreUsedAfter cells x xs → IsHome cells (last_after x xs).next
+    (cells : List Cell) (x : ArcLink) (xs : List ArcLink) (new : ArcLink) → AreUsedAfter cells x xs → IsHome cells (last_after x xs).next
     → AreUsedAfter cells x (xs ++ new ∷ [])
 used-snoc cells x [] new used home = (home, tt)
 used-snoc cells x (y ∷ ys) new used home = (used.0, used-snoc cells y ys new used.1 home)
 
 -- where the last link's cell is away, the list goes no further
-pub ends_here : (cells : List Cell) (x : Link) (xs rest : List Link) → AreUsedAfter cells x (xs ++ rest) → (cell cells (last_after x xs).next).1 ≡ false → rest ≡ []
+pub ends_here : (cells : List Cell) (x : ArcLink) (xs rest : List ArcLink) → AreUsedAfter cells x (xs ++ rest) → (cell cells (last_after x xs).next).1 ≡ false → rest ≡ []
 ends_here cells x [] [] used away = refl
 ends_here cells x [] (r ∷ rest) used away = absurd (cc (used.0, away))
 ends_here cells x (y ∷ ys) rest used away = ends_here cells y ys rest used.1 away

@@ -3,7 +3,7 @@ use Rattle.std.proofs.Common.{◌≡◌, ℕ, ◌+◌, Bool, true, false, List, 
 use Rattle.std.specs.Prelude.{◌==◌, ◌&&◌}
 use Rattle.std.proofs.lemmas.Bool.{eq-eqb, ne_eqb}
 use mathlib.Core.List.{IsPrefix}
-use Rattle.versions.specs.declared.link.Link.{Link}
+use Rattle.versions.specs.declared.link.ArcLink.{ArcLink}
 use Rattle.versions.specs.ArcList.{arcs_of, last_of, last_after}
 use Rattle.versions.specs.Published.{last_arc, last_arc_after, are_same}
 
@@ -37,12 +37,12 @@ last_arc_after-snoc x (y ∷ ys) arc = last_arc_after-snoc y ys arc
 pub last_arc-snoc : (xs : List ℕ) (arc : ℕ) → last_arc (xs ++ arc ∷ []) ≡ arc
 last_arc-snoc xs arc = last_arc_after-snoc 0 xs arc
 
-last_after_arcs : (x : Link) (xs : List Link) → last_arc_after x.arc (map (λ (y : Link). y.arc) xs) ≡ (last_after x xs).arc
+last_after_arcs : (x : ArcLink) (xs : List ArcLink) → last_arc_after x.arc (map (λ (y : ArcLink). y.arc) xs) ≡ (last_after x xs).arc
 last_after_arcs x [] = refl
 last_after_arcs x (y ∷ ys) = last_after_arcs y ys
 
 -- the last arc is that of the last link
-pub last_of_arcs : (links : List Link) (n : ℕ) → length links ≡ n + 2 → last_arc (arcs_of links) ≡ (last_of links).arc
+pub last_of_arcs : (links : List ArcLink) (n : ℕ) → length links ≡ n + 2 → last_arc (arcs_of links) ≡ (last_of links).arc
 last_of_arcs [] n h = absurd (omega (arith, h))
 last_of_arcs (x ∷ []) n h = absurd (omega (arith, h))
 last_of_arcs (x ∷ y ∷ ys) n h = last_after_arcs y ys

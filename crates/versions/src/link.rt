@@ -2,14 +2,14 @@
 
 /// An arc, and the cell of the book that the next link will use.
 #[derive(Clone, Copy)]
-pub struct Link {
+pub struct ArcLink {
     pub arc: u32,
     pub next: u64,
 }
 
-impl Link {
+impl ArcLink {
     /// What a step that adds no link is handed.
-    pub(crate) fn blank() -> Link {
-        Link { arc: 0, next: 0 }
+    pub(crate) fn blank() -> ArcLink {
+        ArcLink { arc: 0, next: 0 }
     }
 }

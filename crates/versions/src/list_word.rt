@@ -2,7 +2,7 @@
 ghost use Rattle.std.specs.Prelude.{◌≡◌};
 ghost use Rattle.versions.specs.ArcList.{head_of};
 
-use crate::link::Link;
+use crate::link::ArcLink;
 use crate::list_id::ListId;
 use crate::steps::ListRule;
 use logbook::Word;
@@ -17,7 +17,7 @@ pub(crate) const MOST: u64 = 1 << 36;
 /// The word, of the id's book.
 #[derive(Drop)]
 pub struct ListWord<V: ListId> {
-    pub(crate) word: Word<Link, u64, ListRule>,
+    pub(crate) word: Word<ArcLink, u64, ListRule>,
     pub(crate) id: PhantomData<V>,
     ghost head_is: { word ≡ head_of V.book },
 }

@@ -6,7 +6,7 @@ ghost use Rattle.logbook.specs.Pages.{nib, may_write};
 ghost use Rattle.faults.specs.Refused.{no_memory, no_seat};
 ghost use Rattle.versions.specs.ArcList.{link, head_of};
 
-use crate::link::Link;
+use crate::link::ArcLink;
 use crate::list_id::ListId;
 use crate::list_word::{ListWord, UNIT};
 use crate::prefix::Prefix;
@@ -20,8 +20,8 @@ use std::sync::Arc;
 /// A list without an arc, of a book that no type names yet. To a contract it is that book.
 #[derive(Drop)]
 pub struct UnnamedList {
-    word: Word<Link, u64, ListRule>,
-    seen: Seen<Link, u64, ListRule>,
+    word: Word<ArcLink, u64, ListRule>,
+    seen: Seen<ArcLink, u64, ListRule>,
     pen: Pen,
 }
 
@@ -46,9 +46,11 @@ impl UnnamedList {
     {
         let (mut seen, mut first, _second) = Seen::open(Start::alone(), 0, 0);
         let word = Word::tracked(0, &mut first);
-        let mut offer: Offer<Link, u64, ListRule, Nothing> = seen.plain::<Nothing, Link, Look>(
-            &Link::blank(),
-        );
+        let mut offer: Offer<ArcLink, u64, ListRule, Nothing> = seen.plain::<
+            Nothing,
+            ArcLink,
+            Look,
+        >(&ArcLink::blank());
         let mut pen = seen.no_pen();
         let found = word.compare_exchange::<Begin, Nothing>(
             0, UNIT, &mut seen, &mut offer, &mut pen,
@@ -56,7 +58,7 @@ impl UnnamedList {
         if found != 0 {
             return Err(Fault::no_seat());
         }
-        let _cell: Word<Link, u64, ListRule> = Word::tracked(0, &mut pen);
+        let _cell: Word<ArcLink, u64, ListRule> = Word::tracked(0, &mut pen);
         Ok(UnnamedList { word, seen, pen })
     }
 }
@@ -67,7 +69,7 @@ pub struct ListWriter<V: ListId> {
     list_word: Arc<ListWord<V>, Global>,
     count: u64,
     last: u32,
-    seen: Seen<Link, u64, ListRule>,
+    seen: Seen<ArcLink, u64, ListRule>,
     pen: Pen,
 }
 
@@ -137,9 +139,11 @@ impl<V: ListId> ListWriter<V> {
     {
         let mut seen = self.seen.again();
         seen.learn(&other.seen);
-        let mut offer: Offer<Link, u64, ListRule, Nothing> = seen.plain::<Nothing, Link, Look>(
-            &Link::blank(),
-        );
+        let mut offer: Offer<ArcLink, u64, ListRule, Nothing> = seen.plain::<
+            Nothing,
+            ArcLink,
+            Look,
+        >(&ArcLink::blank());
         let word = &self.list_word.word;
         word.compare_exchange::<Confirm, Nothing>(0, 0, &mut seen, &mut offer, &mut self.pen);
     }
@@ -150,12 +154,14 @@ impl<V: ListId> ListWriter<V> {
     {
         let mut pen = self.seen.no_pen();
         let mut seen = self.seen.again();
-        let mut offer: Offer<Link, u64, ListRule, Nothing> = seen.plain::<Nothing, Link, Look>(
-            &Link::blank(),
-        );
+        let mut offer: Offer<ArcLink, u64, ListRule, Nothing> = seen.plain::<
+            Nothing,
+            ArcLink,
+            Look,
+        >(&ArcLink::blank());
         let word = &self.list_word.word;
         word.compare_exchange::<Widen, Nothing>(0, 0, &mut seen, &mut offer, &mut pen);
-        let _cell: Word<Link, u64, ListRule> = Word::tracked(0, &mut pen);
+        let _cell: Word<ArcLink, u64, ListRule> = Word::tracked(0, &mut pen);
         pen
     }
 
@@ -169,7 +175,7 @@ impl<V: ListId> ListWriter<V> {
             arc,
             pen: self.widen(),
         };
-        let mut offer: Offer<Link, u64, ListRule, Nothing> = self
+        let mut offer: Offer<ArcLink, u64, ListRule, Nothing> = self
             .seen
             .plain::<Nothing, NextLink, Write>(&next);
         let old = (self.count + 1) * UNIT + u64::from(self.last);

@@ -4,7 +4,7 @@ ghost use Rattle.std.specs.Prelude.{◌≡◌, [], ◌∷◌, ◌++◌, IsTrue, 
 ghost use mathlib.Core.List.{IsPrefix};
 ghost use Rattle.versions.specs.Published.{are_same};
 
-use crate::link::Link;
+use crate::link::ArcLink;
 use crate::list_id::ListId;
 use crate::list_word::{ListWord, MOST, UNIT};
 use crate::steps::{ListRule, Look, Nothing};
@@ -16,7 +16,7 @@ use std::marker::{Model, PhantomData};
 pub struct Prefix<V: ListId> {
     pub(crate) count: u64,
     pub(crate) last: u32,
-    pub(crate) seen: Seen<Link, u64, ListRule>,
+    pub(crate) seen: Seen<ArcLink, u64, ListRule>,
     pub(crate) id: PhantomData<V>,
 }
 
@@ -93,9 +93,11 @@ impl<V: ListId> Prefix<V> {
             return None;
         }
         let mut seen = self.seen.again();
-        let mut offer: Offer<Link, u64, ListRule, Nothing> = seen.plain::<Nothing, Link, Look>(
-            &Link::blank(),
-        );
+        let mut offer: Offer<ArcLink, u64, ListRule, Nothing> = seen.plain::<
+            Nothing,
+            ArcLink,
+            Look,
+        >(&ArcLink::blank());
         let found = list_word.word.load::<Look, Nothing>(&mut seen, &mut offer);
         if found != (self.count + 2) * UNIT + u64::from(arc) {
             return None;

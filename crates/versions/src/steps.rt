@@ -1,11 +1,11 @@
 //! The rule of the list's book, and the kinds of step that its word makes (`specs/ArcList`).
-use crate::link::Link;
+use crate::link::ArcLink;
 use logbook::{Gain, Pen, Plain, Play, Rule};
 
 /// What holds of the word and the list between any two steps.
 pub struct ListRule;
 
-impl Rule<Link, u64> for ListRule {
+impl Rule<ArcLink, u64> for ListRule {
     ghost use Rattle.std.specs.Prelude.{[]};
     ghost use base.Fml.{ftrue};
     ghost use Rattle.versions.specs.ArcList.{IsList};
@@ -26,7 +26,7 @@ impl Rule<Link, u64> for ListRule {
 /// A step trades nothing with its caller.
 pub struct Nothing;
 
-impl Gain<Link, u64> for Nothing {
+impl Gain<ArcLink, u64> for Nothing {
     ghost use base.Fml.{ftrue};
 
     ghost after = { λ names about answer. ftrue };
@@ -35,13 +35,13 @@ impl Gain<Link, u64> for Nothing {
 /// A look at the word.
 pub struct Look;
 
-impl Play<Link, u64> for Look {
+impl Play<ArcLink, u64> for Look {
     ghost use Rattle.versions.specs.ArcList.{Looks};
 
     ghost then = { Looks };
 }
 
-impl Plain<Link, Link, u64> for Look {
+impl Plain<ArcLink, ArcLink, u64> for Look {
     ghost use Rattle.std.specs.Prelude.{None};
 
     ghost ask = { λ link. link };
@@ -52,7 +52,7 @@ impl Plain<Link, Link, u64> for Look {
 /// The opening of an empty list.
 pub struct Begin;
 
-impl Play<Link, u64> for Begin {
+impl Play<ArcLink, u64> for Begin {
     ghost use Rattle.versions.specs.ArcList.{Begins};
 
     ghost then = { Begins };
@@ -61,7 +61,7 @@ impl Play<Link, u64> for Begin {
 /// A new cell.
 pub struct Widen;
 
-impl Play<Link, u64> for Widen {
+impl Play<ArcLink, u64> for Widen {
     ghost use Rattle.versions.specs.ArcList.{Widens};
 
     ghost then = { Widens };
@@ -70,7 +70,7 @@ impl Play<Link, u64> for Widen {
 /// The writer's look at a list that it knows whole.
 pub struct Confirm;
 
-impl Play<Link, u64> for Confirm {
+impl Play<ArcLink, u64> for Confirm {
     ghost use Rattle.versions.specs.ArcList.{Confirms};
 
     ghost then = { Confirms };
@@ -85,13 +85,13 @@ pub struct NextLink {
 /// One link more.
 pub struct Write;
 
-impl Play<Link, u64> for Write {
+impl Play<ArcLink, u64> for Write {
     ghost use Rattle.versions.specs.ArcList.{Writes};
 
     ghost then = { Writes };
 }
 
-impl Plain<NextLink, Link, u64> for Write {
+impl Plain<NextLink, ArcLink, u64> for Write {
     ghost use Rattle.std.specs.Prelude.{None};
     ghost use Rattle.versions.specs.ArcList.{link};
 

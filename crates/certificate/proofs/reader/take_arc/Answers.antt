@@ -5,7 +5,7 @@ use Rattle.std.proofs.lemmas.Int.{to_z_pos}
 use Rattle.std.proofs.lemmas.Result.{err_from_is_err_and}
 use Rattle.minelib_reader.specs.Text.{row, fields_of}
 use Rattle.minelib_reader.proofs.AnswerLemmas.{fails_map}
-use Rattle.certificate.specs.declared.due.Due.TheVariants.{Arc}
+use Rattle.certificate.specs.declared.due.CertificateLine.TheVariants.{Arc}
 use Rattle.certificate.specs.CertificateLines.{arc_line, arc_step, state}
 use mir.Val.{to_z}
 use mir.Syntax.{w128}

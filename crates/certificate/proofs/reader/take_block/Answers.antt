@@ -4,7 +4,7 @@ use Rattle.std.specs.Prelude.{codes}
 use Rattle.std.proofs.lemmas.Result.{err_from_is_err_and}
 use Rattle.minelib_reader.specs.Text.{row, fields_of}
 use Rattle.minelib_reader.proofs.AnswerLemmas.{fails_map}
-use Rattle.certificate.specs.declared.due.Due.TheVariants.{Block}
+use Rattle.certificate.specs.declared.due.CertificateLine.TheVariants.{Block}
 use Rattle.certificate.specs.CertificateLines.{count_line, id_line, block_step, state}
 use Rattle.certificate.proofs.Steps.{last_block, last_block_fails, next_block, next_block_fails}
 use Rattle.certificate.proofs.reader.take_block.Goals as goal

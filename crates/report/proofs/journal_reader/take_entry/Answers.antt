@@ -4,7 +4,7 @@ use Rattle.std.proofs.lemmas.Result.{err_from_is_err_and}
 use Rattle.minelib_reader.specs.Text.{row, fields_of}
 use Rattle.minelib_reader.proofs.AnswerLemmas.{fails_map}
 use Rattle.pit_model.specs.declared.journal.Entry.{Entry}
-use Rattle.report.specs.declared.due.Due.TheVariants.{Entries}
+use Rattle.report.specs.declared.due.JournalLine.TheVariants.{Entries}
 use Rattle.report.specs.JournalLines.{decision_line, entry_step, state}
 use Rattle.report.proofs.JournalRead.{no_entry, next_entry, next_entry_fails}
 use Rattle.report.proofs.journal_reader.take_entry.Goals as goal

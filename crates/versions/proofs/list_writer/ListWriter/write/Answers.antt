@@ -1,6 +1,6 @@
 use Rattle.std.proofs.Common.{◌≡◌, ◌+◌, ◌*◌, ◌++◌, ◌∷◌, [], ap, sym, ◌∙◌, arith, length, length-append}
 use Rattle.logbook.specs.Pages.{Nib}
-use Rattle.versions.specs.declared.link.Link.{Link}
+use Rattle.versions.specs.declared.link.ArcLink.{ArcLink}
 use Rattle.versions.specs.ArcList.{link, last_of}
 use Rattle.versions.proofs.Lists.{last_of-snoc}
 use Rattle.versions.proofs.StepLaws.{writes}
@@ -26,13 +26,13 @@ invariant_of-self g c =
     let i = c.self.invariant in
     let links = c.self.inside.seen.log in
     let done = c.compare_exchange-self-inside in
-    let new : Link = link c.args.arc c.widen.result.nib.key in
-    let now : done.new.seen.log ≡ links ++ new ∷ [] = done.ensures.7 ∙ ap (λ (l : Link). links ++ l ∷ []) c.plain-offer.ensures.1 in
+    let new : ArcLink = link c.args.arc c.widen.result.nib.key in
+    let now : done.new.seen.log ≡ links ++ new ∷ [] = done.ensures.7 ∙ ap (λ (l : ArcLink). links ++ l ∷ []) c.plain-offer.ensures.1 in
     let last : last_of done.new.seen.log ≡ new = ap last_of now ∙ last_of-snoc links new in (
       done.ensures.0 ∙ i.0,
       omega (arith, i.1, ap length now, length-append links (new ∷ [])),
-      ap (λ (l : Link). l.arc) last,
+      ap (λ (l : ArcLink). l.arc) last,
       c.widen.ensures.0,
       ap (λ (n : Nib). n.right) c.widen.ensures.1,
-      sym (ap (λ (l : Link). l.next) last),
+      sym (ap (λ (l : ArcLink). l.next) last),
     )
