@@ -1,7 +1,6 @@
 -- What the lowest-label order keeps in range; no definition of the problem or the method stands on it.
 use Rattle.std.specs.Prelude.{◌≡◌, ℕ, ◌+◌, ◌<◌, ◌≤◌, List, length, get_or, Option, Some, None}
 use Rattle.pit_model.specs.Size.{most_blocks}
-use Rattle.merging.specs.declared.distances.Distances.{Distances}
 
 -- each block that a list names is below a bound
 abbrev pub AreSome : List (Option ℕ) → ℕ → Type 0
@@ -18,15 +17,6 @@ pub record AreWaiting (first last next : List (Option ℕ)) : Type 0 where
 -- each of the numbers is below a bound
 abbrev pub AreBelow : List ℕ → ℕ → Type 0
 AreBelow xs bound = (i : ℕ) → i < length xs → get_or xs i 0 < bound
-
--- for each of n blocks a distance below n + 2, and a place in the queue of those whose distance is known
-pub record AreMeasured (n : ℕ) (d : Distances) : Type 0 where
-  pub few : n ≤ most_blocks
-  pub distance_count : length d.of_blocks.items ≡ n
-  pub queue_room : length d.queue.items ≡ n
-  pub known_few : d.known ≤ n
-  pub distances_in_range : AreBelow d.of_blocks.items (n + 2)
-  pub queue_in_range : AreBelow d.queue.items n
 
 -- for each block a label below n + 2, an arc to go on from, and room in the list of a branch
 pub record AreOrdered (n : ℕ) (labels arcs counts branch : List ℕ) (found : ℕ) : Type 0 where

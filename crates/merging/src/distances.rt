@@ -1,104 +1,80 @@
 //! How far each block is from a weak one while every block is a root: the least number of pairs that lead there from a strong
-//! block, and 0 for a weak one. A flood from the weak blocks to those that need them meets the near blocks first.
+//! block, and 0 for a weak one.
 //!
-//! Distances are a hint and prove nothing.
+//! A strong block is one pair farther than the nearest block that it needs. Two passes over the strong blocks, along their numbers
+//! and back, make that so wherever blocks are numbered from the top of a mine down, or up; in any other order a distance may be too
+//! small, and no pair leads to a block that is nearer by more than one. Distances are a hint and prove nothing.
 ghost use Rattle.std.specs.Prelude.{◌≡◌, ◌<◌, ◌≤◌, ◌+◌, length, IfOk};
-ghost use Rattle.std.specs.List.{All};
-ghost use Rattle.pit_model.specs.Size.{most_blocks};
-ghost use Rattle.merging.specs.Order.{AreMeasured};
+ghost use Rattle.merging.specs.Order.{AreBelow};
 
 use mine_graph::Graph;
 use norm_tree::BareTree;
 use std::alloc::{AllocError, Global};
+use std::ops::Range;
 
-/// The distance of each block, blocks + 1 where none is known, and the blocks whose distance is known, near ones first.
-#[derive(Drop)]
-pub struct Distances {
-    pub of_blocks: Vec<u32>,
-    pub queue: Vec<u32>,
-    known: usize,
+/// The least distance of the blocks that are needed by the pairs of a row, and `most` where there are none.
+fn nearest(graph: &Graph, distances: &[u32], row: Range<u32>, most: u32) -> u32
+    requires blocks { length distances.now ≡ graph.now.blocks }
+    requires inside { row.end ≤ length graph.now.pairs }
+    ensures { result ≤ most }
+{
+    graph.law();
+    let mut least = most;
+    for arc in row.start..row.end {
+        let distance = distances[graph.arc(arc).1 as usize];
+        if distance == 0 {
+            return 0;
+        }
+        least = least.min(distance);
+    }
+    least
 }
 
-impl Distances {
-    /// No distance is known yet.
-    fn unknown(alloc: Global, blocks: u32) -> Result<Distances, AllocError>
-        requires { blocks ≤ most_blocks }
-        ensures { IfOk result (AreMeasured blocks) }
-    {
-        let n = blocks as usize;
-        Ok(Distances {
-            of_blocks: vec![in alloc; blocks + 1; n]?,
-            queue: vec![in alloc; 0; n]?,
-            known: 0,
-        })
+/// Puts a strong block one pair farther than the nearest that it needs, where it is nearer than that.
+fn move_away(graph: &Graph, distances: &mut [u32], block: u32)
+    requires blocks { length distances.old ≡ graph.now.blocks }
+    requires block { block < graph.now.blocks }
+    requires below { AreBelow distances.old (graph.now.blocks + 2) }
+    ensures blocks { length distances.new ≡ graph.now.blocks }
+    ensures below { AreBelow distances.new (graph.now.blocks + 2) }
+{
+    graph.law();
+    let distance = distances[block as usize];
+    if distance > 0 {
+        let least = nearest(graph, distances, graph.arcs_of(block), graph.n());
+        distances[block as usize] = distance.max(least + 1);
     }
+}
 
-    /// Notes the distance of a block, where none is known yet.
-    fn note(&mut self, block: u32, distance: u32)
-        requires measured { AreMeasured (length self.old.queue.items) self.old }
-        requires block { block < length self.old.queue.items }
-        ensures blocks { length self.new.queue.items ≡ length self.old.queue.items }
-        ensures measured { AreMeasured (length self.old.queue.items) self.new }
-    {
-        let blocks = self.queue.len();
-        if self.of_blocks[block as usize] as usize <= blocks || self.known == blocks {
-            return;
-        }
-        self.of_blocks[block as usize] = distance.min(blocks as u32);
-        self.queue[self.known] = block;
-        self.known += 1;
-    }
-
-    /// Notes that the blocks which are no strong roots are at distance 0.
-    fn note_weak(&mut self, tree: &BareTree)
-        requires measured { AreMeasured tree.now.mine.blocks self.old }
-        ensures measured { AreMeasured tree.now.mine.blocks self.new }
-    {
-        tree.law();
-        for block in 0..tree.forest().blocks() {
-            if tree.parent(block).is_some() || tree.excess(block) <= 0 {
-                self.note(block, 0);
-            }
+/// 1 for each strong block, and 0 for each other one.
+fn strong_or_not(alloc: Global, tree: &BareTree) -> Result<Vec<u32>, AllocError>
+    ensures blocks { IfOk result (λ v. length v.items ≡ tree.now.mine.blocks) }
+    ensures below { IfOk result (λ v. AreBelow v.items (tree.now.mine.blocks + 2)) }
+{
+    tree.law();
+    let blocks = tree.instance().graph().n();
+    let mut distances = vec![in alloc; 0; blocks as usize]?;
+    for block in 0..blocks {
+        if tree.parent(block).is_none() && tree.excess(block) > 0 {
+            distances[block as usize] = 1;
         }
     }
+    Ok(distances)
+}
 
-    /// Notes that the blocks which need others, by the numbers of their pairs, are so far away.
-    fn note_users(&mut self, graph: &Graph, users: &[u32], distance: u32)
-        requires measured { AreMeasured graph.now.blocks self.old }
-        requires inside { All (λ k. k < length graph.now.pairs) users.now }
-        ensures measured { AreMeasured graph.now.blocks self.new }
-    {
-        graph.law();
-        for &arc in users {
-            self.note(graph.arc(arc).0, distance);
-        }
+/// The distances at a tree in which every block is a root; blocks + 1 where no weak block can be reached.
+pub fn distances_of(alloc: Global, tree: &BareTree) -> Result<Vec<u32>, AllocError>
+    ensures blocks { IfOk result (λ v. length v.items ≡ tree.now.mine.blocks) }
+    ensures below { IfOk result (λ v. AreBelow v.items (tree.now.mine.blocks + 2)) }
+{
+    tree.law();
+    let graph: &Graph = tree.instance().graph();
+    let mut distances = strong_or_not(alloc, tree)?;
+    for block in 0..graph.n() {
+        move_away(graph, &mut distances, block);
     }
-
-    /// Notes that the blocks which need this one are one pair farther than it.
-    fn note_next(&mut self, graph: &Graph, block: u32)
-        requires measured { AreMeasured graph.now.blocks self.old }
-        requires block { block < graph.now.blocks }
-        ensures measured { AreMeasured graph.now.blocks self.new }
-    {
-        let farther = self.of_blocks[block as usize] + 1;
-        self.note_users(graph, graph.users(block), farther);
+    for passed in 0..graph.n() {
+        move_away(graph, &mut distances, graph.n() - 1 - passed);
     }
-
-    /// The distances at a tree in which every block is a root.
-    pub fn of(alloc: Global, tree: &BareTree) -> Result<Distances, AllocError>
-        ensures { IfOk result (AreMeasured tree.now.mine.blocks) }
-    {
-        tree.law();
-        let graph = tree.instance().graph();
-        let mut distances = Distances::unknown(alloc, graph.n())?;
-        distances.note_weak(tree);
-        for place in 0..graph.n() as usize {
-            if place == distances.known {
-                break;
-            }
-            let block = distances.queue[place];
-            distances.note_next(graph, block);
-        }
-        Ok(distances)
-    }
+    Ok(distances)
 }

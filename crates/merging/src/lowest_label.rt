@@ -11,7 +11,7 @@ ghost use Rattle.faults.specs.Refused.{no_memory};
 ghost use Rattle.forest.specs.Forest.{size};
 ghost use Rattle.merging.specs.Order.{AreBelow};
 
-use crate::distances::Distances;
+use crate::distances::distances_of;
 use crate::label_buckets::LabelBuckets;
 use faults::Fault;
 use forest::Forest;
@@ -136,12 +136,12 @@ impl LowestLabel {
     {
         tree.law();
         let graph = tree.instance().graph();
-        let distances = Distances::of(alloc, tree)?;
+        let labels = distances_of(alloc, tree)?;
         Ok(LowestLabel {
             arcs: first_arcs(alloc, graph)?,
-            counts: counts_of(alloc, &distances.of_blocks)?,
-            labels: distances.of_blocks,
-            branch: distances.queue,
+            counts: counts_of(alloc, &labels)?,
+            labels,
+            branch: vec![in alloc; 0; graph.n() as usize]?,
             found: 0,
             waiting: LabelBuckets::new(alloc, graph.n())?,
         })
