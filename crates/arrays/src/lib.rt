@@ -22,6 +22,6 @@ pub use cycle::find_cycle;
 pub use mine::{arrays_spell_one_mine, mine_of};
 pub use nested::{DepositArrays, mark_shells};
 pub use parts::{Parts, have_room, numbers_of, parts_of, write_parts};
-pub use pit::mark_pit;
+pub use pit::{MineArrays, mark_pit};
 pub use rows::Rows;
 pub use unsound::Unsound;

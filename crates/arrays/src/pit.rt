@@ -15,6 +15,15 @@ use mine_graph::Instance;
 use solver::{FoundPit, find_pit_alone};
 use std::alloc::Global;
 
+/// The value of each block in millionths, and which blocks each needs; and of each block, or of none at all, a number that says whether
+/// it is fixed.
+#[derive(Clone, Copy)]
+pub struct MineArrays<'a> {
+    pub values: &'a [i64],
+    pub rows: Rows<'a>,
+    pub numbers: &'a [u8],
+}
+
 /// The pit of a mine with the blocks that the numbers fix: the smallest of the best sets, or the greatest.
 fn pit_of(
     alloc: Global,
@@ -42,23 +51,26 @@ fn pit_of(
 /// some (17); by a number above 2 (3); and where a barred block must be dug (21). The marks are then as they were.
 pub fn mark_pit(
     alloc: Global,
-    values: &[i64],
-    rows: &Rows<'_>,
-    numbers: &[u8],
+    arrays: &MineArrays<'_>,
     greatest: bool,
     marks: &mut [u8],
 ) -> Result<i128, Unsound>
-    ensures marked { IfOk result (MarkPit values.now rows.now.starts.now rows.now.needs.now numbers.now greatest marks.new) }
-    ensures refused { IfErr result (λ e. RefusesSolve (length values.now) rows.now.starts.now rows.now.needs.now numbers.now marks.old e.refusal e.place) }
+    ensures marked { IfOk result (MarkPit arrays.now.values.now arrays.now.rows.starts.now arrays.now.rows.needs.now arrays.now.numbers.now greatest marks.new) }
+    ensures refused { IfErr result (λ e. RefusesSolve (length arrays.now.values.now) arrays.now.rows.starts.now arrays.now.rows.needs.now arrays.now.numbers.now marks.old e.refusal e.place) }
     ensures kept { IfErr result (λ _. marks.new ≡ marks.old) }
 {
+    let MineArrays {
+        values,
+        rows,
+        numbers,
+    } = *arrays;
     if marks.len() != values.len() || (numbers.len() != 0 && numbers.len() != values.len()) {
         return Err(Unsound {
             refusal: Refusal::CountsDiffer,
             place: 0,
         });
     }
-    let mine = mine_of(alloc, values, rows)?;
+    let mine = mine_of(alloc, values, &rows)?;
     mine.law();
     if let Some(place) = first_above(numbers, 2) {
         return Err(Unsound {

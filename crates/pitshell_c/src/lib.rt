@@ -14,7 +14,7 @@ ghost use Rattle.arrays.specs.Solved.{MarkPit};
 ghost use Rattle.arrays.specs.Spelled.{priced_rows};
 
 use arrays::{
-    Certified, DepositArrays, Parts, Rows, Unsound, check_marks, find_cycle, have_room,
+    Certified, DepositArrays, MineArrays, Parts, Rows, Unsound, check_marks, find_cycle, have_room,
     mark_certified, mark_pit, mark_shells, numbers_of, parts_of, write_parts,
 };
 use faults::Refusal;
@@ -73,8 +73,12 @@ pub extern "C" fn pitshell_solve(
     ensures refused { result ≢ 0 → IsRefusedBy (length values.now) starts.now needs.now numbers.now marks.old result found.new.place }
     ensures kept { result ≢ 0 → marks.new ≡ marks.old }
 {
-    let rows = Rows { starts, needs };
-    match mark_pit(alloc, values, &rows, numbers, greatest, marks) {
+    let arrays = MineArrays {
+        values,
+        rows: Rows { starts, needs },
+        numbers,
+    };
+    match mark_pit(alloc, &arrays, greatest, marks) {
         Ok(worth) => {
             *found = PitshellFound::worth(worth);
             0

@@ -33,7 +33,7 @@ returns-clause-marked c =
       spelled = spelled.spelled;
       set = shown.set;
       marks_are = subst (λ n. AreMarks n shown.set c.write_marks.new.marks) size (c.write_marks.ensures shown.set listed);
-      is_pit = fixed_pit_knows_no_order (toward c.args.greatest) mine.blocks mine.values mine.pairs spelled.pairs (fixed_by c.args.numbers.now) shown.set
+      is_pit = fixed_pit_knows_no_order (toward c.args.greatest) mine.blocks mine.values mine.pairs spelled.pairs (fixed_by c.args.arrays.now.numbers.now) shown.set
           (turned spelled.pairs mine.pairs spelled.same) shown.is_pit;
       worth_is = to_z-of_z w128 c.in_ok-found.found.worth fits ∙ found.worth_is shown.set shown.listed;
     }
