@@ -171,9 +171,7 @@ class Plan:
 
     def record_of_grid(self) -> dict[str, Any]:
         return {
-            "shape": list(self.grid.shape),
-            "origin": list(self.grid.origin),
-            "size": list(self.grid.size),
+            **self.grid.as_json(),
             "cells": self.grid.count,
             "cells_without_a_row": self.grid.count - len(self.table),
             "of_these_not_above_the_highest_of_their_column": len(absent.unknown_cells(self.grid)),
@@ -313,8 +311,9 @@ def notes_of(plan: Plan) -> list[str]:
 
 def greatest_shift(table: pd.DataFrame, grid: Grid, project: Project) -> float:
     """The greatest distance in metres, along an axis, from a row's centre to that of its cell."""
-    names = (project.table.x, project.table.y, project.table.z)
-    off = [np.abs(table[name].to_numpy() - centre).max() for name, centre in zip(names, grid.centres(grid.rows))]
+    x, y, z = (table[name].to_numpy() for name in (project.table.x, project.table.y, project.table.z))
+    places = (*grid.frame.along(x, y), z)
+    off = [np.abs(place - middle).max() for place, middle in zip(places, grid.middles(grid.rows))]
     return float(f"{max(off):.3g}")
 
 

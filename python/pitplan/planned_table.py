@@ -42,7 +42,8 @@ def cells_of(frame: pd.DataFrame, project: Project, grid: Grid) -> np.ndarray:
     columns = project.table
     west, _, south, _, _, top = grid.extent()
     x, y, z = (frame[name].to_numpy() for name in (columns.x, columns.y, columns.z))
-    steps = ((top - z) / grid.size[2], (y - south) / grid.size[1], (x - west) / grid.size[0])
+    east, north = grid.frame.along(x, y)
+    steps = ((top - z) / grid.size[2], (north - south) / grid.size[1], (east - west) / grid.size[0])
     cells = np.array([np.floor(step).astype(np.int64) for step in steps])
     is_inside = ((cells >= 0) & (cells < np.array(grid.shape)[:, None])).all(axis=0)
     level, row, column = cells

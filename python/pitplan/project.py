@@ -76,10 +76,14 @@ class TableColumns:
 
 @dataclass(frozen=True)
 class GridRules:
-    """The blocks' size in metres, where it is given, and how far a centre may lie off the grid, in metres."""
+    """The blocks' size in metres, where it is given, and how far a centre may lie off the grid, in metres.
+
+    azimuth  degrees clockwise from north to the grid's north, from -360 to 360; None: as the centres tell it
+    """
 
     size: Optional[tuple[float, float, float]]
     tolerance: float
+    azimuth: Optional[float] = None
 
 
 @dataclass(frozen=True)
@@ -332,8 +336,11 @@ def read_grid(section: Section) -> GridRules:
     rules = GridRules(
         size=None if size is None else (size[0], size[1], size[2]),
         tolerance=float(section.number("tolerance", Decimal("0.01"), least=0)),
+        azimuth=float(section.number("azimuth")) if section.has("azimuth") else None,
     )
     section.finish()
+    if rules.azimuth is not None and abs(rules.azimuth) > 360:
+        raise section.wrong("azimuth", f"{rules.azimuth:.10g} is no angle from -360 to 360 degrees")
     return rules
 
 

@@ -149,9 +149,8 @@ def rows_by_place(frame: pd.DataFrame, base: Base, source: str) -> np.ndarray:
     """For each row of a model the row of the table whose block has the same centre."""
     grid, names = base.grid, base.project.table
     steps, inside = [], np.ones(len(frame), dtype=bool)
-    for axis, name in enumerate((names.x, names.y, names.z)):
-        values, _ = tables.filled_numbers(frame[name], source, name, False)
-        step = (values - grid.origin[axis]) / grid.size[axis]
+    x, y, z = (tables.filled_numbers(frame[name], source, name, False)[0] for name in (names.x, names.y, names.z))
+    for axis, step in enumerate((*grid.steps(x, y), (z - grid.origin[2]) / grid.size[2])):
         place = np.rint(step)
         inside &= np.abs(step - place) * grid.size[axis] <= base.project.grid.tolerance
         steps.append((-place if axis == 2 else place).astype(np.int64))

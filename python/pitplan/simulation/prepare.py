@@ -142,7 +142,7 @@ def write_record(plan: Plan, scenarios: list[Scenario], solver: Solver, written:
         "project": os.path.relpath(plan.project.path, stage.parent),
         "factors": list(plan.project.schedule.factors),
         "solver": vars(solver),
-        "grid": {"shape": plan.grid.shape, "origin": plan.grid.origin, "size": plan.grid.size},
+        "grid": plan.grid.as_json(),
         "walls": [pattern.as_json() for pattern in plan.walls.patterns],
         "mining_cost_reference": plan.reference,
         "notes": [note for note in plan.notes if "amounts were rounded" not in note],

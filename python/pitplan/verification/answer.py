@@ -18,6 +18,7 @@ from ..project import AbsentRock, Project, load
 from ..wall_rules import Wall
 from .feed import by_code, recovered
 from .put_together import divided, together, written_rows
+from .turned import steps_of
 
 # In place of a factor: a cell that is not dug at any, and one where there is nothing to dig.
 UNDUG, NOTHING = 2**30, 0
@@ -103,6 +104,11 @@ class Answer:
     def tonnes(self) -> np.ndarray:
         return self.rows[self.project.table.tonnes].to_numpy()
 
+    @property
+    def azimuth(self) -> float:
+        """Degrees clockwise from the planner's north to the grid's."""
+        return float(self.record["grid"].get("azimuth", 0.0))
+
     @cached_property
     def elevations(self) -> np.ndarray:
         """Metres of the centres of each level, from the top."""
@@ -172,11 +178,8 @@ class Answer:
     @property
     def steps(self) -> tuple[np.ndarray, np.ndarray, np.ndarray]:
         """Blocks east, north and down from the first block, which are whole but for the tolerance."""
-        columns, origin = self.project.table, self.record["grid"]["origin"]
-        east, north, up = (
-            (self.rows[name].to_numpy() - first) / size
-            for name, first, size in zip((columns.x, columns.y, columns.z), origin, self.size)
-        )
+        columns = self.project.table
+        east, north, up = steps_of(self.rows[[columns.x, columns.y, columns.z]].to_numpy(), self.record["grid"]).T
         return east, north, -up
 
     @cached_property
@@ -342,5 +345,5 @@ def beside(
 
 def nearest_cells(centres: np.ndarray, grid: dict[str, Any]) -> np.ndarray:
     """The numbers of the cells to whose centres rows x, y, z in metres are nearest, from the top down and there from the south-west."""
-    east, north, up = np.rint((centres - grid["origin"]) / grid["size"]).astype(np.int64).T
+    east, north, up = np.rint(steps_of(centres, grid)).astype(np.int64).T
     return np.ravel_multi_index((-up, north, east), grid["shape"], mode="clip")
