@@ -10,7 +10,7 @@ from typing import Any, Optional, Union
 import numpy as np
 import pandas as pd
 
-from . import absent, files, fixed as fixing, grid as grids, money, reach, reblock, summary as summaries, table as tables, trim, walls as laying, yearly_money
+from . import absent, files, fixed as fixing, grid as grids, haulage, money, reach, reblock, summary as summaries, table as tables, trim, walls as laying, yearly_money
 from .errors import PlanError
 from .files import MOST_PAIRS, Needs, Pairs
 from .fixed import NOTHING, FixedBlocks, Settled
@@ -28,6 +28,7 @@ OWN_COLUMNS = (
     "phase",
     "year",
     "process",
+    *("road", "haulage_cost", "ore_haulage_cost"),
 )
 
 
@@ -84,7 +85,7 @@ class Plan:
     @property
     def blocks(self) -> pd.DataFrame:
         """One row a block of the table, by the program's id: the planner's columns, and costs and revenue in money, of several
-        processes those of the best at the price as given and those of each."""
+        processes those of the best at the price as given and those of each; with `[haulage]` the road in metres, and what of the costs it is."""
         ids = self.grid.rows
         frame = self.table.rename(columns=shown_name)
         frame.insert(0, "id", ids)
@@ -93,6 +94,9 @@ class Plan:
         for way in self.values.ways if self.project.processes else ():
             frame[f"revenue_{way.name}"] = way.revenue[ids] / MILLION
             frame[f"processing_cost_{way.name}"] = way.cost[ids] / MILLION
+        if hauled := self.values.hauled:
+            frame["road"] = hauled.road[ids] / 10**haulage.LENGTH_PLACES
+            frame["haulage_cost"], frame["ore_haulage_cost"] = hauled.waste[ids] / MILLION, hauled.ore_more[ids] / MILLION
         return frame.sort_values("id").reset_index(drop=True)
 
     @property

@@ -11,6 +11,7 @@ from typing import Optional, Union
 
 from .errors import PlanError
 from .fixed_rules import FixedRules, read_fixed
+from .haulage_rules import Haulage, read_haulage
 from .money_rules import ByRegion, Metal, Money, Process, read_metal, read_money, read_process
 from .phase_rules import PhaseRules, read_phases
 from .picture_rules import PictureRules, read_pictures
@@ -141,6 +142,7 @@ class Project:
     processes: tuple[Process, ...] = ()
     sensitivity: Optional[SensitivityRules] = None
     pictures: Optional[PictureRules] = None
+    haulage: Optional[Haulage] = None
     solver: Optional[str] = None
 
     @property
@@ -196,6 +198,7 @@ def of_data(data: dict, path: Path) -> Project:
         phases=read_phases(top.section("pushbacks"), GREATEST_FACTOR) if top.has("pushbacks") else None,
         schedule_rules=read_schedule_rules(top.section("schedule")) if top.has("schedule") else None,
         processes=processes,
+        haulage=read_haulage(top.section("haulage")) if top.has("haulage") else None,
     )
     metals = tuple(metal.name for metal in project.metals)
     if top.has("sensitivity"):
@@ -235,6 +238,9 @@ def demand_agreement(project: Project) -> None:
     names = [metal.name for metal in project.metals]
     if len(set(names)) < len(names):
         raise PlanError(f"{path}: two [[metals]] have one name")
+    varied = project.sensitivity
+    if varied and not project.haulage and "haulage" in {*varied.vary, *(name for pair in varied.pairs for name in pair)}:
+        raise PlanError(f"{path}: [sensitivity] varies haulage, and there is no section [haulage]")
     for name in project.schedule_rules.metal_per_year if project.schedule_rules else ():
         if name not in names:
             raise PlanError(f"{path}: [schedule] metal_per_year names {name}, which is none of the [[metals]] {', '.join(names)}")

@@ -79,7 +79,8 @@ def left(model: Model, walls: Walls, project: Project) -> tuple[Model, str]:
 def can_pay(model: Model, project: Project) -> np.ndarray:
     """The rows that pay for their processing at the greatest factor, exactly."""
     some = np.flatnonzero(with_metal(model.frame, project))
-    gains = money.greatest_gains(model.frame.iloc[some].reset_index(drop=True), project, model.source)
+    grid = replace(model.grid, rows=model.grid.rows[some])
+    gains = money.greatest_gains(model.frame.iloc[some].reset_index(drop=True), grid, project, model.source)
     return some[gains]
 
 

@@ -28,6 +28,8 @@ TOLD = 10
 SAID = ("id", "mining_cost", "revenue", "processing_cost", "factor", "process_factor")
 # Of several processes that of each block at the price as given, "" where it is waste; there are amounts of each process then.
 PROCESS = "process"
+# With `[haulage]` the road of each block, and what of the costs is hauling.
+HAULED = ("road", "haulage_cost", "ore_haulage_cost")
 # Those that `pitplan pit` writes besides, of the pit that keeps to no fixed blocks.
 FREE = ("free_factor", "free_process_factor")
 # Those that `pitplan pushbacks` and `pitplan schedule` write besides.
@@ -253,9 +255,10 @@ def shares_of(project: Project) -> list[str]:
 
 def said_of(project: Project) -> tuple[str, ...]:
     """The columns of blocks.csv that are the answer's to a project."""
+    hauled = HAULED if project.haulage else ()
     if not project.processes:
-        return SAID
-    return (*SAID, PROCESS, *(f"{name}_{process.name}" for process in project.processes for name in ("revenue", "processing_cost")))
+        return (*SAID, *hauled)
+    return (*SAID, *hauled, PROCESS, *(f"{name}_{process.name}" for process in project.processes for name in ("revenue", "processing_cost")))
 
 
 def read_shells(folder: Path, record: dict[str, Any], project: Project, written: pd.DataFrame, table: TableRows) -> Answer:
@@ -312,7 +315,7 @@ def read_blocks(path: Path, project: Project, said: Optional[tuple[str, ...]] = 
 
 def own_name(column: str) -> str:
     """A column of the planner's, as blocks.csv names it."""
-    return f"planner_{column}" if column in (*SAID, *FREE, PHASE, YEAR, PROCESS) else column
+    return f"planner_{column}" if column in (*SAID, *FREE, *HAULED, PHASE, YEAR, PROCESS) else column
 
 
 def beside(
