@@ -238,6 +238,7 @@ def demand_agreement(project: Project) -> None:
     names = [metal.name for metal in project.metals]
     if len(set(names)) < len(names):
         raise PlanError(f"{path}: two [[metals]] have one name")
+    demand_sums_agree(project)
     varied = project.sensitivity
     if varied and not project.haulage and "haulage" in {*varied.vary, *(name for pair in varied.pairs for name in pair)}:
         raise PlanError(f"{path}: [sensitivity] varies haulage, and there is no section [haulage]")
@@ -249,6 +250,26 @@ def demand_agreement(project: Project) -> None:
         for name in named:
             if name not in names:
                 raise PlanError(f"{path}: [scenarios] names {name}, which is none of the [[metals]] {', '.join(names)}")
+
+
+def demand_sums_agree(project: Project) -> None:
+    """Refuses least amounts of what there is not, and sums of it; and a least above the most."""
+    rules, names = project.schedule_rules, [process.name for process in project.processes]
+    if rules is None:
+        return
+    shells, metals = project.schedule, [metal.name for metal in project.metals]
+    most = {"ore": rules.ore_per_year or shells.ore_per_year, "rock": rules.rock_per_year or shells.rock_per_year}
+    most |= rules.metal_per_year | {process.name: process.per_year for process in project.processes}
+    for name, least in rules.least.items():
+        if name not in ("ore", "rock", *metals, *names):
+            raise PlanError(f"{project.path}: [schedule.least] {name}: is none of {', '.join(('ore', 'rock', *metals, *names))}")
+        if (limit := most.get(name)) and least > limit:
+            raise PlanError(f"{project.path}: [schedule.least] {name}: {least:.10g} is above the most of a year, {limit:.10g}")
+    for it in rules.sums:
+        if it.of not in ("ore", "rock", *names):
+            raise PlanError(f"{project.path}: [schedule.sums] {it.name}: of {it.of} is none of {', '.join(('rock', 'ore', *names))}")
+    if rules.sums and project.table.reblock:
+        raise PlanError(f"{project.path}: [schedule.sums]: are not of rows that are put together: leave out [table] reblock")
 
 
 def demand_processes_agree(project: Project) -> None:

@@ -145,7 +145,8 @@ def names_of(project: Project) -> list[str]:
     t = project.table
     fixed = [project.fixed.forced, project.fixed.barred] if project.fixed else []
     rock = [t.density, t.volume] if t.density else [t.tonnes]
-    named = [t.id, t.x, t.y, t.z, *rock, t.rock, t.region, *(metal.column for metal in project.metals), *fixed]
+    sums = project.schedule_rules.columns if project.schedule_rules else ()
+    named = [t.id, t.x, t.y, t.z, *rock, t.rock, t.region, *(metal.column for metal in project.metals), *fixed, *sums]
     return list(dict.fromkeys(name for name in named if name))
 
 
@@ -242,7 +243,8 @@ def tonnes_by_density(frame: pd.DataFrame, project: Project) -> np.ndarray:
 def demand_not_negative(frame: pd.DataFrame, project: Project, source: str) -> None:
     columns = project.table
     rock = [name for name in (columns.density, columns.volume) if name] or [columns.tonnes]
-    for name in [*rock, *(metal.column for metal in project.metals)]:
+    sums = project.schedule_rules.columns if project.schedule_rules else ()
+    for name in [*rock, *(metal.column for metal in project.metals), *sums]:
         demand_none_below_0(frame[name].to_numpy(), source, name)
 
 
