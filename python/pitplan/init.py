@@ -17,7 +17,7 @@ from .guesses import PRECIOUS, Columns, MetalGuess, columns_of
 from .project import GridRules
 from .summary import Axis, Grade, mean_of, not_used
 from .table import has_decimal_commas, read_columns
-from .table_format import NAMES, UNREADABLE, TableFormat, guessed_separator, opened, unreadable
+from .table_format import NAMES, UNREADABLE, TableFormat, demand_text, guessed_separator, opened, unreadable
 from .turned import Places, azimuth_of, of_centres
 
 TEMPLATES = Path(__file__).resolve().parent / "templates"
@@ -63,6 +63,7 @@ def write(file: Path, out: Path) -> list[str]:
 
 def read(file: Path) -> Model:
     """The table in the encoding, with the separator and the decimal sign that it seems to have."""
+    demand_text(file, "pitplan init")
     encoding = encoding_of(file)
     form = TableFormat(guessed_separator(file, encoding), ".", encoding)
     frame = read_columns(file, form, [], [])

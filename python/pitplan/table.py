@@ -13,6 +13,7 @@ from typing import Optional
 import numpy as np
 import pandas as pd
 
+from . import parquet
 from .errors import PlanError
 from .project import Project, TableColumns
 from .table_format import NAMES, UNREADABLE, TableFormat, format_of, names_in_header, opened, unreadable, wrong_encoding
@@ -41,12 +42,17 @@ class Table:
 
 
 def read(project: Project) -> Table:
-    """The table of `project.table.file` (.csv, also .csv.gz or .zip), with the columns that the project names.
+    """The table of `project.table.file` (.csv, also .csv.gz or .zip; or .parquet), with the columns that the project names.
 
-    Raises PlanError, with file, row and column, where a column is missing or a field is not usable.
+    Raises PlanError, with file, row and column, where a column is missing or a field is not usable, and MissingPackage where Parquet cannot be
+    read here.
     """
     columns = project.table
     codes = [name for name in (columns.id, columns.rock, columns.region) if name]
+    if parquet.is_parquet(columns.file):
+        frame, names = parquet.read(columns.file, codes, names_of(project))
+        demand_columns(pd.DataFrame(columns=names), names_of(project), str(columns.file))
+        return replace(checked(frame, project, str(columns.file)), unused=tuple(name for name in names if name not in names_of(project)))
     frame, form = read_as_written(columns.file, columns, codes, names_of(project))
     table = checked(frame, project, str(columns.file))
     return replace(table, notes=tuple(notes_of(form, columns)))

@@ -18,7 +18,7 @@ from ..money_rules import Metal
 from ..plan import Plan, notes_of, plan_of
 from ..project import Project, Scenarios
 from ..table import HEADER_ROWS, Table, at_row
-from ..table_format import format_of
+from ..table_format import demand_text, format_of
 from ..walls import Walls
 
 
@@ -79,6 +79,7 @@ def column_lists(project: Project) -> dict[str, list[str]]:
     if not asked:
         return {}
     columns = project.table
+    demand_text(columns.file, "[scenarios] columns")
     header = list(tables.read_header(columns.file, format_of(columns.file, columns)))
     lists = {}
     for metal, names in asked.items():
