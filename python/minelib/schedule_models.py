@@ -1,8 +1,8 @@
 """Models of schedules, `.cpit` and `.pcpsp`: what each block earns and takes of each resource, and what a period may hold.
 
-In a `.pcpsp` a block has a value for each destination, and a line of what is taken of a resource names a block, a destination, a resource and
-an amount. In which order the two in the middle stand is told by the file's own numbers, where only one order fits how many there are of
-each; else it must be said. General side constraints are refused.
+In a `.pcpsp` a block has a value for each destination, and a line of what is taken of a resource names a block, a destination, a resource
+and an amount. In which order the two in the middle stand is told by the file's own numbers, where only one order fits how many there are
+of each; else it must be said. General side constraints are refused.
 """
 
 from __future__ import annotations
@@ -84,8 +84,8 @@ class Draft:
 def read(path: Path, second: Optional[str] = None) -> ScheduleModel:
     """A model of a schedule; `second` says what stands behind the block where a PCPSP tells what blocks take: destination or resource.
 
-    Raises MinelibError, with the line, where a header is missing or not known, a number is none, or a line stands twice; of a PCPSP where it has
-    general side constraints, or nothing says what stands behind the block.
+    Raises MinelibError, with the line, where a header is missing or not known, a number is none, or a line stands twice; of a PCPSP where
+    it has general side constraints, or nothing says what stands behind the block.
     """
     draft = drafted(path)
     demand_kind(draft)
@@ -183,7 +183,8 @@ def second_of(draft: Draft) -> str:
     pairs = [tuple(map(line.whole, fields_of(line, "a block, a destination, a resource and an amount", 4)[1:3])) for line in lines_of]
     first, then = (max((pair[k] for pair in pairs), default=0) for k in (0, 1))
     destinations, resources = draft.destinations, draft.count(RESOURCES)
-    fits = [kind for kind, most in zip(SECONDS, ((destinations, resources), (resources, destinations))) if first < most[0] and then < most[1]]
+    counts = ((destinations, resources), (resources, destinations))
+    fits = [kind for kind, most in zip(SECONDS, counts) if first < most[0] and then < most[1]]
     if len(fits) > 1 and pairs and any(one != other for one, other in pairs):
         why = f"{TAKEN}: what stands behind the block may be a destination or a resource: say which by --behind-block"
         raise draft.headers[TAKEN].wrong(why)

@@ -1,9 +1,9 @@
 """How far each block is hauled, and what that costs.
 
-The road of a block is as far as the pit's exit lies from the block's centre in plan, and besides a ramp for the rise from the floor of its
-bench to the exit, up or down: so long in plan as the rise divided by the gradient (the length of a ramp in Hustrulid, Kuchta and Martin, Open
-Pit Mine Planning and Design, 3rd edition, 2013, on haulage roads). A road that leads to the exit while it rises is shorter, down to the
-greater of both parts; benches, widths and curves are not looked at. So these are costs for a pit that has no roads yet.
+The road of a block is as far as the pit's exit lies from the block's centre in plan, and besides a ramp for the rise from the floor of
+its bench to the exit, up or down: so long in plan as the rise divided by the gradient (the length of a ramp in Hustrulid, Kuchta and
+Martin, Open Pit Mine Planning and Design, 3rd edition, 2013, on haulage roads). A road that leads to the exit while it rises is shorter,
+down to the greater of both parts; benches, widths and curves are not looked at. So these are costs for a pit that has no roads yet.
 
 Of a block that is dug each tonne is hauled as waste. What comes to the mill of one that is processed costs besides what ore costs more than
 waste along the same road, or less: that is part of its processing.

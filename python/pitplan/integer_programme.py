@@ -20,7 +20,7 @@ from .sequencing import HAIR, Problem
 
 # What the solver's tolerance may add to a share, and what a limit may be missed by.
 SLIGHT, TOLERATED = 1e-6, 1e-8
-# HiGHS, which may go on for long when its time is up, is ended after so many times that and so many seconds more; what it has found is lost.
+# HiGHS, which may go on for long when its time is up, is ended after so many times that and so many seconds more: nothing is found then.
 TIMES, LATE = 2.0, 30.0
 
 

@@ -43,7 +43,8 @@ def turned_arrow(ax: Axes, grid: Grid, arrow: dict[str, Any], at: dict[str, Any]
     # Of a map's height; the share across is that of its width.
     step = 0.05 * np.array([towards.real * (north - south) / (east - west), towards.imag])
     middle = np.array([0.955 - abs(step[0]), 0.925])
-    ax.annotate("", xy=middle + step, xytext=middle - step, arrowprops=arrow | {"path_effects": HALO}, xycoords=at["xycoords"], textcoords=at["textcoords"])
+    ends = {"xy": middle + step, "xytext": middle - step, "xycoords": at["xycoords"], "textcoords": at["textcoords"]}
+    ax.annotate("", arrowprops=arrow | {"path_effects": HALO}, **ends)
     ax.annotate("N", xy=middle - 1.35 * step, path_effects=HALO, **(at | {"va": "center"}))
 
 

@@ -240,8 +240,8 @@ class Rows:
         return feed.undiluted.times(grade).times(self.every(GRADE_UNITS[metal.unit])).times(share)
 
     def weighed(self, feed: Feed) -> Weighed:
-        """What the project's own process yields and costs. Raises PlanError where a rock has no cost, an amount is 10^11 or more, or ore costs
-        so much less to haul than waste that nothing is left of its processing cost."""
+        """What the project's own process yields and costs. Raises PlanError where a rock has no cost, an amount is 10^11 or more, or ore
+        costs so much less to haul than waste that nothing is left of its processing cost."""
         costs, metals = self.project.money, self.project.metals
         metal = {m.name: self.recovered(m, feed) for m in metals}
         revenue = selling = self.every(Decimal(0))

@@ -85,7 +85,8 @@ class Plan:
     @property
     def blocks(self) -> pd.DataFrame:
         """One row a block of the table, by the program's id: the planner's columns, and costs and revenue in money, of several
-        processes those of the best at the price as given and those of each; with `[haulage]` the road in metres, and what of the costs it is."""
+        processes those of the best at the price as given and those of each; with `[haulage]` the road in metres, and what of the costs it
+        is."""
         ids = self.grid.rows
         frame = self.table.rename(columns=shown_name)
         frame.insert(0, "id", ids)

@@ -82,7 +82,8 @@ def of_corner(table: Table, project: Project, rules: Reblock) -> Lattice:
         steps = (along - edge[k]) / rules.size[k]
         between = np.abs(steps - np.rint(steps)) * rules.size[k] <= project.grid.tolerance
         if between.any():
-            why = f"lies on the edge of two blocks of {grids.metres(rules.size[k])} m from {grids.metres(rules.corner[k])} on: is the corner right?"
+            size, corner = (grids.metres(it[k]) for it in (rules.size, rules.corner))
+            why = f"lies on the edge of two blocks of {size} m from {corner} on: is the corner right?"
             raise at_row(table.source, int(between.argmax()), name, why)
         place = np.floor(steps).astype(np.int64)
         edge[k] += float(place.min()) * rules.size[k]

@@ -44,8 +44,8 @@ class Table:
 def read(project: Project) -> Table:
     """The table of `project.table.file` (.csv, also .csv.gz or .zip; or .parquet), with the columns that the project names.
 
-    Raises PlanError, with file, row and column, where a column is missing or a field is not usable, and MissingPackage where Parquet cannot be
-    read here.
+    Raises PlanError, with file, row and column, where a column is missing or a field is not usable, and MissingPackage where Parquet cannot
+    be read here.
     """
     columns = project.table
     codes = [name for name in (columns.id, columns.rock, columns.region) if name]

@@ -63,8 +63,8 @@ class Axes:
 
 
 def azimuth_of(centres: np.ndarray, tolerance: float) -> Optional[float]:
-    """Degrees clockwise, from -45 to 45, by which a grid is turned, of its centres x and y, an array (rows, 2) in metres; None where no grid
-    is seen, and where the rows go east to within a tolerance in metres."""
+    """Degrees clockwise, from -45 to 45, by which a grid is turned, of its centres x and y, an array (rows, 2) in metres; None where no
+    grid is seen, and where the rows go east to within a tolerance in metres."""
     places = distinct(centres)
     angle = first_angle(places)
     if angle is None:
@@ -101,8 +101,8 @@ def of_centres(centres: np.ndarray, azimuth: float, rules: GridRules, where: tup
 def demand_azimuth(azimuth: float, axes: Axes, places: np.ndarray, rules: GridRules, source: str) -> None:
     """Refuses an azimuth that would move a centre by more than the tolerance."""
     if abs(np.angle(np.exp(1j * (np.radians(azimuth) + axes.angle)))) * reach_of(places, axes) > max(rules.tolerance, 10.0**-PLACES):
-        found = f"{rounded(axes, places, rules.tolerance):.10g}"
-        raise PlanError(f"{source}: [grid] azimuth is {azimuth:.10g} degrees, and the centres lie on a grid whose north has azimuth {found}")
+        why = f"the centres lie on a grid whose north has azimuth {rounded(axes, places, rules.tolerance):.10g}"
+        raise PlanError(f"{source}: [grid] azimuth is {azimuth:.10g} degrees, and {why}")
 
 
 def distinct(centres: np.ndarray) -> np.ndarray:

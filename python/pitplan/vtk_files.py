@@ -16,8 +16,8 @@ PACKAGE = "python3-vtk9"
 
 
 def image_of(grid: Grid, cells: dict[str, np.ndarray], purpose: str) -> Any:
-    """Named arrays of one value a cell as VTK image data, in metres; that of a turned grid has its directions. Raises MissingPackage without
-    VTK."""
+    """Named arrays of one value a cell as VTK image data, in metres; that of a turned grid has its directions. Raises MissingPackage
+    without VTK."""
     vtk, numpy_support = load("vtk", PACKAGE, purpose), load("vtk.util.numpy_support", PACKAGE, purpose)
     levels, rows, columns = grid.shape
     west, _, south, _, floor, _ = grid.extent()

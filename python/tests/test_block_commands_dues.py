@@ -1,4 +1,4 @@
-"""`pitplan schedule --by block` with least amounts, sums of columns and fixed blocks: worked by hand, what is refused, and the second look."""
+"""`pitplan schedule --by block` with least amounts, sums of columns and fixed blocks: by hand, what is refused, and the second look."""
 
 import json
 
@@ -78,8 +78,8 @@ def test_the_least_of_a_sum_by_hand(plan_folder):
 
 
 def test_hours_of_one_process(plan_folder):
-    """The mill takes 2 hours for the richest and 1 for the others, of 2 a year; leach none. A per cent and tonne earns 40 more in the mill, less
-    10 a tonne: 3000, 1800 and 1000, which are 1500, 1800 and 1000 an hour. So the second is milled and half of the richest."""
+    """The mill takes 2 hours for the richest and 1 for the others, of 2 a year; leach none. A per cent and tonne earns 40 more in the mill,
+    less 10 a tonne: 3000, 1800 and 1000, which are 1500, 1800 and 1000 an hour. So the second is milled and half of the richest."""
     hours = pillars(hours=lambda i, j, k: 0 if k else (2, 1, 1)[i])
     text = with_processes().replace("per_year = 100\n", "per_year = 300\n")
     assert text.count("per_year = 300") >= 1
@@ -102,7 +102,8 @@ FIXED = '[fixed]\nforced = "must"\nbarred = "never"\n'
 
 def test_fixed_blocks_by_hand(plan_folder):
     """The fourth pillar holds nothing and must be dug, at a loss of 400: in the last of four years. The richest may not be dug."""
-    table = rows(4, 1, 2, cu=lambda i, j, k: 0 if k or i == 3 else (1, 0.7, 0.5)[i], must=lambda i, j, k: int((i, k) == (3, 0)), never=lambda i, j, k: int((i, k) == (0, 1)))
+    fixed = {"must": lambda i, j, k: int((i, k) == (3, 0)), "never": lambda i, j, k: int((i, k) == (0, 1))}
+    table = rows(4, 1, 2, cu=lambda i, j, k: 0 if k or i == 3 else (1, 0.7, 0.5)[i], **fixed)
     row, folder = scheduled(plan_folder, FIXED + "[schedule]\nyears = 4\n", YEARLY, table)
     blocks = pd.read_csv(folder / "blocks.csv").set_index("name")["year"]
     assert blocks.to_dict() == {"b0-0-0": 0, "b0-0-1": 0, "b1-0-0": 1, "b1-0-1": 1, "b2-0-0": 2, "b2-0-1": 2, "b3-0-0": 4, "b3-0-1": 4}
@@ -170,7 +171,8 @@ def test_phases_keep_no_least_amounts(plan_folder):
 
 def test_a_hill_with_all_of_it_passes_the_second_look(plan_folder):
     grades = {(3, 4, 1): 6, (7, 4, 1): 2, (5, 2, 2): 0.9, (3, 3, 2): 1.5, (8, 4, 2): 0.8}
-    table = rows(11, 9, 4, cu=lambda i, j, k: grades.get((i, j, k), 0), must=lambda i, j, k: int((i, j, k) == (9, 7, 2)), never=lambda i, j, k: int(i == 0), arsenic=lambda i, j, k: 0.1 * i)
+    more = {"must": lambda i, j, k: int((i, j, k) == (9, 7, 2)), "never": lambda i, j, k: int(i == 0), "arsenic": lambda i, j, k: 0.1 * i}
+    table = rows(11, 9, 4, cu=lambda i, j, k: grades.get((i, j, k), 0), **more)
     words = FIXED + "[schedule]\nyears = 5\nrock_per_year = 1200\nleast = { rock = 400 }\n[[schedule.sums]]\ncolumn = 'arsenic'\nmost = 7\n"
     row, folder = scheduled(plan_folder, words, PROJECT, table)
     assert wrong(folder) == set() and row["value"] <= row["bound"] and row["years"] == 5

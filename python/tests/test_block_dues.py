@@ -88,7 +88,8 @@ def test_what_is_left_out_changes_no_optimum(batch):
     for seed in range(500 + 20 * batch, 520 + 20 * batch):
         problem = with_dues(random_problem(seed, most=30), seed)
         optimum, whole = linear_optimum(problem), linear_optimum(problem.of_blocks(worth_digging(problem)))
-        assert (optimum is None) == (whole is None) and (optimum is None or whole == pytest.approx(optimum, abs=1e-6 * max(1.0, abs(optimum))))
+        assert (optimum is None) == (whole is None)
+        assert optimum is None or whole == pytest.approx(optimum, abs=1e-6 * max(1.0, abs(optimum)))
 
 
 @pytest.mark.parametrize("batch", range(3))
@@ -190,7 +191,10 @@ def test_a_block_that_must_be_dug_is_dug_with_its_cone_as_late_as_may_be():
 
 @pytest.mark.parametrize(
     ("least", "said"),
-    [([3.0, 0.0], "limit 0: the least of year 1 is 3, above its most of 2"), ([-1.0, 0.0], "limit 0: the least of a year is negative or no number")],
+    [
+        ([3.0, 0.0], "limit 0: the least of year 1 is 3, above its most of 2"),
+        ([-1.0, 0.0], "limit 0: the least of a year is negative or no number"),
+    ],
 )
 def test_a_least_that_is_none_is_refused(least, said):
     problem = problem_of(np.ones((1, 2)), [], ([1], [2, 2]))

@@ -197,7 +197,10 @@ def test_bound_and_schedule_of_destinations_by_hand(with_destinations, tmp_path,
     ("change", "said"),
     [
         (("NGENERAL_SIDE_CONSTRAINTS: 0", "NGENERAL_SIDE_CONSTRAINTS: 2"), "mine.pcpsp line 7: general side constraints are not scheduled"),
-        (("RESOURCE_CONSTRAINT_LIMITS:", "GENERAL_CONSTRAINT_COEFFICIENTS:\n0 0 0 1\nRESOURCE_CONSTRAINT_LIMITS:"), "line 30: general side constraints are not scheduled"),
+        (
+            ("RESOURCE_CONSTRAINT_LIMITS:", "GENERAL_CONSTRAINT_COEFFICIENTS:\n0 0 0 1\nRESOURCE_CONSTRAINT_LIMITS:"),
+            "line 30: general side constraints are not scheduled",
+        ),
         (("NDESTINATIONS: 3\n", ""), "mine.pcpsp: has no header NDESTINATIONS:"),
         (("NDESTINATIONS: 3", "NDESTINATIONS: 0"), "mine.pcpsp line 5: there is no destination"),
         (("1 -1 20 8\n", "1 -1 20\n"), "mine.pcpsp line 11: 3 fields, where a block and 3 values are due"),

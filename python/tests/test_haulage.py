@@ -67,7 +67,8 @@ def test_blocks_above_the_exit_have_a_ramp_down(plan_folder):
 def test_what_comes_to_the_mill_is_hauled_there(plan_folder):
     """Of 100 t 90 come to the mill, with 9 of dilution: 99 x 0.445 = 44.055 more for ore; all rock is hauled as waste first."""
     change = ("processing_cost = 10", "processing_cost = 10\nmining_recovery = 0.9\ndilution = 0.1")
-    block = pitplan.prepare(hauled(plan_folder, rows(6, 2, 3, cu=lambda i, j, k: 2.0), SECTION, change)).blocks.set_index("name").loc["b4-0-1"]
+    plan = pitplan.prepare(hauled(plan_folder, rows(6, 2, 3, cu=lambda i, j, k: 2.0), SECTION, change))
+    block = plan.blocks.set_index("name").loc["b4-0-1"]
     assert (block["haulage_cost"], block["ore_haulage_cost"], block["processing_cost"]) == (18, 44.055, 99 * 10 + 44.055)
 
 
@@ -108,7 +109,8 @@ def test_the_exit_of_a_turned_model_is_the_planners(plan_folder):
 @pytest.mark.usefixtures("blank_pictures")
 def test_sensitivity_to_haulage(plan_folder):
     """A tenth more a kilometre is a tenth more of all haulage, of what is dug and what is milled in the kept pit."""
-    path = hauled(plan_folder, ore_hill(), SECTION + '[sensitivity]\nby = [0.1]\nvary = ["haulage"]\n', ("rate = 0.1", "rate = 0.1\nchosen = 1000"))
+    section = SECTION + '[sensitivity]\nby = [0.1]\nvary = ["haulage"]\n'
+    path = hauled(plan_folder, ore_hill(), section, ("rate = 0.1", "rate = 0.1\nchosen = 1000"))
     table = pitplan.sensitivity(path, path.parent / "hang").set_index("number")
     plan = pitplan.prepare(path)
     entry = pitplan.solve(plan).entry[: plan.grid.count]
@@ -134,7 +136,7 @@ def test_scenarios_haul_too(plan_folder, tmp_path):
     ("old", "new", "said"),
     [
         ("exit = [15, 45, 30]", "exit = [15, 45]", r"\[haulage\] exit: must be a list of 3 numbers, x, y and z"),
-        ("gradient = 0.1", "gradient = 10", r"\[haulage\] gradient: 10 is no rise for a metre in plan from above 0 to 0.5, such as 0.1 for 10 %"),
+        ("gradient = 0.1", "gradient = 10", r"\[haulage\] gradient: 10 is no rise for a metre in plan from above 0 to 0.5, such as 0.1"),
         ("waste = 0.4 }", "waste = -0.4 }", r"\[haulage.cost\] waste: -0.4 is below 0"),
         ("waste = 0.4 }", "dump = 0.4 }", r"\[haulage.cost\] waste: is missing"),
         ("gradient = 0.1", "gradient = 0.1\nroute = 3", r"\[haulage\] route: is no key here"),
@@ -150,7 +152,8 @@ def test_what_is_refused(plan_folder, old, new, said):
 def test_ore_that_costs_less_than_nothing_to_mill_is_refused(plan_folder):
     """Ore is hauled for nothing, waste at 50 a kilometre: 450 m are 22.5 a tonne, more than the 10 of processing."""
     section = SECTION.replace("ore = 0.5, waste = 0.4", "ore = 0, waste = 50")
-    with pytest.raises(PlanError, match=r"row 2 column x, y, z: \[haulage\] a tonne of ore costs \S+ less to haul from here than one of waste, and its processing 10"):
+    said = r"row 2 column x, y, z: \[haulage\] a tonne of ore costs \S+ less to haul from here than one of waste, and its processing 10"
+    with pytest.raises(PlanError, match=said):
         pitplan.prepare(hauled(plan_folder, rows(6, 2, 3, cu=lambda i, j, k: 2.0), section))
 
 

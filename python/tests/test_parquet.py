@@ -31,7 +31,8 @@ def in_parquet(plan_folder, tmp_path):
 
 @pytest.mark.skipif(HAS_PYARROW, reason="pyarrow is installed")
 def test_without_pyarrow_it_is_said_what_is_missing(in_parquet):
-    with pytest.raises(MissingPackage, match=r"blocks.parquet: is Parquet, which needs pyarrow \(python3-pyarrow\), .*: export the table as CSV"):
+    said = r"blocks.parquet: is Parquet, which needs pyarrow \(python3-pyarrow\), .*: export the table as CSV"
+    with pytest.raises(MissingPackage, match=said):
         pitplan.prepare(in_parquet(rows(2, 2, 2)))
 
 
@@ -52,7 +53,8 @@ def test_a_column_that_is_missing_is_named(in_parquet):
 
 def test_what_is_made_of_columns():
     """Single floats are the decimals that one would write, an empty code is empty, and a number that is a code is a text."""
-    frame = pd.DataFrame({"cu": np.array([0.3, 1.07, np.nan], dtype=np.float32), "rock": ["A", None, "B"], "id": [1, 2, 3], "z": [5.5, 15.5, 25.5]})
+    cu = np.array([0.3, 1.07, np.nan], dtype=np.float32)
+    frame = pd.DataFrame({"cu": cu, "rock": ["A", None, "B"], "id": [1, 2, 3], "z": [5.5, 15.5, 25.5]})
     frame["rock"] = frame["rock"].astype("category")
     found = parquet.plain(frame, ["rock", "id"])
     assert found["cu"].tolist()[:2] == [0.3, 1.07] and np.isnan(found["cu"][2]) and found["z"].tolist() == [5.5, 15.5, 25.5]

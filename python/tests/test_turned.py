@@ -98,7 +98,8 @@ def test_blocks_may_be_longer_than_wide_and_the_angle_any(plan_folder):
 def test_an_azimuth_that_is_not_that_of_the_centres_is_refused_with_both(plan_folder):
     given = lambda azimuth: ("size = [10, 10, 10]", f"azimuth = {azimuth}")  # noqa: E731
     for table, azimuth, found in ((turned(rows(20, 18, 2), 30), 31, 30), (rows(20, 18, 2), 12, 0), (turned(rows(20, 18, 2), 30), 0, 30)):
-        with pytest.raises(PlanError, match=rf"azimuth is {azimuth} degrees, and the centres lie on a grid whose north has azimuth {found}$"):
+        said = f"azimuth is {azimuth} degrees, and the centres lie on a grid whose north has azimuth {found}$"
+        with pytest.raises(PlanError, match=said):
             pitplan.prepare(plan_folder(table, PROJECT, given(azimuth)))
     with pytest.raises(PlanError, match=r"\[grid\] azimuth: 361 is no angle from -360 to 360 degrees"):
         pitplan.prepare(plan_folder(rows(3, 3, 2), PROJECT, given(361)))
@@ -107,7 +108,8 @@ def test_an_azimuth_that_is_not_that_of_the_centres_is_refused_with_both(plan_fo
 def test_a_centre_off_the_turned_grid_is_named_by_its_row(plan_folder):
     table = turned(rows(20, 18, 2), 30)
     table.loc[33, "x"] += 0.3
-    with pytest.raises(PlanError, match=r"row 35 column x, y: \S+, \S+ is off the grid of blocks of 10 x 10 m turned by 30 degrees by 0.2\d+ m"):
+    off = r"row 35 column x, y: \S+, \S+ is off the grid of blocks of 10 x 10 m turned by 30 degrees by 0.2\d+ m"
+    with pytest.raises(PlanError, match=off):
         pitplan.prepare(plan_folder(table, PROJECT, NO_SIZE))
     table = turned(rows(20, 18, 2), 30)
     table.loc[40, ["x", "y"]] = table.loc[41, ["x", "y"]]

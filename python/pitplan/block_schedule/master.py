@@ -72,7 +72,8 @@ class Master:
         return [*above, *below, *(Place(len(limits) + k, None, due.least, -1) for k, due in enumerate(problem.dues) if due.least > 0)]
 
     def solve(self, groups: Groups, seeks_dues: bool = False) -> Restricted:
-        """The optimum of these groups; or the least that lacks of what is due, whatever it earns. Raises PlanError where HiGHS finds none."""
+        """The optimum of these groups; or the least that lacks of what is due, whatever it earns. Raises PlanError where HiGHS finds
+        none."""
         # What leads in a circle is dug to one share.
         _, component = connected_components(pairs_of(groups, self.nodes), connection="strong")
         joined = groups.of_groups(component)

@@ -70,7 +70,8 @@ def of_plan(plan: Plan) -> PlannedBlocks:
         Limit(name, np.where(pays | (flows[name][:, :1] > 0), flows[name], 0.0), np.full(years, np.inf), least)
         for name, least in limits.least_of_years(years).items()
     ]
-    due = Due(f"{forced.sum():,} blocks that must be dug", np.repeat(forced[:, None], pays.shape[1], axis=1).astype(float), float(forced.sum()))
+    of_forced = np.repeat(forced[:, None], pays.shape[1], axis=1).astype(float)
+    due = Due(f"{forced.sum():,} blocks that must be dug", of_forced, float(forced.sum()))
     problem = BlockProblem(
         values=cash_of(flows, money, years) * year_discounts(project.schedule, years),
         needs=needs,
@@ -103,7 +104,8 @@ def owing(plan: Plan, flows: Flows, limits: Limits) -> NDArray[np.bool_]:
     for name in limits.least:
         found |= (flows[name] > 0).any(axis=1)
     if limits.least and plan.left_out:
-        raise PlanError(f"{plan.source}: {plan.left_out:,} blocks that no shell can reach were left out, and a least amount may need them: reblock it")
+        why = "blocks that no shell can reach were left out, and a least amount may need them: put rows together by [table] reblock"
+        raise PlanError(f"{plan.source}: {plan.left_out:,} {why}")
     return found
 
 

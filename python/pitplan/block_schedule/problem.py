@@ -152,5 +152,6 @@ def demand_sound(problem: BlockProblem) -> None:
             year = int((floor > limit.most).argmax())
             raise PlanError(f"{limit.name}: the least of year {year + 1} is {floor[year]:.10g}, above its most of {limit.most[year]:.10g}")
     for due in problem.dues:
-        if due.amounts.shape != shape[:2] or not np.isfinite(due.amounts).all() or (due.amounts < 0).any() or not 0 <= due.least < np.inf:
+        is_whole = due.amounts.shape == shape[:2] and np.isfinite(due.amounts).all() and not (due.amounts < 0).any()
+        if not is_whole or not 0 <= due.least < np.inf:
             raise PlanError(f"{due.name}: amounts are by block and destination, from 0 on, and so is the least")

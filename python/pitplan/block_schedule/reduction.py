@@ -20,10 +20,10 @@ def worth_digging(problem: BlockProblem) -> NDArray[np.bool_]:
     """The blocks that a schedule of greatest worth needs to dig: a truth for each, shape (blocks,).
 
     They are a closed set U such that in no year a closed set gains by what it has besides U, where a block gains what it earns in the year
-    less what it earns in the next one. What adds to a sum that has a least is in U, with all that it needs. So a schedule without its blocks
-    outside U still keeps every limit: from above since amounts are 0 or more, and from below since those blocks add nothing. And it earns no
-    less: what these earn is the sum over years of what they gain with all of them that are dug by then. Where a block earns one value times
-    a discount that falls with the years, and nothing is due, U is the ultimate pit.
+    less what it earns in the next one. What adds to a sum that has a least is in U, with all that it needs. So a schedule without its
+    blocks outside U still keeps every limit: from above since amounts are 0 or more, and from below since those blocks add nothing. And it
+    earns no less: what these earn is the sum over years of what they gain with all of them that are dug by then. Where a block earns one
+    value times a discount that falls with the years, and nothing is due, U is the ultimate pit.
 
     Raises pitshell.Refusal where the needs are none.
     """

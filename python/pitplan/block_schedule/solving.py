@@ -102,8 +102,8 @@ def solve(problem: BlockProblem, effort: Optional[Effort] = None, progress: Prog
     With an effort integer programmes make the schedule better until it is within the effort's gap, a share of the bound, or its seconds are
     over, those of the bound among them. An interruption (Ctrl-C) ends what is at work, once there is a bound, with the best so far.
 
-    Raises PlanError where the problem has a fault or is too large, no schedule keeps what must be held at least, or none was found that does,
-    and KeyboardInterrupt where it is interrupted before there is a bound.
+    Raises PlanError where the problem has a fault or is too large, no schedule keeps what must be held at least, or none was found that
+    does, and KeyboardInterrupt where it is interrupted before there is a bound.
     """
     demand_sound(problem)
     began = time.monotonic()
@@ -191,10 +191,8 @@ class Search:
             short = np.flatnonzero(by_year < limit.floor * (1 - HAIR))
             told += [f"year {year + 1} has {by_year[year]:,.10g} of {limit.name} for {limit.floor[year]:,.10g}" for year in short[:TOLD]]
         told += [due.name for due in problem.dues if float((due.amounts * self.best.share).sum()) < due.least * (1 - HAIR)]
-        raise PlanError(
-            f"no schedule of whole blocks was found that keeps what must be held at least, which shares of blocks keep: {'; '.join(told)}: ask for "
-            "less, or give integer programmes more seconds"
-        )
+        why = "no schedule of whole blocks was found that keeps what must be held at least, which shares of blocks keep"
+        raise PlanError(f"{why}: {'; '.join(told)}: ask for less, or give integer programmes more seconds")
 
     def windows(self, effort: Effort, began: float) -> None:
         """Solves window after window anew, larger ones once none has become better, until the gap is reached or the seconds are over."""

@@ -76,7 +76,8 @@ class Window:
         )
 
     def owed(self) -> csr_matrix:
-        """A row for each sum that must be held at least, of which the other blocks leave something due: what shares add, as parts of that."""
+        """A row for each sum that must be held at least, of which the other blocks leave something due: what shares add, as parts of
+        that."""
         rows = [csr_matrix((0, self.width))]
         for limit in self.part.limits:
             for year in np.flatnonzero(limit.floor > 0):
@@ -130,7 +131,7 @@ class Window:
         others[self.blocks] = 0.0
         taken, years = BlockSchedule(self.schedule.year, others).sums(self.problem)[:, self.first : self.last], slice(self.first, self.last)
         limits = [
-            Limit(limit.name, limit.amounts[self.blocks], np.maximum(limit.most[years] - sums, 0.0), np.maximum(limit.floor[years] - sums, 0.0))
+            Limit(limit.name, limit.amounts[self.blocks], *(np.maximum(it[years] - sums, 0.0) for it in (limit.most, limit.floor)))
             for limit, sums in zip(self.problem.limits, taken)
         ]
         owed = [(due, due.least - float((due.amounts * others).sum())) for due in self.problem.dues]

@@ -258,7 +258,8 @@ def said_of(project: Project) -> tuple[str, ...]:
     hauled = HAULED if project.haulage else ()
     if not project.processes:
         return (*SAID, *hauled)
-    return (*SAID, *hauled, PROCESS, *(f"{name}_{process.name}" for process in project.processes for name in ("revenue", "processing_cost")))
+    of_each = (f"{name}_{process.name}" for process in project.processes for name in ("revenue", "processing_cost"))
+    return (*SAID, *hauled, PROCESS, *of_each)
 
 
 def read_shells(folder: Path, record: dict[str, Any], project: Project, written: pd.DataFrame, table: TableRows) -> Answer:

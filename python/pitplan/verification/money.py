@@ -18,6 +18,8 @@ from .walls import needed_by
 
 SAMPLE = 10_000
 MINING = "mining_cost"
+# Mining cost, revenue and processing cost.
+Amounts = tuple[Decimal, Decimal, Decimal]
 
 
 def verify(answer: Answer) -> Rule:
@@ -150,7 +152,7 @@ class Exactly:
     level: list[int]
     depths: list[Decimal]
     roads: list[float]
-    weighed: dict[tuple, tuple[Decimal, Decimal, Decimal]] = field(default_factory=dict)
+    weighed: dict[tuple, Amounts] = field(default_factory=dict)
 
     @staticmethod
     def of(answer: Answer) -> "Exactly":
@@ -164,7 +166,7 @@ class Exactly:
         roads = (haulage.roads_of(answer, rules) if rules else np.zeros(len(answer.rows))).tolist()
         return Exactly(answer, answer.tonnes.tolist(), grades, codes, costs, answer.cells[0].tolist(), depths, roads)
 
-    def amounts(self, row: int) -> tuple[Decimal, Decimal, Decimal]:
+    def amounts(self, row: int) -> Amounts:
         """Mining cost, revenue and processing cost of a block."""
         place = self.level[row], self.roads[row]
         numbers = (self.tonnes[row], self.codes[row], place, *(grades[row] for grades in self.grades))
@@ -172,8 +174,9 @@ class Exactly:
             self.weighed[numbers] = self.of_numbers(*numbers)
         return self.weighed[numbers]
 
-    def of_numbers(self, rock: float, codes: tuple[str, str], place: tuple[int, float], *grades: float) -> tuple[Decimal, Decimal, Decimal]:
-        """The amounts of a block of so many tonnes of rock, of these codes, on a level and so far from the exit, with a grade of each metal."""
+    def of_numbers(self, rock: float, codes: tuple[str, str], place: tuple[int, float], *grades: float) -> Amounts:
+        """The amounts of a block of so many tonnes of rock, of these codes, on a level and so far from the exit, with a grade of each
+        metal."""
         project, tonnes, (level, road) = self.answer.project, Decimal(repr(rock)), place
         costs, rules = self.costs[codes], self.answer.project.haulage
         waste, ore = (haulage.a_tonne(road, kind) for kind in (rules.waste, rules.ore)) if rules else (Decimal(0), Decimal(0))

@@ -37,8 +37,8 @@ def flatness(wall: Wall, azimuth: np.ndarray) -> np.ndarray:
 
 
 def cone(wall: Wall, size: tuple[float, float, float], up: int, turn: float = 0.0) -> np.ndarray:
-    """Which cells lie in the cone so many levels up: a square of truths, rows from the south, round the cell straight above; of a grid whose
-    north has the azimuth `turn` in degrees."""
+    """Which cells lie in the cone so many levels up: a square of truths, rows from the south, round the cell straight above; of a grid
+    whose north has the azimuth `turn` in degrees."""
     if wall.pattern:
         corner = NEIGHBOURS[wall.pattern]
         return np.array([[abs(north) + abs(east) <= corner for east in (-1, 0, 1)] for north in (-1, 0, 1)])
@@ -109,7 +109,9 @@ def verify_steepness(answer: Answer) -> Rule:
         return rule("levels", f"the needs reach over {slopes.levels} levels, as the project says", [])
     for number, wall in enumerate(slopes.walls):
         levels = answer.levels(wall)
-        steeper = 0.0 if wall.pattern or wall.steps else float((high_walls(wall, answer.size, levels, answer.azimuth) - asked(wall, answer.azimuth)).max())
+        steeper = 0.0
+        if not wall.pattern and not wall.steps:
+            steeper = float((high_walls(wall, answer.size, levels, answer.azimuth) - asked(wall, answer.azimuth)).max())
         if steeper > STEEPER + 1e-6 and levels < MOST_LEVELS:
             differences.append(f"wall entry {number + 1}: over {levels} levels it comes out {steeper:.2f} degrees steeper than asked")
     return rule("levels", f"no wall comes out more than {STEEPER} degrees steeper than asked, or needs reach over {MOST_LEVELS} levels", differences)
@@ -141,7 +143,8 @@ def needed_by(answer: Answer, blocks: np.ndarray) -> np.ndarray:
     """The given blocks and all that they need, directly or through others: a truth for each cell."""
     found = blocks.copy()
     entries = answer.entries
-    cones = [[runs(cone(wall, answer.size, up, answer.azimuth)) for up in range(1, answer.levels(wall) + 1)] for wall in answer.project.slopes.walls]
+    walls, turn = answer.project.slopes.walls, answer.azimuth
+    cones = [[runs(cone(wall, answer.size, up, turn)) for up in range(1, answer.levels(wall) + 1)] for wall in walls]
     for level in range(answer.shape[0] - 1, 0, -1):
         for number, of_wall in enumerate(cones):
             mine = found[level] & (entries[level] == number)
