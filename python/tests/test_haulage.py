@@ -121,12 +121,15 @@ def test_sensitivity_to_haulage(plan_folder):
 
 
 def test_scenarios_haul_too(plan_folder, tmp_path):
+    """Of a model that is turned, at coordinates of seven digits."""
     (tmp_path / "models").mkdir()
-    table = ore_hill()
-    table[["name", "cu"]].to_csv(tmp_path / "models" / "a.csv", index=False)
-    path = hauled(plan_folder, table, SECTION + '[scenarios]\nmodels = "models"\n')
+    table = turned(ore_hill(), 30)
+    table[["x", "y", "z", "cu"]].to_csv(tmp_path / "models" / "a.csv", index=False)
+    section = SECTION.replace("[15, 45, 30]", "[600035, 6500031, 30]")
+    path = hauled(plan_folder, table, section + '[scenarios]\nmodels = "models"\n')
     assert main(["scenarios", str(path), "--out", str(tmp_path / "many"), "--workers", "1", "--quiet"]) == 0
-    plan = pitplan.prepare(path)
+    likely, plan = pd.read_csv(tmp_path / "many" / "probability.csv"), pitplan.prepare(path)
+    assert likely[["x", "y", "z"]].to_numpy().tolist() == plan.blocks[["x", "y", "z"]].to_numpy().tolist()
     told = pd.read_csv(tmp_path / "many" / "scenarios.csv").set_index("factor")["worth"]
     shells = pitplan.shells(plan, pitplan.solve(plan)).set_index("factor")["worth"]
     assert told.tolist() == pytest.approx(shells.tolist()) and json.loads((tmp_path / "many" / "scenarios.json").read_text())
