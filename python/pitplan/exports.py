@@ -59,7 +59,8 @@ def write_vtu(path: Path, folder: Folder, factor: int) -> None:
     steps = np.stack([used % (columns + 1), used // (columns + 1) % (rows + 1), used // ((columns + 1) * (rows + 1))], axis=1)
     west, _, south, _, floor, _ = grid.extent()
     points, cells = vtk.vtkPoints(), vtk.vtkCellArray()
-    points.SetData(numpy_support.numpy_to_vtk((west, south, floor) + steps * grid.size, deep=True))
+    east, north, up = ((west, south, floor) + steps * grid.size).T
+    points.SetData(numpy_support.numpy_to_vtk(np.stack([*grid.frame.back(east, north), up], axis=1), deep=True))
     each = np.arange(0, 8 * len(blocks) + 1, 8, dtype=np.int64)
     cells.SetData(*(numpy_support.numpy_to_vtkIdTypeArray(part.ravel().astype(np.int64), deep=True) for part in (each, at)))
     mesh = vtk.vtkUnstructuredGrid()
@@ -89,7 +90,9 @@ def write_dxf(path: Path, folder: Folder, factor: int) -> None:
     for level in range(grid.shape[0]):
         z = top - (level + 1) * dz
         for ring in rings(cube[level]):
-            points = [(west + column * dx, south + row * dy, z) for column, row in ring]
+            column, row = np.array(ring).T
+            x, y = grid.frame.back(west + column * dx, south + row * dy)
+            points = [(*place, z) for place in zip(x.tolist(), y.tolist())]
             space.add_polyline3d(points, close=True, dxfattribs={"layer": f"TOE_{z:g}"})
     drawing.saveas(path)
 

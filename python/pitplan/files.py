@@ -181,7 +181,7 @@ def write_json(path: Path, record: dict[str, Any]) -> None:
 def grid_of(box: dict[str, Any], rows: np.ndarray) -> Grid:
     """A grid from its record, with the cells of the table's rows."""
     (levels, north, east), (x, y, z), (dx, dy, dz) = box["shape"], box["origin"], box["size"]
-    return Grid((levels, north, east), (x, y, z), (dx, dy, dz), rows)
+    return Grid((levels, north, east), (x, y, z), (dx, dy, dz), rows, box.get("azimuth", 0.0))
 
 
 def read_record(folder: Path) -> dict[str, Any]:

@@ -15,6 +15,7 @@ import numpy as np
 
 from .errors import PlanError
 from .files import Folder
+from .frame import turn_of
 from .packages import three_scripts
 from .report import TEMPLATES
 
@@ -49,10 +50,13 @@ def model_of(folder: Folder) -> dict[str, Any]:
     most = float(np.quantile(grade[grade > 0], 0.99)) if (grade > 0).any() else 1.0
     tint = np.rint(np.clip(grade / most, 0, 1) * 255).astype(np.uint8)
     west, _, south, _, floor, top = grid.extent()
+    x, y = grid.frame.back(west, south)
+    towards_north = 1j / turn_of(grid.azimuth)
     return years_of(folder) | {
         "shape": list(grid.shape),
         "size": list(grid.size),
-        "corner": [west, south, floor],
+        "corner": [float(x), float(y), floor],
+        "north": [towards_north.real, towards_north.imag],
         "top": top,
         "factors": factors,
         "chosen": folder.record["shells"]["chosen"],

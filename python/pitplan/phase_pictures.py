@@ -15,7 +15,7 @@ from matplotlib.colors import BoundaryNorm, ListedColormap
 from matplotlib.figure import Figure
 
 from .grid import Grid, metres
-from .map_marks import contours, floor_of, mark_map, mark_section_cells
+from .map_marks import axes_of_map, contours, floor_of, mark_map, mark_section_cells, section_titles
 from .outlines import edges
 from .phases import Phases
 from .pictures import GROUND, MAP, MOST_TICKS, STYLE, busiest, finish, list_of, name_axes, write_maps
@@ -102,7 +102,7 @@ def plot_surface(scene: PhaseScene, ax: Axes) -> Axes:
     ax.set_title(f"Phases at the surface, contours of the floor each {metres(between)} m")
     mark_section_cells(ax, scene.grid, scene.section_row, scene.section_column)
     mark_map(ax, scene.grid)
-    name_axes(ax, "east", "north")
+    name_axes(ax, *axes_of_map(scene.grid))
     return ax
 
 
@@ -113,7 +113,7 @@ def plot_level(scene: PhaseScene, number: int, ax: Axes) -> Axes:
     draw(scene, (scene.phase[number], scene.solid[number]), (west, east, south, north), ax)
     ax.set_title(f"Phases on the level {metres(top - (number + 1) * height)} to {metres(top - number * height)} m")
     mark_map(ax, scene.grid)
-    name_axes(ax, "east", "north")
+    name_axes(ax, *axes_of_map(scene.grid))
     return ax
 
 
@@ -122,8 +122,8 @@ def plot_from_west_to_east(scene: PhaseScene, row: int, ax: Axes) -> Axes:
     west, east, _, _, bottom, top = scene.grid.extent()
     cut = (slice(None, None, -1), row)
     draw(scene, (scene.phase[cut], scene.solid[cut]), (west, east, bottom, top), ax)
-    ax.set_title(f"Phases, west to east (A) at north {metres(scene.grid.origin[1] + row * scene.grid.size[1])}")
-    name_axes(ax, "east", "elevation")
+    ax.set_title(f"Phases, {section_titles(scene.grid, row, 0)[0]}")
+    name_axes(ax, scene.grid.frame.names[0], "elevation")
     return ax
 
 
@@ -132,8 +132,8 @@ def plot_from_south_to_north(scene: PhaseScene, column: int, ax: Axes) -> Axes:
     _, _, south, north, bottom, top = scene.grid.extent()
     cut = (slice(None, None, -1), slice(None), column)
     draw(scene, (scene.phase[cut], scene.solid[cut]), (south, north, bottom, top), ax)
-    ax.set_title(f"Phases, south to north (B) at east {metres(scene.grid.origin[0] + column * scene.grid.size[0])}")
-    name_axes(ax, "north", "elevation")
+    ax.set_title(f"Phases, {section_titles(scene.grid, 0, column)[1]}")
+    name_axes(ax, scene.grid.frame.names[1], "elevation")
     return ax
 
 

@@ -27,7 +27,7 @@ from matplotlib.ticker import MaxNLocator
 from . import analyse
 from .errors import PlanError
 from .grid import Grid, metres
-from .map_marks import contours, floor_of, mark_map, mark_section_cells
+from .map_marks import axes_of_map, contours, floor_of, mark_map, mark_section_cells, section_titles
 from .outlines import edges
 from .picture_rules import PictureRules
 from .plan import Plan
@@ -146,7 +146,8 @@ def demand_within(plan: Plan) -> None:
     for key, values, least, most in asked:
         for value in values:
             if value is not None and not least <= value <= most:
-                where = f"beyond the model, from {metres(least)} to {metres(most)} m"
+                along = dict(zip(("east", "north"), plan.grid.frame.names)).get(key, "") if plan.grid.azimuth else ""
+                where = f"beyond the model, from {metres(least)} to {metres(most)} m {along}".rstrip()
                 raise PlanError(f"{plan.project.path}: [pictures] {key}: {metres(value)} is {where}")
 
 
@@ -257,11 +258,8 @@ def plot_sections(scene: Scene, axes: Any) -> list[Axes]:
     and the grades."""
     found = list_of(axes, 4)
     row, column = scene.section_row, scene.section_column
-    x, y, _ = scene.grid.centres(np.array(row * scene.grid.shape[2] + column))
-    cuts = (
-        (scene.from_west_to_east(row), f"west to east (A) at north {metres(y)}", "east"),
-        (scene.from_south_to_north(column), f"south to north (B) at east {metres(x)}", "north"),
-    )
+    (first, second), (east, north) = section_titles(scene.grid, row, column), scene.grid.frame.names
+    cuts = ((scene.from_west_to_east(row), first, east), (scene.from_south_to_north(column), second, north))
     for (plane, where, label), left, right in zip(cuts, found[::2], found[1::2]):
         plot_shells(scene, plane, left).set_title(f"Shells, {where}")
         plot_grades(scene, plane, right)
@@ -308,7 +306,7 @@ def plot_floor(scene: Scene, ax: Axes) -> Axes:
     ax.figure.colorbar(image, ax=ax, shrink=0.85)
     mark_section_cells(ax, scene.grid, scene.section_row, scene.section_column)
     mark_map(ax, scene.grid)
-    name_axes(ax, "east", "north")
+    name_axes(ax, *axes_of_map(scene.grid))
     return ax
 
 
@@ -318,7 +316,7 @@ def plot_level(scene: Scene, number: int, ax: Axes) -> Axes:
     plot_shells(scene, scene.level(number), ax)
     ax.set_title(f"Shells on the level {metres(top - (number + 1) * height)} to {metres(top - number * height)} m")
     mark_map(ax, scene.grid)
-    name_axes(ax, "east", "north")
+    name_axes(ax, *axes_of_map(scene.grid))
     return ax
 
 

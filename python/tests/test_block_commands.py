@@ -125,7 +125,6 @@ def test_a_block_goes_to_the_process_that_has_room(plan_folder):
         ("[schedule]\nsinking_rate = 2", "[schedule] sinking_rate: is of the benches of a phase"),
         ("[schedule]\nbins = 2", "[schedule] bins: are of benches"),
         ("[schedule]\nbins = 2\nstockpile = { rehandling_cost = 1 }", "[schedule] bins: are of benches"),
-        ("[fixed]\nforced = 'cu'", "[fixed]: blocks that must be dug"),
         ("[schedule]\nore_per_year = 1", "the pit would take more than 200 years"),
     ],
 )

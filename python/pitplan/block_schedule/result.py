@@ -98,6 +98,7 @@ class ScheduledBlocks:
             "gap": round(found.gap, 9),
             "years": self.planned.problem.years,
             "limits": limits.most,
+            **({"least": limits.least} if limits.least else {}),
             "ramp_up": list(limits.ramp_up),
             "blocks": found.blocks,
             "nodes": found.nodes,

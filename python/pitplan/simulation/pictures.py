@@ -19,7 +19,7 @@ from matplotlib.figure import Figure
 from matplotlib.lines import Line2D
 
 from ..grid import Grid, metres
-from ..map_marks import mark_map, mark_section_cells
+from ..map_marks import axes_of_map, mark_map, mark_section_cells, section_titles
 from ..outlines import edges
 from ..pictures import GROUND, MAP, STYLE, busiest, finish, list_of, name_axes, scaled, write_maps
 
@@ -79,7 +79,7 @@ def plot_plans(likely: Likely, axes: Any) -> list[Axes]:
         ax.set_title(f"Level {metres(top - (number + 1) * height)} to {metres(top - number * height)} m")
     for ax in found:
         mark_map(ax, likely.grid)
-        name_axes(ax, "east", "north")
+        name_axes(ax, *axes_of_map(likely.grid))
     explain(found, likely)
     return found
 
@@ -99,11 +99,11 @@ def plot_sections(likely: Likely, axes: Any) -> list[Axes]:
     found = list_of(axes, 2)
     west, east, south, north, bottom, top = likely.grid.extent()
     row, column = likely.section_row, likely.section_column
-    x, y, _ = likely.grid.centres(np.array(row * likely.grid.shape[2] + column))
+    (first, second), (along, up) = section_titles(likely.grid, row, column), likely.grid.frame.names
     cuts: tuple[Any, ...] = ((slice(None, None, -1), row, slice(None)), (slice(None, None, -1), slice(None), column))
     places = (
-        ((west, east, bottom, top), f"West to east (A) at north {metres(y)}", "east"),
-        ((south, north, bottom, top), f"South to north (B) at east {metres(x)}", "north"),
+        ((west, east, bottom, top), f"{first[0].upper()}{first[1:]}", along),
+        ((south, north, bottom, top), f"{second[0].upper()}{second[1:]}", up),
     )
     for ax, cut, (extent, title, label) in zip(found, cuts, places):
         draw(ax, likely.shown[cut], likely.solid[cut], extent)
