@@ -73,7 +73,7 @@ def prepare(project: Project, folder: Path, progress: Progress) -> dict[str, Any
     demand_apart(project, folder)
     plan = prepare_plan(project, progress=progress)
     with files.staged(folder) as stage:
-        pictures.demand_within(plan)
+        pictures.demand_within(project, plan.grid)
         with progress.step("writing blocks and needs"):
             pairs = plan.write(stage)
         write_table(plan.blocks, stage)
@@ -324,7 +324,7 @@ def begun(project: Project, folder: Path, progress: Progress) -> Iterator[tuple[
     solver = chosen(project.solver)
     plan = prepare_plan(project, progress=progress)
     with files.staged(folder, whole=files.OF_PROGRAM) as stage:
-        pictures.demand_within(plan)
+        pictures.demand_within(project, plan.grid)
         with progress.step("writing blocks and needs" if solver.by == PROGRAM else "listing the needs"):
             mine = mines.ready(plan, solver, stage)
         yield mine, plan.record(mine.pairs) | {"solver": asdict(solver)}, stage
