@@ -28,7 +28,8 @@ python3-wheel         tests    the same
 python3-venv          tests    the test that installs these wheels
 dpkg-dev              tests    make dist: the Debian package
 man-db                tests    the test that the manual pages are shown
-chromium              all      the test that opens the 3D page
+chromium              all      the tests that open the 3D page, and print the report
+poppler-utils         all      the test that reads the printed report
 python3-coverage      changes  tools/planted_changes.py
 g++                   bench    other people's maximum flows, beside which the program is timed
 libboost-graph-dev    bench    the same

@@ -11,7 +11,7 @@
 Functions write what the subcommands do, by default into the project's own folder:
 
     table = pitplan.write_shells("project.toml", "out")    # as pitplan shells, verified: one row a factor
-    pitplan.view("out")                                    # the path of view.html
+    pitplan.view("out")                                    # the path of view.html; write_report("out") that of report.html
     pitplan.export("out", "csv")                           # that of pit.csv; or table, xlsx, vti, vtu; with a factor dxf, stl or obj
     pitplan.audit("out", 800)                              # that of a folder by which others can check the shell
     rules = pitplan.verify("out")                          # each with what holds, differences, and their count
@@ -36,7 +36,7 @@ This layer, which makes that of a table, is not proved; `plan.notes` says what i
 
 from .analyse import blocks, shells, years
 from .block_commands import write_block_schedule
-from .commands import audit, export, gather, pit, pushbacks, scenarios, sensitivity, verify, view, write_schedule, write_shells
+from .commands import audit, export, gather, pit, pushbacks, scenarios, sensitivity, verify, view, write_report, write_schedule, write_shells
 from .errors import BudgetUsedUp, MissingPackage, PlanError, ProgramError
 from .mine import solve
 from .plan import Plan, prepare
@@ -75,6 +75,7 @@ __all__ = [
     "verify",
     "view",
     "write_block_schedule",
+    "write_report",
     "write_schedule",
     "write_shells",
     "years",

@@ -1,4 +1,4 @@
-"""The command line: `pitplan init | prepare | shells | pit | pushbacks | schedule | sensitivity | verify | view | export | audit | scenarios | convert`, and what these need."""
+"""The command line: `pitplan init | prepare | shells | pit | pushbacks | schedule | sensitivity | report | verify | view | export | audit | scenarios | convert`, and what these need."""
 
 from __future__ import annotations
 
@@ -38,6 +38,7 @@ def parser() -> argparse.ArgumentParser:
         "pushbacks": "divide the pit of one factor into phases, and write tables, pictures and the report",
         "schedule": "schedule the phases of a pit, or its blocks, by years, and write tables, pictures and the report",
         "sensitivity": "tell how much the pit that is shown hangs on prices, costs, recovery, slopes and capacity, by tables and pictures",
+        "report": "write the report of a folder anew, with the sensitivity that was run meanwhile",
         "view": "write a page that shows the shells in 3D (libjs-three)",
         "export": "write the shells for other programs",
         "audit": "write a folder by which others can check one shell",
@@ -55,6 +56,9 @@ def parser() -> argparse.ArgumentParser:
         if name == "schedule":
             text = "schedule benches of phases (phase, the default), or blocks one by one, with the bound of all such schedules (block)"
             sub.add_argument("--by", choices=("phase", "block"), default="phase", help=text)
+        if name == "report":
+            text = "the folder of the sensitivity that it tells (default: that in the project's output folder, where it is of the same inputs)"
+            sub.add_argument("--sensitivity", type=Path, metavar="FOLDER", help=text)
         if name == "sensitivity":
             text = "local (processes, by Dask) or tcp://host:port (a Dask scheduler; default: here, one case after the other)"
             sub.add_argument("--on", type=scheduler_of, metavar="WHERE", help=text)
@@ -214,9 +218,12 @@ def run_command(options: argparse.Namespace, project: Project, folder: Path, pro
         folder = options.out or project.folder / "sensitivity"
         where = Where(options.on, options.workers) if options.on else None
         table = commands.sensitivity(project, folder, where, progress, not options.no_verify)
+        table = report.of_cases(table)
         columns = report.columns_of_cases(table, project)
-        print_table([heading for _, heading, _, _ in columns], report.cells_of(report.of_cases(table), columns))
+        print_table([heading for _, heading, _, _ in columns], report.cells_of(table, columns))
         print(folder / sensitivity_files.TABLE)
+    elif options.command == "report":
+        print(commands.write_report(folder, options.sensitivity, progress))
     elif options.command == "view":
         print(commands.view(folder, progress))
     elif options.command == "export":

@@ -12,7 +12,7 @@ import numpy as np
 import pandas as pd
 
 from . import absent, analyse, auditing, block_pictures, csv_file, exports, files, mine as mines, page, phase_pictures, phases as phasing, pictures
-from . import report
+from . import planned_table, report_page
 from . import schedule_pictures, sensitivity_files, sensitivity_pictures, simulation, varied_cases, verification, workbook, yearly, yearly_schedule as scheduling
 from .errors import PlanError
 from .mine import Mine
@@ -55,7 +55,7 @@ WRITTEN = {
     files.YEARS,
     files.PHASES,
     *(files.SCHEDULE, files.SCHEDULE_RECORD, files.MILLING, WORKBOOK),
-    *(files.BLOCK_SCHEDULE, block_pictures.NAME),
+    *(files.BLOCK_SCHEDULE, files.WAYS, block_pictures.NAME),
     *(REPORT, VIEW),
     *PICTURES.values(),
     *PHASE_PICTURES.values(),
@@ -248,14 +248,7 @@ def write_answer(answered: Answered, mine: Mine, record: dict[str, Any], writing
         with progress.step("writing the workbook"):
             workbook.write(stage / WORKBOOK, sheets_of(answered, table, years))
     finish(plan, record, [*mine.files, *tables_of(answered), *pictures.files_of(drawn, formats)], stage)
-    facts = facts_of(record, {name: stage / file for name, file in drawn.items()})
-    if phases is not None:
-        facts |= {"phases": report.table_of(phasing.table(phases), report.columns_of_phases, project)}
-    if answered.schedule is not None:
-        facts |= {"ways": report.table_of(scheduling.ways(answered.schedule), report.columns_of_ways, project)}
-    if answered.blocks is not None:
-        facts |= {"by_block": report.table_of(answered.blocks.table, report.columns_by_block, project)}
-    report.write(stage / REPORT, project, table, facts)
+    report_page.write(stage / REPORT, stage, project)
     return table
 
 
@@ -264,6 +257,7 @@ def tables_of(answered: Answered) -> list[str]:
     names = [files.TABLE, files.SHELLS, files.YEARS, *([files.PHASES] if answered.phases else [])]
     names += [files.SCHEDULE, files.SCHEDULE_RECORD, WORKBOOK] if answered.schedule else []
     names += [files.BLOCK_SCHEDULE] if answered.blocks else []
+    names += [files.WAYS] if answered.schedule or answered.blocks else []
     return [*names, files.MILLING] if answered.schedule and answered.schedule.milling else names
 
 
@@ -282,7 +276,7 @@ def sheets_of(answered: Answered, table: pd.DataFrame, years: pd.DataFrame) -> d
 
 def write_tables(answered: Answered, stage: Path) -> tuple[pd.DataFrame, pd.DataFrame]:
     """Writes the program's own answer, if it solved, blocks.csv, shells.csv, years.csv, of phases phases.csv, and of a schedule
-    schedule.csv, schedule.json and where ore is divided into bins milling.csv; gives the shells and the years."""
+    schedule.csv, ways.csv, schedule.json and where ore is divided into bins milling.csv; gives the shells and the years."""
     plan, solution, phases, schedule = answered.plan, answered.solution, answered.phases, answered.schedule
     table, years = analyse.shells(plan, solution), analyse.years(plan, solution)
     if solution.answer is not None:
@@ -292,12 +286,14 @@ def write_tables(answered: Answered, stage: Path) -> tuple[pd.DataFrame, pd.Data
         blocks["year"] = scheduling.blocks_year(schedule)[blocks["id"].to_numpy()]
         years = pd.concat([years, scheduling.years(schedule)], ignore_index=True)
         shown(scheduling.table(schedule)).to_csv(stage / files.SCHEDULE, index=False)
+        shown(scheduling.ways(schedule)).to_csv(stage / files.WAYS, index=False)
         files.write_json(stage / files.SCHEDULE_RECORD, scheduling.record(schedule))
         if schedule.milling:
             shown(scheduling.milling(schedule)).to_csv(stage / files.MILLING, index=False)
     if answered.blocks is not None:
         blocks, years = answered.blocks.beside(blocks), pd.concat([years, answered.blocks.years], ignore_index=True)
         files.write_json(stage / files.BLOCK_SCHEDULE, answered.blocks.record)
+        shown(answered.blocks.ways).to_csv(stage / files.WAYS, index=False)
     write_table(blocks, stage)
     shown(table).to_csv(stage / files.SHELLS, index=False)
     shown(years).to_csv(stage / files.YEARS, index=False)
@@ -349,7 +345,7 @@ def shown(table: pd.DataFrame) -> pd.DataFrame:
         result["worth_at_factor"] = result["worth_at_factor"].map("{:f}".format)
     for name in result.columns:
         if result[name].dtype == np.float64:
-            places = 6 if name.startswith("grade_") or name in ("strip_ratio", "years") else 9 if name == "share" else 3
+            places = 6 if name.startswith("grade_") or name in ("strip_ratio", "years") else 9 if name in ("share", "below_bound") else 3
             # A hair below nothing is rounded to -0.0, which is no amount.
             result[name] = result[name].round(places) + 0.0
     return result
@@ -380,19 +376,6 @@ def draw_phases(answered: Answered, years: pd.DataFrame, stage: Path) -> dict[st
     return drawn
 
 
-def facts_of(record: dict[str, Any], drawn: dict[str, Path]) -> dict[str, Any]:
-    """What the report tells besides the tables; `drawn` has the pictures by name."""
-    return {
-        "chosen": record["shells"]["chosen"],
-        "pictures": drawn,
-        "summary": record["summary"],
-        "notes": record["notes"],
-        "verified": record["verified"],
-        "files": {**record["inputs"], **record["files"]},
-        "solver": record["shells"]["solver"],
-    }
-
-
 def sensitivity(
     project: Source, folder: Optional[Place] = None, where: Optional[Where] = None, progress: Progress = silent, verifies: bool = True
 ) -> pd.DataFrame:
@@ -406,6 +389,19 @@ def sensitivity(
     target = project.folder / "sensitivity" if folder is None else Path(folder)
     demand_apart(project, target)
     return sensitivity_files.write(varied_cases.solve(project, target, where, progress), target, progress, verifies)
+
+
+def write_report(folder: Place, sensitivity: Optional[Place] = None, progress: Progress = silent) -> Path:
+    """Writes report.html of a folder that `write_shells`, `pushbacks` or a schedule has written anew, of its files; gives its path.
+
+    It tells the sensitivity of a folder, by default of that in the project's own where it is of the same project and table. Raises PlanError
+    where the folder has no shells, or it, the project or the table has changed since, and where the folder given is no such sensitivity.
+    """
+    result = files.read_folder(Path(folder))
+    project = planned_table.project_of(result)
+    with progress.step("writing the report"), files.staged_file(result.path / REPORT) as path:
+        report_page.write(path, result.path, project, None if sensitivity is None else Path(sensitivity))
+    return result.path / REPORT
 
 
 def view(folder: Place, progress: Progress = silent) -> Path:
