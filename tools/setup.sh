@@ -29,6 +29,7 @@ python3-venv          tests    the test that installs these wheels
 dpkg-dev              tests    make dist: the Debian package
 man-db                tests    the test that the manual pages are shown
 chromium              all      the tests that open the 3D page, and print the report
+python3-tornado       all      the test that clicks in the 3D page
 poppler-utils         all      the test that reads the printed report
 python3-coverage      changes  tools/planted_changes.py
 g++                   bench    other people's maximum flows, beside which the program is timed

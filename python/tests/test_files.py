@@ -56,7 +56,7 @@ def test_a_mine_without_ore_has_a_report_and_a_page_too(plan_folder):
     commands.view(project.folder, silent)
     assert (
         "–" in (project.folder / "report.html").read_text()
-        and 'grade_most": 1.0' in (project.folder / "view.html").read_text()
+        and '"most": 1.0' in (project.folder / "view.html").read_text()
     )
 
 
