@@ -12,7 +12,7 @@ Functions write what the subcommands do, by default into the project's own folde
 
     table = pitplan.write_shells("project.toml", "out")    # as pitplan shells, verified: one row a factor
     pitplan.view("out")                                    # the path of view.html; write_report("out") that of report.html
-    pitplan.export("out", "csv")                           # that of pit.csv; or table, xlsx, vti, vtu; with a factor dxf, stl or obj
+    pitplan.export("out", "csv")                           # that of pit.csv; or table, xlsx, vti, vtu; with a factor or `shape=Shape(...)` dxf, stl or obj
     pitplan.audit("out", 800)                              # that of a folder by which others can check the shell
     rules = pitplan.verify("out")                          # each with what holds, differences, and their count
     pits = pitplan.pit("project.toml", 1000)               # a row with the fixed blocks and one without
@@ -44,6 +44,7 @@ from .project import Project, load
 from .run import Solution
 from .simulation import Request, ScenarioResult
 from .simulation.on_dask import Where
+from .stages import Shape
 from .verification import Rule
 
 __version__ = "0.1.0"
@@ -58,6 +59,7 @@ __all__ = [
     "Request",
     "Rule",
     "ScenarioResult",
+    "Shape",
     "Solution",
     "Where",
     "audit",

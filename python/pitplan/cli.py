@@ -14,7 +14,7 @@ import minelib
 import pandas as pd
 from minelib.__main__ import add_arguments as add_minelib
 
-from . import __version__, block_commands, commands, exports, files, init, report, sensitivity_files, simulation
+from . import __version__, block_commands, commands, exports, files, init, report, sensitivity_files, simulation, stages
 from .errors import PlanError
 from .progress import Progress, on_standard_error, silent
 from .project import REFERENCE_FACTOR, Project, load
@@ -50,6 +50,10 @@ def parser() -> argparse.ArgumentParser:
         sub.add_argument("--quiet", action="store_true", help="tell no progress on standard error")
         if name == "export":
             sub.add_argument("--to", required=True, choices=tuple(exports.WRITERS))
+            sub.add_argument("--of", choices=stages.KINDS, default=stages.FACTOR, help="the pit of a factor (default), or all phases or years")
+            text = "the blocks that are dug (pit, the default), or the open surface of the ground with the pit in it"
+            sub.add_argument("--surface", choices=(stages.PIT, stages.GROUND), default=stages.PIT, help=text)
+            sub.add_argument("--smooth", action="store_true", help="of the ground: without the steps of blocks")
         if name in ("pit", "pushbacks", "schedule", "sensitivity", "shells"):
             sub.add_argument("--no-verify", action="store_true", help="leave out the second look at every number")
             add_solver(sub)
@@ -227,7 +231,8 @@ def run_command(options: argparse.Namespace, project: Project, folder: Path, pro
     elif options.command == "view":
         print(commands.view(folder, progress))
     elif options.command == "export":
-        print(commands.export(folder, options.to, options.factor, progress))
+        shape = stages.Shape(options.of, options.surface, options.smooth)
+        print(commands.export(folder, options.to, options.factor, progress, shape))
     else:
         print(commands.audit(folder, options.factor, progress))
 

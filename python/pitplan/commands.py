@@ -24,6 +24,7 @@ from .run import Solution
 from .simulation import Request, ScenarioResult
 from .simulation.on_dask import Where
 from .solver import PROGRAM, chosen
+from .stages import FACTOR, Shape
 from .verification import Rule
 from .yearly_schedule import YearlySchedule
 
@@ -415,22 +416,23 @@ def view(folder: Place, progress: Progress = silent) -> Path:
     return result.path / VIEW
 
 
-def export(folder: Place, kind: str, factor: int = REFERENCE_FACTOR, progress: Progress = silent) -> Path:
+def export(folder: Place, kind: str, factor: int = REFERENCE_FACTOR, progress: Progress = silent, shape: Shape = Shape()) -> Path:
     """Writes the shells of a folder that `write_shells` has written for other programs; gives the file's path.
 
     `table` is the planner's own table, row by row, with each block's factors, phase and year behind it; `xlsx` all tables; `csv`, `vti`
-    and `vtu` hold the shells of all factors, `dxf` the outline of one at each level, and `stl` and `obj` the closed surface round its
-    blocks, in metres. The factor is in per mille.
+    and `vtu` hold the shells of all factors, `dxf` the toes and crests of one at each level, and `stl` and `obj` the closed surface round its
+    blocks, in metres. The factor is in per mille. By its `shape` they hold all phases or years instead, surfaces a file each in a folder,
+    or the ground with the pit in it.
 
-    Raises PlanError where the folder has no shells or not this factor, the kind is another, or what is written is not right, and
-    MissingPackage without a library.
+    Raises PlanError where the folder has no shells or not this factor, phases or years, the kind is another or has no such shape, or what is
+    written is not right, and MissingPackage without a library.
     """
-    if kind not in exports.WRITERS:
-        raise PlanError(f"{kind} is none of {', '.join(exports.WRITERS)}")
-    result = read_factor(folder, factor)
-    target = result.path / exports.name_of(kind, factor)
-    with progress.step(f"writing {target.name}"), files.staged_file(target) as path:
-        notes = exports.WRITERS[kind](path, result, factor)
+    shape = replace(shape, factor=factor)
+    exports.demand_apt(kind, shape)
+    result = read_factor(folder, factor) if shape.of == FACTOR else files.read_folder(Path(folder))
+    target = result.path / exports.name_of(kind, shape)
+    with progress.step(f"writing {target.name}"), exports.staged(target, kind, shape) as path:
+        notes = exports.WRITERS[kind](path, result, shape)
         if kind == "table":
             verification.demand([verification.verify_table(result.path, path)])
     progress.lines(notes or [])
