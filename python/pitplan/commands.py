@@ -420,8 +420,8 @@ def export(folder: Place, kind: str, factor: int = REFERENCE_FACTOR, progress: P
     """Writes the shells of a folder that `write_shells` has written for other programs; gives the file's path.
 
     `table` is the planner's own table, row by row, with each block's factors, phase and year behind it; `xlsx` all tables; `csv`, `vti`
-    and `vtu` hold the shells of all factors, `dxf` the toes and crests of one at each level, and `stl` and `obj` the closed surface round its
-    blocks, in metres. The factor is in per mille. By its `shape` they hold all phases or years instead, surfaces a file each in a folder,
+    and `vtu` hold the shells of all factors, `dxf` the toes and crests of one at each level, `stl` and `obj` the closed surface round its
+    blocks, and `gpkg`, `str` and `lines` its toes and crests too, in metres. The factor is in per mille. By its `shape` they hold all phases or years instead, surfaces a file each in a folder,
     or the ground with the pit in it.
 
     Raises PlanError where the folder has no shells or not this factor, phases or years, the kind is another or has no such shape, or what is

@@ -1,5 +1,5 @@
 """The shells for other programs: the planner's own table or CSV for any, a workbook of all tables for spreadsheets, VTK image data or cells
-for ParaView, DXF for drawing programs, and surfaces for any that knows triangles."""
+for ParaView, DXF for drawing programs, surfaces for any that knows triangles, and lines for others."""
 
 from __future__ import annotations
 
@@ -10,7 +10,7 @@ from typing import Callable, Optional
 import numpy as np
 import pandas as pd
 
-from . import csv_file, drawings, files, planned_table, surfaces, workbook
+from . import csv_file, drawings, files, line_files, planned_table, surfaces, workbook
 from .errors import PlanError
 from .files import Folder
 from .packages import load
@@ -21,9 +21,11 @@ from .vtk_files import PACKAGE, save, write_image
 Writer = Callable[[Path, Folder, Shape], Optional[list[str]]]
 PLANNED = "table.csv"
 # What holds the pit of one factor, or those of phases or years.
-OF_ONE = ("dxf", "stl", "obj")
+OF_ONE = ("dxf", "stl", "obj", "gpkg", "str", "lines")
 # Those of them that hold surfaces, and in which each stage has a file of its own.
 SURFACES, SINGLE = ("dxf", "stl", "obj"), ("stl", "obj")
+# Those that hold toes and crests alone, with the ending of their files.
+LINES = {"gpkg": "gpkg", "str": "str", "lines": "csv"}
 # The tables of a folder, each a sheet of the workbook by its name.
 SHEETS = (files.SHELLS, files.YEARS, files.PHASES, files.SCHEDULE, files.MILLING)
 # The corners of a cell as VTK counts them in a voxel: steps east, north and up.
@@ -34,9 +36,10 @@ def name_of(kind: str, shape: Shape) -> str:
     """The file's name: a table and image data hold all factors, a drawing or a surface one, or all phases or years."""
     if kind not in OF_ONE:
         return PLANNED if kind == "table" else f"pit.{kind}"
-    if shape.of == FACTOR:
-        return f"{shape.surface}-{shape.factor}.{kind}"
-    return f"{shape.surface}-{shape.of}s{'-' if is_folder(kind, shape) else '.'}{kind}"
+    of_what = str(shape.factor) if shape.of == FACTOR else f"{shape.of}s"
+    if kind in LINES:
+        return f"lines-{of_what}.{LINES[kind]}"
+    return f"{shape.surface}-{of_what}{'-' if is_folder(kind, shape) else '.'}{kind}"
 
 
 def is_folder(kind: str, shape: Shape) -> bool:
@@ -118,6 +121,9 @@ WRITERS: dict[str, Writer] = {
     "dxf": drawings.write_dxf,
     "stl": surfaces.write_stl,
     "obj": surfaces.write_obj,
+    "gpkg": line_files.write_gpkg,
+    "str": line_files.write_str,
+    "lines": line_files.write_lines,
 }
 # Those that hold all factors.
 WRITTEN = tuple(name_of(kind, Shape()) for kind in WRITERS if kind not in OF_ONE)

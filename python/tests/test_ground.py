@@ -214,8 +214,9 @@ def test_a_drawing_has_a_layer_a_bench_and_phase(folder):
 @pytest.mark.parametrize(
     ("words", "said"),
     [
-        (["--to", "csv", "--of", "phase"], "csv holds all factors, phases and years: of one kind of them are dxf, stl, obj"),
+        (["--to", "csv", "--of", "phase"], "csv holds all factors, phases and years: of one kind of them are dxf, stl, obj, gpkg, str, lines"),
         (["--to", "vtu", "--surface", "ground"], "vtu has no surface of the ground: dxf, stl, obj have"),
+        (["--to", "gpkg", "--surface", "ground"], "gpkg has no surface of the ground: dxf, stl, obj have"),
         (["--to", "stl", "--smooth"], "the surface round blocks is never smoothed: that of the ground may be"),
     ],
 )
