@@ -49,11 +49,7 @@ def parser() -> argparse.ArgumentParser:
         sub.add_argument("--out", type=Path, help="the folder of the plan (default: the project's output folder)")
         sub.add_argument("--quiet", action="store_true", help="tell no progress on standard error")
         if name == "export":
-            sub.add_argument("--to", required=True, choices=tuple(exports.WRITERS))
-            sub.add_argument("--of", choices=stages.KINDS, default=stages.FACTOR, help="the pit of a factor (default), or all phases or years")
-            text = "the blocks that are dug (pit, the default), or the open surface of the ground with the pit in it"
-            sub.add_argument("--surface", choices=(stages.PIT, stages.GROUND), default=stages.PIT, help=text)
-            sub.add_argument("--smooth", action="store_true", help="of the ground: without the steps of blocks")
+            add_export(sub)
         if name in ("pit", "pushbacks", "schedule", "sensitivity", "shells"):
             sub.add_argument("--no-verify", action="store_true", help="leave out the second look at every number")
             add_solver(sub)
@@ -79,6 +75,14 @@ def parser() -> argparse.ArgumentParser:
     text = "MineLib's .upit, .cpit, .pcpsp, .prec and .blocks files, as published"
     add_minelib(kinds.add_parser("minelib", help=text, description=text))
     return top
+
+
+def add_export(sub: Any) -> None:
+    sub.add_argument("--to", required=True, choices=tuple(exports.WRITERS))
+    sub.add_argument("--of", choices=stages.KINDS, default=stages.FACTOR, help="the pit of a factor (default), or all phases or years")
+    text = "the blocks that are dug (pit, the default), or the open surface of the ground with the pit in it"
+    sub.add_argument("--surface", choices=(stages.PIT, stages.GROUND), default=stages.PIT, help=text)
+    sub.add_argument("--smooth", action="store_true", help="of the ground: without the steps of blocks")
 
 
 def add_solver(sub: Any) -> None:

@@ -87,9 +87,9 @@ def stepped(heights: Heights) -> Surface:
 def walls(heights: Heights, axis: int, step: int) -> tuple[np.ndarray, np.ndarray, np.ndarray]:
     """The walls that look to the east (axis 1, step 1), west, north (axis 0, step 1) or south, from a higher column to a lower one beside it:
     the lower corner of each, its four corners from there, and its bench."""
-    high = heights.after
-    here, there = (np.moveaxis(high, axis, 0)[part] for part in ((slice(None, -1), slice(1, None)) if step > 0 else (slice(1, None), slice(None, -1))))
-    was = np.moveaxis(heights.before, axis, 0)[1:] if step > 0 else np.moveaxis(heights.before, axis, 0)[:-1]
+    of_here, of_there = (slice(None, -1), slice(1, None))[::step]
+    here, there = (np.moveaxis(heights.after, axis, 0)[part] for part in (of_here, of_there))
+    was = np.moveaxis(heights.before, axis, 0)[of_there]
     first, second = np.nonzero((there != NONE) & (here > there))
     low, count = there[first, second], (here - there)[first, second]
     line, other, bottom, least = (np.repeat(part, count) for part in (first, second, low, was[first, second]))

@@ -2,10 +2,10 @@
 
 from __future__ import annotations
 
-import os
 from collections.abc import Iterator
 from contextlib import contextmanager
 from pathlib import Path
+from typing import Any
 
 import pandas as pd
 
@@ -21,12 +21,13 @@ GDAL = "python3-gdal"
 DATE = {"OGR_CURRENT_DATE": "2000-01-01T00:00:00.000Z"}
 # What Surpac's numbers of strings go up to.
 MOST_STRINGS = 32_000
+AXIS = ", ".join(["0", *["0.000"] * 6])
 BREAK, END = "0, 0.000, 0.000, 0.000,", "0, 0.000, 0.000, 0.000, END"
 
 
 def write_gpkg(path: Path, folder: Folder, shape: Shape) -> None:
-    """A GeoPackage with a layer `lines`: closed lines with heights, `kind` (toe or crest), `bench` (metres of its floor) and the factor, phase or
-    year. Its coordinates are those of the table, of no named system.
+    """A GeoPackage with a layer `lines`: closed lines with heights, `kind` (toe or crest), `bench` (metres of its floor) and the factor,
+    phase or year. Its coordinates are those of the table, of no named system.
 
     Raises MissingPackage without GDAL, and PlanError as `stages_of` does and where it cannot be written.
     """
@@ -55,16 +56,16 @@ def write_gpkg(path: Path, folder: Folder, shape: Shape) -> None:
 
 
 @contextmanager
-def options(gdal: object, given: dict[str, str]) -> Iterator[None]:
+def options(gdal: Any, given: dict[str, str]) -> Iterator[None]:
     """Options of GDAL for the time being."""
-    before = {name: gdal.GetConfigOption(name) for name in given}  # type: ignore[attr-defined]
+    before = {name: gdal.GetConfigOption(name) for name in given}
     for name, value in given.items():
-        gdal.SetConfigOption(name, value)  # type: ignore[attr-defined]
+        gdal.SetConfigOption(name, value)
     try:
         yield
     finally:
         for name, value in before.items():
-            gdal.SetConfigOption(name, value)  # type: ignore[attr-defined]
+            gdal.SetConfigOption(name, value)
 
 
 def closed(line: Line) -> list[list[float]]:
@@ -80,7 +81,7 @@ def write_str(path: Path, folder: Folder, shape: Shape) -> None:
     Toes have the numbers 1, 3, 5 and so on, one a factor, phase or year, and crests the next. Raises PlanError as `stages_of` does, and where
     there are more numbers than Surpac knows.
     """
-    lines, numbers = [f"{path.stem},,toes and crests,", ", ".join(["0", *["0.000"] * 6])], {}
+    lines, numbers = [f"{path.stem},,toes and crests,", AXIS], dict[int, int]()
     for line in lines_of(folder, shape):
         number = 2 * numbers.setdefault(line.stage.number, len(numbers)) + (1 if line.kind == TOE else 2)
         if number > MOST_STRINGS:
@@ -88,7 +89,7 @@ def write_str(path: Path, folder: Folder, shape: Shape) -> None:
         told = f"{line.kind}, {metres(line.bench)}, {line.stage.kind} {line.stage.number}"
         lines += [f"{number}, {y:.4f}, {x:.4f}, {z:.4f}, {told}" for x, y, z in closed(line)]
         lines.append(BREAK)
-    path.write_text(os.linesep.join([*lines, END]) + os.linesep, encoding="ascii")
+    path.write_text("\n".join([*lines, END, ""]), encoding="ascii")
 
 
 def write_lines(path: Path, folder: Folder, shape: Shape) -> None:

@@ -16,7 +16,7 @@ import pandas as pd
 from . import files, report
 from .errors import PlanError
 from .files import hash_of
-from .project import Project
+from .project import REFERENCE_FACTOR, Project
 from .report import TEMPLATES, Columns
 
 SENSITIVITY, SENSITIVITY_RECORD, TORNADO = "sensitivity.csv", "sensitivity.json", "tornado.png"
@@ -143,7 +143,7 @@ def of_answer(folder: Path, project: Project, record: dict[str, Any]) -> dict[st
     """Figures and tables of shells, and where there are such of phases and of a schedule."""
     chosen = record["shells"]["chosen"]
     shells, years = read_table(folder, files.SHELLS), read_table(folder, files.YEARS)
-    marks = shells.frame["factor"].map(lambda factor: " ".join(["chosen"] * (factor == chosen) + ["given"] * (factor == 1000)))
+    marks = shells.frame["factor"].map(lambda factor: " ".join(["chosen"] * (factor == chosen) + ["given"] * (factor == REFERENCE_FACTOR)))
     found: dict[str, Any] = {"shells": parts_of(shells, report.columns_of, project, marks)}
     cases, figures = ["best", "worst"], of_shell(shells, chosen, project)
     if files.PHASES in record["files"]:
@@ -153,7 +153,9 @@ def of_answer(folder: Path, project: Project, record: dict[str, Any]) -> dict[st
         shown = record.get("schedule", BY_BLOCK)
         of_ways = report.columns_by_block if shown == BY_BLOCK else report.columns_of_ways
         found["ways"], found["shown"] = parts_of(ways, of_ways, project, ways.frame["way"].map({shown: "chosen"}).fillna("")), shown
-        cases, figures = [shown], [*of_way(ways, shown, project), *grades(shells, chosen, project)]
+        # What is scheduled by block is the pit of the price as given, whichever shell is shown.
+        pit = REFERENCE_FACTOR if shown == BY_BLOCK else chosen
+        cases, figures = [shown], [*of_way(ways, shown, project), *grades(shells, pit, project)]
     dug = years.frame[years.frame["case"].isin(cases) & ((years.frame["factor"] == chosen) | (years.frame["case"] == BY_BLOCK))]
     found["years"] = parts_of(Written(years.file, dug), report.columns_of_years, project) if len(dug) else []
     return found | {"figures": figures}
@@ -200,10 +202,10 @@ def of_shell(shells: Written, chosen: int, project: Project) -> list[Figure]:
     return [*found, shells.figure("Life, best case", row, ("years", "life, years", 1.0, 1))]
 
 
-def grades(shells: Written, chosen: int, project: Project) -> list[Figure]:
-    row = int(shells.frame.index[shells.frame["factor"] == chosen][0])
+def grades(shells: Written, factor: int, project: Project) -> list[Figure]:
+    row = int(shells.frame.index[shells.frame["factor"] == factor][0])
     return [
-        shells.figure(f"{metal.name.capitalize()} in the pit's ore", row, (f"grade_{metal.name}", f"grade, {metal.sign}", 1.0, 3))
+        shells.figure(f"{metal.name.capitalize()} in the ore of the pit of factor {factor}", row, (f"grade_{metal.name}", f"grade, {metal.sign}", 1.0, 3))
         for metal in project.metals
     ]
 

@@ -83,7 +83,8 @@ class Browser:
     def choose(self, name, value):
         """Sets a slider or a choice, as a user does."""
         kind = "checked" if isinstance(value, bool) else "value"
-        self.ask(f"{{ const it = document.getElementById('{name}'); it.{kind} = {json.dumps(value)}; it.dispatchEvent(new Event('input')); 0; }}")
+        it = f"document.getElementById('{name}')"
+        self.ask(f"{it}.{kind} = {json.dumps(value)}; {it}.dispatchEvent(new Event('input'))")
 
     def text(self, name):
         return self.ask(f"document.getElementById('{name}').textContent")

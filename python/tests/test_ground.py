@@ -1,17 +1,14 @@
 """The ground with a pit in it: its faces by hand, volumes by prisms of the test's own from the files that were written, and what is refused."""
 
 import re
-import shutil
 from collections import Counter
 from dataclasses import replace
 
 import numpy as np
 import pandas as pd
 import pytest
-from conftest import PROJECT, rows
 from test_surfaces import triangles_of, volume_of
 
-import pitplan
 from pitplan import PlanError, commands, files, ground, stages
 from pitplan.cli import main
 from pitplan.grid import Grid
@@ -66,7 +63,8 @@ def test_a_hole_of_one_block_by_hand():
 def test_random_pits_hold_what_is_dug(seed):
     rock, dug = random_pit(seed)
     grid = grid_of(rock.shape, (20.0, 10.0, 5.0))
-    found = [stages.places_of(grid, part.corners)[part.faces] for part in (ground.of_stage(rock, Stage("year", k, dug & bool(k)), grid, False)[0] for k in (0, 1))]
+    parts = [ground.of_stage(rock, Stage("year", k, dug & bool(k)), grid, False)[0] for k in (0, 1)]
+    found = [stages.places_of(grid, part.corners)[part.faces] for part in parts]
     before, after = (prisms(triangles) for triangles in found)
     assert before - after == pytest.approx(1000 * dug.sum())
     assert before == pytest.approx(1000 * rock.sum()), "nothing lies below ground without rock"
@@ -123,30 +121,6 @@ def test_faces_that_hold_something_else_are_not_kept(monkeypatch):
         ground.of_stage(rock, Stage("year", 1, dug), grid_of(rock.shape), False)
 
 
-@pytest.fixture(scope="module")
-def written(tmp_path_factory):
-    """A hill far from the origin, in two phases with years."""
-    place = tmp_path_factory.mktemp("ground")
-    grades = {(3, 4, 1): 6, (7, 4, 1): 2, (5, 2, 2): 0.9}
-    table = rows(11, 9, 4, cu=lambda i, j, k: grades.get((i, j, k), 0))
-    table = table[(table["z"] < 30) | (table["x"] < 60)].assign(x=lambda it: it["x"] + 430_000.5, y=lambda it: it["y"] + 6_512_000.25)
-    table.to_csv(place / "blocks.csv", index=False)
-    (place / "project.toml").write_text(PROJECT + "[pushbacks]\ncount = 2\n[schedule]\nrock_per_year = 2000\n")
-    with pytest.MonkeyPatch.context() as patch:
-        for name in ("draw", "draw_phases"):
-            patch.setattr(commands, name, lambda *given: {})
-        patch.setattr(commands.yearly, "write_years", lambda *given: None)
-        patch.setattr(commands, "PICTURES", {"years": "years.png"})
-        patch.setattr(commands.pictures, "files_of", lambda *given: [])
-        pitplan.write_schedule(place / "project.toml", verifies=False)
-    return place
-
-
-@pytest.fixture
-def folder(written, tmp_path):
-    return shutil.copytree(written, tmp_path / "mine") / "plan" / "schedule"
-
-
 def volume_dug(folder, name, number):
     """Of the blocks of rock up to a phase or year; they have 1,000 cubic metres."""
     blocks = pd.read_csv(folder / "blocks.csv")
@@ -158,11 +132,13 @@ def volume_dug(folder, name, number):
 def test_each_phase_and_each_year_has_a_surface(folder, kind, name, capsys):
     pytest.importorskip("vtk")
     last = int(pd.read_csv(folder / "blocks.csv")[name].max())
-    assert main(["export", str(folder.parents[1] / "project.toml"), "--out", str(folder), "--to", kind, "--of", name, "--surface", "ground"]) == 0
+    words = ["--out", str(folder), "--to", kind, "--of", name, "--surface", "ground"]
+    assert main(["export", str(folder.parents[1] / "project.toml"), *words]) == 0
     target = folder / f"ground-{name}s-{kind}"
     said = capsys.readouterr()
     assert said.out.strip() == str(target)
-    assert {path.name for path in target.iterdir()} == {f"before.{kind}", *(f"{name}-{number}.{kind}" for number in range(1, last + 1))} and last > 1
+    names = {f"before.{kind}", *(f"{name}-{number}.{kind}" for number in range(1, last + 1))}
+    assert {path.name for path in target.iterdir()} == names and last > 1
     before = triangles_of(target / f"before.{kind}")
     corner = before.reshape(-1, 3).min(axis=0)
     for number in range(1, last + 1):

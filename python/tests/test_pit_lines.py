@@ -9,7 +9,6 @@ import numpy as np
 import pandas as pd
 import pytest
 from conftest import rows
-from test_ground import folder, written  # noqa: F401
 
 from pitplan import MissingPackage, PlanError, commands
 from pitplan.cli import main
@@ -48,7 +47,7 @@ def strings_of(path):
 
 
 @pytest.mark.parametrize("name", ["phase", "year"])
-def test_strings_go_round_what_is_dug_on_each_bench(folder, name):  # noqa: F811
+def test_strings_go_round_what_is_dug_on_each_bench(folder, name):
     path = commands.export(folder, "str", shape=Shape(name))
     assert path == folder / f"lines-{name}s.str"
     areas = defaultdict(float)
@@ -63,7 +62,7 @@ def test_strings_go_round_what_is_dug_on_each_bench(folder, name):  # noqa: F811
     assert re.fullmatch(r"4300\d\d\.5000", east) and re.fullmatch(r"65120\d\d\.2500", north), "north stands before east"
 
 
-def test_a_table_has_the_same_lines(folder):  # noqa: F811
+def test_a_table_has_the_same_lines(folder):
     table = pd.read_csv(commands.export(folder, "lines", shape=Shape("phase")))
     assert table.columns.tolist() == ["phase", "line", "kind", "bench", "x", "y", "z"]
     areas = defaultdict(float)
@@ -73,7 +72,7 @@ def test_a_table_has_the_same_lines(folder):  # noqa: F811
     assert areas == pytest.approx(expected(folder, "phase"))
 
 
-def test_a_geopackage_is_read_by_gdal_and_is_the_same_each_time(folder):  # noqa: F811
+def test_a_geopackage_is_read_by_gdal_and_is_the_same_each_time(folder):
     ogr = pytest.importorskip("osgeo.ogr", reason="needs the Debian package python3-gdal")
     path = commands.export(folder, "gpkg", shape=Shape("phase"))
     before = path.read_bytes()
@@ -88,7 +87,7 @@ def test_a_geopackage_is_read_by_gdal_and_is_the_same_each_time(folder):  # noqa
     assert areas == pytest.approx(expected(folder, "phase"))
 
 
-def test_a_geopackage_is_one_for_those_who_read_its_tables(folder):  # noqa: F811
+def test_a_geopackage_is_one_for_those_who_read_its_tables(folder):
     """Of SQLite, with the mark of a GeoPackage and the extent of all lines."""
     pytest.importorskip("osgeo.ogr")
     with sqlite3.connect(commands.export(folder, "gpkg", shape=Shape("year"))) as base:
@@ -115,7 +114,8 @@ def test_a_pit_of_one_factor_by_hand(plan_folder, capsys):
         ("1", "0.0000", "toe", "0", "factor 1000"),
         ("2", "10.0000", "crest", "0", "factor 1000"),
     ]
-    assert all(len(string) == 5 and {(point[1], point[2]) for point in string} == {(y, x) for x in ("0.0000", "10.0000") for y in ("0.0000", "10.0000")} for string in strings)
+    square = {(north, east) for north in ("0.0000", "10.0000") for east in ("0.0000", "10.0000")}
+    assert all(len(string) == 5 and {(point[1], point[2]) for point in string} == square for string in strings)
 
 
 def test_an_empty_pit_has_no_lines(plan_folder):

@@ -12,7 +12,7 @@ import pytest
 from conftest import PROJECT, rows
 
 import pitplan
-from pitplan import PlanError, commands, load, report_page
+from pitplan import PlanError, commands, report_page
 from pitplan.cli import main
 from pitplan.verification import verify
 

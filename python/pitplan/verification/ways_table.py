@@ -30,7 +30,9 @@ def differences(answer: Answer, told: dict[str, dict[str, Any]]) -> list[str]:
             found.append(f"{FILE} has the columns {sorted(said.columns)} for {sorted(expected)}")
             continue
         for name, amount in expected.items():
-            slack = SHARE + 2 * AMOUNT / abs(record["bound"] or 1.0) if name == "below_bound" else AMOUNT * (len(years) + 2) + 1e-9 * abs(amount or 0)
+            slack = AMOUNT * (len(years) + 2) + 1e-9 * abs(amount or 0)
+            if name == "below_bound":
+                slack = SHARE + 2 * AMOUNT / abs(record["bound"] or 1.0)
             if unlike(said.at[way, name], amount, slack):
                 found.append(f"{FILE}, {way}: {name} {said.at[way, name]:.12g} for {amount}")
     return found
