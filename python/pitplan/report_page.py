@@ -55,7 +55,7 @@ class Written:
         """A figure with its unit, which stands in the column's heading behind the comma."""
         ((text,),) = report.cells_of(self.frame.loc[[row]], [column])
         unit = column[1].partition(", ")[2]
-        return Figure(name, f"{text} {unit}".strip(), self.source(row, column[0]))
+        return Figure(name, text if text == "–" else f"{text} {unit}".strip(), self.source(row, column[0]))
 
 
 def read_table(folder: Path, name: str) -> Written:
@@ -76,10 +76,11 @@ def sensitivity_beside(project: Project, inputs: dict[str, str], folder: Optiona
     Raises PlanError where a folder that is given has none, or one of another project or table.
     """
     place = project.folder / "sensitivity" if folder is None else folder
-    if not (place / SENSITIVITY_RECORD).is_file():
-        if folder is not None:
-            raise PlanError(f"{place}: has no {SENSITIVITY_RECORD}: run pitplan sensitivity first")
-        return None, ""
+    for name in (SENSITIVITY_RECORD, SENSITIVITY):
+        if not (place / name).is_file():
+            if folder is not None:
+                raise PlanError(f"{place}: has no {name}: run pitplan sensitivity first")
+            return None, ""
     record = files.read_json(place / SENSITIVITY_RECORD)
     if any(inputs.get(name) != digest for name, digest in record["inputs"].items()):
         why = f"{place}: is a sensitivity of another state of project or table"
@@ -233,7 +234,7 @@ def of_sensitivity(found: Sensitivity, project: Project) -> dict[str, Any]:
     record = found.record
     return {
         "parts": parts_of(Written(table.file, named), report.columns_of_cases, project),
-        "tornado": picture(found.folder / TORNADO),
+        "tornado": picture(found.folder / TORNADO) if (found.folder / TORNADO).is_file() else "",
         "factor": record["factor"],
         "verified": record["verified"],
         "pairs": len(table.frame) > len(alone),

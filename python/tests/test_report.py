@@ -157,6 +157,15 @@ def test_a_way_that_is_bent_is_found(copied, name):
     assert {rule.name for rule in verify(folder) if rule.differences} == {"schedule value"}
 
 
+def test_ways_that_are_missing_or_others_are_found(copied):
+    path = copied / "plan" / "schedule" / "ways.csv"
+    text = path.read_text()
+    for bent, said in ((text.replace("rule", "hand"), "ways.csv has the ways ['hand', 'lp'] for ['rule', 'lp']"), (None, "ways.csv is missing")):
+        path.unlink() if bent is None else path.write_text(bent)
+        found = {rule.name: rule.differences for rule in verify(path.parent) if rule.differences}
+        assert found == {"schedule value": (said,)}
+
+
 def test_the_report_is_made_anew_with_a_sensitivity_of_the_same_inputs(copied, capsys):
     folder = copied / "plan"
     shutil.move(folder / "sensitivity", copied / "other")
@@ -167,6 +176,9 @@ def test_the_report_is_made_anew_with_a_sensitivity_of_the_same_inputs(copied, c
     page = (folder / "report.html").read_text()
     assert "What it hangs on" in page and "mining cost +10 %" in page and "Pairs of numbers are in the same file." in page
     assert commands.files.hash_of(copied / "other" / "sensitivity.csv") in page
+    (copied / "other" / "tornado.png").unlink()
+    commands.write_report(folder, copied / "other")
+    assert (folder / "report.html").read_text().count("data:image/png") == page.count("data:image/png") - 1
     assert main(["report", str(copied / "project.toml"), "--sensitivity", str(copied)]) == 1
     assert f"pitplan: {copied}: has no sensitivity.json: run pitplan sensitivity first" in capsys.readouterr().err
 
@@ -198,6 +210,12 @@ def test_a_table_that_is_too_wide_stands_in_parts(count):
     assert [name for part in parts for name in part["headings"][1:]] == names[1:] and len(parts) == -(-(count - 1) // 12)
     assert not any(part["headings"][1].startswith("metal") for part in parts)
     assert parts[-1]["rows"][1]["cells"][0]["source"] == "shells.csv row 3 column factor"
+
+
+def test_a_bound_that_was_not_found_is_a_dash_without_a_unit():
+    ways = report_page.Written("ways.csv", pd.DataFrame({"way": ["rule"], "value": [2.5e7], "bound": [float("nan")]}))
+    told = [ways.figure("NPV", 0, (name, "NPV, M EUR", 1e6, 1)) for name in ("value", "bound")]
+    assert [(it.text, it.source) for it in told] == [("25.0 M EUR", "ways.csv row 2 column value"), ("–", "ways.csv row 2 column bound")]
 
 
 def test_a_project_is_shown_without_what_it_says_of_itself():

@@ -17,6 +17,8 @@ SUMS = {"tonnes": "rock_tonnes", "ore_tonnes": "ore_tonnes"}
 def differences(answer: Answer, told: dict[str, dict[str, Any]]) -> list[str]:
     """What ways.csv says, and is not so; `told` has of each way, by column, what the record says of it."""
     assert answer.years is not None
+    if not (answer.folder / FILE).is_file():
+        return [f"{FILE} is missing"]
     said = pd.read_csv(answer.folder / FILE).set_index("way")
     if said.index.tolist() != list(told):
         return [f"{FILE} has the ways {said.index.tolist()} for {list(told)}"]
