@@ -29,7 +29,7 @@ RECORD, TABLE, SHELLS, YEARS, ANSWER = "prepare.json", "blocks.csv", "shells.csv
 OF_PROGRAM = (BLOCKS, MODEL, PREC, FIXED, REST_BLOCKS, REST_PREC, PIT_MODEL, ANSWER)
 PHASES = "phases.csv"
 SCHEDULE, SCHEDULE_RECORD, MILLING = "schedule.csv", "schedule.json", "milling.csv"
-BLOCK_SCHEDULE = "block_schedule.json"
+BLOCK_SCHEDULE, WAYS = "block_schedule.json", "ways.csv"
 CHUNK = 200_000
 # So many needs program and library take.
 MOST_PAIRS = 67_108_864

@@ -18,7 +18,8 @@ from .grid import Grid, metres
 from .map_marks import axes_of_map, contours, floor_of, mark_map, mark_section_cells, section_titles
 from .outlines import edges
 from .phases import Phases
-from .pictures import GROUND, MAP, MOST_TICKS, STYLE, busiest, finish, list_of, name_axes, write_maps
+from .picture_rules import PictureRules
+from .pictures import GROUND, MAP, MOST_TICKS, STYLE, finish, list_of, name_axes, section_column, section_levels, section_row, write_maps
 
 Extent = tuple[float, float, float, float]
 LEAST_SHARE, GREATEST_SHARE = 0.18, 0.9
@@ -33,12 +34,14 @@ class PhaseScene:
     phase  from 1; 0 where the cell is in none
     solid  whether there is rock
     count  how many phases there are
+    rules  which levels and sections are shown
     """
 
     grid: Grid
     phase: np.ndarray
     solid: np.ndarray
     count: int
+    rules: PictureRules = PictureRules()
 
     @property
     def dug(self) -> np.ndarray:
@@ -47,29 +50,30 @@ class PhaseScene:
 
     @property
     def section_row(self) -> int:
-        """The row of blocks along which a section goes: that in which most of the pit lies."""
-        return busiest(self.dug, 1)
+        """The row of blocks along which a section goes."""
+        return section_row(self.rules, self.grid, self.dug)
 
     @property
     def section_column(self) -> int:
-        return busiest(self.dug, 2)
+        return section_column(self.rules, self.grid, self.dug)
 
 
 def scene_of(phases: Phases) -> PhaseScene:
-    grid = phases.plan.grid
+    grid, rules = phases.plan.grid, phases.plan.project.pictures or PictureRules()
     solid = grid.cube(phases.plan.values.tonnes > 0)
-    return PhaseScene(grid, grid.cube(phases.phase), solid, len(phases.factors))
+    return PhaseScene(grid, grid.cube(phases.phase), solid, len(phases.factors), rules)
 
 
 def write_plans(scene: PhaseScene, path: Path) -> None:
-    write_maps(scene.grid, partial(plot_plans, scene), path)
+    write_maps(scene.grid, partial(plot_plans, scene), path, 1 + len(levels_to_show(scene)))
 
 
 def plot_plans(scene: PhaseScene, axes: Any) -> list[Axes]:
-    """The phases at the surface with contours of the floor, and on three of its levels, on four axes, which it gives."""
-    first, *others = found = list_of(axes, 4)
+    """The phases at the surface with contours of the floor, and on some levels, by default three, on axes for each, which it gives."""
+    levels = levels_to_show(scene)
+    first, *others = found = list_of(axes, 1 + len(levels))
     plot_surface(scene, first)
-    for ax, number in zip(others, levels_to_show(scene)):
+    for ax, number in zip(others, levels):
         plot_level(scene, number, ax)
     return found
 
@@ -84,7 +88,7 @@ def write_sections(scene: PhaseScene, path: Path) -> None:
 
 
 def plot_sections(scene: PhaseScene, axes: Any) -> list[Axes]:
-    """A section from west to east and one from south to north, where most of the pit lies, on two axes, which it gives."""
+    """A section from west to east and one from south to north, on two axes, which it gives."""
     across, along = found = list_of(axes, 2)
     plot_from_west_to_east(scene, scene.section_row, across)
     plot_from_south_to_north(scene, scene.section_column, along)
@@ -159,6 +163,4 @@ def draw(scene: PhaseScene, plane: tuple[np.ndarray, np.ndarray], extent: Extent
 
 
 def levels_to_show(scene: PhaseScene) -> list[int]:
-    """Three levels of the pit: near its top, in its middle and near its floor."""
-    used = np.flatnonzero(scene.dug.any(axis=(1, 2)))
-    return [int(used[int(share * (len(used) - 1))]) for share in (0.2, 0.5, 0.8)]
+    return section_levels(scene.rules, scene.grid, scene.dug)

@@ -194,8 +194,8 @@ def years(schedule: YearlySchedule) -> pd.DataFrame:
 
 
 def ways(schedule: YearlySchedule) -> pd.DataFrame:
-    """One row a way: way; value, discounted, in money; below_bound, by which share of the bound it is less; years; tonnes that are dug,
-    ore_tonnes that are milled, and left_tonnes that are not dug."""
+    """One row a way: way; value, discounted, and bound, in money; below_bound, by which share of the bound it is less; years; tonnes that are
+    dug, ore_tonnes that are milled, and left_tonnes that are not dug; metal_NAME recovered."""
     rows = []
     for way, shares in schedule.shares.items():
         whole, value = shares.sum(axis=1), schedule.value(way)
@@ -204,11 +204,13 @@ def ways(schedule: YearlySchedule) -> pd.DataFrame:
             {
                 "way": way,
                 "value": value,
+                "bound": bound,
                 "below_bound": (bound - value) / abs(bound) if bound else np.nan,
                 "years": shares.shape[1],
                 "tonnes": schedule.benches.of(ROCK) @ whole,
                 "ore_tonnes": schedule.flows(way)[:, :, schedule.benches.names.index(ORE)].sum(),
                 "left_tonnes": schedule.left(way),
+                **schedule.yearly(way).filter(like="metal_").sum(),
             }
         )
     return pd.DataFrame(rows)

@@ -10,7 +10,7 @@ from typing import Any
 
 import numpy as np
 
-from .. import csv_file, files, summary as summaries
+from .. import csv_file, files, pictures, summary as summaries
 from ..mine import counted_rows
 from ..money_rules import ByRegion
 from ..plan import Plan
@@ -39,6 +39,7 @@ def prepare(project: Project, folder: Path, progress: Progress) -> folders.Share
     solver = chosen(project.solver)
     with progress.step(f"reading {project.table.file}"):
         base = read_base(project)
+    pictures.demand_within(project, base.grid)
     progress.lines(summaries.of_ground(base.table, base.grid, project))
     with progress.step("reading the models"):
         read = write_models(base, folder)

@@ -14,7 +14,7 @@ import pandas as pd
 
 from ..money_rules import GRADE_UNITS
 from ..schedule_rules import Sum
-from . import fixed, walls
+from . import fixed, walls, ways_table
 from .answer import SHARE, TOLD, YEAR, Answer, Rule, rule
 from .feed import recovered
 from .money_of_years import premiums
@@ -182,5 +182,7 @@ def verify_value(answer: Answer, told: dict[str, Any], sums: pd.DataFrame) -> Ru
     gap = (bound - value) / abs(bound) if bound else 0.0
     if abs(told["gap"] - gap) > 1e-6:
         differences.append(f"gap {told['gap']:.9g} for {gap:.9g}")
+    dug = int(((answer.said[YEAR] > 0) & (answer.tonnes > 0)).sum())
+    differences += ways_table.differences(answer, {CASE: {"value": told["value"], "bound": bound, "blocks": dug}})
     holds = "cash is discounted as the project asks, years and value are the sums of blocks, and it is not above the bound"
     return rule("block value", holds, differences)
