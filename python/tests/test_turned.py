@@ -162,8 +162,29 @@ def test_a_drawing_stands_in_the_planners_coordinates(one_block):
     ezdxf = pytest.importorskip("ezdxf", reason="needs the Debian package python3-ezdxf")
     assert main(["export", str(one_block), "--to", "dxf", "--factor", "1000"]) == 0
     drawing = ezdxf.readfile(one_block.parent / "plan" / "pit-1000.dxf")
-    (line,) = drawing.modelspace().query("POLYLINE")
-    assert {(round(p.x, 1), round(p.y, 1), p.z) for p in line.points()} == {(x, y, 10) for x, y in CORNERS}
+    lines = {line.dxf.layer: {(round(p.x, 1), round(p.y, 1), p.z) for p in line.points()} for line in drawing.modelspace().query("POLYLINE")}
+    assert lines == {f"{kind}_10": {(x, y, z) for x, y in CORNERS} for kind, z in (("TOE", 10), ("CREST", 20))}
+
+
+def test_strings_and_lines_stand_in_the_planners_coordinates(one_block):
+    assert main(["export", str(one_block), "--to", "str", "--factor", "1000"]) == 0
+    rows = [line.split(",") for line in (one_block.parent / "plan" / "lines-1000.str").read_text().splitlines()]
+    # A row is number, y, x, z; heads, breaks and the end have the number or the place 0.
+    points = {(round(float(x), 1), round(float(y), 1), float(z)) for number, y, x, z, *_ in rows[2:] if float(number)}
+    assert points == {(x, y, z) for x, y in CORNERS for z in (10, 20)}
+    assert main(["export", str(one_block), "--to", "lines", "--factor", "1000"]) == 0
+    table = pd.read_csv(one_block.parent / "plan" / "lines-1000.csv")
+    assert set(zip(table["x"].round(1), table["y"].round(1))) == CORNERS
+
+
+def test_the_ground_stands_in_the_planners_coordinates(one_block):
+    """The grid's sides are 50 m along 4, -3 and 40 m along 3, 4, of 5, and the pit is one block deep."""
+    pytest.importorskip("vtk", reason="needs the Debian package python3-vtk9")
+    assert main(["export", str(one_block), "--to", "obj", "--surface", "ground", "--factor", "1000"]) == 0
+    (path,) = (one_block.parent / "plan").glob("*.obj")
+    points = np.array(re.findall(r"^v (\S+) (\S+) (\S+)", path.read_text(), re.MULTILINE), dtype=float).round(1)
+    sides = {(1000, 5000), (1040, 4970), (1064, 5002), (1024, 5032)}
+    assert sides <= {(x, y) for x, y, _ in points} and {(x, y) for x, y, z in points if z == 10} == CORNERS
 
 
 def test_cells_of_vtk_stand_in_the_planners_coordinates(one_block):
@@ -183,7 +204,9 @@ def test_cells_of_vtk_stand_in_the_planners_coordinates(one_block):
 def test_the_page_knows_where_north_is(one_block):
     """Along the grid's axes the planner's north goes by -0.6 east and 0.8 north: to the left of the grid's, which is turned clockwise."""
     model = page.model_of(files.read_folder(one_block.parent / "plan"))
-    assert np.allclose(model["north"], (-0.6, 0.8), atol=1e-4) and np.allclose(model["corner"], (1000, 5000, 0), atol=0.002)
+    assert np.allclose(model["north"], (-0.6, 0.8), atol=1e-4)
+    # Its axes are the grid's own, from its corner.
+    assert model["corner"] == [0, 0, 0] and model["axes"] == ["along azimuth 126.87\N{DEGREE SIGN}", "along azimuth 36.87\N{DEGREE SIGN}"]
 
 
 def test_the_planners_table_comes_back(one_block):
