@@ -107,8 +107,8 @@ def demand_azimuth(azimuth: float, axes: Axes, places: np.ndarray, rules: GridRu
 
 def distinct(centres: np.ndarray) -> np.ndarray:
     """Each x + y j once."""
-    places = np.unique(centres.round(4), axis=0)
-    return places[:, 0] + 1j * places[:, 1]
+    places = centres.round(4)
+    return np.unique(places[:, 0] + 1j * places[:, 1])
 
 
 def middle_of(places: np.ndarray) -> complex:

@@ -349,3 +349,17 @@ def test_no_file_of_the_answer_has_other_coordinates(one_block):
     """All that the folder says in numbers of x and y is near 1000 and 5000; nothing counts from a corner but pictures."""
     blocks = pd.read_csv(Path(one_block.parent / "plan" / "blocks.csv"))
     assert blocks["x"].between(1000, 1064).all() and blocks["y"].between(4970, 5032).all()
+
+
+@pytest.mark.usefixtures("blank_pictures")
+def test_what_no_shell_can_reach_is_left_out_of_a_turned_model(plan_folder, monkeypatch):
+    """Of 30 x 28 x 6 cells no more than 3,000 are taken; the second look, which is part of each run, finds the same sides."""
+    monkeypatch.setattr(pitplan.grid, "MOST_BLOCKS", 3000)
+    found = []
+    for degrees in (0, 30):
+        table = turned(rows(30, 28, 6, cu=lambda i, j, k: ORE.get((i - 8, j - 8, k), 0)), degrees)
+        folder, blocks = planned(plan_folder, table, PROJECT, walls_at(degrees), NO_SIZE)
+        assert files.read_record(folder)["grid"]["rows_left_out"] == 30 * 28 * 6 - len(blocks) > 2000
+        assert (blocks[["x", "y"]] == table.set_index("name").loc[blocks.index, ["x", "y"]]).all(axis=None)
+        found.append(blocks["factor"])
+    pd.testing.assert_series_equal(found[1], found[0])

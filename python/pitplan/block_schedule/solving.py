@@ -179,7 +179,7 @@ class Search:
         """Solves windows anew while something lacks of what must be held at least, and less does."""
         effort = Effort(0.0, time.monotonic() - began + DUE_SECONDS)
         for size in sizes_of(self.problem) if self.best.lacking(self.problem) else []:
-            while self.best.lacking(self.problem) and self.sweep(size, effort, began):
+            while self.best.lacking(self.problem) and self.sweep(size, effort, began, until_kept=True):
                 pass
 
     def demand_kept(self) -> None:
@@ -200,13 +200,14 @@ class Search:
             while self.sweep(size, effort, began):
                 pass
 
-    def sweep(self, size: tuple[int, int], effort: Effort, began: float) -> bool:
-        """Solves each window of a size, years and most unknowns, once; gives whether the schedule has become better and there is time
-        left."""
+    def sweep(self, size: tuple[int, int], effort: Effort, began: float, until_kept: bool = False) -> bool:
+        """Solves each window of a size, years and most unknowns, once, or until nothing lacks of what must be held at least; gives whether
+        the schedule has become better and there is time left."""
         before = self.best
         for first in range(self.problem.years - size[0] + 1):
             left = np.inf if effort.seconds is None else effort.seconds - (time.monotonic() - began)
-            if left <= 0 or (self.gap <= effort.gap and not self.best.lacking(self.problem)):
+            is_kept = not self.best.lacking(self.problem)
+            if left <= 0 or (is_kept and (until_kept or self.gap <= effort.gap)):
                 return False
             window = window_of(self.problem, self.best, self.relaxation.cumulative, (first, first + size[0]), size[1])
             self.offer(self.solved(window, Effort(effort.gap, min(left, WINDOW_SECONDS)), min(PATIENCE, left + LATE)))
