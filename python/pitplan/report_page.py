@@ -81,8 +81,12 @@ def sensitivity_beside(project: Project, inputs: dict[str, str], folder: Optiona
             if folder is not None:
                 raise PlanError(f"{place}: has no {name}: run pitplan sensitivity first")
             return None, ""
-    record = files.read_json(place / SENSITIVITY_RECORD)
-    if any(inputs.get(name) != digest for name, digest in record["inputs"].items()):
+    try:
+        record = files.read_json(place / SENSITIVITY_RECORD)
+        is_same = all(inputs.get(name) == digest for name, digest in record["inputs"].items())
+    except (ValueError, KeyError):
+        is_same = False
+    if not is_same:
         why = f"{place}: is a sensitivity of another state of project or table"
         if folder is not None:
             raise PlanError(f"{why}: run pitplan sensitivity again")

@@ -193,6 +193,13 @@ def test_a_sensitivity_of_other_inputs_is_left_out_and_refused_where_it_is_asked
         commands.write_report(copied / "plan", copied / "plan" / "sensitivity")
 
 
+@pytest.mark.parametrize("text", ["{", "{}"])
+def test_a_record_that_is_none_of_a_sensitivity_stops_no_report(copied, text):
+    (copied / "plan" / "sensitivity" / "sensitivity.json").write_text(text)
+    page = commands.write_report(copied / "plan").read_text()
+    assert "and is left out here." in page and "What it hangs on" not in page
+
+
 def test_a_report_of_a_project_that_has_changed_is_refused(copied):
     project = copied / "project.toml"
     project.write_text(project.read_text() + "\n# looked at\n")
