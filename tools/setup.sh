@@ -16,6 +16,7 @@ python3-openpyxl      core     the workbook of pitplan schedule
 python3-jinja2        core     the report's page and the 3D page
 python3-vtk9          tests    pitplan export --to vti, and probability.vti of scenarios
 python3-ezdxf         tests    pitplan export --to dxf
+python3-gdal          tests    pitplan export --to gpkg
 libjs-three           tests    pitplan view
 python3-pulp          tests    the test of a bound by another solver
 coinor-cbc            tests    the same: that solver
@@ -28,7 +29,9 @@ python3-wheel         tests    the same
 python3-venv          tests    the test that installs these wheels
 dpkg-dev              tests    make dist: the Debian package
 man-db                tests    the test that the manual pages are shown
-chromium              all      the test that opens the 3D page
+chromium              all      the tests that open the 3D page, and print the report
+python3-tornado       all      the test that clicks in the 3D page
+poppler-utils         all      the test that reads the printed report
 python3-coverage      changes  tools/planted_changes.py
 g++                   bench    other people's maximum flows, beside which the program is timed
 libboost-graph-dev    bench    the same

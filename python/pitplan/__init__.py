@@ -11,8 +11,8 @@
 Functions write what the subcommands do, by default into the project's own folder:
 
     table = pitplan.write_shells("project.toml", "out")    # as pitplan shells, verified: one row a factor
-    pitplan.view("out")                                    # the path of view.html
-    pitplan.export("out", "csv")                           # that of pit.csv; or table, xlsx, vti, vtu; with a factor dxf, stl or obj
+    pitplan.view("out")                                    # the path of view.html; write_report("out") that of report.html
+    pitplan.export("out", "csv")                           # that of pit.csv; or table, xlsx, vti, vtu; with a factor or `shape=Shape(...)` dxf, stl or obj
     pitplan.audit("out", 800)                              # that of a folder by which others can check the shell
     rules = pitplan.verify("out")                          # each with what holds, differences, and their count
     pits = pitplan.pit("project.toml", 1000)               # a row with the fixed blocks and one without
@@ -36,7 +36,7 @@ This layer, which makes that of a table, is not proved; `plan.notes` says what i
 
 from .analyse import blocks, shells, years
 from .block_commands import write_block_schedule
-from .commands import audit, export, gather, pit, pushbacks, scenarios, sensitivity, verify, view, write_schedule, write_shells
+from .commands import audit, export, gather, pit, pushbacks, scenarios, sensitivity, verify, view, write_report, write_schedule, write_shells
 from .errors import BudgetUsedUp, MissingPackage, PlanError, ProgramError
 from .mine import solve
 from .plan import Plan, prepare
@@ -44,6 +44,7 @@ from .project import Project, load
 from .run import Solution
 from .simulation import Request, ScenarioResult
 from .simulation.on_dask import Where
+from .stages import Shape
 from .verification import Rule
 
 __version__ = "0.1.0"
@@ -58,6 +59,7 @@ __all__ = [
     "Request",
     "Rule",
     "ScenarioResult",
+    "Shape",
     "Solution",
     "Where",
     "audit",
@@ -75,6 +77,7 @@ __all__ = [
     "verify",
     "view",
     "write_block_schedule",
+    "write_report",
     "write_schedule",
     "write_shells",
     "years",

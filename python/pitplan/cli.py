@@ -1,4 +1,4 @@
-"""The command line: `pitplan init | prepare | shells | pit | pushbacks | schedule | sensitivity | verify | view | export | audit | scenarios | convert`, and what these need."""
+"""The command line: `pitplan init | prepare | shells | pit | pushbacks | schedule | sensitivity | report | verify | view | export | audit | scenarios | convert`, and what these need."""
 
 from __future__ import annotations
 
@@ -14,7 +14,7 @@ import minelib
 import pandas as pd
 from minelib.__main__ import add_arguments as add_minelib
 
-from . import __version__, block_commands, commands, exports, files, init, report, sensitivity_files, simulation
+from . import __version__, block_commands, commands, exports, files, init, report, sensitivity_files, simulation, stages
 from .errors import PlanError
 from .progress import Progress, on_standard_error, silent
 from .project import REFERENCE_FACTOR, Project, load
@@ -38,6 +38,7 @@ def parser() -> argparse.ArgumentParser:
         "pushbacks": "divide the pit of one factor into phases, and write tables, pictures and the report",
         "schedule": "schedule the phases of a pit, or its blocks, by years, and write tables, pictures and the report",
         "sensitivity": "tell how much the pit that is shown hangs on prices, costs, recovery, slopes and capacity, by tables and pictures",
+        "report": "write the report of a folder anew, with the sensitivity that was run meanwhile",
         "view": "write a page that shows the shells in 3D (libjs-three)",
         "export": "write the shells for other programs",
         "audit": "write a folder by which others can check one shell",
@@ -48,13 +49,16 @@ def parser() -> argparse.ArgumentParser:
         sub.add_argument("--out", type=Path, help="the folder of the plan (default: the project's output folder)")
         sub.add_argument("--quiet", action="store_true", help="tell no progress on standard error")
         if name == "export":
-            sub.add_argument("--to", required=True, choices=tuple(exports.WRITERS))
+            add_export(sub)
         if name in ("pit", "pushbacks", "schedule", "sensitivity", "shells"):
             sub.add_argument("--no-verify", action="store_true", help="leave out the second look at every number")
             add_solver(sub)
         if name == "schedule":
             text = "schedule benches of phases (phase, the default), or blocks one by one, with the bound of all such schedules (block)"
             sub.add_argument("--by", choices=("phase", "block"), default="phase", help=text)
+        if name == "report":
+            text = "the folder of the sensitivity that it tells (default: that in the project's output folder, where it is of the same inputs)"
+            sub.add_argument("--sensitivity", type=Path, metavar="FOLDER", help=text)
         if name == "sensitivity":
             text = "local (processes, by Dask) or tcp://host:port (a Dask scheduler; default: here, one case after the other)"
             sub.add_argument("--on", type=scheduler_of, metavar="WHERE", help=text)
@@ -71,6 +75,14 @@ def parser() -> argparse.ArgumentParser:
     text = "MineLib's .upit, .cpit, .pcpsp, .prec and .blocks files, as published"
     add_minelib(kinds.add_parser("minelib", help=text, description=text))
     return top
+
+
+def add_export(sub: Any) -> None:
+    sub.add_argument("--to", required=True, choices=tuple(exports.WRITERS))
+    sub.add_argument("--of", choices=stages.KINDS, default=stages.FACTOR, help="the pit of a factor (default), or all phases or years")
+    text = "the blocks that are dug (pit, the default), or the open surface of the ground with the pit in it"
+    sub.add_argument("--surface", choices=(stages.PIT, stages.GROUND), default=stages.PIT, help=text)
+    sub.add_argument("--smooth", action="store_true", help="of the ground: without the steps of blocks")
 
 
 def add_solver(sub: Any) -> None:
@@ -214,13 +226,17 @@ def run_command(options: argparse.Namespace, project: Project, folder: Path, pro
         folder = options.out or project.folder / "sensitivity"
         where = Where(options.on, options.workers) if options.on else None
         table = commands.sensitivity(project, folder, where, progress, not options.no_verify)
+        table = report.of_cases(table)
         columns = report.columns_of_cases(table, project)
-        print_table([heading for _, heading, _, _ in columns], report.cells_of(report.of_cases(table), columns))
+        print_table([heading for _, heading, _, _ in columns], report.cells_of(table, columns))
         print(folder / sensitivity_files.TABLE)
+    elif options.command == "report":
+        print(commands.write_report(folder, options.sensitivity, progress))
     elif options.command == "view":
         print(commands.view(folder, progress))
     elif options.command == "export":
-        print(commands.export(folder, options.to, options.factor, progress))
+        shape = stages.Shape(options.of, options.surface, options.smooth)
+        print(commands.export(folder, options.to, options.factor, progress, shape))
     else:
         print(commands.audit(folder, options.factor, progress))
 

@@ -12,7 +12,7 @@ import numpy as np
 import pandas as pd
 
 from . import absent, analyse, auditing, block_pictures, csv_file, exports, files, mine as mines, page, phase_pictures, phases as phasing, pictures
-from . import report
+from . import planned_table, report_page
 from . import schedule_pictures, sensitivity_files, sensitivity_pictures, simulation, varied_cases, verification, workbook, yearly, yearly_schedule as scheduling
 from .errors import PlanError
 from .mine import Mine
@@ -24,6 +24,7 @@ from .run import Solution
 from .simulation import Request, ScenarioResult
 from .simulation.on_dask import Where
 from .solver import PROGRAM, chosen
+from .stages import FACTOR, Shape
 from .verification import Rule
 from .yearly_schedule import YearlySchedule
 
@@ -55,7 +56,7 @@ WRITTEN = {
     files.YEARS,
     files.PHASES,
     *(files.SCHEDULE, files.SCHEDULE_RECORD, files.MILLING, WORKBOOK),
-    *(files.BLOCK_SCHEDULE, block_pictures.NAME),
+    *(files.BLOCK_SCHEDULE, files.WAYS, block_pictures.NAME),
     *(REPORT, VIEW),
     *PICTURES.values(),
     *PHASE_PICTURES.values(),
@@ -73,7 +74,7 @@ def prepare(project: Project, folder: Path, progress: Progress) -> dict[str, Any
     demand_apart(project, folder)
     plan = prepare_plan(project, progress=progress)
     with files.staged(folder) as stage:
-        pictures.demand_within(plan)
+        pictures.demand_within(project, plan.grid)
         with progress.step("writing blocks and needs"):
             pairs = plan.write(stage)
         write_table(plan.blocks, stage)
@@ -248,14 +249,7 @@ def write_answer(answered: Answered, mine: Mine, record: dict[str, Any], writing
         with progress.step("writing the workbook"):
             workbook.write(stage / WORKBOOK, sheets_of(answered, table, years))
     finish(plan, record, [*mine.files, *tables_of(answered), *pictures.files_of(drawn, formats)], stage)
-    facts = facts_of(record, {name: stage / file for name, file in drawn.items()})
-    if phases is not None:
-        facts |= {"phases": report.table_of(phasing.table(phases), report.columns_of_phases, project)}
-    if answered.schedule is not None:
-        facts |= {"ways": report.table_of(scheduling.ways(answered.schedule), report.columns_of_ways, project)}
-    if answered.blocks is not None:
-        facts |= {"by_block": report.table_of(answered.blocks.table, report.columns_by_block, project)}
-    report.write(stage / REPORT, project, table, facts)
+    report_page.write(stage / REPORT, stage, project)
     return table
 
 
@@ -264,6 +258,7 @@ def tables_of(answered: Answered) -> list[str]:
     names = [files.TABLE, files.SHELLS, files.YEARS, *([files.PHASES] if answered.phases else [])]
     names += [files.SCHEDULE, files.SCHEDULE_RECORD, WORKBOOK] if answered.schedule else []
     names += [files.BLOCK_SCHEDULE] if answered.blocks else []
+    names += [files.WAYS] if answered.schedule or answered.blocks else []
     return [*names, files.MILLING] if answered.schedule and answered.schedule.milling else names
 
 
@@ -282,7 +277,7 @@ def sheets_of(answered: Answered, table: pd.DataFrame, years: pd.DataFrame) -> d
 
 def write_tables(answered: Answered, stage: Path) -> tuple[pd.DataFrame, pd.DataFrame]:
     """Writes the program's own answer, if it solved, blocks.csv, shells.csv, years.csv, of phases phases.csv, and of a schedule
-    schedule.csv, schedule.json and where ore is divided into bins milling.csv; gives the shells and the years."""
+    schedule.csv, ways.csv, schedule.json and where ore is divided into bins milling.csv; gives the shells and the years."""
     plan, solution, phases, schedule = answered.plan, answered.solution, answered.phases, answered.schedule
     table, years = analyse.shells(plan, solution), analyse.years(plan, solution)
     if solution.answer is not None:
@@ -292,12 +287,14 @@ def write_tables(answered: Answered, stage: Path) -> tuple[pd.DataFrame, pd.Data
         blocks["year"] = scheduling.blocks_year(schedule)[blocks["id"].to_numpy()]
         years = pd.concat([years, scheduling.years(schedule)], ignore_index=True)
         shown(scheduling.table(schedule)).to_csv(stage / files.SCHEDULE, index=False)
+        shown(scheduling.ways(schedule)).to_csv(stage / files.WAYS, index=False)
         files.write_json(stage / files.SCHEDULE_RECORD, scheduling.record(schedule))
         if schedule.milling:
             shown(scheduling.milling(schedule)).to_csv(stage / files.MILLING, index=False)
     if answered.blocks is not None:
         blocks, years = answered.blocks.beside(blocks), pd.concat([years, answered.blocks.years], ignore_index=True)
         files.write_json(stage / files.BLOCK_SCHEDULE, answered.blocks.record)
+        shown(answered.blocks.ways).to_csv(stage / files.WAYS, index=False)
     write_table(blocks, stage)
     shown(table).to_csv(stage / files.SHELLS, index=False)
     shown(years).to_csv(stage / files.YEARS, index=False)
@@ -324,7 +321,7 @@ def begun(project: Project, folder: Path, progress: Progress) -> Iterator[tuple[
     solver = chosen(project.solver)
     plan = prepare_plan(project, progress=progress)
     with files.staged(folder, whole=files.OF_PROGRAM) as stage:
-        pictures.demand_within(plan)
+        pictures.demand_within(project, plan.grid)
         with progress.step("writing blocks and needs" if solver.by == PROGRAM else "listing the needs"):
             mine = mines.ready(plan, solver, stage)
         yield mine, plan.record(mine.pairs) | {"solver": asdict(solver)}, stage
@@ -349,7 +346,7 @@ def shown(table: pd.DataFrame) -> pd.DataFrame:
         result["worth_at_factor"] = result["worth_at_factor"].map("{:f}".format)
     for name in result.columns:
         if result[name].dtype == np.float64:
-            places = 6 if name.startswith("grade_") or name in ("strip_ratio", "years") else 9 if name == "share" else 3
+            places = 6 if name.startswith("grade_") or name in ("strip_ratio", "years") else 9 if name in ("share", "below_bound") else 3
             # A hair below nothing is rounded to -0.0, which is no amount.
             result[name] = result[name].round(places) + 0.0
     return result
@@ -380,19 +377,6 @@ def draw_phases(answered: Answered, years: pd.DataFrame, stage: Path) -> dict[st
     return drawn
 
 
-def facts_of(record: dict[str, Any], drawn: dict[str, Path]) -> dict[str, Any]:
-    """What the report tells besides the tables; `drawn` has the pictures by name."""
-    return {
-        "chosen": record["shells"]["chosen"],
-        "pictures": drawn,
-        "summary": record["summary"],
-        "notes": record["notes"],
-        "verified": record["verified"],
-        "files": {**record["inputs"], **record["files"]},
-        "solver": record["shells"]["solver"],
-    }
-
-
 def sensitivity(
     project: Source, folder: Optional[Place] = None, where: Optional[Where] = None, progress: Progress = silent, verifies: bool = True
 ) -> pd.DataFrame:
@@ -408,6 +392,19 @@ def sensitivity(
     return sensitivity_files.write(varied_cases.solve(project, target, where, progress), target, progress, verifies)
 
 
+def write_report(folder: Place, sensitivity: Optional[Place] = None, progress: Progress = silent) -> Path:
+    """Writes report.html of a folder that `write_shells`, `pushbacks` or a schedule has written anew, of its files; gives its path.
+
+    It tells the sensitivity of a folder, by default of that in the project's own where it is of the same project and table. Raises PlanError
+    where the folder has no shells, or it, the project or the table has changed since, and where the folder given is no such sensitivity.
+    """
+    result = files.read_folder(Path(folder))
+    project = planned_table.project_of(result)
+    with progress.step("writing the report"), files.staged_file(result.path / REPORT) as path:
+        report_page.write(path, result.path, project, None if sensitivity is None else Path(sensitivity))
+    return result.path / REPORT
+
+
 def view(folder: Place, progress: Progress = silent) -> Path:
     """Writes view.html, a page that shows the shells in 3D, into a folder that `write_shells` has written; gives its path.
 
@@ -419,22 +416,23 @@ def view(folder: Place, progress: Progress = silent) -> Path:
     return result.path / VIEW
 
 
-def export(folder: Place, kind: str, factor: int = REFERENCE_FACTOR, progress: Progress = silent) -> Path:
+def export(folder: Place, kind: str, factor: int = REFERENCE_FACTOR, progress: Progress = silent, shape: Shape = Shape()) -> Path:
     """Writes the shells of a folder that `write_shells` has written for other programs; gives the file's path.
 
     `table` is the planner's own table, row by row, with each block's factors, phase and year behind it; `xlsx` all tables; `csv`, `vti`
-    and `vtu` hold the shells of all factors, `dxf` the outline of one at each level, and `stl` and `obj` the closed surface round its
-    blocks, in metres. The factor is in per mille.
+    and `vtu` hold the shells of all factors, `dxf` the toes and crests of one at each level, `stl` and `obj` the closed surface round its
+    blocks, and `gpkg`, `str` and `lines` its toes and crests too, in metres. The factor is in per mille. By its `shape` they hold all phases or years instead, surfaces a file each in a folder,
+    or the ground with the pit in it.
 
-    Raises PlanError where the folder has no shells or not this factor, the kind is another, or what is written is not right, and
-    MissingPackage without a library.
+    Raises PlanError where the folder has no shells or not this factor, phases or years, the kind is another or has no such shape, or what is
+    written is not right, and MissingPackage without a library.
     """
-    if kind not in exports.WRITERS:
-        raise PlanError(f"{kind} is none of {', '.join(exports.WRITERS)}")
-    result = read_factor(folder, factor)
-    target = result.path / exports.name_of(kind, factor)
-    with progress.step(f"writing {target.name}"), files.staged_file(target) as path:
-        notes = exports.WRITERS[kind](path, result, factor)
+    shape = replace(shape, factor=factor)
+    exports.demand_apt(kind, shape)
+    result = read_factor(folder, factor) if shape.of == FACTOR else files.read_folder(Path(folder))
+    target = result.path / exports.name_of(kind, shape)
+    with progress.step(f"writing {target.name}"), exports.staged(target, kind, shape) as path:
+        notes = exports.WRITERS[kind](path, result, shape)
         if kind == "table":
             verification.demand([verification.verify_table(result.path, path)])
     progress.lines(notes or [])

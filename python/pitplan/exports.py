@@ -1,54 +1,89 @@
 """The shells for other programs: the planner's own table or CSV for any, a workbook of all tables for spreadsheets, VTK image data or cells
-for ParaView, DXF for drawing programs, and surfaces for any that knows triangles."""
+for ParaView, DXF for drawing programs, surfaces for any that knows triangles, and lines for others."""
 
 from __future__ import annotations
 
+from contextlib import AbstractContextManager
 from pathlib import Path
 from typing import Callable, Optional
 
 import numpy as np
 import pandas as pd
 
-from . import csv_file, files, planned_table, surfaces, workbook
+from . import csv_file, drawings, files, line_files, planned_table, surfaces, workbook
+from .errors import PlanError
 from .files import Folder
-from .outlines import rings
 from .packages import load
+from .stages import FACTOR, GROUND, Shape, places_of
 from .vtk_files import PACKAGE, save, write_image
 
-# Writes the shells of a folder, or that of a factor; gives what is to be told of it, where that is anything.
-Writer = Callable[[Path, Folder, int], Optional[list[str]]]
+# Writes the shells of a folder, or some of its pits; gives what is to be told of it, where that is anything.
+Writer = Callable[[Path, Folder, Shape], Optional[list[str]]]
 PLANNED = "table.csv"
-# What holds the pit of one factor.
-OF_ONE = ("dxf", "stl", "obj")
+# What holds the pit of one factor, or those of phases or years.
+OF_ONE = ("dxf", "stl", "obj", "gpkg", "str", "lines")
+# Those of them that hold surfaces, and in which each stage has a file of its own.
+SURFACES, SINGLE = ("dxf", "stl", "obj"), ("stl", "obj")
+# Those that hold toes and crests alone, with the ending of their files.
+LINES = {"gpkg": "gpkg", "str": "str", "lines": "csv"}
 # The tables of a folder, each a sheet of the workbook by its name.
 SHEETS = (files.SHELLS, files.YEARS, files.PHASES, files.SCHEDULE, files.MILLING)
 # The corners of a cell as VTK counts them in a voxel: steps east, north and up.
 CORNERS = np.array([(x, y, z) for z in (0, 1) for y in (0, 1) for x in (0, 1)])
 
 
-def name_of(kind: str, factor: int) -> str:
-    """The file's name: a table and image data hold all factors, a drawing and a surface one."""
-    return PLANNED if kind == "table" else f"pit-{factor}.{kind}" if kind in OF_ONE else f"pit.{kind}"
+def name_of(kind: str, shape: Shape) -> str:
+    """The file's name: a table and image data hold all factors, a drawing or a surface one, or all phases or years."""
+    if kind not in OF_ONE:
+        return PLANNED if kind == "table" else f"pit.{kind}"
+    of_what = str(shape.factor) if shape.of == FACTOR else f"{shape.of}s"
+    if kind in LINES:
+        return f"lines-{of_what}.{LINES[kind]}"
+    return f"{shape.surface}-{of_what}{'-' if is_folder(kind, shape) else '.'}{kind}"
 
 
-def write_table(path: Path, folder: Folder, factor: int) -> None:
-    """The planner's table, row by row, with what was found of each block behind it; `factor` is not looked at."""
+def is_folder(kind: str, shape: Shape) -> bool:
+    """Whether a folder is written, with a file for each phase or year."""
+    return kind in SINGLE and shape.of != FACTOR
+
+
+def staged(target: Path, kind: str, shape: Shape) -> AbstractContextManager[Path]:
+    """A name to write to, or a folder, whose files come to the target where no error comes, and those of an earlier run go."""
+    if not is_folder(kind, shape):
+        return files.staged_file(target)
+    return files.staged(target, whole=tuple(path.name for path in target.glob(f"{shape.of}-*.{kind}")))
+
+
+def demand_apt(kind: str, shape: Shape) -> None:
+    """Raises PlanError where a kind is none, or cannot be what is asked for."""
+    if kind not in WRITERS:
+        raise PlanError(f"{kind} is none of {', '.join(WRITERS)}")
+    if shape.of != FACTOR and kind not in OF_ONE:
+        raise PlanError(f"{kind} holds all factors, phases and years: of one kind of them are {', '.join(OF_ONE)}")
+    if shape.surface == GROUND and kind not in SURFACES:
+        raise PlanError(f"{kind} has no surface of the ground: {', '.join(SURFACES)} have")
+    if shape.smooth and shape.surface != GROUND:
+        raise PlanError("the surface round blocks is never smoothed: that of the ground may be")
+
+
+def write_table(path: Path, folder: Folder, shape: Shape) -> None:
+    """The planner's table, row by row, with what was found of each block behind it; `shape` is not looked at."""
     planned_table.write(path, folder)
 
 
-def write_csv(path: Path, folder: Folder, factor: int) -> None:
-    """The blocks of the greatest pit by id, with the least factor of each; `factor` is not looked at."""
+def write_csv(path: Path, folder: Folder, shape: Shape) -> None:
+    """The blocks of the greatest pit by id, with the least factor of each; `shape` is not looked at."""
     blocks = folder.blocks
     csv_file.write(path, blocks[blocks["factor"] > 0])
 
 
-def write_vti(path: Path, folder: Folder, factor: int) -> None:
+def write_vti(path: Path, folder: Folder, shape: Shape) -> None:
     """All cells as VTK image data: `factor`, `process_factor`, and the numbers of the planner's table, for all factors."""
     numbers = folder.blocks.select_dtypes("number").columns
     write_image(path, folder.grid, {name: folder.grid.spread(folder.blocks[name].to_numpy()) for name in numbers})
 
 
-def write_vtu(path: Path, folder: Folder, factor: int) -> None:
+def write_vtu(path: Path, folder: Folder, shape: Shape) -> None:
     """The blocks with rock as VTK cells, in metres, with `factor` and all numbers of blocks.csv; for all factors."""
     vtk, numpy_support = load("vtk", PACKAGE, "a .vtu file"), load("vtk.util.numpy_support", PACKAGE, "a .vtu file")
     grid, blocks = folder.grid, folder.blocks[folder.blocks[folder.record["tonnes"]] > 0]
@@ -57,9 +92,8 @@ def write_vtu(path: Path, folder: Folder, factor: int) -> None:
     corners = np.stack([column, row, levels - 1 - level], axis=1)[:, None] + CORNERS
     used, at = np.unique((corners[..., 2] * (rows + 1) + corners[..., 1]) * (columns + 1) + corners[..., 0], return_inverse=True)
     steps = np.stack([used % (columns + 1), used // (columns + 1) % (rows + 1), used // ((columns + 1) * (rows + 1))], axis=1)
-    west, _, south, _, floor, _ = grid.extent()
     points, cells = vtk.vtkPoints(), vtk.vtkCellArray()
-    points.SetData(numpy_support.numpy_to_vtk((west, south, floor) + steps * grid.size, deep=True))
+    points.SetData(numpy_support.numpy_to_vtk(places_of(grid, steps), deep=True))
     each = np.arange(0, 8 * len(blocks) + 1, 8, dtype=np.int64)
     cells.SetData(*(numpy_support.numpy_to_vtkIdTypeArray(part.ravel().astype(np.int64), deep=True) for part in (each, at)))
     mesh = vtk.vtkUnstructuredGrid()
@@ -72,26 +106,10 @@ def write_vtu(path: Path, folder: Folder, factor: int) -> None:
     save(vtk.vtkXMLUnstructuredGridWriter(), path, mesh)
 
 
-def write_xlsx(path: Path, folder: Folder, factor: int) -> None:
-    """The tables of the folder as a workbook, a sheet each; `factor` is not looked at."""
+def write_xlsx(path: Path, folder: Folder, shape: Shape) -> None:
+    """The tables of the folder as a workbook, a sheet each; `shape` is not looked at."""
     there = [folder.path / name for name in SHEETS if name in folder.record["files"]]
     workbook.write(path, {table.stem: pd.read_csv(table) for table in there})
-
-
-def write_dxf(path: Path, folder: Folder, factor: int) -> None:
-    """The outline of the pit at each level's floor, as closed 3D polylines in metres, a layer a level."""
-    ezdxf = load("ezdxf", "python3-ezdxf", "export --to dxf")
-    grid, cube = folder.grid, folder.dug(factor)
-    west, _, south, _, _, top = grid.extent()
-    dx, dy, dz = grid.size
-    drawing = ezdxf.new("R2010", units=6)
-    space = drawing.modelspace()
-    for level in range(grid.shape[0]):
-        z = top - (level + 1) * dz
-        for ring in rings(cube[level]):
-            points = [(west + column * dx, south + row * dy, z) for column, row in ring]
-            space.add_polyline3d(points, close=True, dxfattribs={"layer": f"TOE_{z:g}"})
-    drawing.saveas(path)
 
 
 WRITERS: dict[str, Writer] = {
@@ -100,9 +118,12 @@ WRITERS: dict[str, Writer] = {
     "xlsx": write_xlsx,
     "vti": write_vti,
     "vtu": write_vtu,
-    "dxf": write_dxf,
+    "dxf": drawings.write_dxf,
     "stl": surfaces.write_stl,
     "obj": surfaces.write_obj,
+    "gpkg": line_files.write_gpkg,
+    "str": line_files.write_str,
+    "lines": line_files.write_lines,
 }
 # Those that hold all factors.
-WRITTEN = tuple(name_of(kind, 0) for kind in WRITERS if kind not in OF_ONE)
+WRITTEN = tuple(name_of(kind, Shape()) for kind in WRITERS if kind not in OF_ONE)

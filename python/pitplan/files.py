@@ -29,7 +29,7 @@ RECORD, TABLE, SHELLS, YEARS, ANSWER = "prepare.json", "blocks.csv", "shells.csv
 OF_PROGRAM = (BLOCKS, MODEL, PREC, FIXED, REST_BLOCKS, REST_PREC, PIT_MODEL, ANSWER)
 PHASES = "phases.csv"
 SCHEDULE, SCHEDULE_RECORD, MILLING = "schedule.csv", "schedule.json", "milling.csv"
-BLOCK_SCHEDULE = "block_schedule.json"
+BLOCK_SCHEDULE, WAYS = "block_schedule.json", "ways.csv"
 CHUNK = 200_000
 # So many needs program and library take.
 MOST_PAIRS = 67_108_864
@@ -181,7 +181,7 @@ def write_json(path: Path, record: dict[str, Any]) -> None:
 def grid_of(box: dict[str, Any], rows: np.ndarray) -> Grid:
     """A grid from its record, with the cells of the table's rows."""
     (levels, north, east), (x, y, z), (dx, dy, dz) = box["shape"], box["origin"], box["size"]
-    return Grid((levels, north, east), (x, y, z), (dx, dy, dz), rows)
+    return Grid((levels, north, east), (x, y, z), (dx, dy, dz), rows, box.get("azimuth", 0.0))
 
 
 def read_record(folder: Path) -> dict[str, Any]:

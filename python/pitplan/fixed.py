@@ -118,9 +118,8 @@ def surface_of(grid: Grid, file: Path) -> Surface:
     """The surface over a column of blocks is the mean of the points that lie over it. Where there is none it is that of the
     triangles between the points, at the column's centre."""
     points = numbers_in(file, ("x", "y", "z"))
-    (x, y, _), (dx, dy, _), (_, rows, columns) = grid.origin, grid.size, grid.shape
-    column = np.floor((points[:, 0] - x) / dx + 0.5).astype(int)
-    row = np.floor((points[:, 1] - y) / dy + 0.5).astype(int)
+    _, rows, columns = grid.shape
+    column, row = (np.floor(steps + 0.5).astype(int) for steps in grid.steps(points[:, 0], points[:, 1]))
     inside = (column >= 0) & (column < columns) & (row >= 0) & (row < rows)
     place = row[inside] * columns + column[inside]
     count = np.bincount(place, minlength=rows * columns)

@@ -3,13 +3,14 @@
 from __future__ import annotations
 
 from dataclasses import dataclass
-from typing import Optional
+from typing import Any
 
 import numpy as np
 import pandas as pd
 
+from . import turned
 from .errors import PlanError
-from .packages import load
+from .frame import Frame, turn_of
 from .project import GridRules, Project, TableColumns
 from .table import at_row
 
@@ -18,8 +19,6 @@ MOST_BLOCKS = 4_194_304
 MOST_CELLS = 64_000_000
 # Up to this share of the rows may lie off the grid that the others make: these are named then.
 FEW = 0.01
-# So many centres tell whether a grid is turned, where the directions to their neighbours are so much alike, 1 being the same.
-NEIGHBOURS, ALIKE = 2_000, 0.99
 
 
 def metres(value: float) -> str:
@@ -35,12 +34,14 @@ class Grid:
     origin  x, y, z in metres of the centre of block 0: west, south, top
     size    a block's size in metres, east, north and up
     rows    for each row of the table the number of its cell
+    azimuth degrees clockwise from the planner's north to the grid's: south, west and the like are the grid's own, x and y the planner's
     """
 
     shape: tuple[int, int, int]
     origin: tuple[float, float, float]
     size: tuple[float, float, float]
     rows: np.ndarray
+    azimuth: float = 0.0
 
     @property
     def count(self) -> int:
@@ -67,21 +68,48 @@ class Grid:
         row, column = np.divmod(rest, self.shape[2])
         return column, row, level
 
-    def centres(self, ids: np.ndarray) -> tuple[np.ndarray, np.ndarray, np.ndarray]:
-        """x, y, z in metres of the centre of each id."""
+    @property
+    def frame(self) -> Frame:
+        """The axes that `extent` and `middles` are along: the planner's, or of a turned grid its own from its corner at the south-west."""
+        x, y, _ = self.origin
+        corner = complex(x, y) - complex(self.size[0], self.size[1]) / 2 * turn_of(self.azimuth)
+        return Frame(corner.real, corner.imag, self.azimuth)
+
+    def middles(self, ids: np.ndarray) -> tuple[np.ndarray, np.ndarray, np.ndarray]:
+        """Metres east, north and up of the centre of each id along the frame's axes."""
         column, row, level = self.indices(ids)
         (x, y, z), (dx, dy, dz) = self.origin, self.size
+        if self.azimuth:
+            x, y = dx / 2, dy / 2
         return x + column * dx, y + row * dy, z - level * dz
+
+    def centres(self, ids: np.ndarray) -> tuple[np.ndarray, np.ndarray, np.ndarray]:
+        """The planner's x, y, z in metres of the centre of each id."""
+        east, north, up = self.middles(ids)
+        return *self.frame.back(east, north), up
+
+    def steps(self, x: np.ndarray, y: np.ndarray) -> tuple[np.ndarray, np.ndarray]:
+        """How many columns and rows places x, y of the planner's lie from the centre of block 0, with fractions."""
+        east, north = self.frame.along(x, y)
+        first = (self.size[0] / 2, self.size[1] / 2) if self.azimuth else self.origin
+        return (east - first[0]) / self.size[0], (north - first[1]) / self.size[1]
 
     def elevations(self) -> np.ndarray:
         """Metres of the centres of each level, from the top."""
         return self.origin[2] - np.arange(self.shape[0]) * self.size[2]
 
     def extent(self) -> tuple[float, float, float, float, float, float]:
-        """West, east, south, north, floor and top of the box in metres."""
+        """West, east, south, north, floor and top of the box in metres, along the frame's axes."""
         (x, y, z), (dx, dy, dz), (levels, rows, columns) = self.origin, self.size, self.shape
         west, south, top = x - dx / 2, y - dy / 2, z + dz / 2
+        if self.azimuth:
+            west, south = 0.0, 0.0
         return west, west + columns * dx, south, south + rows * dy, top - levels * dz, top
+
+    def as_json(self) -> dict[str, Any]:
+        """What tells the cells: shape, origin, size, and of a turned grid its azimuth."""
+        told = {"shape": list(self.shape), "origin": list(self.origin), "size": list(self.size)}
+        return told | ({"azimuth": self.azimuth} if self.azimuth else {})
 
 
 @dataclass(frozen=True)
@@ -95,41 +123,36 @@ class Axis:
 
 
 def of_table(frame: pd.DataFrame, project: Project, source: str = "table", any_size: bool = False) -> Grid:
-    """The grid of a checked table. Raises PlanError where a centre lies off it, a cell stands twice, or it is too large for the program,
-    or where it may have any size for this computer; where the centres lie on a grid that is turned, it says by how much."""
+    """The grid of a checked table, whose north has the azimuth that the project gives, or else that which the centres tell.
+
+    Raises PlanError where a centre lies off it, a cell stands twice, the azimuth is not that of the centres, or the grid is too large for
+    the program, or where it may have any size for this computer.
+    """
+    rules = project.grid
+    if rules.azimuth:
+        return laid(frame, project, source, any_size, rules.azimuth)
     try:
         return laid(frame, project, source, any_size)
     except PlanError as error:
-        turned = turned_by(frame[[project.table.x, project.table.y]].to_numpy())
-        if turned is None:
+        azimuth = turned.azimuth_of(frame[[project.table.x, project.table.y]].to_numpy(), rules.tolerance)
+        if azimuth is None:
             raise
-        more = f"the centres lie on a grid that is turned by {turned:.2f} degrees clockwise: give x and y along its own axes"
-        raise PlanError(f"{error}; {more}") from error
+        if rules.azimuth is not None:
+            why = f"[grid] azimuth is 0 degrees, and the centres lie on a grid whose north has azimuth {azimuth:.10g}"
+            raise PlanError(f"{source}: {why}") from error
+    try:
+        return laid(frame, project, source, any_size, azimuth)
+    except PlanError as error:
+        raise PlanError(f"{error}; the centres lie on a grid that is turned by {azimuth:.10g} degrees clockwise") from error
 
 
-def turned_by(centres: np.ndarray) -> Optional[float]:
-    """Degrees clockwise, from -45 to 45, by which the rows of blocks are turned from east, told by the nearest neighbours of some centres x
-    and y; None where these lie in many directions, or where the rows go east."""
-    places = np.unique(centres.round(4), axis=0)
-    some = places[:: max(1, len(places) // NEIGHBOURS)]
-    if len(places) < 3:
-        return None
-    far, nearest = load("scipy.spatial", "python3-scipy", "a table that is no grid").cKDTree(places).query(some, k=2)
-    east, north = (places[nearest[:, 1]] - some).T
-    # Of directions that differ by a quarter of a turn the fourfold is the same.
-    mean = np.exp(4j * np.arctan2(north, east)).mean()
-    angle, size = np.angle(mean) / 4, float(np.median(far[:, 1]))
-    # The row through one centre, which is long, tells it better than neighbours, whose places are rounded.
-    row = ((places - some[len(some) // 2]) @ [1, 1j]) * np.exp(-1j * angle)
-    row = row[(np.abs(row.imag) < 0.3 * size) & (np.abs(row.real) < NEIGHBOURS / 4 * size)]
-    angle += np.angle((row * np.sign(row.real)).sum())
-    return -float(np.degrees(angle)) if abs(mean) > ALIKE and abs(np.degrees(angle)) > 0.01 else None
-
-
-def laid(frame: pd.DataFrame, project: Project, source: str, any_size: bool) -> Grid:
+def laid(frame: pd.DataFrame, project: Project, source: str, any_size: bool, azimuth: float = 0.0) -> Grid:
     columns, rules = project.table, project.grid
-    axes = [axis_of(frame, name, k, rules, source) for k, name in enumerate((columns.x, columns.y, columns.z))]
-    east, north, up = axes
+    if azimuth:
+        east, north = turned_axes(frame, project, source, azimuth)
+    else:
+        east, north = (axis_of(frame, name, k, rules, source) for k, name in enumerate((columns.x, columns.y)))
+    up = axis_of(frame, columns.z, 2, rules, source)
     count = east.count * north.count * up.count
     if count > (MOST_CELLS if any_size else MOST_BLOCKS):
         raise PlanError(f"{source}: the grid has {count:,} cells, and the program takes at most {MOST_BLOCKS:,} blocks")
@@ -140,10 +163,22 @@ def laid(frame: pd.DataFrame, project: Project, source: str, any_size: bool) -> 
         origin=(east.first, north.first, up.first + (up.count - 1) * up.size),
         size=(east.size, north.size, up.size),
         rows=cells,
+        azimuth=azimuth,
     )
     if rules.size is None:
         demand_neighbours(grid, columns, source)
     return grid
+
+
+def turned_axes(frame: pd.DataFrame, project: Project, source: str, azimuth: float) -> tuple[Axis, Axis]:
+    """The two axes of a turned grid; `first` of both are the planner's x and y of one block."""
+    columns = project.table
+    centres = frame[[columns.x, columns.y]].to_numpy()
+    found = turned.of_centres(centres, azimuth, project.grid, (source, f"{columns.x}, {columns.y}"))
+    return (
+        Axis(found.first[0], found.size[0], int(found.column.max()) + 1, found.column),
+        Axis(found.first[1], found.size[1], int(found.row.max()) + 1, found.row),
+    )
 
 
 def axis_of(frame: pd.DataFrame, name: str, k: int, rules: GridRules, source: str) -> Axis:

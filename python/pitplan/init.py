@@ -14,9 +14,11 @@ import pandas as pd
 
 from .errors import PlanError
 from .guesses import PRECIOUS, Columns, MetalGuess, columns_of
+from .project import GridRules
 from .summary import Axis, Grade, mean_of, not_used
 from .table import has_decimal_commas, read_columns
-from .table_format import NAMES, UNREADABLE, TableFormat, guessed_separator, opened, unreadable
+from .table_format import NAMES, UNREADABLE, TableFormat, demand_text, guessed_separator, opened, unreadable
+from .turned import Places, azimuth_of, of_centres
 
 TEMPLATES = Path(__file__).resolve().parent / "templates"
 SEEN = 1 << 20
@@ -29,6 +31,8 @@ PRICES = {
 SHARES = {"percent": 0.01, "fraction": 1.0, "gram_per_tonne": 1.0}
 RECOVERY, PROCESSING = 0.85, 12.0
 MOST_REGIONS = 12
+# Metres by which a centre may lie off a grid that is turned, as [grid] tolerance is where it is not given.
+TOLERANCE = 0.01
 
 
 @dataclass(frozen=True)
@@ -59,6 +63,7 @@ def write(file: Path, out: Path) -> list[str]:
 
 def read(file: Path) -> Model:
     """The table in the encoding, with the separator and the decimal sign that it seems to have."""
+    demand_text(file, "pitplan init")
     encoding = encoding_of(file)
     form = TableFormat(guessed_separator(file, encoding), ".", encoding)
     frame = read_columns(file, form, [], [])
@@ -163,7 +168,23 @@ def size_of(model: Model) -> tuple[Optional[list[float]], str]:
         return [float(model.frame[name].iloc[0]) for name in names], f"by {', '.join(names)}"
     if "tonnes" in columns.named or "volume" in columns.named:
         return None, ""
-    return [least_gap(model, axis) for axis in "xyz"], "the least steps between centres, which make volumes for the density"
+    turned = turned_grid(model)
+    flat = list(turned.size) if turned else [least_gap(model, axis) for axis in "xy"]
+    return [*flat, least_gap(model, "z")], "the least steps between centres, which make volumes for the density"
+
+
+def turned_grid(model: Model) -> Optional[Places]:
+    """The blocks' places on a grid that is turned; None where their rows go east, or where they have several sizes."""
+    if has_several_sizes(model):
+        return None
+    centres = np.stack([model.frame[model.columns.centres[axis].column].to_numpy(dtype=np.float64) for axis in "xy"], axis=1)
+    rules = GridRules(None, TOLERANCE)
+    azimuth = None if np.isnan(centres).any() else azimuth_of(centres, rules.tolerance)
+    try:
+        return None if azimuth is None else of_centres(centres, azimuth, rules, (str(model.file), "x, y"))
+    except PlanError:
+        # What is wrong with them is told where the project is planned.
+        return None
 
 
 def has_several_sizes(model: Model) -> bool:
@@ -215,11 +236,14 @@ def ore_per_year(model: Model) -> int:
 
 def summary(model: Model) -> list[str]:
     """What a planner should see first: extents, tonnes, grades, each with why it is taken so, and what looks doubtful."""
-    columns, tonnes = model.columns, tonnes_of(model)
+    columns, tonnes, turned = model.columns, tonnes_of(model), turned_grid(model)
     said = [f"{model.file}: {len(model.frame):,} blocks, {tonnes.sum():,.0f} tonnes"]
     for name, guess in sorted(columns.centres.items()):
-        values = model.frame[guess.column]
-        said.append(f"{Axis(name, guess.column, values.min(), values.max(), step_along(model, name)).line}, {guess.why}")
+        values, step = model.frame[guess.column], None if turned and name != "z" else step_along(model, name)
+        said.append(f"{Axis(name, guess.column, values.min(), values.max(), step).line}, {guess.why}")
+    if turned:
+        east, north = (f"{side:.10g}" for side in turned.size)
+        said.append(f"blocks of {east} x {north} m lie on a grid whose north has azimuth {turned.azimuth:.10g}, as the centres tell")
     grades = []
     for metal in columns.metals:
         values = np.nan_to_num(model.frame[metal.column].to_numpy(dtype=np.float64))

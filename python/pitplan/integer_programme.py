@@ -20,6 +20,8 @@ from .sequencing import HAIR, Problem
 
 # What the solver's tolerance may add to a share, and what a limit may be missed by.
 SLIGHT, TOLERATED = 1e-6, 1e-8
+# HiGHS, which may go on for long when its time is up, is ended after so many times that and so many seconds more: nothing is found then.
+TIMES, LATE = 2.0, 30.0
 
 
 def integer_programme(problem: Problem, years: int) -> tuple[Programme, float]:
@@ -53,12 +55,13 @@ def begun_rows(benches: PhaseBenches, years: int) -> csr_matrix:
 
 
 def best_diggable(problem: Problem, years: int, effort: Effort) -> tuple[Optional[np.ndarray], float]:
-    """The shares by year of the best schedule that was found, None where there was none in time, and the bound that was shown by then.
+    """The shares by year of the best schedule that was found, None where there was none in time, and the bound that was shown by then,
+    infinite where HiGHS had to be ended.
 
     Raises KeyboardInterrupt where it is interrupted.
     """
     programme, unit = integer_programme(problem, years)
-    found = solve(programme, effort)
+    found = solve(programme, effort, None if effort.seconds is None else TIMES * effort.seconds + LATE)
     if found.unknowns is None:
         return None, found.bound * unit
     cumulative = found.unknowns[: len(problem.benches) * years].reshape(len(problem.benches), years)

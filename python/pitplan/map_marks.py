@@ -2,11 +2,14 @@
 
 from __future__ import annotations
 
+from typing import Any
+
 import numpy as np
 from matplotlib.axes import Axes
 from matplotlib.collections import LineCollection
 from matplotlib.patheffects import withStroke
 
+from .frame import turn_of
 from .grid import Grid, metres
 from .outlines import edges
 
@@ -22,12 +25,45 @@ def mark_map(ax: Axes, grid: Grid) -> None:
     west, east, south, north, _, _ = grid.extent()
     arrow = {"arrowstyle": "-|>", "color": "black", "linewidth": 1.3, "shrinkA": 0, "shrinkB": 0}
     at = {"xycoords": "axes fraction", "textcoords": "axes fraction", "ha": "center", "va": "top", "fontsize": 9, "fontweight": "bold"}
-    ax.annotate("N", xy=(0.955, 0.975), xytext=(0.955, 0.875), arrowprops=arrow, path_effects=HALO, **at)
+    if grid.azimuth:
+        turned_arrow(ax, grid, arrow, at)
+    else:
+        ax.annotate("N", xy=(0.955, 0.975), xytext=(0.955, 0.875), arrowprops=arrow, path_effects=HALO, **at)
     long = nice_length(MOST_OF_MAP * (east - west))
     left, low = west + 0.04 * (east - west), south + 0.05 * (north - south)
     ax.plot([left, left + long], [low, low], color="black", linewidth=3, solid_capstyle="butt", path_effects=HALO)
     words = {"ha": "center", "va": "bottom", "fontsize": 8, "path_effects": HALO, "textcoords": "offset points"}
     ax.annotate(f"{long:,.10g} m", (left + long / 2, low), xytext=(0, 3), **words)
+
+
+def turned_arrow(ax: Axes, grid: Grid, arrow: dict[str, Any], at: dict[str, Any]) -> None:
+    """The arrow to the planner's north over a map that lies along a turned grid's axes, as long as that over others."""
+    west, east, south, north, _, _ = grid.extent()
+    towards = 1j / turn_of(grid.azimuth)
+    # Of a map's height; the share across is that of its width.
+    step = 0.05 * np.array([towards.real * (north - south) / (east - west), towards.imag])
+    middle = np.array([0.955 - abs(step[0]), 0.925])
+    ends = {"xy": middle + step, "xytext": middle - step, "xycoords": at["xycoords"], "textcoords": at["textcoords"]}
+    ax.annotate("", arrowprops=arrow | {"path_effects": HALO}, **ends)
+    ax.annotate("N", xy=middle - 1.35 * step, path_effects=HALO, **(at | {"va": "center"}))
+
+
+def section_titles(grid: Grid, row: int, column: int) -> tuple[str, str]:
+    """What the sections along a row from the south and a column from the west are called."""
+    east, north, _ = grid.middles(np.array(row * grid.shape[2] + column))
+    if not grid.azimuth:
+        return f"west to east (A) at north {metres(north)}", f"south to north (B) at east {metres(east)}"
+    rows, columns = grid.frame.names
+    return f"{rows} (A) at {metres(north)} m {columns}", f"{columns} (B) at {metres(east)} m {rows}"
+
+
+def axes_of_map(grid: Grid) -> tuple[str, str]:
+    """What a map's axes are called; of a turned grid with the planner's place of its corner, from which they count."""
+    east, north = grid.frame.names
+    if not grid.azimuth:
+        return east, north
+    x, y = (metres(round(place, 2)) for place in (grid.frame.x, grid.frame.y))
+    return f"{east} from x {x}, y {y}", north
 
 
 def nice_length(most: float) -> float:
@@ -49,8 +85,8 @@ def mark_sections(ax: Axes, grid: Grid, north_of: float, east_of: float) -> None
 
 def mark_section_cells(ax: Axes, grid: Grid, row: int, column: int) -> None:
     """The lines of sections through the middles of a row from the south and of a column from the west."""
-    x, y, _ = grid.centres(np.array(row * grid.shape[2] + column))
-    mark_sections(ax, grid, float(y), float(x))
+    east, north, _ = grid.middles(np.array(row * grid.shape[2] + column))
+    mark_sections(ax, grid, float(north), float(east))
 
 
 def floor_of(grid: Grid, dug: np.ndarray) -> np.ndarray:

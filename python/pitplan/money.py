@@ -26,6 +26,7 @@ from .errors import PlanError
 from .exact import Exact, Rounding, at_factor, product, total
 from .fixed import Settled
 from .grid import MOST_BLOCKS, Grid
+from .haulage import Hauled, Roads
 from .money_rules import GRADE_UNITS, ByCode, ByRegion, Curve, Metal, Money
 from .processes import Steps, Way, best_way, steps_of, worth
 from .project import REFERENCE_FACTOR, Project
@@ -53,6 +54,7 @@ class Values:
     feed, undiluted tonnes that come to the mill if it is processed, and these without the rock that dilutes them
     cutoff      "moving" or "fixed"
     first_level the level below which each costs more to mine, by `mining_cost_per_level`
+    hauled      roads and what hauling costs, which the other amounts have in them; None where the project has no `[haulage]`
     """
 
     mining: np.ndarray
@@ -66,6 +68,7 @@ class Values:
     notes: tuple[str, ...]
     first_level: int
     shared: Optional[np.ndarray] = None
+    hauled: Optional[Hauled] = None
 
     @cached_property
     def revenue(self) -> np.ndarray:
@@ -179,6 +182,10 @@ class Rows:
     def codes(self, column: Optional[str]) -> np.ndarray:
         return self.frame[column].to_numpy() if column else np.full(len(self.frame), "")
 
+    @cached_property
+    def roads(self) -> Optional[Roads]:
+        return None if self.project.haulage is None else Roads.of(self.grid, self.project.haulage)
+
     @property
     def rock(self) -> np.ndarray:
         return self.codes(self.project.table.rock)
@@ -200,7 +207,8 @@ class Rows:
         return Exact(table.whole[inverse], table.places)
 
     def mining(self, first_level: int) -> Exact:
-        """Cost of mining; it rises with each level below the first one, or goes by the elevation of the block's centre."""
+        """Cost of mining, with that of hauling as waste; it rises with each level below the first one, or goes by the elevation of the
+        block's centre."""
         money, solid = self.project.money, np.array(self.tonnes.whole > 0, dtype=bool)
         _, _, level = self.grid.indices(self.grid.rows)
         if money.mining_cost_by_elevation:
@@ -209,7 +217,8 @@ class Rows:
         else:
             steps = np.maximum(level - first_level, 0).astype(np.int64)
             deeper = Exact(steps, 0).times(self.every(money.mining_cost_per_level))
-        return self.tonnes.times(self.by_code(money.mining_cost, solid, "mining_cost").plus(deeper))
+        a_tonne = self.by_code(money.mining_cost, solid, "mining_cost").plus(deeper)
+        return self.tonnes.times(a_tonne.plus(self.roads.waste) if self.roads else a_tonne)
 
     def feed(self) -> Feed:
         """What comes to the mill of each row. Raises PlanError where a row with metal is of a code without a number."""
@@ -231,7 +240,8 @@ class Rows:
         return feed.undiluted.times(grade).times(self.every(GRADE_UNITS[metal.unit])).times(share)
 
     def weighed(self, feed: Feed) -> Weighed:
-        """What the project's own process yields and costs. Raises PlanError where a rock has no cost, or an amount is 10^11 or more."""
+        """What the project's own process yields and costs. Raises PlanError where a rock has no cost, an amount is 10^11 or more, or ore
+        costs so much less to haul than waste that nothing is left of its processing cost."""
         costs, metals = self.project.money, self.project.metals
         metal = {m.name: self.recovered(m, feed) for m in metals}
         revenue = selling = self.every(Decimal(0))
@@ -240,9 +250,32 @@ class Rows:
             selling = selling.plus(metal[m.name].times(self.every(m.selling_cost)))
         yields = np.array(revenue.whole > 0, dtype=bool)
         a_tonne = self.by_code(costs.processing_cost, yields, "processing_cost").plus(self.every(costs.royalty_per_tonne))
+        if self.roads:
+            a_tonne = self.with_haulage(a_tonne, yields)
         amounts = {"revenue": revenue, "processing cost": feed.tonnes.times(a_tonne).plus(selling)}
         (gain, first), (cost, second) = (self.millionths(value, name) for name, value in amounts.items())
         return Weighed(gain, cost, metal, dict(zip(amounts, (first, second))))
+
+    def with_haulage(self, a_tonne: Exact, yields: np.ndarray) -> Exact:
+        """The cost of processing a tonne with what ore costs more to haul than waste. Raises PlanError where that is below 0."""
+        assert self.roads is not None
+        found = a_tonne.plus(self.roads.ore_more)
+        below = yields & np.array(found.whole < 0, dtype=bool)
+        if below.any():
+            columns, row = self.project.table, int(below.argmax())
+            less, cost = (float(it.floats()[row]) for it in (self.roads.ore_more, a_tonne))
+            why = f"[haulage] a tonne of ore costs {-less:.6g} less to haul from here than one of waste, and its processing {cost:.6g}"
+            raise at_row(self.source, row, f"{columns.x}, {columns.y}, {columns.z}", why)
+        return found
+
+    def hauled(self, feed: Feed) -> tuple[Optional[Hauled], dict[str, Rounding]]:
+        """Roads and what hauling costs, by cell, and what was rounded of that."""
+        if self.roads is None:
+            return None, {}
+        amounts = {"haulage cost": self.tonnes.times(self.roads.waste), "haulage cost of ore": feed.tonnes.times(self.roads.ore_more)}
+        (waste, first), (more, second) = (self.millionths(value, name) for name, value in amounts.items())
+        road, waste, more = (self.grid.spread(values) for values in (self.roads.metres.whole, waste, more))
+        return Hauled(road, waste, more), dict(zip(amounts, (first, second)))
 
     def millionths(self, value: Exact, name: str) -> tuple[np.ndarray, Rounding]:
         """int64 millionths, rounded to the decimals that the project keeps. Raises PlanError from 10^11 on."""
@@ -274,6 +307,7 @@ def values_of(
     pays = np.choose(best, [way.revenue for way in ways]) > np.choose(best, [way.cost for way in ways])
     first = first_level(project, grid, pays, needed)
     mining, rounding = rows.millionths(rows.mining(first), "mining cost")
+    hauled, of_haulage = rows.hauled(feed)
     roundings = {title(what, name): done for it, name in zip(weighed, names) for what, done in it.roundings.items()}
     values = Values(
         mining=grid.spread(mining),
@@ -283,20 +317,20 @@ def values_of(
         feed=grid.spread(feed.tonnes.floats()),
         undiluted=grid.spread(feed.undiluted.floats()),
         cutoff=project.money.cutoff,
-        roundings={**roundings, "mining cost": rounding},
+        roundings={**roundings, "mining cost": rounding, **of_haulage},
         notes=notes_of(rows, feed),
         first_level=first,
+        hauled=hauled,
     )
     demand_few_nodes(values, grid)
     return values
 
 
-def greatest_gains(frame: pd.DataFrame, project: Project, source: str) -> np.ndarray:
+def greatest_gains(frame: pd.DataFrame, grid: Grid, project: Project, source: str) -> np.ndarray:
     """Whether each row of a checked table pays for its processing at the greatest factor, or at the price as given. Raises PlanError as
     `values_of` does."""
     factor = max(project.schedule.factors[-1], REFERENCE_FACTOR)
-    nowhere = Grid((1, 1, 1), (0.0, 0.0, 0.0), (1.0, 1.0, 1.0), np.zeros(len(frame), dtype=np.int64))
-    rows = Rows(frame, nowhere, project, source, Exact.of_floats(frame[project.table.tonnes].to_numpy()))
+    rows = Rows(frame, grid, project, source, Exact.of_floats(frame[project.table.tonnes].to_numpy()))
     feed, found = rows.feed(), np.zeros(len(frame), dtype=bool)
     for way in project.ways:
         weighed = replace(rows, project=way).weighed(feed)
@@ -363,7 +397,7 @@ def grade_notes(rows: Rows) -> list[str]:
 def notes_of(rows: Rows, feed: Feed) -> tuple[str, ...]:
     """Warnings of grades, and what a planner should know of rocks, of what comes to the mill, and of recoveries."""
     solid, project = np.array(rows.tonnes.whole > 0, dtype=bool), rows.project
-    notes = [*grade_notes(rows), *feed_notes(project)]
+    notes = [*grade_notes(rows), *feed_notes(project), *haulage_notes(rows)]
     for process, way in zip([process.name for process in project.processes] or [""], project.ways):
         of_way = [*rock_notes(way, rows.rock, solid), *recovery_notes(replace(rows, project=way), feed)]
         notes += [f"{process}: {note}" for note in of_way] if process else of_way
@@ -384,6 +418,18 @@ def feed_notes(project: Project) -> list[str]:
     if money.royalty_per_tonne:
         notes.append(f"a royalty of {money.royalty_per_tonne:f} {money.currency} a tonne of ore is part of the processing cost")
     return notes
+
+
+def haulage_notes(rows: Rows) -> list[str]:
+    """How long roads are, and where their cost stands."""
+    if rows.roads is None:
+        return []
+    rules, metres = rows.roads.rules, rows.roads.metres.floats()
+    place = ", ".join(f"{axis:f}" for axis in rules.exit)
+    return [
+        f"roads from blocks to the exit at {place} are {metres.min():,.0f} to {metres.max():,.0f} m long: the way in plan, and a ramp of "
+        f"{(100 * rules.gradient).normalize():f} %; hauling as waste is part of mining cost, what ore costs more of processing cost"
+    ]
 
 
 def recovery_notes(rows: Rows, feed: Feed) -> list[str]:

@@ -1,82 +1,110 @@
-"""The shells in 3D: one HTML page with three.js and the model in it, to rotate and to cut by factor and by bench.
+"""The shells in 3D: one HTML page with three.js and the model in it, to rotate, to cut by planes, and to pick blocks from.
 
-The page holds a byte a cell; which faces are seen at a factor and a bench is found in the page. Of a schedule each block may have the
-colour of its year.
+The page holds a byte a cell for each thing that it colours by, and the table's rows, all of them compressed; which faces are seen is found in
+the page. Of phases and of a schedule it shows the ground as it is behind each of them.
 """
 
 from __future__ import annotations
 
 import base64
+import gzip
 from pathlib import Path
 from typing import Any
 
 import matplotlib
 import numpy as np
+import pandas as pd
 
 from .errors import PlanError
-from .files import Folder
+from .files import TABLE, Folder
+from .frame import turn_of
 from .packages import three_scripts
 from .report import TEMPLATES
 
 # A cell's byte: 0 is ground that no pit holds, 1 to 254 the place of its factor in the list, 255 air.
 AIR = 255
 MOST_FACTORS = 254
+# Of more blocks than these the rows of those that some pit holds are in the page alone.
+MOST_ROWS = 300_000
+# What a block is dug by, besides the factor: the column, how it is called, and the colours.
+STAGES = (("phase", "viridis_r", (0.08, 0.95)), ("year", "turbo", (0.05, 0.95)))
 
 
 def write(path: Path, folder: Folder) -> None:
     """Raises MissingPackage without libjs-three, and PlanError where there are more factors than the page can tell apart."""
     scripts = three_scripts()
-    page = TEMPLATES.get_template("view.html").render(
-        title=folder.record["title"], scripts=scripts, model=model_of(folder)
-    )
+    page = TEMPLATES.get_template("view.html").render(title=folder.record["title"], scripts=scripts, model=model_of(folder))
     path.write_text(page, encoding="utf-8")
 
 
 def model_of(folder: Folder) -> dict[str, Any]:
-    """What the page is told: the grid, a byte of factor and one of grade for each cell, and colours."""
+    """What the page is told: the grid, of each cell a byte of factor and one of each grade, phase and year, the table's rows, and colours."""
     grid, blocks = folder.grid, folder.blocks
     factors = folder.factors
     if len(factors) > MOST_FACTORS:
-        raise PlanError(
-            f"the 3D page can show {MOST_FACTORS} shells, and there are {len(factors):,}: give fewer factors"
-        )
+        raise PlanError(f"the 3D page can show {MOST_FACTORS} shells, and there are {len(factors):,}: give fewer factors")
     place = np.searchsorted(factors, blocks["factor"].to_numpy()) + 1
     solid = (blocks[folder.record["tonnes"]] > 0).to_numpy()
     shell = np.where(solid, np.where(blocks["factor"] > 0, place, 0), AIR).astype(np.uint8)
-    metal = folder.record["metals"][0]
-    grade = np.where(solid, blocks[metal["column"]].to_numpy(), 0.0)
-    # The highest hundredth of the grades share a colour, so that one rich block does not make all others pale.
-    most = float(np.quantile(grade[grade > 0], 0.99)) if (grade > 0).any() else 1.0
-    tint = np.rint(np.clip(grade / most, 0, 1) * 255).astype(np.uint8)
     west, _, south, _, floor, top = grid.extent()
-    return years_of(folder) | {
+    towards_north = 1j / turn_of(grid.azimuth)
+    return {
         "shape": list(grid.shape),
         "size": list(grid.size),
         "corner": [west, south, floor],
+        "axes": list(grid.frame.names),
+        "north": [towards_north.real, towards_north.imag],
         "top": top,
         "factors": factors,
         "chosen": folder.record["shells"]["chosen"],
         "shell": encoded(grid.spread(shell, AIR)),
-        "grade": encoded(grid.spread(tint, 0)),
-        "grade_most": most,
-        "grade_name": f"{metal['name']}, {metal['sign']}",
         "shell_colours": colours("viridis_r", np.linspace(0.02, 1, len(factors))),
+        "metals": [metal_of(folder, metal, solid) for metal in folder.record["metals"]],
         "grade_colours": colours("YlOrRd", np.linspace(0, 1, 256)),
+        "stages": [stage_of(folder, *stage) for stage in STAGES if stage[0] in blocks],
+        "rows": compressed(rows_of(folder).encode("utf-8")),
     }
 
 
-def years_of(folder: Folder) -> dict[str, Any]:
-    """Of a schedule a byte of the year for each cell, 0 where it has none, and a colour a year; else nothing. Years that a byte does not
-    hold have the colour of the last that it does."""
-    if "year" not in folder.blocks:
-        return {}
-    year = np.minimum(folder.blocks["year"].to_numpy(), 255)
-    last = max(int(year.max()), 1)
-    return {"year": encoded(folder.grid.spread(year, 0)), "year_colours": colours("turbo", np.linspace(0.05, 0.95, last))}
+def metal_of(folder: Folder, metal: dict[str, Any], solid: np.ndarray) -> dict[str, Any]:
+    """A byte of grade for each cell, and what its greatest stands for."""
+    grade = np.where(solid, folder.blocks[metal["column"]].to_numpy(), 0.0)
+    # The highest hundredth of the grades share a colour, so that one rich block does not make all others pale.
+    most = float(np.quantile(grade[grade > 0], 0.99)) if (grade > 0).any() else 1.0
+    tint = np.rint(np.clip(grade / most, 0, 1) * 255).astype(np.uint8)
+    return {"name": metal["name"], "sign": metal["sign"], "most": most, "grade": encoded(folder.grid.spread(tint, 0))}
+
+
+def stage_of(folder: Folder, name: str, shades: str, ends: tuple[float, float]) -> dict[str, Any]:
+    """A byte of phase or year for each cell, 0 where it has none, and a colour for each. What a byte does not hold has the last that it does."""
+    number = np.clip(folder.blocks[name].to_numpy(), 0, 254)
+    last = max(int(number.max()), 1)
+    return {"name": name, "cells": encoded(folder.grid.spread(number, 0)), "colours": colours(shades, np.linspace(*ends, last))}
+
+
+def rows_of(folder: Folder) -> str:
+    """Rows of blocks.csv as they are written, with what each block is worth once it is dug, at the price as given; of a large table those of
+    blocks that some pit holds."""
+    blocks = folder.blocks
+    written = pd.read_csv(folder.path / TABLE, dtype=str, keep_default_na=False, na_values={})
+    written["worth"] = worths(blocks).round(6)
+    return written[(blocks["factor"] > 0).to_numpy() | (len(blocks) <= MOST_ROWS)].to_csv(index=False, lineterminator="\n")
+
+
+def worths(blocks: pd.DataFrame) -> pd.Series:
+    """Of each block what its best process earns, where that pays, less its mining."""
+    pairs = [(name, name.replace("revenue", "processing_cost", 1)) for name in blocks if name == "revenue" or name.startswith("revenue_")]
+    gains = [blocks[revenue] - blocks[cost] for revenue, cost in pairs if cost in blocks]
+    return pd.concat(gains, axis=1).max(axis=1).clip(lower=0) - blocks["mining_cost"]
 
 
 def encoded(cells: np.ndarray) -> str:
-    return base64.b64encode(cells.astype(np.uint8).tobytes()).decode("ascii")
+    return compressed(cells.astype(np.uint8).tobytes())
+
+
+def compressed(content: bytes) -> str:
+    """Bytes as gzip, without the day, and these as text."""
+    return base64.b64encode(gzip.compress(content, 6, mtime=0)).decode("ascii")
 
 
 def colours(name: str, places: np.ndarray) -> list[list[int]]:

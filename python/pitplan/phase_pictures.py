@@ -15,10 +15,11 @@ from matplotlib.colors import BoundaryNorm, ListedColormap
 from matplotlib.figure import Figure
 
 from .grid import Grid, metres
-from .map_marks import contours, floor_of, mark_map, mark_section_cells
+from .map_marks import axes_of_map, contours, floor_of, mark_map, mark_section_cells, section_titles
 from .outlines import edges
 from .phases import Phases
-from .pictures import GROUND, MAP, MOST_TICKS, STYLE, busiest, finish, list_of, name_axes, write_maps
+from .picture_rules import PictureRules
+from .pictures import GROUND, MAP, MOST_TICKS, STYLE, finish, list_of, name_axes, section_column, section_levels, section_row, write_maps
 
 Extent = tuple[float, float, float, float]
 LEAST_SHARE, GREATEST_SHARE = 0.18, 0.9
@@ -33,12 +34,14 @@ class PhaseScene:
     phase  from 1; 0 where the cell is in none
     solid  whether there is rock
     count  how many phases there are
+    rules  which levels and sections are shown
     """
 
     grid: Grid
     phase: np.ndarray
     solid: np.ndarray
     count: int
+    rules: PictureRules = PictureRules()
 
     @property
     def dug(self) -> np.ndarray:
@@ -47,29 +50,30 @@ class PhaseScene:
 
     @property
     def section_row(self) -> int:
-        """The row of blocks along which a section goes: that in which most of the pit lies."""
-        return busiest(self.dug, 1)
+        """The row of blocks along which a section goes."""
+        return section_row(self.rules, self.grid, self.dug)
 
     @property
     def section_column(self) -> int:
-        return busiest(self.dug, 2)
+        return section_column(self.rules, self.grid, self.dug)
 
 
 def scene_of(phases: Phases) -> PhaseScene:
-    grid = phases.plan.grid
+    grid, rules = phases.plan.grid, phases.plan.project.pictures or PictureRules()
     solid = grid.cube(phases.plan.values.tonnes > 0)
-    return PhaseScene(grid, grid.cube(phases.phase), solid, len(phases.factors))
+    return PhaseScene(grid, grid.cube(phases.phase), solid, len(phases.factors), rules)
 
 
 def write_plans(scene: PhaseScene, path: Path) -> None:
-    write_maps(scene.grid, partial(plot_plans, scene), path)
+    write_maps(scene.grid, partial(plot_plans, scene), path, 1 + len(levels_to_show(scene)))
 
 
 def plot_plans(scene: PhaseScene, axes: Any) -> list[Axes]:
-    """The phases at the surface with contours of the floor, and on three of its levels, on four axes, which it gives."""
-    first, *others = found = list_of(axes, 4)
+    """The phases at the surface with contours of the floor, and on some levels, by default three, on axes for each, which it gives."""
+    levels = levels_to_show(scene)
+    first, *others = found = list_of(axes, 1 + len(levels))
     plot_surface(scene, first)
-    for ax, number in zip(others, levels_to_show(scene)):
+    for ax, number in zip(others, levels):
         plot_level(scene, number, ax)
     return found
 
@@ -84,7 +88,7 @@ def write_sections(scene: PhaseScene, path: Path) -> None:
 
 
 def plot_sections(scene: PhaseScene, axes: Any) -> list[Axes]:
-    """A section from west to east and one from south to north, where most of the pit lies, on two axes, which it gives."""
+    """A section from west to east and one from south to north, on two axes, which it gives."""
     across, along = found = list_of(axes, 2)
     plot_from_west_to_east(scene, scene.section_row, across)
     plot_from_south_to_north(scene, scene.section_column, along)
@@ -102,7 +106,7 @@ def plot_surface(scene: PhaseScene, ax: Axes) -> Axes:
     ax.set_title(f"Phases at the surface, contours of the floor each {metres(between)} m")
     mark_section_cells(ax, scene.grid, scene.section_row, scene.section_column)
     mark_map(ax, scene.grid)
-    name_axes(ax, "east", "north")
+    name_axes(ax, *axes_of_map(scene.grid))
     return ax
 
 
@@ -113,7 +117,7 @@ def plot_level(scene: PhaseScene, number: int, ax: Axes) -> Axes:
     draw(scene, (scene.phase[number], scene.solid[number]), (west, east, south, north), ax)
     ax.set_title(f"Phases on the level {metres(top - (number + 1) * height)} to {metres(top - number * height)} m")
     mark_map(ax, scene.grid)
-    name_axes(ax, "east", "north")
+    name_axes(ax, *axes_of_map(scene.grid))
     return ax
 
 
@@ -122,8 +126,8 @@ def plot_from_west_to_east(scene: PhaseScene, row: int, ax: Axes) -> Axes:
     west, east, _, _, bottom, top = scene.grid.extent()
     cut = (slice(None, None, -1), row)
     draw(scene, (scene.phase[cut], scene.solid[cut]), (west, east, bottom, top), ax)
-    ax.set_title(f"Phases, west to east (A) at north {metres(scene.grid.origin[1] + row * scene.grid.size[1])}")
-    name_axes(ax, "east", "elevation")
+    ax.set_title(f"Phases, {section_titles(scene.grid, row, 0)[0]}")
+    name_axes(ax, scene.grid.frame.names[0], "elevation")
     return ax
 
 
@@ -132,8 +136,8 @@ def plot_from_south_to_north(scene: PhaseScene, column: int, ax: Axes) -> Axes:
     _, _, south, north, bottom, top = scene.grid.extent()
     cut = (slice(None, None, -1), slice(None), column)
     draw(scene, (scene.phase[cut], scene.solid[cut]), (south, north, bottom, top), ax)
-    ax.set_title(f"Phases, south to north (B) at east {metres(scene.grid.origin[0] + column * scene.grid.size[0])}")
-    name_axes(ax, "north", "elevation")
+    ax.set_title(f"Phases, {section_titles(scene.grid, 0, column)[1]}")
+    name_axes(ax, scene.grid.frame.names[1], "elevation")
     return ax
 
 
@@ -159,6 +163,4 @@ def draw(scene: PhaseScene, plane: tuple[np.ndarray, np.ndarray], extent: Extent
 
 
 def levels_to_show(scene: PhaseScene) -> list[int]:
-    """Three levels of the pit: near its top, in its middle and near its floor."""
-    used = np.flatnonzero(scene.dug.any(axis=(1, 2)))
-    return [int(used[int(share * (len(used) - 1))]) for share in (0.2, 0.5, 0.8)]
+    return section_levels(scene.rules, scene.grid, scene.dug)

@@ -27,11 +27,11 @@ from matplotlib.ticker import MaxNLocator
 from . import analyse
 from .errors import PlanError
 from .grid import Grid, metres
-from .map_marks import contours, floor_of, mark_map, mark_section_cells
+from .map_marks import axes_of_map, contours, floor_of, mark_map, mark_section_cells, section_titles
 from .outlines import edges
 from .picture_rules import PictureRules
 from .plan import Plan
-from .project import Metal
+from .project import Metal, Project
 from .run import Solution
 
 ORE, WASTE, GROUND = "#3b6ea5", "#cfc9bd", "#ece8df"
@@ -86,12 +86,12 @@ class Scene:
 
     @property
     def section_row(self) -> int:
-        """The row of blocks along which a section goes: that of the asked northing, else that in which most of the pit lies."""
-        return busiest(self.dug, 1) if self.rules.north is None else place_of(self.rules.north, self.grid, 1)
+        """The row of blocks along which a section goes."""
+        return section_row(self.rules, self.grid, self.dug)
 
     @property
     def section_column(self) -> int:
-        return busiest(self.dug, 2) if self.rules.east is None else place_of(self.rules.east, self.grid, 0)
+        return section_column(self.rules, self.grid, self.dug)
 
     @property
     def dug(self) -> np.ndarray:
@@ -138,16 +138,17 @@ def scene_of(plan: Plan, solution: Solution, chosen: Optional[int] = None) -> Sc
     )
 
 
-def demand_within(plan: Plan) -> None:
+def demand_within(project: Project, grid: Grid) -> None:
     """Raises PlanError where `[pictures]` names a level or a section beyond the model."""
-    rules = plan.project.pictures or PictureRules()
-    west, east, south, north, floor, top = plan.grid.extent()
+    rules = project.pictures or PictureRules()
+    west, east, south, north, floor, top = grid.extent()
     asked = (("levels", rules.levels, floor, top), ("north", (rules.north,), south, north), ("east", (rules.east,), west, east))
     for key, values, least, most in asked:
         for value in values:
             if value is not None and not least <= value <= most:
-                where = f"beyond the model, from {metres(least)} to {metres(most)} m"
-                raise PlanError(f"{plan.project.path}: [pictures] {key}: {metres(value)} is {where}")
+                along = dict(zip(("east", "north"), grid.frame.names)).get(key, "") if grid.azimuth else ""
+                where = f"beyond the model, from {metres(least)} to {metres(most)} m {along}".rstrip()
+                raise PlanError(f"{project.path}: [pictures] {key}: {metres(value)} is {where}")
 
 
 def place_of(coordinate: float, grid: Grid, axis: int) -> int:
@@ -257,11 +258,8 @@ def plot_sections(scene: Scene, axes: Any) -> list[Axes]:
     and the grades."""
     found = list_of(axes, 4)
     row, column = scene.section_row, scene.section_column
-    x, y, _ = scene.grid.centres(np.array(row * scene.grid.shape[2] + column))
-    cuts = (
-        (scene.from_west_to_east(row), f"west to east (A) at north {metres(y)}", "east"),
-        (scene.from_south_to_north(column), f"south to north (B) at east {metres(x)}", "north"),
-    )
+    (first, second), (east, north) = section_titles(scene.grid, row, column), scene.grid.frame.names
+    cuts = ((scene.from_west_to_east(row), first, east), (scene.from_south_to_north(column), second, north))
     for (plane, where, label), left, right in zip(cuts, found[::2], found[1::2]):
         plot_shells(scene, plane, left).set_title(f"Shells, {where}")
         plot_grades(scene, plane, right)
@@ -308,7 +306,7 @@ def plot_floor(scene: Scene, ax: Axes) -> Axes:
     ax.figure.colorbar(image, ax=ax, shrink=0.85)
     mark_section_cells(ax, scene.grid, scene.section_row, scene.section_column)
     mark_map(ax, scene.grid)
-    name_axes(ax, "east", "north")
+    name_axes(ax, *axes_of_map(scene.grid))
     return ax
 
 
@@ -318,7 +316,7 @@ def plot_level(scene: Scene, number: int, ax: Axes) -> Axes:
     plot_shells(scene, scene.level(number), ax)
     ax.set_title(f"Shells on the level {metres(top - (number + 1) * height)} to {metres(top - number * height)} m")
     mark_map(ax, scene.grid)
-    name_axes(ax, "east", "north")
+    name_axes(ax, *axes_of_map(scene.grid))
     return ax
 
 
@@ -369,13 +367,27 @@ def colour_bar(image: AxesImage, axis: Axes, scene: Scene) -> None:
 
 
 def levels_to_show(scene: Scene) -> list[int]:
-    """The levels that are asked for, else three of the chosen pit: near its top, in its middle and near its floor."""
-    if scene.rules.levels:
-        return [place_of(elevation, scene.grid, 2) for elevation in scene.rules.levels]
-    used = np.flatnonzero(scene.dug.any(axis=(1, 2)))
+    return section_levels(scene.rules, scene.grid, scene.dug)
+
+
+def section_levels(rules: PictureRules, grid: Grid, dug: np.ndarray) -> list[int]:
+    """The levels that are asked for, else three of what is dug: near its top, in its middle and near its floor."""
+    if rules.levels:
+        return [place_of(elevation, grid, 2) for elevation in rules.levels]
+    used = np.flatnonzero(dug.any(axis=(1, 2)))
     if not len(used):
-        used = np.arange(scene.grid.shape[0])
+        used = np.arange(grid.shape[0])
     return [int(used[int(share * (len(used) - 1))]) for share in (0.2, 0.5, 0.8)]
+
+
+def section_row(rules: PictureRules, grid: Grid, dug: np.ndarray) -> int:
+    """The row of blocks along which a section goes: that of the asked northing, else that in which most of what is dug lies."""
+    return busiest(dug, 1) if rules.north is None else place_of(rules.north, grid, 1)
+
+
+def section_column(rules: PictureRules, grid: Grid, dug: np.ndarray) -> int:
+    """As `section_row`, of the asked easting."""
+    return busiest(dug, 2) if rules.east is None else place_of(rules.east, grid, 0)
 
 
 def busiest(dug: np.ndarray, axis: int) -> int:

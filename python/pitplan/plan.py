@@ -10,7 +10,7 @@ from typing import Any, Optional, Union
 import numpy as np
 import pandas as pd
 
-from . import absent, files, fixed as fixing, grid as grids, money, reach, reblock, summary as summaries, table as tables, trim, walls as laying, yearly_money
+from . import absent, files, fixed as fixing, grid as grids, haulage, money, reach, reblock, summary as summaries, table as tables, trim, walls as laying, yearly_money
 from .errors import PlanError
 from .files import MOST_PAIRS, Needs, Pairs
 from .fixed import NOTHING, FixedBlocks, Settled
@@ -28,6 +28,7 @@ OWN_COLUMNS = (
     "phase",
     "year",
     "process",
+    *("road", "haulage_cost", "ore_haulage_cost"),
 )
 
 
@@ -84,7 +85,8 @@ class Plan:
     @property
     def blocks(self) -> pd.DataFrame:
         """One row a block of the table, by the program's id: the planner's columns, and costs and revenue in money, of several
-        processes those of the best at the price as given and those of each."""
+        processes those of the best at the price as given and those of each; with `[haulage]` the road in metres, and what of the costs it
+        is."""
         ids = self.grid.rows
         frame = self.table.rename(columns=shown_name)
         frame.insert(0, "id", ids)
@@ -93,6 +95,9 @@ class Plan:
         for way in self.values.ways if self.project.processes else ():
             frame[f"revenue_{way.name}"] = way.revenue[ids] / MILLION
             frame[f"processing_cost_{way.name}"] = way.cost[ids] / MILLION
+        if hauled := self.values.hauled:
+            frame["road"] = hauled.road[ids] / 10**haulage.LENGTH_PLACES
+            frame["haulage_cost"], frame["ore_haulage_cost"] = hauled.waste[ids] / MILLION, hauled.ore_more[ids] / MILLION
         return frame.sort_values("id").reset_index(drop=True)
 
     @property
@@ -171,9 +176,7 @@ class Plan:
 
     def record_of_grid(self) -> dict[str, Any]:
         return {
-            "shape": list(self.grid.shape),
-            "origin": list(self.grid.origin),
-            "size": list(self.grid.size),
+            **self.grid.as_json(),
             "cells": self.grid.count,
             "cells_without_a_row": self.grid.count - len(self.table),
             "of_these_not_above_the_highest_of_their_column": len(absent.unknown_cells(self.grid)),
@@ -313,8 +316,9 @@ def notes_of(plan: Plan) -> list[str]:
 
 def greatest_shift(table: pd.DataFrame, grid: Grid, project: Project) -> float:
     """The greatest distance in metres, along an axis, from a row's centre to that of its cell."""
-    names = (project.table.x, project.table.y, project.table.z)
-    off = [np.abs(table[name].to_numpy() - centre).max() for name, centre in zip(names, grid.centres(grid.rows))]
+    x, y, z = (table[name].to_numpy() for name in (project.table.x, project.table.y, project.table.z))
+    places = (*grid.frame.along(x, y), z)
+    off = [np.abs(place - middle).max() for place, middle in zip(places, grid.middles(grid.rows))]
     return float(f"{max(off):.3g}")
 
 

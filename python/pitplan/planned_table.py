@@ -13,7 +13,7 @@ from .files import Folder, hash_of
 from .grid import Grid
 from .plan import shown_name
 from .project import Project, load
-from .table_format import TableFormat, format_of, names_in_header
+from .table_format import TableFormat, demand_text, format_of, names_in_header
 
 # What blocks.csv has of a block's pits, phase and year, in this order; each where the folder has it.
 FOUND = ("factor", "process_factor", "phase", "year")
@@ -25,9 +25,10 @@ def write(path: Path, folder: Folder) -> None:
     """The table in its own format, with the columns FOUND of its blocks behind the planner's.
 
     A column of the planner's with such a name is called planner_NAME, as in blocks.csv. Raises PlanError where the project or its table
-    cannot be read or has changed since the folder was written.
+    cannot be read or has changed since the folder was written, and where the table is no text.
     """
     project = project_of(folder)
+    demand_text(project.table.file, "export --to table")
     frame, form = as_text(project.table.file, project)
     cells = cells_of(tables.read(project).frame, project, folder.grid)
     blocks = folder.blocks.set_index("id")
@@ -42,7 +43,8 @@ def cells_of(frame: pd.DataFrame, project: Project, grid: Grid) -> np.ndarray:
     columns = project.table
     west, _, south, _, _, top = grid.extent()
     x, y, z = (frame[name].to_numpy() for name in (columns.x, columns.y, columns.z))
-    steps = ((top - z) / grid.size[2], (y - south) / grid.size[1], (x - west) / grid.size[0])
+    east, north = grid.frame.along(x, y)
+    steps = ((top - z) / grid.size[2], (north - south) / grid.size[1], (east - west) / grid.size[0])
     cells = np.array([np.floor(step).astype(np.int64) for step in steps])
     is_inside = ((cells >= 0) & (cells < np.array(grid.shape)[:, None])).all(axis=0)
     level, row, column = cells

@@ -11,6 +11,7 @@ from typing import Optional, Union
 
 from .errors import PlanError
 from .fixed_rules import FixedRules, read_fixed
+from .haulage_rules import Haulage, read_haulage
 from .money_rules import ByRegion, Metal, Money, Process, read_metal, read_money, read_process
 from .phase_rules import PhaseRules, read_phases
 from .picture_rules import PictureRules, read_pictures
@@ -76,10 +77,14 @@ class TableColumns:
 
 @dataclass(frozen=True)
 class GridRules:
-    """The blocks' size in metres, where it is given, and how far a centre may lie off the grid, in metres."""
+    """The blocks' size in metres, where it is given, and how far a centre may lie off the grid, in metres.
+
+    azimuth  degrees clockwise from north to the grid's north, from -360 to 360; None: as the centres tell it
+    """
 
     size: Optional[tuple[float, float, float]]
     tolerance: float
+    azimuth: Optional[float] = None
 
 
 @dataclass(frozen=True)
@@ -137,6 +142,7 @@ class Project:
     processes: tuple[Process, ...] = ()
     sensitivity: Optional[SensitivityRules] = None
     pictures: Optional[PictureRules] = None
+    haulage: Optional[Haulage] = None
     solver: Optional[str] = None
 
     @property
@@ -192,6 +198,7 @@ def of_data(data: dict, path: Path) -> Project:
         phases=read_phases(top.section("pushbacks"), GREATEST_FACTOR) if top.has("pushbacks") else None,
         schedule_rules=read_schedule_rules(top.section("schedule")) if top.has("schedule") else None,
         processes=processes,
+        haulage=read_haulage(top.section("haulage")) if top.has("haulage") else None,
     )
     metals = tuple(metal.name for metal in project.metals)
     if top.has("sensitivity"):
@@ -231,6 +238,10 @@ def demand_agreement(project: Project) -> None:
     names = [metal.name for metal in project.metals]
     if len(set(names)) < len(names):
         raise PlanError(f"{path}: two [[metals]] have one name")
+    demand_sums_agree(project)
+    varied = project.sensitivity
+    if varied and not project.haulage and "haulage" in {*varied.vary, *(name for pair in varied.pairs for name in pair)}:
+        raise PlanError(f"{path}: [sensitivity] varies haulage, and there is no section [haulage]")
     for name in project.schedule_rules.metal_per_year if project.schedule_rules else ():
         if name not in names:
             raise PlanError(f"{path}: [schedule] metal_per_year names {name}, which is none of the [[metals]] {', '.join(names)}")
@@ -239,6 +250,26 @@ def demand_agreement(project: Project) -> None:
         for name in named:
             if name not in names:
                 raise PlanError(f"{path}: [scenarios] names {name}, which is none of the [[metals]] {', '.join(names)}")
+
+
+def demand_sums_agree(project: Project) -> None:
+    """Refuses least amounts of what there is not, and sums of it; and a least above the most."""
+    rules, names = project.schedule_rules, [process.name for process in project.processes]
+    if rules is None:
+        return
+    shells, metals = project.schedule, [metal.name for metal in project.metals]
+    most = {"ore": rules.ore_per_year or shells.ore_per_year, "rock": rules.rock_per_year or shells.rock_per_year}
+    most |= rules.metal_per_year | {process.name: process.per_year for process in project.processes}
+    for name, least in rules.least.items():
+        if name not in ("ore", "rock", *metals, *names):
+            raise PlanError(f"{project.path}: [schedule.least] {name}: is none of {', '.join(('ore', 'rock', *metals, *names))}")
+        if (limit := most.get(name)) and least > limit:
+            raise PlanError(f"{project.path}: [schedule.least] {name}: {least:.10g} is above the most of a year, {limit:.10g}")
+    for it in rules.sums:
+        if it.of not in ("ore", "rock", *names):
+            raise PlanError(f"{project.path}: [schedule.sums] {it.name}: of {it.of} is none of {', '.join(('rock', 'ore', *names))}")
+    if rules.sums and project.table.reblock:
+        raise PlanError(f"{project.path}: [schedule.sums]: are not of rows that are put together: leave out [table] reblock")
 
 
 def demand_processes_agree(project: Project) -> None:
@@ -332,8 +363,11 @@ def read_grid(section: Section) -> GridRules:
     rules = GridRules(
         size=None if size is None else (size[0], size[1], size[2]),
         tolerance=float(section.number("tolerance", Decimal("0.01"), least=0)),
+        azimuth=float(section.number("azimuth")) if section.has("azimuth") else None,
     )
     section.finish()
+    if rules.azimuth is not None and abs(rules.azimuth) > 360:
+        raise section.wrong("azimuth", f"{rules.azimuth:.10g} is no angle from -360 to 360 degrees")
     return rules
 
 

@@ -79,7 +79,8 @@ def left(model: Model, walls: Walls, project: Project) -> tuple[Model, str]:
 def can_pay(model: Model, project: Project) -> np.ndarray:
     """The rows that pay for their processing at the greatest factor, exactly."""
     some = np.flatnonzero(with_metal(model.frame, project))
-    gains = money.greatest_gains(model.frame.iloc[some].reset_index(drop=True), project, model.source)
+    grid = replace(model.grid, rows=model.grid.rows[some])
+    gains = money.greatest_gains(model.frame.iloc[some].reset_index(drop=True), grid, project, model.source)
     return some[gains]
 
 
@@ -108,7 +109,8 @@ def cropped(model: Model, box: Box, inside: np.ndarray) -> Model:
     ids[inside.ravel()] = np.arange(inside.size)
     kept = np.flatnonzero(ids[grid.rows] >= 0)
     origin = tuple(float(axis) for axis in grid.centres(inside.flat[0]))
-    small = Grid(inside.shape, (origin[0], origin[1], origin[2]), grid.size, ids[grid.rows[kept]].astype(np.int64))
+    rows = ids[grid.rows[kept]].astype(np.int64)
+    small = Grid(inside.shape, (origin[0], origin[1], origin[2]), grid.size, rows, grid.azimuth)
     frame = model.frame.iloc[kept].reset_index(drop=True)
     known = int(np.count_nonzero(kept < model.known))
     return Model(frame, small, model.region[inside.ravel()], f"of what a shell can reach in {model.source}", known)
@@ -128,9 +130,10 @@ def note_of(model: Model, box: Box) -> str:
     kept = np.ones(len(grid.rows), dtype=bool)
     for place, part in zip(grid.indices(grid.rows), box.parts[::-1]):
         kept &= (place >= part.start) & (place < part.stop)
-    names = (("x", box.columns, 0), ("y", box.rows, 1))
-    for name, part, axis in names:
-        west = grid.origin[axis] + (part.start - 0.5) * grid.size[axis]
+    west, _, south, _, _, _ = grid.extent()
+    names = grid.frame.names if grid.azimuth else ("x", "y")
+    for name, part, axis, edge in ((names[0], box.columns, 0, west), (names[1], box.rows, 1, south)):
+        west = edge + part.start * grid.size[axis]
         parts.append(f"{name} from {grids.metres(west)} to {grids.metres(west + (part.stop - part.start) * grid.size[axis])}")
     top = grid.origin[2] - (box.levels.start - 0.5) * grid.size[2]
     parts.append(f"z from {grids.metres(top - (box.levels.stop - box.levels.start) * grid.size[2])} to {grids.metres(top)} m")

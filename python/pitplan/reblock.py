@@ -13,6 +13,7 @@ import numpy as np
 import pandas as pd
 
 from . import grid as grids
+from .frame import Frame
 from .project import GridRules, Project, Reblock
 from .table import Table, at_row
 
@@ -24,18 +25,21 @@ TONNES_PLACES, GRADE_PLACES = 6, 9
 class Lattice:
     """Where the rows lie among the new blocks.
 
-    first   centre of the block at the west, the south and the floor, in metres
+    first   centre of the block at the west, the south and the floor, in metres along the frame's axes
     size    of a block, in metres
     places  for each row the column, the row and the level of its block, from there
+    frame   the axes
     """
 
     first: tuple[float, float, float]
     size: tuple[float, float, float]
     places: tuple[np.ndarray, np.ndarray, np.ndarray]
+    frame: Frame
 
     def centres(self, places: np.ndarray) -> list[np.ndarray]:
         """x, y, z of blocks by their column, row and level, an array of blocks and these."""
-        return [self.first[k] + places[:, k] * self.size[k] for k in range(3)]
+        east, north, up = (self.first[k] + places[:, k] * self.size[k] for k in range(3))
+        return [*self.frame.back(east, north), up]
 
 
 def of_table(table: Table, project: Project) -> tuple[Table, Project]:
@@ -51,7 +55,7 @@ def of_table(table: Table, project: Project) -> tuple[Table, Project]:
     frame, mixed = put_together(table.frame, lattice, project)
     x, y, z = (grids.metres(side) for side in lattice.size)
     notes = [f"{len(table.frame):,} rows were put together to {len(frame):,} blocks of {x} x {y} x {z} m", *mixed]
-    project = replace(project, grid=GridRules(lattice.size, project.grid.tolerance))
+    project = replace(project, grid=GridRules(lattice.size, project.grid.tolerance, lattice.frame.azimuth))
     return replace(table, frame=frame, source=f"reblocked {table.source}", notes=(*table.notes, *notes)), project
 
 
@@ -62,30 +66,35 @@ def of_counts(table: Table, project: Project, rules: Reblock) -> Lattice:
     column, row, level = grid.indices(grid.rows)
     places = [place // count for place, count in zip((column, row, grid.shape[0] - 1 - level), rules.counts)]
     west, _, south, _, floor, _ = grid.extent()
-    return lattice_of((west, south, floor), [side * count for side, count in zip(grid.size, rules.counts)], places)
+    return lattice_of((west, south, floor), [side * count for side, count in zip(grid.size, rules.counts)], places, grid.frame)
 
 
 def of_corner(table: Table, project: Project, rules: Reblock) -> Lattice:
     """Blocks of a size from a corner on, in which the rows' centres lie."""
     assert rules.size is not None and rules.corner is not None
-    columns, places, edge = project.table, [], list(rules.corner)
+    columns, places = project.table, []
     demand_apart(table, project)
-    for k, name in enumerate((columns.x, columns.y, columns.z)):
-        steps = (table.frame[name].to_numpy() - rules.corner[k]) / rules.size[k]
+    x, y, z = (table.frame[name].to_numpy() for name in (columns.x, columns.y, columns.z))
+    frame = Frame(rules.corner[0], rules.corner[1], project.grid.azimuth or 0.0)
+    # A turned grid counts from the corner.
+    edge = [0.0, 0.0, rules.corner[2]] if frame.azimuth else list(rules.corner)
+    for k, (name, along) in enumerate(zip((columns.x, columns.y, columns.z), (*frame.along(x, y), z))):
+        steps = (along - edge[k]) / rules.size[k]
         between = np.abs(steps - np.rint(steps)) * rules.size[k] <= project.grid.tolerance
         if between.any():
-            why = f"lies on the edge of two blocks of {grids.metres(rules.size[k])} m from {grids.metres(rules.corner[k])} on: is the corner right?"
+            size, corner = (grids.metres(it[k]) for it in (rules.size, rules.corner))
+            why = f"lies on the edge of two blocks of {size} m from {corner} on: is the corner right?"
             raise at_row(table.source, int(between.argmax()), name, why)
         place = np.floor(steps).astype(np.int64)
         edge[k] += float(place.min()) * rules.size[k]
         places.append(place - place.min())
-    return lattice_of(edge, rules.size, places)
+    return lattice_of(edge, rules.size, places, frame)
 
 
-def lattice_of(edge: Sequence[float], size: Sequence[float], places: Sequence[np.ndarray]) -> Lattice:
+def lattice_of(edge: Sequence[float], size: Sequence[float], places: Sequence[np.ndarray], frame: Frame) -> Lattice:
     """From the edge at the west, the south and the floor."""
     (x, y, z), (east, north, up), (column, row, level) = edge, size, places
-    return Lattice((x + east / 2, y + north / 2, z + up / 2), (east, north, up), (column, row, level))
+    return Lattice((x + east / 2, y + north / 2, z + up / 2), (east, north, up), (column, row, level), frame)
 
 
 def demand_apart(table: Table, project: Project) -> None:

@@ -1,11 +1,8 @@
-"""The report: one HTML page with its pictures in it, which can be mailed as it is."""
+"""The tables that an answer shows, on standard output and in the report: columns with units, and numbers as text."""
 
 from __future__ import annotations
 
-import base64
-from collections.abc import Callable
 from pathlib import Path
-from typing import Any
 
 import pandas as pd
 from jinja2 import Environment, FileSystemLoader, select_autoescape
@@ -22,16 +19,6 @@ TEMPLATES = Environment(
 )
 # Column, heading with unit, by what to divide, and decimals.
 Columns = list[tuple[str, str, float, int]]
-DISCOUNTED = {
-    "continuous": "from the moment when cash flows",
-    "end_of_year": "from the end of each year",
-    "mid_year": "from the middle of each year",
-}
-
-
-def picture(path: Path) -> str:
-    """A PNG as an address that holds it."""
-    return "data:image/png;base64," + base64.b64encode(path.read_bytes()).decode("ascii")
 
 
 def columns_of(table: pd.DataFrame, project: Project) -> Columns:
@@ -81,14 +68,17 @@ def columns_of_ways(table: pd.DataFrame, project: Project) -> Columns:
     """What is shown of the ways of a schedule, as `columns_of` of shells."""
     money, sign = scaled(float(table["value"].abs().max()))
     tonnes, of_tonnes = scaled(float(table["tonnes"].max()))
+    currency = f"{sign} {project.money.currency}".strip()
     return [
         ("way", "way", 1.0, 0),
-        ("value", f"NPV, {f'{sign} {project.money.currency}'.strip()}", money, 2),
+        ("value", f"NPV, {currency}", money, 2),
+        ("bound", f"bound, {currency}", money, 2),
         ("below_bound", "below bound, %", 0.01, 2),
         ("years", "years", 1.0, 0),
         ("tonnes", f"rock, {of_tonnes}t", tonnes, 2),
         ("ore_tonnes", f"ore, {of_tonnes}t", tonnes, 2),
         ("left_tonnes", f"left, {of_tonnes}t", tonnes, 2),
+        *columns_of_metals(table, project),
     ]
 
 
@@ -105,16 +95,47 @@ def columns_by_block(table: pd.DataFrame, project: Project) -> Columns:
         ("blocks", "blocks", 1.0, 0),
         ("tonnes", f"rock, {of_tonnes}t", tonnes, 2),
         ("ore_tonnes", f"ore, {of_tonnes}t", tonnes, 2),
+        *columns_of_metals(table, project),
+    ]
+
+
+def columns_of_metals(table: pd.DataFrame, project: Project) -> Columns:
+    """What is recovered of each metal."""
+    found: Columns = []
+    for metal in project.metals:
+        size, unit = metal_unit(float(table[f"metal_{metal.name}"].max()), metal)
+        found.append((f"metal_{metal.name}", f"{metal.name}, {unit}", size, 2))
+    return found
+
+
+def columns_of_years(table: pd.DataFrame, project: Project) -> Columns:
+    """What is shown of the years of cases, as `columns_of` of shells."""
+    spent = [name for name in ("fixed_cost", "capital") if name in table]
+    money, sign = scaled(float(table[["cash", "discounted", *spent]].abs().max().max()))
+    tonnes, of_tonnes = scaled(float(table["rock_tonnes"].max()))
+    currency = f"{sign} {project.money.currency}".strip()
+    return [
+        ("year", "year", 1.0, 0),
+        ("case", "case", 1.0, 0),
+        ("rock_tonnes", f"rock, {of_tonnes}t", tonnes, 2),
+        ("ore_tonnes", f"ore, {of_tonnes}t", tonnes, 2),
+        *columns_of_metals(table, project),
+        *((name, f"{name.replace('_', ' ')}, {currency}", money, 2) for name in spent),
+        ("cash", f"cash, {currency}", money, 2),
+        ("discounted", f"discounted, {currency}", money, 2),
     ]
 
 
 def of_cases(table: pd.DataFrame) -> pd.DataFrame:
     """A table of a sensitivity with each case in words, and by how much its net present value differs from that of the first."""
-    cases = [
+    return table.assign(case=cases_in_words(table), change=table["npv"] - table["npv"].iloc[0])
+
+
+def cases_in_words(table: pd.DataFrame) -> list[str]:
+    return [
         ", ".join(f"{name.replace('_', ' ')} {100 * share:+g} %" for name, share in ((one, by), (other, also)) if name) or "as given"
         for one, by, other, also in zip(table["number"], table["share"], table["second"], table["second_share"])
     ]
-    return table.assign(case=cases, change=table["npv"] - table["npv"].iloc[0])
 
 
 def columns_of_cases(table: pd.DataFrame, project: Project) -> Columns:
@@ -125,18 +146,12 @@ def columns_of_cases(table: pd.DataFrame, project: Project) -> Columns:
     return [
         ("case", "case", 1.0, 0),
         ("npv", f"NPV, {currency}", money, 2),
-        ("change", f"change, {currency}", money, 2),
+        *([("change", f"change, {currency}", money, 2)] if "change" in table else []),
         ("tonnes", f"rock, {of_tonnes}t", tonnes, 2),
         ("ore_tonnes", f"ore, {of_tonnes}t", tonnes, 2),
         ("worth", f"worth, {currency}", money, 2),
         ("years", "years", 1.0, 1),
     ]
-
-
-def table_of(table: pd.DataFrame, columns_of: Callable[[pd.DataFrame, Project], Columns], project: Project) -> dict[str, Any]:
-    """The headings and the rows of a table of the page."""
-    columns = columns_of(table, project)
-    return {"headings": [heading for _, heading, _, _ in columns], "rows": cells_of(table, columns)}
 
 
 def metal_unit(most: float, metal: Metal) -> tuple[float, str]:
@@ -158,33 +173,3 @@ def cells_of(table: pd.DataFrame, columns: Columns) -> list[list[str]]:
         return "–" if pd.isna(row[name]) else f"{row[name] / size:,.{places}f}"
 
     return [[cell(row, name, size, places) for name, _, size, places in columns] for _, row in table.iterrows()]
-
-
-def write(path: Path, project: Project, table: pd.DataFrame, facts: dict[str, Any]) -> None:
-    """The page of a table of shells.
-
-    `facts`: chosen factor, pictures by name, the table's summary, notes, what was verified, files with their hashes, the solver,
-    and where there are such the tables of phases and of a schedule's ways.
-    """
-    columns = columns_of(table, project)
-    rows = [
-        {"cells": cells, "chosen": factor == facts["chosen"], "given": factor == 1000}
-        for cells, factor in zip(cells_of(table, columns), table["factor"])
-    ]
-    warnings = [note for note in facts["notes"] if note.startswith("WARNING")]
-    page = TEMPLATES.get_template("report.html").render(
-        title=project.title,
-        headings=[heading for _, heading, _, _ in columns],
-        rows=rows,
-        phases=facts.get("phases"),
-        ways=facts.get("ways"),
-        by_block=facts.get("by_block"),
-        warnings=[note.removeprefix("WARNING: ") for note in warnings],
-        notes=[note for note in facts["notes"] if note not in warnings],
-        pictures={name: picture(place) for name, place in facts["pictures"].items()},
-        rate=project.schedule.rate,
-        discounting=DISCOUNTED[project.schedule.discounting],
-        has_fixed=project.fixed is not None,
-        **{name: facts[name] for name in ("chosen", "summary", "verified", "files", "solver")},
-    )
-    path.write_text(page, encoding="utf-8")

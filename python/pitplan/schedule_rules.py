@@ -2,6 +2,7 @@
 
 from __future__ import annotations
 
+import re
 from dataclasses import dataclass, field
 from decimal import Decimal
 from typing import Optional
@@ -11,6 +12,7 @@ from .section import Section
 MOST_YEARS, MOST_BENCHES = 200, 1_000
 MOST_BINS = 50
 MOST_SECONDS = 7 * 24 * 3600
+ROCK, ORE = "rock", "ore"
 
 
 @dataclass(frozen=True)
@@ -19,6 +21,23 @@ class Effort:
 
     gap: float = 0.0
     seconds: Optional[float] = None
+
+
+@dataclass(frozen=True)
+class Sum:
+    """A sum of a column of the table, by year.
+
+    of       what it counts of: rock, of every block that is dug; ore, of what is milled; or the name of a process
+    a_tonne  whether the column is multiplied by tonnes: those dug, or of ore those of the block itself that come to the mill
+    least    of each year; None: none, and so the most
+    """
+
+    name: str
+    column: str
+    of: str
+    a_tonne: bool
+    least: Optional[float]
+    most: Optional[float]
 
 
 @dataclass(frozen=True)
@@ -35,6 +54,8 @@ class ScheduleRules:
     milp            whether and how far an integer programme is solved too; None: it is not
     bins            into so many bins ore is divided, which may be left as waste while the mill is full; None: all ore is milled
     rehandling      what it costs to reclaim a tonne from a stockpile; None: there is none
+    least           of rock, ore, metals and processes by name what a schedule by block holds each year at least, of ore as ramp_up says
+    sums            of columns of the table, which a schedule by block limits
     """
 
     ore_per_year: Optional[float] = None
@@ -47,6 +68,18 @@ class ScheduleRules:
     milp: Optional[Effort] = None
     bins: Optional[int] = None
     rehandling: Optional[float] = None
+    least: dict[str, float] = field(default_factory=dict)
+    sums: tuple[Sum, ...] = ()
+
+    @property
+    def columns(self) -> tuple[str, ...]:
+        """The columns of the table that sums are of."""
+        return tuple(it.column for it in self.sums)
+
+    @property
+    def asks_least(self) -> bool:
+        """Whether a year must hold something at least."""
+        return bool(self.least) or any(it.least for it in self.sums)
 
 
 def read_schedule_rules(section: Section) -> ScheduleRules:
@@ -62,8 +95,14 @@ def read_schedule_rules(section: Section) -> ScheduleRules:
         milp=read_effort(section.section("milp")) if section.has("milp") else None,
         bins=section.whole("bins", 1, 1, MOST_BINS) if section.has("bins") else None,
         rehandling=read_stockpile(section.section("stockpile")) if section.has("stockpile") else None,
+        least=read_least(section.section("least")) if section.has("least") else {},
+        sums=tuple(read_sum(it) for it in section.sections("sums")) if section.has("sums") else (),
     )
     section.finish()
+    if len({it.name for it in rules.sums}) < len(rules.sums):
+        raise section.wrong("sums", "two have one name")
+    if rules.asks_least and rules.years is None:
+        raise section.wrong("years", "is missing: in each of so many years there must be what is asked for at least")
     if rules.sinking_rate is not None and rules.sinking_rate <= 0:
         raise section.wrong("sinking_rate", "is above 0 benches a year: leave it out where there is no limit")
     if rules.rehandling is not None and rules.bins is None:
@@ -77,6 +116,24 @@ def read_stockpile(section: Section) -> float:
     cost = float(section.number("rehandling_cost", least=0))
     section.finish()
     return cost
+
+
+def read_least(section: Section) -> dict[str, float]:
+    return {name: float(section.number(name, least=0)) for name in section.data}
+
+
+def read_sum(section: Section) -> Sum:
+    column = section.text("column")
+    least, most = (float(section.number(key, least=0)) if section.has(key) else None for key in ("least", "most"))
+    found = Sum(section.text("name", column), column, section.text("of", ROCK), section.truth("a_tonne", False), least, most)
+    section.finish()
+    if not re.fullmatch(r"\w[\w-]*", found.name):
+        raise section.wrong("name", f'"{found.name}" is not one word of letters, digits, _ and -, as columns are named by it')
+    if least is None and most is None:
+        raise section.wrong("most", "is missing, and so is least: give one or both")
+    if least is not None and most is not None and least > most:
+        raise section.wrong("least", f"{least:.10g} is above the most of {most:.10g}")
+    return found
 
 
 def read_effort(section: Section) -> Effort:

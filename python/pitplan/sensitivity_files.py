@@ -11,6 +11,7 @@ import numpy as np
 import pandas as pd
 
 from . import csv_file, files, sensitivity_pictures, verification
+from .pictures import also_as
 from .progress import Progress
 from .varied_cases import SKIN_WORTH, Case, Sensitivity, rules_of, table
 
@@ -30,7 +31,7 @@ def write(found: Sensitivity, folder: Path, progress: Progress, verifies: bool) 
                 rules = verification.verify_sensitivity(stage, folder)
             verification.demand(rules)
             told["verified"] = [f"{rule.name}: {rule.holds}" for rule in rules]
-        with progress.step("drawing"):
+        with progress.step("drawing"), also_as(project.pictures.formats if project.pictures else ()):
             sensitivity_pictures.write_all(cases, rules_of(project).pairs, project.money.currency, stage)
         files.write_json(stage / RECORD, told)
     progress.lines([told_of_skin(told["skin"], project.money.currency)])

@@ -7,7 +7,7 @@ from decimal import Decimal
 
 from .section import Section
 
-NAMES = ("price", "mining_cost", "processing_cost", "selling_cost", "recovery", "slopes", "capacity")
+NAMES = ("price", "mining_cost", "processing_cost", "selling_cost", "recovery", "slopes", "capacity", "haulage")
 # Those that may be one metal's alone, as "price copper".
 OF_METALS = ("price", "selling_cost", "recovery")
 # Of the pit's rock.

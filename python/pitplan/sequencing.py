@@ -2,7 +2,7 @@
 
 from __future__ import annotations
 
-from dataclasses import dataclass
+from dataclasses import dataclass, field
 from typing import Optional
 
 import numpy as np
@@ -25,16 +25,25 @@ class Limits:
     most          by name the most of an amount; of ore once the mill runs in full
     ramp_up       shares of the tonnes of mill and processes in the first years; the last one stays
     sinking_rate  the most benches by which a phase sinks; infinite where there is no limit
+    least         by name the least of an amount, likewise, where blocks are scheduled one by one
     """
 
     most: dict[str, float]
     ramp_up: tuple[float, ...] = (1.0,)
     sinking_rate: float = np.inf
+    least: dict[str, float] = field(default_factory=dict)
 
     def of_year(self, number: int) -> np.ndarray:
         """The limited amounts of a year, numbered from 1."""
-        of_mill = self.ramp_up[min(number, len(self.ramp_up)) - 1]
-        return np.array([most * of_mill if name.startswith(ORE) else most for name, most in self.most.items()], dtype=float)
+        return np.array([amount * self.share(name, number) for name, amount in self.most.items()], dtype=float)
+
+    def least_of_years(self, count: int) -> dict[str, np.ndarray]:
+        """By name the least amounts of years, from the first."""
+        return {name: np.array([amount * self.share(name, year) for year in range(1, count + 1)]) for name, amount in self.least.items()}
+
+    def share(self, name: str, number: int) -> float:
+        """The share of an amount's limit that a year has."""
+        return self.ramp_up[min(number, len(self.ramp_up)) - 1] if name.startswith(ORE) else 1.0
 
     def of_years(self, count: int) -> np.ndarray:
         """An array of years, from the first, and limited amounts."""

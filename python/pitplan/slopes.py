@@ -8,7 +8,7 @@ gets steeper than asked, by the angles that `errors` computes.
 from __future__ import annotations
 
 import math
-from dataclasses import dataclass
+from dataclasses import dataclass, replace
 
 import numpy as np
 from scipy.spatial import ConvexHull, QhullError
@@ -37,10 +37,11 @@ class Pattern:
 
     cone    all needs of a block, as an array of `cones`
     offsets the steps that are written amid walls that are alike: those that others do not lead to
-    errors  degrees by which the wall is steeper than asked (below 0: flatter), at azimuths 0, 1, .. 359; it is empty
-            for a pattern that asked for no angle
+    errors  degrees by which the wall is steeper than asked (below 0: flatter), at azimuths 0, 1, .. 359 from the grid's
+            north; it is empty for a pattern that asked for no angle
     angles  degrees of the walls that come out, at the same azimuths
     widened by how much the cone was widened so that no wall is steeper than asked; 1 where it was not
+    azimuth degrees clockwise from north to the grid's north
     """
 
     name: str
@@ -49,6 +50,7 @@ class Pattern:
     angles: np.ndarray
     errors: np.ndarray
     widened: float = 1.0
+    azimuth: float = 0.0
 
     @property
     def levels(self) -> int:
@@ -66,7 +68,7 @@ class Pattern:
         if len(self.errors):
             steepest, flattest = int(self.errors.argmax()), int(self.errors.argmin())
             result["steeper_than_asked_by_at_most"] = round(float(self.errors[steepest]), 2)
-            result["at_azimuth"] = float(AZIMUTHS[steepest])
+            result["at_azimuth"] = round(float(AZIMUTHS[steepest] + self.azimuth) % 360, 4)
             result["flatter_than_asked_by_at_most"] = round(float(-self.errors[flattest]), 2)
             result["mean_error"] = round(float(self.errors.mean()), 2)
             result["widened"] = round(self.widened, 4)
@@ -159,8 +161,16 @@ def angles_of_cone(cone: np.ndarray, size: tuple[float, float, float]) -> np.nda
     return angles_of(set().union(*(rim_of(cone[up], up, size) for up in range(1, len(cone)))))
 
 
-def pattern_of(wall: Wall, size: tuple[float, float, float], slopes: Slopes) -> Pattern:
-    """The needs of one wall entry, with their errors."""
+def from_grid_north(wall: Wall, azimuth: float) -> Wall:
+    """A wall whose azimuths are counted from the north of a grid, which has an azimuth of its own."""
+    if not azimuth or len(wall.angles) < 2:
+        return wall
+    return replace(wall, angles=tuple(sorted((round((of_wall - azimuth) % 360, 9) % 360, angle) for of_wall, angle in wall.angles)))
+
+
+def pattern_of(asked_wall: Wall, size: tuple[float, float, float], slopes: Slopes, azimuth: float = 0.0) -> Pattern:
+    """The needs of one wall entry, with their errors, on a grid whose north has an azimuth."""
+    wall = from_grid_north(asked_wall, azimuth)
     where = "other regions" if wall.regions is None else f"region {', '.join(wall.regions)}"
     if wall.pattern:
         offsets = PATTERN_OFFSETS[wall.pattern]
@@ -175,13 +185,13 @@ def pattern_of(wall: Wall, size: tuple[float, float, float], slopes: Slopes) -> 
     cells = cone(wall.angles, size, levels, widened)
     angles = angles_of_cone(cells, size)
     said = (
-        " ".join(f"{angle:g} at {azimuth:g}" for azimuth, angle in wall.angles)
+        " ".join(f"{angle:g} at {of_wall:g}" for of_wall, angle in asked_wall.angles)
         if len(wall.angles) > 1
         else f"{wall.angles[0][1]:g}"
     )
     if wall.bench:
         where += f", benches of {wall.bench.height:g} m with faces of {wall.bench.face:g} degrees and berms of {wall.bench.berm:g} m"
-    return Pattern(f"{where}, {said} degrees", cells, offsets_of(cells), angles, angles - asked, widened)
+    return Pattern(f"{where}, {said} degrees", cells, offsets_of(cells), angles, angles - asked, widened, azimuth)
 
 
 def levels_of(wall: Wall, size: tuple[float, float, float], asked: np.ndarray) -> int:

@@ -83,6 +83,7 @@ def of_ground(table: Table, grid: Grid, project: Project) -> list[str]:
     """The lines that no grade alters: blocks, tonnes, extents, columns, and what was told by looking at the text."""
     columns, tonnes = project.table, table.frame[project.table.tonnes].to_numpy()
     lines = [f"{table.source}: {len(table.frame):,} blocks in {grid.count:,} cells, {tonnes.sum():,.0f} tonnes in {rock_of(columns)}"]
+    lines += [turned_line(grid, project)] if grid.azimuth else []
     lines += [axis.line for axis in axes_of(grid, columns)]
     lines += not_used(table.unused)
     missing = [name for name in OPTIONAL if getattr(columns, name) is None]
@@ -96,12 +97,22 @@ def of_grades(grades: Sequence[Grade]) -> list[str]:
     return [grade.line for grade in grades] + [doubt for grade in grades for doubt in grade.doubts]
 
 
+def turned_line(grid: Grid, project: Project) -> str:
+    """By how much a grid is turned, who says so, and from where it counts."""
+    told = "as the centres tell" if project.grid.azimuth is None else "as [grid] azimuth says"
+    x, y = (metres(round(place, 2)) for place in (grid.frame.x, grid.frame.y))
+    return f"the grid's north has azimuth {grid.azimuth:.10g}, {told}: pictures count along its axes from its corner at {x}, {y}"
+
+
 def axes_of(grid: Grid, columns: TableColumns) -> list[Axis]:
-    """x, y and z of a grid."""
+    """x, y and z of a grid, of one that is turned along its own axes."""
     west, east, south, north, floor, top = grid.extent()
     edges, size = ((west, east), (south, north), (floor, top)), grid.size
-    names = (columns.x, columns.y, columns.z)
-    return [Axis(axis, names[k], edges[k][0] + size[k] / 2, edges[k][1] - size[k] / 2, size[k]) for k, axis in enumerate("xyz")]
+    axes, names = ("x", "y", "z"), (columns.x, columns.y, columns.z)
+    if grid.azimuth:
+        flat = f"{columns.x} and {columns.y}"
+        axes, names = (*grid.frame.names, "z"), (flat, flat, columns.z)
+    return [Axis(axis, names[k], edges[k][0] + size[k] / 2, edges[k][1] - size[k] / 2, size[k]) for k, axis in enumerate(axes)]
 
 
 def rock_of(columns: TableColumns) -> str:

@@ -1,4 +1,5 @@
-"""The rock of a pit as a closed surface round its blocks, of triangles, for programs that read STL or OBJ; by VTK.
+"""The rock of a pit as a closed surface round its blocks, or the ground with the pit in it as an open one, of triangles, for programs that read
+STL or OBJ; by VTK.
 
 Both are written as text, since STL in bytes has 24 bits a coordinate: half a metre where that has seven digits."""
 
@@ -9,50 +10,80 @@ from typing import Any
 
 import numpy as np
 
+from . import ground
 from .errors import PlanError
 from .files import Folder
 from .packages import load
+from .stages import FACTOR, GROUND, Shape, Stage, places_of, rock, stages_of
 from .vtk_files import PACKAGE, image_of, save
 
 # By what part the volume within the triangles may differ from that of the blocks.
 TOLERANCE = 1e-3
 
 
-def write_stl(path: Path, folder: Folder, factor: int) -> list[str]:
-    """The surface of a factor's pit as STL, in metres; gives a sentence with its volume.
+def write_stl(path: Path, folder: Folder, shape: Shape) -> list[str]:
+    """The surface of a factor's pit as STL, in metres, or into the folder `path` that of each phase or year; gives a sentence on the volume of
+    each.
 
     Raises MissingPackage without VTK, and PlanError where the pit is empty, or the surface does not hold what its blocks do.
     """
     vtk = load("vtk", PACKAGE, "export --to stl")
-    surface, notes = of_pit(vtk, path.name, folder, factor)
-    writer = vtk.vtkSTLWriter()
-    writer.SetFileTypeToASCII()
-    save(writer, path, surface)
-    return notes
+    return write_each(path, folder, shape, "stl", lambda: ascii_writer(vtk))
 
 
-def write_obj(path: Path, folder: Folder, factor: int) -> list[str]:
+def write_obj(path: Path, folder: Folder, shape: Shape) -> list[str]:
     """The same as Wavefront OBJ."""
     vtk = load("vtk", PACKAGE, "export --to obj")
-    surface, notes = of_pit(vtk, path.name, folder, factor)
-    save(vtk.vtkOBJWriter(), path, surface)
-    return notes
+    return write_each(path, folder, shape, "obj", vtk.vtkOBJWriter)
 
 
-def of_pit(vtk: Any, name: str, folder: Folder, factor: int) -> tuple[Any, list[str]]:
-    """The surface of a factor's pit, and a sentence with its volume and that of its blocks. Raises PlanError as `write_stl` does."""
-    dug, grid = folder.dug(factor), folder.grid
-    if not dug.any():
-        raise PlanError(f"{folder.path}: the pit of factor {factor} is empty: it has no surface")
-    surface = round_cells(vtk, image_of(grid, {"dug": dug.astype(np.uint8).ravel()}, "a surface"))
+def ascii_writer(vtk: Any) -> Any:
+    writer = vtk.vtkSTLWriter()
+    writer.SetFileTypeToASCII()
+    return writer
+
+
+def write_each(path: Path, folder: Folder, shape: Shape, kind: str, writer_of: Any) -> list[str]:
+    """A file for each stage; of one that digs nothing the pit has none, which is told."""
+    said = []
+    for stage in stages_of(folder, shape):
+        place = path if shape.of == FACTOR else path / f"{stage.name}.{kind}"
+        if shape.surface != GROUND and not stage.dug.any():
+            said.append(f"{stage.name}: nothing is dug by its end: it has no surface")
+            continue
+        surface, told = of_ground(folder, stage, shape) if shape.surface == GROUND else of_pit(place.name, folder, stage)
+        save(writer_of(), place, surface)
+        said.append(f"{place.name}: {told}")
+    return said
+
+
+def of_ground(folder: Folder, stage: Stage, shape: Shape) -> tuple[Any, str]:
+    """The open surface of the ground at a stage, and a sentence with its volume. Raises PlanError as `ground.of_stage` does."""
+    vtk, numpy_support = load("vtk", PACKAGE, "a surface"), load("vtk.util.numpy_support", PACKAGE, "a surface")
+    surface, said = ground.of_stage(rock(folder), stage, folder.grid, shape.smooth)
+    points, triangles, mesh = vtk.vtkPoints(), vtk.vtkCellArray(), vtk.vtkPolyData()
+    points.SetData(numpy_support.numpy_to_vtk(places_of(folder.grid, surface.corners), deep=True))
+    starts = np.arange(0, 3 * len(surface.faces) + 1, 3, dtype=np.int64)
+    arrays = (numpy_support.numpy_to_vtkIdTypeArray(part.ravel().astype(np.int64), deep=True) for part in (starts, surface.faces))
+    triangles.SetData(*arrays)
+    mesh.SetPoints(points)
+    mesh.SetPolys(triangles)
+    return mesh, said
+
+
+def of_pit(name: str, folder: Folder, stage: Stage) -> tuple[Any, str]:
+    """The closed surface round the blocks of a stage, and a sentence with its volume and that of its blocks. Raises PlanError as `write_stl`
+    does."""
+    vtk, grid = load("vtk", PACKAGE, "a surface"), folder.grid
+    surface = round_cells(vtk, image_of(grid, {"dug": stage.dug.astype(np.uint8).ravel()}, "a surface"))
     measured = vtk.vtkMassProperties()
     measured.SetInputData(surface)
-    blocks = int(np.count_nonzero(dug))
+    blocks = int(np.count_nonzero(stage.dug))
     volume, expected = measured.GetVolume(), blocks * float(np.prod(grid.size))
-    said = f"{name}: {surface.GetNumberOfCells():,} triangles hold {volume:,.0f} m3, and the {blocks:,} blocks {expected:,.0f} m3"
+    said = f"{surface.GetNumberOfCells():,} triangles hold {volume:,.0f} m3, and the {blocks:,} blocks {expected:,.0f} m3"
     if abs(volume - expected) > TOLERANCE * expected:
-        raise PlanError(f"{said}: please report this")
-    return surface, [said]
+        raise PlanError(f"{name}: {said}: please report this")
+    return surface, said
 
 
 def round_cells(vtk: Any, image: Any) -> Any:

@@ -13,6 +13,7 @@ from typing import Optional
 import numpy as np
 import pandas as pd
 
+from . import parquet
 from .errors import PlanError
 from .project import Project, TableColumns
 from .table_format import NAMES, UNREADABLE, TableFormat, format_of, names_in_header, opened, unreadable, wrong_encoding
@@ -41,12 +42,17 @@ class Table:
 
 
 def read(project: Project) -> Table:
-    """The table of `project.table.file` (.csv, also .csv.gz or .zip), with the columns that the project names.
+    """The table of `project.table.file` (.csv, also .csv.gz or .zip; or .parquet), with the columns that the project names.
 
-    Raises PlanError, with file, row and column, where a column is missing or a field is not usable.
+    Raises PlanError, with file, row and column, where a column is missing or a field is not usable, and MissingPackage where Parquet cannot
+    be read here.
     """
     columns = project.table
     codes = [name for name in (columns.id, columns.rock, columns.region) if name]
+    if parquet.is_parquet(columns.file):
+        frame, names = parquet.read(columns.file, codes, names_of(project))
+        demand_columns(pd.DataFrame(columns=names), names_of(project), str(columns.file))
+        return replace(checked(frame, project, str(columns.file)), unused=tuple(name for name in names if name not in names_of(project)))
     frame, form = read_as_written(columns.file, columns, codes, names_of(project))
     table = checked(frame, project, str(columns.file))
     return replace(table, notes=tuple(notes_of(form, columns)))
@@ -145,7 +151,8 @@ def names_of(project: Project) -> list[str]:
     t = project.table
     fixed = [project.fixed.forced, project.fixed.barred] if project.fixed else []
     rock = [t.density, t.volume] if t.density else [t.tonnes]
-    named = [t.id, t.x, t.y, t.z, *rock, t.rock, t.region, *(metal.column for metal in project.metals), *fixed]
+    sums = project.schedule_rules.columns if project.schedule_rules else ()
+    named = [t.id, t.x, t.y, t.z, *rock, t.rock, t.region, *(metal.column for metal in project.metals), *fixed, *sums]
     return list(dict.fromkeys(name for name in named if name))
 
 
@@ -242,7 +249,8 @@ def tonnes_by_density(frame: pd.DataFrame, project: Project) -> np.ndarray:
 def demand_not_negative(frame: pd.DataFrame, project: Project, source: str) -> None:
     columns = project.table
     rock = [name for name in (columns.density, columns.volume) if name] or [columns.tonnes]
-    for name in [*rock, *(metal.column for metal in project.metals)]:
+    sums = project.schedule_rules.columns if project.schedule_rules else ()
+    for name in [*rock, *(metal.column for metal in project.metals), *sums]:
         demand_none_below_0(frame[name].to_numpy(), source, name)
 
 

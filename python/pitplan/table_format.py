@@ -15,6 +15,7 @@ from pathlib import Path
 from typing import IO
 
 from .errors import PlanError
+from .parquet import is_parquet
 from .project import TableColumns
 
 SEPARATORS = (",", ";", "\t", "|")
@@ -78,6 +79,12 @@ def opened(file: Path) -> Iterator[IO[bytes]]:
     else:
         with open(file, "rb") as data:
             yield data
+
+
+def demand_text(file: Path, purpose: str) -> None:
+    """Raises PlanError where a table is no text, which the purpose needs."""
+    if is_parquet(file):
+        raise PlanError(f"{file}: is Parquet, and {purpose} needs a table that is text, such as CSV")
 
 
 def unreadable(file: Path, error: Exception) -> PlanError:

@@ -106,6 +106,14 @@ def capacity(project: Project, by: Decimal, metal: str) -> Project:
     return with_processes(replace(project, schedule=schedule), lambda it: replace(it, per_year=it.per_year * more))
 
 
+def haulage(project: Project, by: Decimal, metal: str) -> Project:
+    """What a tonne and kilometre costs, of ore and of waste."""
+    rules = project.haulage
+    assert rules is not None
+    ore, waste = (replace(road, cost=road.cost * by) for road in (rules.ore, rules.waste))
+    return replace(project, haulage=replace(rules, ore=ore, waste=waste))
+
+
 VARIED: dict[str, Callable[[Project, Decimal, str], Project]] = {
     "price": price,
     "mining_cost": mining_cost,
@@ -114,6 +122,7 @@ VARIED: dict[str, Callable[[Project, Decimal, str], Project]] = {
     "recovery": recovery,
     "slopes": slopes,
     "capacity": capacity,
+    "haulage": haulage,
 }
 
 
@@ -122,5 +131,6 @@ def given(project: Project) -> tuple[str, ...]:
     is_there = {
         "selling_cost": any(metal.selling_cost for metal in project.metals),
         "slopes": any(wall.angles for wall in project.slopes.walls),
+        "haulage": project.haulage is not None,
     }
     return tuple(name for name in VARIED if is_there.get(name, True))

@@ -8,6 +8,7 @@ from typing import Any
 import numpy as np
 
 from .errors import PlanError
+from .frame import turn_of
 from .grid import Grid
 from .packages import load
 
@@ -15,14 +16,18 @@ PACKAGE = "python3-vtk9"
 
 
 def image_of(grid: Grid, cells: dict[str, np.ndarray], purpose: str) -> Any:
-    """Named arrays of one value a cell as VTK image data, in metres. Raises MissingPackage without VTK."""
+    """Named arrays of one value a cell as VTK image data, in metres; that of a turned grid has its directions. Raises MissingPackage
+    without VTK."""
     vtk, numpy_support = load("vtk", PACKAGE, purpose), load("vtk.util.numpy_support", PACKAGE, purpose)
     levels, rows, columns = grid.shape
     west, _, south, _, floor, _ = grid.extent()
     image = vtk.vtkImageData()
     image.SetDimensions(columns + 1, rows + 1, levels + 1)
     image.SetSpacing(*grid.size)
-    image.SetOrigin(west, south, floor)
+    x, y = grid.frame.back(west, south)
+    image.SetOrigin(float(x), float(y), floor)
+    east = turn_of(grid.azimuth)
+    image.SetDirectionMatrix(east.real, -east.imag, 0, east.imag, east.real, 0, 0, 0, 1)
     for name, values in cells.items():
         # VTK counts levels from the floor.
         array = numpy_support.numpy_to_vtk(np.ascontiguousarray(grid.cube(values)[::-1]).ravel(), deep=True)

@@ -59,7 +59,7 @@ def walls_of(region: np.ndarray, grid: Grid, slopes: Slopes) -> Walls:
 
     Raises PlanError where a region that blocks are of has no walls.
     """
-    patterns = tuple(pattern_of(wall, grid.size, slopes) for wall in slopes.walls)
+    patterns = tuple(pattern_of(wall, grid.size, slopes, grid.azimuth) for wall in slopes.walls)
     return laid(patterns, pattern_codes(region, slopes), grid)
 
 

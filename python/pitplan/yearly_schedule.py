@@ -12,6 +12,7 @@ import pandas as pd
 import scipy
 
 from . import grade_bins, integer_programme, linear_programme, phase_benches, yearly_money
+from .errors import PlanError
 from .linear_programme import Relaxed
 from .milling_programme import Milling, MillingProblem
 from .phase_benches import CASH, ORE, ROCK, PhaseBenches
@@ -105,9 +106,11 @@ def rules_of(project: Project) -> ScheduleRules:
 def make(phases: Phases, progress: Progress = silent) -> YearlySchedule:
     """The schedule of a pit's phases. Where it is interrupted while programmes are solved, the ways that are found by then.
 
-    Raises PlanError where it takes more than a thousand years, or HiGHS finds nothing.
+    Raises PlanError where it takes more than a thousand years, HiGHS finds nothing, or the project asks for what is done by block alone.
     """
     project, rules = phases.plan.project, rules_of(phases.plan.project)
+    if rules.least or rules.sums:
+        raise PlanError(f"{project.path}: [schedule] least, sums: are kept by --by block alone: leave them out, or schedule by block")
     benches = phase_benches.of_phases(phases, rules.lag)
     problem = Problem(benches, limits_of(project, rules), project.schedule, yearly_money.of_project(project))
     with progress.step(f"scheduling {len(benches):,} benches of {len(phases.factors)} phases by rule"):
@@ -191,8 +194,8 @@ def years(schedule: YearlySchedule) -> pd.DataFrame:
 
 
 def ways(schedule: YearlySchedule) -> pd.DataFrame:
-    """One row a way: way; value, discounted, in money; below_bound, by which share of the bound it is less; years; tonnes that are dug,
-    ore_tonnes that are milled, and left_tonnes that are not dug."""
+    """One row a way: way; value, discounted, and bound, in money; below_bound, by which share of the bound it is less; years; tonnes that are
+    dug, ore_tonnes that are milled, and left_tonnes that are not dug; metal_NAME recovered."""
     rows = []
     for way, shares in schedule.shares.items():
         whole, value = shares.sum(axis=1), schedule.value(way)
@@ -201,11 +204,13 @@ def ways(schedule: YearlySchedule) -> pd.DataFrame:
             {
                 "way": way,
                 "value": value,
+                "bound": bound,
                 "below_bound": (bound - value) / abs(bound) if bound else np.nan,
                 "years": shares.shape[1],
                 "tonnes": schedule.benches.of(ROCK) @ whole,
                 "ore_tonnes": schedule.flows(way)[:, :, schedule.benches.names.index(ORE)].sum(),
                 "left_tonnes": schedule.left(way),
+                **schedule.yearly(way).filter(like="metal_").sum(),
             }
         )
     return pd.DataFrame(rows)

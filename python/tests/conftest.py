@@ -135,3 +135,31 @@ def blank_pictures():
         patch.setattr(commands.schedule_pictures, "write_cumulative", lambda schedule, years, path: path.touch())
         patch.setattr(commands.block_pictures, "write", lambda made, path: path.touch())
         yield
+
+
+@pytest.fixture(scope="session")
+def scheduled_hill(tmp_path_factory):
+    """A hill far from the origin in two phases with years, without pictures; the place of its project."""
+    import pitplan
+    from pitplan import commands
+
+    place = tmp_path_factory.mktemp("ground")
+    grades = {(3, 4, 1): 6, (7, 4, 1): 2, (5, 2, 2): 0.9}
+    table = rows(11, 9, 4, cu=lambda i, j, k: grades.get((i, j, k), 0))
+    table = table[(table["z"] < 30) | (table["x"] < 60)].assign(x=lambda it: it["x"] + 430_000.5, y=lambda it: it["y"] + 6_512_000.25)
+    table.to_csv(place / "blocks.csv", index=False)
+    (place / "project.toml").write_text(PROJECT + "[pushbacks]\ncount = 2\n[schedule]\nrock_per_year = 2000\n")
+    with pytest.MonkeyPatch.context() as patch:
+        for name in ("draw", "draw_phases"):
+            patch.setattr(commands, name, lambda *given: {})
+        patch.setattr(commands.yearly, "write_years", lambda *given: None)
+        patch.setattr(commands, "PICTURES", {"years": "years.png"})
+        patch.setattr(commands.pictures, "files_of", lambda *given: [])
+        pitplan.write_schedule(place / "project.toml", verifies=False)
+    return place
+
+
+@pytest.fixture
+def folder(scheduled_hill, tmp_path):
+    """The folder of its schedule, of the test's own."""
+    return shutil.copytree(scheduled_hill, tmp_path / "mine") / "plan" / "schedule"

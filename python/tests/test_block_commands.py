@@ -125,7 +125,6 @@ def test_a_block_goes_to_the_process_that_has_room(plan_folder):
         ("[schedule]\nsinking_rate = 2", "[schedule] sinking_rate: is of the benches of a phase"),
         ("[schedule]\nbins = 2", "[schedule] bins: are of benches"),
         ("[schedule]\nbins = 2\nstockpile = { rehandling_cost = 1 }", "[schedule] bins: are of benches"),
-        ("[fixed]\nforced = 'cu'", "[fixed]: blocks that must be dug"),
         ("[schedule]\nore_per_year = 1", "the pit would take more than 200 years"),
     ],
 )
@@ -150,7 +149,8 @@ def test_the_command_line_tells_value_bound_and_gap(plan_folder, capsys):
     assert "no schedule by block of up to 4 years that keeps these limits earns more than 3,971; this one earns 3,971, 0.00 %" in said.err
     assert "round 1: bound 3,971, relaxation 3,971 over" in said.err
     page = (path.parent / "plan" / "block_schedule" / "report.html").read_text()
-    assert "<h2>Schedule by block</h2>" in page and "the schedule and its bound, the other numbers" in page
+    assert "in the ore of the pit of factor 1000</span>" in page and 'title="ways.csv row 2 column value"' in page
+    assert "<h3>Schedule by block</h3>" in page and "the schedule and its bound, the other numbers" in page
 
 
 def test_without_the_library_it_is_told_what_is_missing(plan_folder):

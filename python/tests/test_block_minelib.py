@@ -7,7 +7,6 @@ import pandas as pd
 import pytest
 
 from minelib import MinelibError, schedule_models
-from pitplan import PlanError
 from pitplan.block_schedule.__main__ import main
 from pitplan.block_schedule.of_minelib import of_minelib
 
@@ -58,7 +57,8 @@ def published(tmp_path):
 def test_a_cpit_is_read_as_it_stands(published):
     model = schedule_models.read(published()[0])
     assert (model.name, model.periods, model.rate, model.unnamed) == ("by hand", 3, Decimal("0.10"), 0)
-    assert model.values == [-1, 10, -1, 5] and model.taken == [{0: 1, 1: 1, 2: 1, 3: 1}, {1: 7, 3: 7}]
+    assert model.values == [(-1,), (10,), (-1,), (5,)]
+    assert model.taken == [{(0, 0): 1, (1, 0): 1, (2, 0): 1, (3, 0): 1}, {(1, 0): 7, (3, 0): 7}]
     assert model.limits == {(0, 0): (None, 2), (0, 1): (0, 2), (0, 2): (None, 2), (1, 0): (None, Decimal("7.5"))}
 
 
@@ -85,7 +85,8 @@ def test_bound_and_schedule_of_two_pillars_by_hand(published, tmp_path, capsys):
         (("NPERIODS: 3\n", ""), "mine.cpit: has no header NPERIODS:"),
         (("NPERIODS: 3\n", "NPERIODS: 3\nNPERIODS: 4\n"), "mine.cpit line 5: NPERIODS: stands twice"),
         (("NPERIODS: 3\n", "NPERIODS: 3\nGENERAL_CONSTRAINTS: 4\n"), "mine.cpit line 5: GENERAL_CONSTRAINTS: is no header of a CPIT"),
-        (("TYPE: CPIT", "TYPE: PCPSP"), "mine.cpit: is a PCPSP, and schedules are read of a CPIT"),
+        (("TYPE: CPIT", "TYPE: UPIT"), "mine.cpit: is a UPIT, and schedules are read of a CPIT or a PCPSP"),
+        (("NPERIODS: 3\n", "NPERIODS: 3\nNDESTINATIONS: 1\n"), "mine.cpit line 5: NDESTINATIONS: is no header of a CPIT"),
         (("3 5\n", "4 5\n"), "mine.cpit line 8: 4, where NBLOCKS: is 4 and numbers count from 0"),
         (("3 5\n", "3 5 6\n"), "mine.cpit line 8: 3 fields, where a block and its value are due"),
         (("3 5\n", "0 5\n"), "mine.cpit line 9: block 0 has a value already"),
@@ -107,12 +108,124 @@ def test_what_is_no_cpit_is_refused(published, capsys, change, said):
     assert main([*map(str, paths), "--quiet"]) == 1 and said in capsys.readouterr().err
 
 
-@pytest.mark.parametrize("change", [("0 1 I 0 2\n", "0 1 I 1 2\n"), ("0 1 I 0 2\n", "0 1 G 1\n")])
-def test_a_least_amount_is_refused(published, change):
-    with pytest.raises(PlanError, match="mine.cpit: resource 0 has a least amount of 1 in period 1, and schedules keep upper limits alone"):
-        of_minelib(*published(change))
+@pytest.mark.parametrize(("change", "most"), [(("0 2 L 2\n", "0 2 I 2 2\n"), 2), (("0 2 L 2\n", "0 2 G 2\n"), np.inf)])
+def test_a_least_amount_is_kept(published, tmp_path, change, most):
+    """Two blocks must be dug in the last period: the poorer pillar waits for it, 9 + 4 / 1.21."""
+    paths = published(change)
+    limit = of_minelib(*paths).limits[0]
+    assert limit.floor.tolist() == [0, 0, 2] and limit.most.tolist() == [2, 2, most]
+    assert main([*map(str, paths), "--out", str(tmp_path / "periods.csv"), "--quiet", "--seconds", "60"]) == 0
+    assert pd.read_csv(tmp_path / "periods.csv")["period"].tolist() == [0, 0, 2, 2]
+
+
+def test_a_least_amount_that_is_not_there_is_told(published, capsys):
+    """Six blocks of four."""
+    paths = published(("0 2 L 2\n", "0 2 G 6\n"))
+    assert main([*map(str, paths), "--quiet"]) == 1
+    assert "no schedule keeps what must be held at least: resource 0 in year 3" in capsys.readouterr().err
 
 
 def test_a_negative_amount_is_refused(published, capsys):
     assert main([*map(str, published(("3 1 7\n", "3 1 -7\n"))), "--quiet"]) == 1
     assert "resource 1: an amount is negative or no number" in capsys.readouterr().err
+
+
+# Waste is destination 0, the mill 1, leach 2. The mill takes 10 a period (resource 1), the shovels two blocks (resource 0).
+PCPSP = """NAME: by hand
+TYPE: PCPSP
+NBLOCKS: 4
+NPERIODS: 2
+NDESTINATIONS: 3
+NRESOURCE_SIDE_CONSTRAINTS: 2
+NGENERAL_SIDE_CONSTRAINTS: 0
+DISCOUNT_RATE: 0.25
+OBJECTIVE_FUNCTION:
+0 -1 -1 -1
+1 -1 20 8
+2 -1 -1 -1
+3 -1 12 9
+RESOURCE_CONSTRAINT_COEFFICIENTS:
+{taken}RESOURCE_CONSTRAINT_LIMITS:
+0 0 L 4
+0 1 L 4
+1 0 L 10
+1 1 L 10
+EOF
+"""
+
+
+def taken(order):
+    """A block each of resource 0 in each destination, and 10 of resource 1 of both ores in the mill."""
+    lines = [(block, destination, 0, 1) for block in range(4) for destination in range(3)] + [(1, 1, 1, 10), (3, 1, 1, 10)]
+    return "".join(f"{b} {d} {r} {v}\n" if order == "destination" else f"{b} {r} {d} {v}\n" for b, d, r, v in lines)
+
+
+@pytest.fixture
+def with_destinations(tmp_path):
+    def write(order="destination", *changes):
+        text = PCPSP.replace("{taken}", taken(order))
+        for old, new in changes:
+            assert text.count(old) == 1, old
+            text = text.replace(old, new)
+        (tmp_path / "mine.pcpsp").write_text(text)
+        (tmp_path / "mine.prec").write_text(PREC)
+        return tmp_path / "mine.pcpsp", tmp_path / "mine.prec"
+
+    return write
+
+
+@pytest.mark.parametrize("order", ["destination", "resource"])
+def test_a_pcpsp_is_read_in_either_order(with_destinations, order):
+    """There are three destinations and two resources, so a 2 is a destination."""
+    model = schedule_models.read(with_destinations(order)[0])
+    assert model.values == [(-1, -1, -1), (-1, 20, 8), (-1, -1, -1), (-1, 12, 9)] and model.rate == Decimal("0.25")
+    assert model.taken == [{(block, destination): 1 for block in range(4) for destination in range(3)}, {(1, 1): 10, (3, 1): 10}]
+
+
+def test_bound_and_schedule_of_destinations_by_hand(with_destinations, tmp_path, capsys):
+    """All four blocks may be dug in the first period, and the mill takes one ore of 10: 20 there, and 9 in leach for the other, less 2 for
+    the waste: 27. Milled in the second period the other were (12 - 1) / 1.25, 8.8, where leach earns 9 - 1 at once: so 19 + 8.8."""
+    paths = [str(path) for path in with_destinations()]
+    assert main([*paths, "--out", str(tmp_path / "periods.csv"), "--quiet", "--seconds", "60"]) == 0
+    said = dict(line.split(": ") for line in capsys.readouterr().out.splitlines())
+    assert float(said["VALUE"]) == pytest.approx(19 + 8.8) == pytest.approx(float(said["BOUND"]))
+    table = pd.read_csv(tmp_path / "periods.csv")
+    assert table["period"].tolist() == [0, 0, 1, 1] and table.loc[[1, 3], "share_1"].tolist() == [1, 1]
+
+
+@pytest.mark.parametrize(
+    ("change", "said"),
+    [
+        (("NGENERAL_SIDE_CONSTRAINTS: 0", "NGENERAL_SIDE_CONSTRAINTS: 2"), "mine.pcpsp line 7: general side constraints are not scheduled"),
+        (
+            ("RESOURCE_CONSTRAINT_LIMITS:", "GENERAL_CONSTRAINT_COEFFICIENTS:\n0 0 0 1\nRESOURCE_CONSTRAINT_LIMITS:"),
+            "line 30: general side constraints are not scheduled",
+        ),
+        (("NDESTINATIONS: 3\n", ""), "mine.pcpsp: has no header NDESTINATIONS:"),
+        (("NDESTINATIONS: 3", "NDESTINATIONS: 0"), "mine.pcpsp line 5: there is no destination"),
+        (("1 -1 20 8\n", "1 -1 20\n"), "mine.pcpsp line 11: 3 fields, where a block and 3 values are due"),
+        (("3 1 1 10\n", "3 1 10\n"), "mine.pcpsp line 28: 3 fields, where a block, a destination, a resource and an amount are due"),
+        (("3 1 1 10\n", "1 1 1 10\n"), "mine.pcpsp line 28: block 1 has an amount of resource 1 in destination 1 already"),
+        (("3 1 1 10\n", "3 5 1 10\n"), "mine.pcpsp line 28: 5, where NDESTINATIONS: is 3 and numbers count from 0"),
+    ],
+)
+def test_what_is_no_pcpsp_is_refused(with_destinations, change, said):
+    with pytest.raises(MinelibError) as error:
+        of_minelib(*with_destinations("destination", change))
+    assert said in str(error.value)
+
+
+def test_an_order_that_nothing_tells_must_be_said(with_destinations, capsys):
+    """Two destinations and two resources: "1 0 .." may be waste's second resource or the mill's first."""
+    lines = "".join(f"{b} {d} 0 1\n" for b in range(4) for d in range(2)) + "1 1 1 10\n3 1 1 10\n"
+    text = PCPSP.replace("{taken}", lines).replace("NDESTINATIONS: 3", "NDESTINATIONS: 2")
+    for line in ("0 -1 -1 -1", "1 -1 20 8", "2 -1 -1 -1", "3 -1 12 9"):
+        text = text.replace(line, line.rsplit(" ", 1)[0])
+    model, prec = with_destinations()
+    model.write_text(text)
+    assert main([str(model), str(prec), "--quiet"]) == 1
+    why = "what stands behind the block may be a destination or a resource: say which by --behind-block"
+    assert f"mine.pcpsp line 14: RESOURCE_CONSTRAINT_COEFFICIENTS: {why}" in capsys.readouterr().err
+    assert of_minelib(model, prec, "destination").limits[0].amounts.tolist() == [[1, 1]] * 4
+    assert main([str(model), str(prec), "--quiet", "--behind-block", "destination"]) == 0
+    assert "VALUE: 27.8" in capsys.readouterr().out

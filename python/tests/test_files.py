@@ -56,7 +56,7 @@ def test_a_mine_without_ore_has_a_report_and_a_page_too(plan_folder):
     commands.view(project.folder, silent)
     assert (
         "–" in (project.folder / "report.html").read_text()
-        and 'grade_most": 1.0' in (project.folder / "view.html").read_text()
+        and '"most": 1.0' in (project.folder / "view.html").read_text()
     )
 
 
@@ -231,8 +231,11 @@ def test_dxf_has_the_area_of_the_pit_on_each_level(solved):
     for line in drawing.modelspace().query("POLYLINE"):
         points = np.array([vertex.dxf.location for vertex in line.vertices])
         x, y = points[:, 0], points[:, 1]
-        areas[points[0, 2]] = areas.get(points[0, 2], 0) + (x * np.roll(y, -1) - np.roll(x, -1) * y).sum() / 2
-    assert areas == {z - 5: 100.0 * len(level) for z, level in dug.groupby("z")}
+        at = (line.dxf.layer, points[0, 2])
+        areas[at] = areas.get(at, 0) + (x * np.roll(y, -1) - np.roll(x, -1) * y).sum() / 2
+    expected = {z: 100.0 * len(level) for z, level in dug.groupby("z")}
+    toes = {(f"TOE_{z - 5:g}", z - 5): area for z, area in expected.items()}
+    assert areas == toes | {(f"CREST_{z - 5:g}", z + 5): area for z, area in expected.items()}
 
 
 @pytest.mark.parametrize("seed", range(20))

@@ -1,7 +1,5 @@
 """Grids from coordinates: ids from the top down, air where no row is, and what is refused."""
 
-import re
-
 import numpy as np
 import pandas as pd
 import pytest
@@ -79,13 +77,6 @@ def test_sub_blocks_are_refused_with_and_without_a_size(plan_folder):
         pitplan.prepare(plan_folder(table))
 
 
-def test_a_turned_model_is_refused(plan_folder):
-    table = rows(6, 5, 2)
-    x, y = table["x"] * 0.8 - table["y"] * 0.6, table["x"] * 0.6 + table["y"] * 0.8
-    with pytest.raises(PlanError, match="sub-blocks need .table. reblock"):
-        pitplan.prepare(plan_folder(table.assign(x=x, y=y), PROJECT, NO_SIZE))
-
-
 def test_one_level_needs_the_size(plan_folder):
     with pytest.raises(PlanError, match=r"column z: all blocks lie at 5: give the blocks' size as \[grid\] size"):
         pitplan.prepare(plan_folder(rows(3, 2, 1), PROJECT, NO_SIZE))
@@ -106,18 +97,6 @@ def test_too_many_cells_are_refused(plan_folder):
 )
 def test_a_coordinate_is_told_to_a_tenth_of_a_millimetre(value, said):
     assert metres(value) == said
-
-
-@pytest.mark.parametrize("degrees", [30, -17.5, 44, 3])
-@pytest.mark.parametrize("size", ["size = [10, 10, 10]", ""])
-def test_a_model_that_is_turned_is_refused_and_by_how_much(plan_folder, degrees, size):
-    """Clockwise about a far place, in whole centimetres."""
-    table, turn = rows(40, 35, 2), np.radians(degrees)
-    x, y = table["x"] * np.cos(turn) + table["y"] * np.sin(turn), table["y"] * np.cos(turn) - table["x"] * np.sin(turn)
-    table = table.assign(x=(x + 600_000).round(2), y=(y + 6_500_000).round(2))
-    with pytest.raises(PlanError, match="degrees clockwise: give x and y along its own axes") as said:
-        pitplan.prepare(plan_folder(table, PROJECT, ("size = [10, 10, 10]", size)))
-    assert float(re.search(r"turned by (\S+) degrees", str(said.value))[1]) == pytest.approx(degrees, abs=0.005)
 
 
 def test_nothing_is_said_of_turning_where_rows_go_east(plan_folder):

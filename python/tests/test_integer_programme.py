@@ -1,6 +1,7 @@
 """The best schedule that can be dug, against the tests' own statement of it."""
 
 import json
+import time
 from types import SimpleNamespace
 
 import numpy as np
@@ -26,7 +27,7 @@ from pitplan.verification import verify
 def in_this_process():
     """Programmes are solved here, since a process takes longer to begin than a small one to be solved."""
     with pytest.MonkeyPatch.context() as patch:
-        patch.setattr(ip, "solve", optimiser.here)
+        patch.setattr(ip, "solve", lambda programme, effort, patience: optimiser.here(programme, effort))
         patch.setattr(ip, "diggable", lambda optimum, problem: np.zeros((len(problem.benches), 0)))
         yield
 
@@ -82,6 +83,18 @@ def test_the_solver_is_told_the_gap_and_the_seconds(monkeypatch, seconds, more):
 
 
 @pytest.mark.usefixtures("blank_pictures")
+def test_a_programme_that_goes_on_when_its_time_is_up_is_ended(monkeypatch, tmp_path):
+    """It would sleep for a minute: it has a quarter of a second, twice that, and half a second more."""
+    (tmp_path / "highs.py").write_text("import time\ntime.sleep(60)\n")
+    monkeypatch.setattr(optimiser.highs, "__file__", str(tmp_path / "highs.py"))
+    monkeypatch.setattr(ip, "LATE", 0.5)
+    monkeypatch.setattr(ip, "solve", optimiser.solve)
+    began = time.monotonic()
+    problem = problem_of(benches_of(*THREE), Limits({"ore_tonnes": 100, "rock_tonnes": 200}))
+    assert ip.best_diggable(problem, 3, Effort(0.0, 0.25)) == (None, np.inf)
+    assert 1.0 <= time.monotonic() - began < 20
+
+
 def test_it_is_written_as_a_way_of_its_own(plan_folder):
     project = load(plan_folder(pillars(), PHASES + "[schedule]\nmilp = { gap = 0.001, seconds = 60 }\n"))
     table = pitplan.write_schedule(project).set_index("way")
@@ -97,7 +110,7 @@ def test_it_is_written_as_a_way_of_its_own(plan_folder):
 
 @pytest.mark.usefixtures("blank_pictures")
 def test_where_none_is_found_in_time_the_others_stand(plan_folder, monkeypatch):
-    monkeypatch.setattr(ip, "solve", lambda programme, effort: highs.Optimum(None, np.inf))
+    monkeypatch.setattr(ip, "solve", lambda programme, effort, patience: highs.Optimum(None, np.inf))
     project = load(plan_folder(pillars(), PHASES + "[schedule]\nmilp = { seconds = 1 }\n"))
     assert pitplan.write_schedule(project)["way"].tolist() == ["rule", "lp"]
     assert "WARNING: the integer programme found no schedule in its time" in files.read_record(project.folder / "schedule")["notes"]

@@ -106,16 +106,16 @@ def test_a_picture_of_two_maps_has_no_empty_frames():
     assert len(axes) == 3 and [ax.axison for ax in figure.axes] == [True, True, True, False]
 
 
-def phase_scene():
+def phase_scene(rules=PictureRules()):
     """The scene's pit in two phases, the second of which is the block below."""
     cube = scene().factor
-    return phase_pictures.PhaseScene(grid(), np.where(cube == 500, 1, np.where(cube == 1000, 2, 0)), np.ones(cube.shape, dtype=bool), 2)
+    return phase_pictures.PhaseScene(grid(), np.where(cube == 500, 1, np.where(cube == 1000, 2, 0)), np.ones(cube.shape, dtype=bool), 2, rules)
 
 
-def likely():
+def likely(rules=PictureRules()):
     """Half of the scenarios dig the scene's upper level, and all the block below."""
     cube = scene().factor
-    return many.Likely(grid(), np.where(cube == 500, 0.5, np.where(cube == 1000, 1.0, 0.0)), np.ones(cube.shape, dtype=bool), 1000, 4)
+    return many.Likely(grid(), np.where(cube == 500, 0.5, np.where(cube == 1000, 1.0, 0.0)), np.ones(cube.shape, dtype=bool), 1000, 4, rules)
 
 
 @pytest.mark.parametrize("plot", [lambda axes: phase_pictures.plot_plans(phase_scene(), axes), lambda axes: many.plot_plans(likely(), axes)])
@@ -134,6 +134,21 @@ def test_sections_of_phases_and_of_scenarios_go_along_these_lines():
     for found in (phase_pictures.plot_sections(phase_scene(), Figure().subplots(2)), many.plot_sections(likely(), Figure().subplots(2))):
         titles = [ax.get_title(loc="left") or ax.get_title() for ax in found]
         assert titles[0].endswith("est to east (A) at north 6512070") and titles[1].endswith("outh to north (B) at east 430112.5")
+
+
+@pytest.mark.parametrize(("module", "scene_of"), [(phase_pictures, phase_scene), (many, likely)])
+def test_plans_and_sections_of_phases_and_of_scenarios_are_those_asked_for(module, scene_of, tmp_path):
+    """Of four levels the second and the last; row 0 has its middle at 6,512,010 m and column 5 at 430,137.5."""
+    asked = scene_of(PictureRules(levels=(90.0, 60.0), north=6_512_015.0, east=430_149.0))
+    found = module.plot_plans(asked, Figure().subplots(3))
+    titles = [ax.get_title(loc="left") or ax.get_title() for ax in found]
+    assert titles[1].lower().endswith("level 80 to 90 m") and titles[2].lower().endswith("level 60 to 70 m")
+    across, along = (line.get_xydata().tolist() for line in found[0].lines[:2])
+    assert [y for _, y in across] == [6_512_010] * 2 and [x for x, _ in along] == [430_137.5] * 2
+    titles = [ax.get_title(loc="left") or ax.get_title() for ax in module.plot_sections(asked, Figure().subplots(2))]
+    assert titles[0].endswith("at north 6512010") and titles[1].endswith("at east 430137.5")
+    module.write_plans(asked, tmp_path / "plans.png")
+    assert (tmp_path / "plans.png").stat().st_size > 5_000
 
 
 def test_phases_at_the_surface_have_contours_of_the_last_floor():
@@ -173,6 +188,14 @@ def test_pictures_are_written_as_pdf_and_svg_too_the_same_each_time(project):
         written.append({name: record[name] for name in names})
     assert written[0] == written[1]
     assert (folder / "plans.pdf").read_bytes().startswith(b"%PDF-") and b"<svg" in (folder / "plans.svg").read_bytes()[:500]
+
+
+def test_phases_are_drawn_where_the_project_asks_for(project, monkeypatch):
+    shown = []
+    for name in ("write_plans", "write_sections"):
+        monkeypatch.setattr(phase_pictures, name, lambda scene, path: (shown.append(scene), path.touch()))
+    commands.pushbacks(project("levels = [5]\nnorth = 49\n[pushbacks]\ncount = 1"), verifies=False)
+    assert [phase_pictures.levels_to_show(scene) for scene in shown] == [[2]] * 2 and shown[0].section_row == 4
 
 
 def test_without_a_word_pictures_are_png_alone(solved):

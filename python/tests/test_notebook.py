@@ -65,7 +65,7 @@ def test_a_page_exports_and_a_folder_for_auditors_are_told_by_their_paths(solved
 @pytest.mark.parametrize(
     ("call", "said"),
     [
-        (lambda folder: pitplan.export(folder, "dwg"), "dwg is none of table, csv, xlsx, vti, vtu, dxf, stl, obj"),
+        (lambda folder: pitplan.export(folder, "dwg"), "dwg is none of table, csv, xlsx, vti, vtu, dxf, stl, obj, gpkg, str, lines"),
         (lambda folder: pitplan.export(folder, "dxf", 900), "factor 900 is not among the factors 500, 1000, 1500"),
         (lambda folder: pitplan.audit(folder, 900), "factor 900 is not among the factors 500, 1000, 1500"),
         (lambda folder: pitplan.view(folder / "nowhere"), "nowhere/prepare.json: cannot be read: run pitplan shells first"),

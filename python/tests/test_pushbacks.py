@@ -212,7 +212,7 @@ def test_what_is_right_passes(copied, capsys):
     told = capsys.readouterr().out.splitlines()
     assert [line.split(":")[0] for line in told][-5:] == ["phase of blocks", "phase walls", "phase fixed", "phases", "phase widths"]
     page = (copied / "report.html").read_text()
-    assert "<h2>Phases</h2>" in page and "how phases were made of shells, the other numbers" in page and page.count("data:image/png") == 6
+    assert "<h3>Phases</h3>" in page and "how phases were made of shells, the other numbers" in page and page.count("data:image/png") == 6
 
 
 NUMBERS = "blocks tonnes ore_tonnes waste_tonnes strip_ratio grade_copper metal_copper worth"

@@ -141,7 +141,7 @@ def test_rows_that_are_put_together_otherwise_are_found(solved_hill, monkeypatch
 def test_blocks_that_lie_elsewhere_are_found(solved_hill, monkeypatch, metres):
     """So far that rows lie in other blocks the table is told to be another."""
     lattice = reblock.lattice_of
-    monkeypatch.setattr(reblock, "lattice_of", lambda edge, size, places: lattice([edge[0] + metres, *edge[1:]], size, places))
+    monkeypatch.setattr(reblock, "lattice_of", lambda edge, *others: lattice([edge[0] + metres, *edge[1:]], *others))
     folder = solved_hill()
     if metres < 10:
         assert wrong(folder) == {"reblocked": "x: blocks of 20 m from 4 on for 20 from 0"}

@@ -303,6 +303,24 @@ def test_some_answers_are_gathered_on_request_alone(plan_folder):
         simulation.gather(shared.folder, Request(factor=700), silent)
 
 
+def test_pictures_of_scenarios_are_those_that_the_project_asks_for(plan_folder, monkeypatch):
+    """Three blocks over each other: of the three levels the lowest is asked for."""
+    shown = []
+    monkeypatch.setattr(simulation.pictures, "write_plans", lambda likely, path: shown.append(likely))
+    shared = prepared(plan_folder(pillar(), COLUMNS + '[pictures]\nlevels = [5]\nformats = ["svg"]\n', UPRIGHT))
+    solved_in_turn(shared)
+    simulation.gather(shared.folder, Request(), silent)
+    assert simulation.pictures.levels_to_show(shown[0]) == [2]
+    assert b"<svg" in (shared.folder / "spread.svg").read_bytes()[:500] and (shared.folder / "spread.png").is_file()
+
+
+def test_a_picture_beyond_the_model_is_refused_before_a_model_is_read(plan_folder):
+    path = plan_folder(pillar(), COLUMNS + "[pictures]\nnorth = 11\n", UPRIGHT)
+    with pytest.raises(PlanError, match=r"\[pictures\] north: 11 is beyond the model, from 0 to 10 m"):
+        prepared(path)
+    assert not (load(path).folder / "models").exists()
+
+
 def test_the_image_has_the_probabilities_of_all_cells(plan_folder):
     vtk = pytest.importorskip("vtk", reason="needs the Debian package python3-vtk9")
     shared = prepared(plan_folder(pillar(), COLUMNS, UPRIGHT))

@@ -1,28 +1,22 @@
-"""The 3D page in a real headless Chromium: what it draws, counted and looked at."""
+"""The 3D page in a real headless Chromium: what it draws, counted and looked at, and what it tells of a block that is clicked on."""
 
 import base64
+import gzip
+import io
 import re
 import shutil
-import subprocess
 from dataclasses import replace
+from pathlib import Path
 
 import numpy as np
 import pandas as pd
 import pytest
+from browser import Browser, needs_chromium
 
 from pitplan import PlanError, commands, files, page as pages
 from pitplan.progress import silent
 
-CHROMIUM = shutil.which("chromium")
-FLAGS = [
-    "--headless",
-    "--no-sandbox",
-    "--use-gl=angle",
-    "--use-angle=swiftshader",
-    "--enable-unsafe-swiftshader",
-    "--window-size=900,600",
-]
-needs_chromium = pytest.mark.skipif(CHROMIUM is None, reason="Chromium is not installed")
+KEPT = Path(__file__).parent / "expected" / "view.png"
 
 
 @pytest.fixture(scope="module")
@@ -32,11 +26,11 @@ def page(solved_once, tmp_path_factory):
     return commands.view(folder, silent), pd.read_csv(folder / "blocks.csv")
 
 
-def opened(page, state, *flags):
-    ran = subprocess.run(
-        [CHROMIUM, *FLAGS, *flags, f"file://{page}#{state}"], capture_output=True, text=True, timeout=60, check=True
-    )
-    return ran.stdout
+@pytest.fixture(scope="module")
+def browser(tmp_path_factory):
+    found = Browser(tmp_path_factory.mktemp("chromium"))
+    yield found
+    found.end()
 
 
 def exposed(seen):
@@ -45,70 +39,187 @@ def exposed(seen):
     return sum(int((padded & ~np.roll(padded, step, axis)).sum()) for axis in range(3) for step in (1, -1))
 
 
-def demand_drawn(document, blocks, shown, at):
-    """The document's count of faces is that of the shown blocks, and its words are those of the factor and the bench."""
-    factor, cut = at
+def cube_of(blocks, shown):
+    """A truth for each level from the top, row and column of the hill."""
     cube = np.zeros((5, 9, 10), dtype=bool)
     seen = blocks[shown]
     cube[(45 - seen["z"]).astype(int) // 10, seen["y"].astype(int) // 10, seen["x"].astype(int) // 10] = True
-    assert re.search(r'data-faces="(\d+)"', document)[1] == str(exposed(cube[cut:]))
-    assert f'<output id="factorText">{factor}</output>' in document
-    assert f'<output id="cutText">{50 - 10 * cut} m</output>' in document
+    return cube
+
+
+def demand_drawn(browser, seen, **texts):
+    """As many faces are drawn as the seen cells have to others, and its words are these."""
+    assert browser.ask("document.body.dataset.faces") == str(exposed(seen))
+    assert {name: browser.text(name) for name in texts} == texts
 
 
 @needs_chromium
-def test_the_page_draws_the_blocks_of_a_pit_below_a_bench(page):
+def test_the_page_draws_the_blocks_of_a_pit_below_a_bench(page, browser):
     path, blocks = page
     assert set(blocks["factor"]) == {0, 500, 1000, 1500}
-    document = opened(path, "show=pit&factor=1500&cut=1", "--dump-dom")
-    demand_drawn(document, blocks, blocks["factor"] > 0, (1500, 1))
+    browser.open(path, "show=pit&factor=1500&cut=1")
+    demand_drawn(browser, cube_of(blocks, blocks["factor"] > 0)[1:], dugText="1500", cutText="40 m")
 
 
 @needs_chromium
-def test_the_page_draws_the_ground_with_a_pit(page, tmp_path):
-    """By its faces, and by its picture: ground, shells and background are there, each on a fair share of the page."""
-    image = pytest.importorskip("matplotlib.image")
+def test_the_page_draws_the_ground_with_a_pit_and_sections_at_any_place(page, browser):
+    """Rows are cut away from the south, columns from the west, each of 10 m."""
     path, blocks = page
-    document = opened(path, "show=ground&factor=500", "--dump-dom", f"--screenshot={tmp_path / 'page.png'}")
-    demand_drawn(document, blocks, (blocks["factor"] == 0) | (blocks["factor"] > 500), (500, 0))
-    pixels = (image.imread(tmp_path / "page.png")[:, 300:, :3] * 255).round().astype(int)
-    background = (abs(pixels - [247, 246, 243]) <= 2).all(axis=2).mean()
-    red, green, blue = pixels[..., 0], pixels[..., 1], pixels[..., 2]
-    # The ground is a grey brown, the colours of the shells are far from grey.
-    ground = ((red >= green) & (green > blue) & (red - blue < 60) & (red < 240)).mean()
-    shells = (pixels.max(axis=2) - pixels.min(axis=2) > 70).mean()
-    assert 0.1 < background < 0.9 and ground > 0.1 and shells > 0.005
+    browser.open(path, "show=ground&factor=500")
+    ground = cube_of(blocks, (blocks["factor"] == 0) | (blocks["factor"] > 500))
+    demand_drawn(browser, ground, dugText="500", cutText="50 m", southText="0 m", westText="0 m")
+    browser.choose("south", "4")
+    browser.choose("west", "3")
+    demand_drawn(browser, ground[:, 4:, 3:], southText="40 m", westText="30 m")
+    browser.choose("dug", "0")
+    demand_drawn(browser, cube_of(blocks, blocks["factor"] >= 0)[:, 4:, 3:], dugText="none", dugName="Pit at factor")
 
 
 @needs_chromium
-def test_the_page_of_a_schedule_has_a_colour_a_year(solved, tmp_path):
-    folder = files.read_folder(solved[1])
-    years = np.where(folder.blocks["factor"] > 0, 1 + folder.blocks["factor"] // 500, 0)
-    scheduled = replace(folder, blocks=folder.blocks.assign(year=years), record=folder.record | {"schedule": "lp"})
-    pages.write(tmp_path / "years.html", scheduled)
-    document = opened(tmp_path / "years.html", "show=pit&factor=1500&colour=year", "--dump-dom", f"--screenshot={tmp_path / 'years.png'}")
-    demand_drawn(document, folder.blocks, folder.blocks["factor"] > 0, (1500, 0))
-    assert '<span id="low">1</span><span id="name">year</span><span id="high">4</span>' in document
+def test_the_topography_lies_over_what_is_dug(page, browser):
+    """A face for each column of which the highest block is dug."""
+    path, blocks = page
+    browser.open(path, "factor=1500&topography=1")
+    highest = blocks.sort_values("z").groupby(["x", "y"]).tail(1)
+    assert browser.ask("document.body.dataset.topography") == str(int((highest["factor"] > 0).sum())) != "0"
+    browser.choose("topography", False)
+    assert browser.ask("document.body.dataset.topography") == "0"
+
+
+def scheduled(folder, place):
+    """The hill with phases and years by hand: phase 1 is the first shell, and years are one more than the number of the shell."""
+    result = files.read_folder(folder)
+    dug = result.blocks["factor"] > 0
+    more = {"phase": np.where(dug, 1 + (result.blocks["factor"] > 500), 0), "year": np.where(dug, 1 + result.blocks["factor"] // 500, 0)}
+    blocks = result.blocks.assign(**more)
+    place.mkdir()
+    blocks.to_csv(place / "blocks.csv", index=False)
+    made = replace(result, path=place, blocks=blocks, record=result.record | {"schedule": "lp"})
+    pages.write(place / "view.html", made)
+    return place / "view.html", blocks, made
+
+
+@needs_chromium
+def test_a_schedule_has_a_slider_through_its_years_and_colours(solved, tmp_path, browser):
+    path, blocks, made = scheduled(solved[1], tmp_path / "years")
+    browser.open(path, "year=2&colour=year")
+    later = cube_of(blocks, (blocks["year"] == 0) | (blocks["year"] > 2))
+    demand_drawn(browser, later, dugName="Dug by the end of year", dugText="2", low="1", name="year", high="4")
+    browser.choose("dug", "3")
+    demand_drawn(browser, cube_of(blocks, (blocks["year"] == 0) | (blocks["year"] > 3)), dugText="3")
+    browser.choose("by", "phase")
+    browser.choose("dug", "1")
+    demand_drawn(browser, cube_of(blocks, blocks["phase"] != 1), dugName="Dug to the end of phase", dugText="1")
+    browser.choose("show", "pit")
+    browser.choose("dug", "2")
+    browser.picture(tmp_path / "years.png")
     pixels = pytest.importorskip("matplotlib.image").imread(tmp_path / "years.png")[:, 300:, :3]
-    last = np.array(pages.model_of(scheduled)["year_colours"][-1]) / 255
+    last = np.array(pages.model_of(made)["stages"][1]["colours"][-1]) / 255
     # The top of a block has its colour in full, or 0.93 of it.
     assert any((abs(pixels - last * light) < 0.02).all(axis=2).any() for light in (1, 0.93))
+
+
+@needs_chromium
+def test_a_click_on_a_block_shows_its_row(page, browser):
+    """The first block of rock below the pixel is told by the test's own ray through the camera; its row is that of blocks.csv, with its worth."""
+    path, blocks = page
+    browser.open(path, "factor=1500&cut=2")
+    assert browser.ask("document.getElementById('picked').hidden")
+    ground = cube_of(blocks, blocks["factor"] == 0)
+    ground[:2] = False
+    for x, y in ((600, 330), (520, 380), (700, 300)):
+        browser.click(x, y)
+        cell = first_hit(browser, ground, (x, y))
+        row = blocks[blocks["id"] == cell].iloc[0]
+        shown = browser.ask("Array.from(document.querySelectorAll('#picked tr'), it => Array.from(it.cells, cell => cell.textContent))")
+        text = pd.read_csv(path.parent / "blocks.csv", dtype=str, keep_default_na=False).set_index("id").loc[str(cell)]
+        assert dict(shown) == {"id": str(cell), **text, "worth": str(max(row["revenue"] - row["processing_cost"], 0) - row["mining_cost"])}
+    browser.click(890, 590)
+    assert browser.ask("document.getElementById('picked').hidden"), "beside the model there is nothing"
+
+
+def first_hit(browser, seen, at):
+    """The number of the first seen cell on the way from the camera through a pixel, in small steps."""
+    ray = "new THREE.Vector3({}, {}, {}).unproject(camera).toArray()"
+    ends = [np.array(browser.ask(ray.format(2 * at[0] / 900 - 1, 1 - 2 * at[1] / 600, depth))) for depth in (-1, 1)]
+    way = (ends[1] - ends[0]) / np.linalg.norm(ends[1] - ends[0])
+    for step in np.arange(0, 1000, 0.02):
+        x, y, z = np.floor((ends[0] + step * way) / 10).astype(int)
+        level = 4 - z
+        if 0 <= level < 5 and 0 <= y < 9 and 0 <= x < 10 and seen[level, y, x]:
+            return (level * 9 + y) * 10 + x
+    raise AssertionError("no cell is hit")
+
+
+@needs_chromium
+def test_of_a_large_table_the_rows_of_pits_alone_are_there(solved, tmp_path, browser, monkeypatch):
+    result = files.read_folder(solved[1])
+    monkeypatch.setattr(pages, "MOST_ROWS", len(result.blocks) - 1)
+    pages.write(tmp_path / "view.html", result)
+    browser.open(tmp_path / "view.html", "show=pit")
+    dug = result.blocks[result.blocks["factor"] > 0]
+    assert browser.ask("lines.length") == len(dug) < len(result.blocks)
+    browser.ask(f"showRow({dug['id'].iloc[0]})")
+    assert browser.ask("document.querySelector('#picked h1').textContent") == "The block's row"
+    browser.ask(f"showRow({result.blocks['id'][result.blocks['factor'] == 0].iloc[0]})")
+    assert "is in no pit, and its row is not in this page" in browser.text("picked")
+
+
+@needs_chromium
+def test_the_axes_have_coordinates(page, browser):
+    """Of 100, 90 and 50 m, at least four steps each."""
+    browser.open(page[0])
+    said = browser.ask("Array.from(document.querySelectorAll('#labels span'), it => it.textContent)")
+    east, north, up = [0, 20, 40, 60, 80, 100], [0, 20, 40, 60, 80], [0, 10, 20, 30, 40, 50]
+    assert said == [*map(str, east), "east, m", *map(str, north), "north, m", *map(str, up), "elevation, m"]
+    assert browser.ask("ticksOf(6512640.5, 300)") == [6512650, 6512700, 6512750, 6512800, 6512850, 6512900]
+    places = browser.ask("Array.from(document.querySelectorAll('#labels span'), it => [it.offsetLeft, it.offsetTop])")
+    assert all(0 < x < 900 and 0 < y < 600 for x, y in places)
+
+
+@needs_chromium
+def test_the_picture_is_the_one_that_was_kept(page, tmp_path_factory):
+    """Of 300 x 200 pixels, without words: a section through the pit, which has a colour of its own, and the ground over it."""
+    image = pytest.importorskip("matplotlib.image")
+    small = Browser(tmp_path_factory.mktemp("small"), 300, 200)
+    try:
+        small.open(page[0], "factor=1500&south=4&colour=pit&topography=1")
+        found = base64.b64decode(small.ask("renderer.domElement.toDataURL()").partition(",")[2])
+    finally:
+        small.end()
+    kept, now = (image.imread(source)[:, :, :3] for source in (KEPT, io.BytesIO(found)))
+    assert kept.shape == now.shape == (200, 300, 3)
+    assert (abs(kept - now).max(axis=2) > 0.1).mean() < 0.02
+
+
+def bytes_of(text):
+    return np.frombuffer(gzip.decompress(base64.b64decode(text)), dtype=np.uint8)
 
 
 def test_the_model_of_the_page_by_hand(solved):
     """Grades of 6, 0.9 and 0.8 per cent: a hundredth of these lie above 5.898, and 0.8 is 34.6 of 255 parts of it."""
     model = pages.model_of(files.read_folder(solved[1]))
     blocks = pd.read_csv(solved[1] / "blocks.csv")
-    shell, tint = (np.frombuffer(base64.b64decode(model[name]), dtype=np.uint8) for name in ("shell", "grade"))
+    (metal,) = model["metals"]
+    shell, tint = bytes_of(model["shell"]), bytes_of(metal["grade"])
     assert (model["shape"], model["size"], model["corner"], model["top"]) == ([5, 9, 10], [10, 10, 10], [0, 0, 0], 50)
-    assert (model["factors"], model["grade_name"], model["grade_most"]) == ([500, 1000, 1500], "copper, %", pytest.approx(5.898))
+    assert (model["factors"], metal["name"], metal["sign"], metal["most"]) == ([500, 1000, 1500], "copper", "%", pytest.approx(5.898))
     assert shell[blocks["id"]].tolist() == blocks["factor"].map({0: 0, 500: 1, 1000: 2, 1500: 3}).tolist()
     assert tint[blocks["id"]].tolist() == blocks["cu"].map({0: 0, 0.8: 35, 0.9: 39, 6: 255}).tolist()
     air = np.setdiff1d(np.arange(450), blocks["id"])
     assert len(air) == 45 and set(shell[air]) == {255} and set(tint[air]) == {0}
-    assert len(model["shell_colours"]) == 3 and len(model["grade_colours"]) == 256
+    assert len(model["shell_colours"]) == 3 and len(model["grade_colours"]) == 256 and model["stages"] == []
     # The first and the last of matplotlib's YlOrRd.
     assert (model["grade_colours"][0], model["grade_colours"][-1]) == ([255, 255, 204], [128, 0, 38])
+
+
+def test_the_worth_of_a_block_is_that_of_its_best_process():
+    """Of 100 to a mill and 70 to a leach; of what pays nowhere the mining alone is lost."""
+    blocks = pd.DataFrame({"mining_cost": [10.0, 10.0, 10.0], "revenue_mill": [150.0, 90.0, 5.0], "processing_cost_mill": [50.0, 60.0, 50.0]})
+    blocks = blocks.assign(revenue_leach=[100.0, 90.0, 5.0], processing_cost_leach=[30.0, 20.0, 20.0])
+    assert pages.worths(blocks).tolist() == [90, 60, -10]
+    one = pd.DataFrame({"mining_cost": [10.0], "revenue": [25.0], "processing_cost": [12.0], "process": ["mill"]})
+    assert pages.worths(one).tolist() == [3]
 
 
 @pytest.mark.parametrize(("low", "high", "most"), [(2.0, 4.0, 4.0), (0.0, 0.0, 1.0)])
@@ -116,9 +227,9 @@ def test_the_grades_of_a_page_are_by_the_greatest_where_all_hold_metal_or_none_d
     """Of 405 blocks 5 have the lower grade, and a hundredth of the others lies above the higher one, which they all have."""
     folder = files.read_folder(solved[1])
     grades = np.where(np.arange(len(folder.blocks)) < 5, low, high)
-    model = pages.model_of(replace(folder, blocks=folder.blocks.assign(cu=grades)))
-    tint = np.frombuffer(base64.b64decode(model["grade"]), dtype=np.uint8)[folder.blocks["id"]]
-    assert model["grade_most"] == most and tint.tolist() == np.rint(255 * grades / most).astype(int).tolist()
+    (metal,) = pages.model_of(replace(folder, blocks=folder.blocks.assign(cu=grades)))["metals"]
+    tint = bytes_of(metal["grade"])[folder.blocks["id"]]
+    assert metal["most"] == most and tint.tolist() == np.rint(255 * grades / most).astype(int).tolist()
 
 
 def test_as_many_factors_as_a_byte_tells_apart_are_shown(solved, monkeypatch):

@@ -142,14 +142,14 @@ def test_what_is_right_passes(copied, capsys):
     told = capsys.readouterr().out.splitlines()
     assert [line.split(":")[0] for line in told][-5:] == RULES
     record = files.read_record(copied)
-    named = ["schedule.csv", "schedule.json", "schedule.xlsx", "schedule_gantt.png", "schedule_tonnes.png", "schedule_value.png"]
+    named = ["schedule.csv", "ways.csv", "schedule.json", "schedule.xlsx", "schedule_gantt.png", "schedule_tonnes.png", "schedule_value.png"]
     assert set(named) <= set(record["files"])
     assert any(line.startswith("schedule order") for line in record["verified"])
 
 
 def test_the_report_and_the_workbook_have_the_schedule(copied):
     page = (copied / "report.html").read_text()
-    assert "<h2>Yearly schedule</h2>" in page and page.count("data:image/png") == 9 and "the schedule and its bound, the other numbers" in page
+    assert "<h3>Yearly schedule</h3>" in page and page.count("data:image/png") == 9 and "the schedule and its bound, the other numbers" in page
     book = pd.read_excel(copied / "schedule.xlsx", sheet_name=None)
     assert list(book) == ["ways", "schedule", "years", "phases", "shells"]
     for name in ("schedule", "phases", "shells"):

@@ -1,4 +1,4 @@
-"""`python3 -m pitplan.block_schedule NAME.cpit NAME.prec`: the bound of a published problem, and a schedule of it."""
+"""`python3 -m pitplan.block_schedule NAME.cpit NAME.prec`: the bound of a published problem, and a schedule of it; `.pcpsp` likewise."""
 
 from __future__ import annotations
 
@@ -10,6 +10,7 @@ from typing import Optional, Sequence
 import numpy as np
 import pandas as pd
 from minelib import MinelibError
+from minelib.schedule_models import SECONDS
 
 from ..errors import PlanError
 from ..files import staged_file
@@ -22,10 +23,11 @@ INTERRUPTED = 130
 
 
 def parser() -> argparse.ArgumentParser:
-    top = argparse.ArgumentParser(prog="python3 -m pitplan.block_schedule", description="Bound and schedule of a MineLib .cpit.")
-    top.add_argument("model", type=Path, help="NAME.cpit")
+    top = argparse.ArgumentParser(prog="python3 -m pitplan.block_schedule", description="Bound and schedule of a MineLib .cpit or .pcpsp.")
+    top.add_argument("model", type=Path, help="NAME.cpit or NAME.pcpsp")
     top.add_argument("prec", type=Path, help="NAME.prec")
-    top.add_argument("--out", type=Path, help="a table of each block's period (.csv), which is -1 where it is not dug")
+    top.add_argument("--out", type=Path, help="a table of each block's period (.csv), -1 where it is not dug, and shares by destination")
+    top.add_argument("--behind-block", choices=SECONDS, help="what stands behind the block where a .pcpsp tells what it takes")
     top.add_argument("--seconds", type=float, help="integer programmes make the schedule better for so long")
     top.add_argument("--gap", type=float, default=0.0, help="or until it is within this share of the bound (default 0)")
     top.add_argument("--quiet", action="store_true", help="tell no progress on standard error")
@@ -38,7 +40,7 @@ def main(arguments: Optional[Sequence[str]] = None) -> int:
     options = parser().parse_args(arguments)
     effort = None if options.seconds is None else Effort(options.gap, options.seconds)
     try:
-        problem = of_minelib(options.model, options.prec)
+        problem = of_minelib(options.model, options.prec, options.behind_block)
         found = solve(problem, effort, silent if options.quiet else on_standard_error())
         print(f"BOUND: {found.bound:.6f}\nVALUE: {found.value:.6f}\nGAP: {100 * found.gap:.4f} %")
         if options.out is not None:
@@ -55,6 +57,8 @@ def main(arguments: Optional[Sequence[str]] = None) -> int:
 def write(path: Path, found: Scheduled, periods: int) -> None:
     year = found.schedule.year
     table = pd.DataFrame({"block": np.arange(len(year)), "period": np.where(year < periods, year, -1)})
+    if found.schedule.share.shape[1] > 1:
+        table = table.assign(**{f"share_{number}": share for number, share in enumerate(found.schedule.share.T)})
     with staged_file(path) as place:
         table.to_csv(place, index=False)
 

@@ -1,8 +1,10 @@
 """What is left of a problem where each limit has a price: a closure of nodes, solved by the library of pits, and a bound.
 
-With a price of 0 or more on each unit of each limit in each year, what the nodes are worth then and the prices times the limits are
-together at least what any schedule earns (Lagrange). So a bound needs no optimum of the prices, and whatever floats they are it holds:
-what a block earns at them is rounded upward, by more than the floats may have lost.
+With a price on each unit of each sum in each year, what the nodes are worth then and the prices times the limits are together at least what
+any schedule earns (Lagrange): a price above 0 is paid for the most, of which a schedule takes no more, and one below 0 is earned for the
+least, of which it takes no less; so each price times what it takes is at most the price times that limit. So a bound needs no optimum of
+the prices, and whatever floats they are it holds: what a block earns at them is rounded upward, by more than the floats may have lost.
+Where blocks earn nothing but prices, a bound below 0 shows that no schedule keeps what is due: it would earn 0.
 
 Each year is solved for itself first. Where the pit of each year lies within that of the next, all of them are the closure; where it does
 not, these years are solved together.
@@ -43,7 +45,8 @@ class Part:
 
 
 def priced(nodes: Nodes, prices: NDArray[np.float64]) -> Priced:
-    """The closure at prices by limit and year, 0 or more, of a limit that is infinite 0: shape (limits, years).
+    """The closure at prices by limit and year, and behind them by due, the same in all years: shape (limits and dues, years). A price is 0
+    or less where the most is infinite, and of dues.
 
     Raises PlanError where years that are solved together have more nodes than the library takes.
     """
@@ -82,20 +85,22 @@ def earned_at(nodes: Nodes, prices: NDArray[np.float64]) -> Whole:
     """What each block earns by destination and year less the prices of what it takes, rounded upward."""
     problem = nodes.problem
     values, size = problem.values.copy(), np.abs(problem.values)
-    for limit, by_year in zip(problem.limits, prices):
-        cost = limit.amounts[:, :, None] * by_year
+    for amounts, by_year in zip((it.amounts for it in (*problem.limits, *problem.dues)), prices):
+        cost = amounts[:, :, None] * by_year
         values -= cost
-        size += cost
+        size += np.abs(cost)
     # One rounding a product and one a sum, of terms that are no greater than all together; and as many again to be safe.
-    return upward(values, size * (ROUNDING * 2 * (2 * len(problem.limits) + 2)))
+    return upward(values, size * (ROUNDING * 2 * (2 * len(prices) + 2)))
 
 
 def sold(nodes: Nodes, prices: NDArray[np.float64]) -> Fraction:
-    """The prices times the limits, exactly."""
-    terms = (
-        Fraction(float(price)) * Fraction(float(most))
-        for limit, by_year in zip(nodes.problem.limits, prices)
-        for price, most in zip(by_year, limit.most)
+    """The prices times the limits, those below 0 times the least, exactly."""
+    problem = nodes.problem
+    of_limits = (
+        Fraction(float(price)) * Fraction(float(most if price > 0 else least))
+        for limit, by_year in zip(problem.limits, prices)
+        for price, most, least in zip(by_year, limit.most, limit.floor)
         if price
     )
-    return sum(terms, Fraction(0))
+    of_dues = (Fraction(float(by_year[0])) * Fraction(due.least) for due, by_year in zip(problem.dues, prices[len(problem.limits) :]))
+    return sum(of_limits, Fraction(0)) + sum(of_dues, Fraction(0))

@@ -19,20 +19,24 @@ def with_best_shares(problem: BlockProblem, schedule: BlockSchedule) -> BlockSch
         if len(blocks):
             share[blocks] = best_shares(problem, blocks, year, share[blocks])
     best = BlockSchedule(schedule.year, share)
-    return best if best.value(problem) > schedule.value(problem) and best.keeps(problem) else schedule
+    return best if best.is_better(schedule, problem) and best.is_allowed(problem) else schedule
 
 
 def best_shares(problem: BlockProblem, blocks: NDArray[np.int64], year: int, share: NDArray[np.float64]) -> NDArray[np.float64]:
     """The shares of the blocks of a year; where HiGHS finds none the given ones, which keep the limits."""
-    limits = [limit for limit in problem.limits if np.isfinite(limit.most[year])]
-    scale = np.array([limit.most[year] or 1.0 for limit in limits])
-    rows = np.array([limit.amounts[blocks].ravel() for limit in limits]).reshape(len(limits), share.size) / scale[:, None]
+    limits = [(limit.amounts[blocks], limit.most[year], 1) for limit in problem.limits if np.isfinite(limit.most[year])]
+    # No less of what must be held at least than now.
+    owed = [(limit.amounts[blocks], limit.floor[year]) for limit in problem.limits if limit.floor[year] > 0]
+    owed += [(due.amounts[blocks], np.inf) for due in problem.dues]
+    limits += [(amounts, min(least, float((amounts * share).sum())), -1) for amounts, least in owed]
+    scale = np.array([amount or 1.0 for _, amount, _ in limits])
+    rows = np.array([sign * amounts.ravel() for amounts, _, sign in limits]).reshape(len(limits), share.size) / scale[:, None]
     gain = problem.values[blocks, :, year].ravel()
     unit = float(np.abs(gain).max()) or 1.0
     found = linprog(
         -gain / unit,
         A_ub=csr_matrix(rows) if limits else None,
-        b_ub=np.array([limit.most[year] for limit in limits]) / scale if limits else None,
+        b_ub=np.array([sign * amount for _, amount, sign in limits]) / scale if limits else None,
         A_eq=kron(eye(len(blocks)), np.ones((1, problem.destinations)), format="csr"),
         b_eq=np.ones(len(blocks)),
         bounds=(0, 1),

@@ -25,6 +25,9 @@ class Room:
         # Python's own lists: a block at a time, numpy's arrays are slower.
         self.left = [(limit.most * (1 + HAIR)).tolist() for limit in problem.limits]
         self.amounts = [limit.amounts.tolist() for limit in problem.limits]
+        self.dues = [due.amounts.tolist() for due in problem.dues]
+        # Of sums that have a least, by their numbers, what each year holds above it: below 0 where it lacks.
+        self.above = {k: (-limit.floor * (1 - HAIR)).tolist() for k, limit in enumerate(problem.limits) if (limit.floor > 0).any()}
 
     def fits(self, block: int, destination: int, year: int) -> bool:
         return all(amounts[block][destination] <= left[year] for amounts, left in zip(self.amounts, self.left))
@@ -32,6 +35,18 @@ class Room:
     def take(self, block: int, destination: int, year: int, sign: int = 1) -> None:
         for amounts, left in zip(self.amounts, self.left):
             left[year] -= sign * amounts[block][destination]
+        for number, above in self.above.items():
+            above[year] += sign * self.amounts[number][block][destination]
+
+    def may_leave(self, block: int, now: tuple[int, int], then: tuple[int, int]) -> bool:
+        """Whether a block that is taken out of its year and destination leaves them no shorter of a least than it was, when it is taken in
+        another year and destination."""
+        for number, above in self.above.items():
+            amount, other = self.amounts[number][block][now[1]], self.amounts[number][block][then[1]]
+            stays = other if now[0] == then[0] else 0.0
+            if stays < amount and above[now[0]] + stays < 0:
+                return False
+        return all(due[block][then[1]] >= due[block][now[1]] for due in self.dues)
 
 
 @dataclass(frozen=True)

@@ -7,11 +7,12 @@ from __future__ import annotations
 from collections.abc import Iterable, Iterator
 from dataclasses import dataclass
 from functools import cached_property
+from typing import Optional
 
 import numpy as np
 from numpy.typing import NDArray
 from scipy.optimize import linprog
-from scipy.sparse import coo_matrix, csr_matrix, vstack
+from scipy.sparse import coo_matrix, csr_matrix, hstack, vstack
 from scipy.sparse.csgraph import connected_components
 
 from ..errors import PlanError
@@ -28,13 +29,24 @@ class Restricted:
     """The optimum where all nodes of a group are dug to one share.
 
     share   of each group: shape (groups,)
-    value   discounted, in money
-    prices  of a unit of each limit in each year, in money, 0 or more: shape (limits, years)
+    value   discounted, in money; where it is sought what is due the shares that lack of it together, below 0
+    prices  of a unit of each limit in each year, in money, below 0 where the least is due, and of each due: shape (limits and dues, years)
     """
 
     share: NDArray[np.float64]
     value: float
     prices: NDArray[np.float64]
+
+
+@dataclass(frozen=True)
+class Place:
+    """A limit of a year, or a due, of all years: its number, behind those of limits of dues; the year, None of a due; the amount; and 1
+    where that is the most, -1 where it is the least."""
+
+    number: int
+    year: Optional[int]
+    amount: float
+    sign: int
 
 
 @dataclass(frozen=True)
@@ -51,42 +63,55 @@ class Master:
         return self.nodes.spread(gain.transpose(0, 2, 1))
 
     @cached_property
-    def places(self) -> list[tuple[int, int]]:
-        """The limits that there are, by number and year."""
-        limits = self.nodes.problem.limits
-        return [(number, int(year)) for number, limit in enumerate(limits) for year in np.flatnonzero(np.isfinite(limit.most))]
+    def places(self) -> list[Place]:
+        """The limits that there are, those from above first."""
+        problem = self.nodes.problem
+        limits, years = problem.limits, range(problem.years)
+        above = [Place(k, year, limit.most[year], 1) for k, limit in enumerate(limits) for year in np.flatnonzero(np.isfinite(limit.most))]
+        below = [Place(k, year, limit.floor[year], -1) for k, limit in enumerate(limits) for year in years if limit.floor[year] > 0]
+        return [*above, *below, *(Place(len(limits) + k, None, due.least, -1) for k, due in enumerate(problem.dues) if due.least > 0)]
 
-    @cached_property
-    def most(self) -> NDArray[np.float64]:
-        """Of each of these places."""
-        return np.array([self.nodes.problem.limits[number].most[year] for number, year in self.places], dtype=float)
-
-    def solve(self, groups: Groups) -> Restricted:
-        """The optimum of these groups. Raises PlanError where HiGHS finds none."""
+    def solve(self, groups: Groups, seeks_dues: bool = False) -> Restricted:
+        """The optimum of these groups; or the least that lacks of what is due, whatever it earns. Raises PlanError where HiGHS finds
+        none."""
         # What leads in a circle is dug to one share.
         _, component = connected_components(pairs_of(groups, self.nodes), connection="strong")
         joined = groups.of_groups(component)
-        gain = np.bincount(joined.label, self.gain, minlength=joined.count)
+        gain = np.bincount(joined.label, self.gain, minlength=joined.count) * (not seeks_dues)
         order = order_rows(least_pairs(pairs_of(joined, self.nodes)))
-        unit, scale = float(np.abs(gain).max(initial=0.0)) or 1.0, np.where(self.most > 0, self.most, 1.0)
+        most = np.array([place.amount for place in self.places], dtype=float)
+        sign = np.array([place.sign for place in self.places], dtype=float)
+        unit, scale = float(np.abs(gain).max(initial=0.0)) or 1.0, np.where(most > 0, most, 1.0)
+        rows = vstack([csr_matrix(self.limits(joined) * (sign / scale)[:, None]), order], format="csr")
+        # What lacks, as shares of what is due.
+        owed = np.flatnonzero(sign < 0) if seeks_dues else np.zeros(0, dtype=np.int64)
+        lacking = coo_matrix((-np.ones(len(owed)), (owed, np.arange(len(owed)))), shape=(rows.shape[0], len(owed)))
         found = linprog(
-            -gain / unit,
-            A_ub=vstack([csr_matrix(self.limits(joined) / scale[:, None]), order], format="csr"),
-            b_ub=np.concatenate([self.most / scale, np.zeros(order.shape[0])]),
+            np.concatenate([-gain / unit, np.ones(len(owed))]),
+            A_ub=hstack([rows, lacking], format="csr"),
+            b_ub=np.concatenate([sign * most / scale, np.zeros(order.shape[0])]),
             bounds=(0, 1),
             method="highs-ds",
         )
         if found.status != 0:
             raise PlanError(f"HiGHS found no optimum of the relaxation: {found.message}")
-        prices = np.zeros((len(self.nodes.problem.limits), self.nodes.problem.years))
-        rows, columns = np.array(self.places, dtype=np.int64).reshape(-1, 2).T
-        prices[rows, columns] = np.maximum(-found.ineqlin.marginals[: len(scale)], 0.0) * unit / scale
-        return Restricted(np.clip(found.x, 0.0, 1.0)[component], -float(found.fun) * unit, prices)
+        prices = self.prices(sign * np.maximum(-found.ineqlin.marginals[: len(scale)], 0.0) * unit / scale)
+        return Restricted(np.clip(found.x[: joined.count], 0.0, 1.0)[component], -float(found.fun) * unit, prices)
+
+    def prices(self, of_places: NDArray[np.float64]) -> NDArray[np.float64]:
+        """By limit and year, and by due; of a limit with both a most and a least what is left of their two prices."""
+        problem = self.nodes.problem
+        found = np.zeros((len(problem.limits) + len(problem.dues), problem.years))
+        for place, price in zip(self.places, of_places):
+            found[place.number, slice(None) if place.year is None else place.year] += price
+        return found
 
     def limits(self, groups: Groups) -> NDArray[np.float64]:
         """What each group adds to each of the places: shape (places, groups)."""
-        sums = [self.sums(limit.amounts, groups) for limit in self.nodes.problem.limits]
-        return np.array([sums[number][year] for number, year in self.places]).reshape(len(self.places), groups.count)
+        problem = self.nodes.problem
+        sums = [self.sums(it.amounts, groups) for it in (*problem.limits, *problem.dues)]
+        found = [sums[place.number].sum(axis=0) if place.year is None else sums[place.number][place.year] for place in self.places]
+        return np.array(found).reshape(len(self.places), groups.count)
 
     def sums(self, amounts: NDArray[np.float64], groups: Groups) -> NDArray[np.float64]:
         """What each group adds to a sum of each year: shape (years, groups)."""

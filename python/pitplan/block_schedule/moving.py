@@ -48,7 +48,8 @@ class Moving:
         best = now
         for year, destination in product(range(first, last + 1), range(len(worth))):
             if worth[destination][year] > worth[best[1]][best[0]] and self.room.fits(block, destination, year):
-                best = year, destination
+                if self.room.may_leave(block, now, (year, destination)):
+                    best = year, destination
         self.room.take(block, best[1], best[0])
         self.year[block], self.destination[block] = best
         return best != now

@@ -1,50 +1,42 @@
-"""A published `.cpit` with its `.prec` as a problem of blocks."""
+"""A published `.cpit` or `.pcpsp` with its `.prec` as a problem of blocks."""
 
 from __future__ import annotations
 
 from pathlib import Path
+from typing import Optional
 
 import numpy as np
 from minelib import precedence, schedule_models
 from minelib.schedule_models import ScheduleModel
 
-from ..errors import PlanError
 from .nodes import MOST_NODES
 from .problem import BlockProblem, Limit, Needs
 
 
-def of_minelib(model: Path, prec: Path) -> BlockProblem:
-    """The problem of two files of MineLib; a value in period t, from 0, is divided by (1 + rate)^t.
+def of_minelib(model: Path, prec: Path, second: Optional[str] = None) -> BlockProblem:
+    """The problem of two files of MineLib; a value in period t, from 0, is divided by (1 + rate)^t. `second` is as
+    `schedule_models.read` has it.
 
-    Raises MinelibError, with file and line, where one is not well formed, and PlanError where a limit is one from below, or an amount
-    negative.
+    Raises MinelibError, with file and line, where one is not well formed, and PlanError where an amount is negative.
     """
-    read = schedule_models.read(model)
-    demand_upper(read, model)
+    read = schedule_models.read(model, second)
     blocks = len(read.values)
-    values = np.array([float(value) for value in read.values])
+    values = np.array([[float(value) for value in of_block] for of_block in read.values]).reshape(blocks, -1)
     needs = precedence.read(prec, blocks, MOST_NODES).needs
     counts = np.array([len(needs.get(block, ())) for block in range(blocks)], dtype=np.int64)
     needed = np.array([other for block in sorted(needs) for other in needs[block]], dtype=np.uint32)
     starts = np.concatenate([[0], np.cumsum(counts)]).astype(np.uint32)
     discounts = (1 + float(read.rate)) ** -np.arange(float(read.periods))
     limits = tuple(limit_of(read, resource) for resource in range(len(read.taken)))
-    return BlockProblem(values[:, None, None] * discounts, Needs(starts, needed), limits)
+    return BlockProblem(values[:, :, None] * discounts, Needs(starts, needed), limits)
 
 
 def limit_of(model: ScheduleModel, resource: int) -> Limit:
-    amounts, most = np.zeros((len(model.values), 1)), np.full(model.periods, np.inf)
-    taken = model.taken[resource]
-    amounts[list(taken), 0] = [float(amount) for amount in taken.values()]
-    upper = ((period, model.limits.get((resource, period), (None, None))[1]) for period in range(model.periods))
-    for period, bound in upper:
-        most[period] = np.inf if bound is None else float(bound)
-    return Limit(f"resource {resource}", amounts, most)
-
-
-def demand_upper(model: ScheduleModel, path: Path) -> None:
-    """Raises PlanError where a period must hold some least amount, for which no schedule is made."""
-    for (resource, period), (least, _) in sorted(model.limits.items()):
-        if least is not None and least > 0:
-            why = f"resource {resource} has a least amount of {least} in period {period}, and schedules keep upper limits alone"
-            raise PlanError(f"{path}: {why}")
+    amounts = np.zeros((len(model.values), len(model.values[0]) if model.values else 1))
+    for place, amount in model.taken[resource].items():
+        amounts[place] = float(amount)
+    bounds = [model.limits.get((resource, period), (None, None)) for period in range(model.periods)]
+    # Amounts are 0 or more, and so a least below 0 is none.
+    least = np.array([max(float(below or 0), 0.0) for below, _ in bounds])
+    most = np.array([np.inf if above is None else float(above) for _, above in bounds])
+    return Limit(f"resource {resource}", amounts, most, least)

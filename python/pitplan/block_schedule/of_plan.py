@@ -2,7 +2,7 @@
 
 from __future__ import annotations
 
-from dataclasses import dataclass
+from dataclasses import dataclass, replace
 
 import numpy as np
 import pitshell
@@ -15,16 +15,18 @@ from ..phase_benches import CASH, ORE, ROCK
 from ..plan import MILLION, Plan
 from ..project import Project
 from ..schedule import year_discounts
-from ..schedule_rules import MOST_YEARS, ScheduleRules
+from ..schedule_rules import MOST_YEARS, ScheduleRules, Sum
 from ..sequencing import Limits, limits_of
 from ..yearly_money import YearlyMoney, of_project
-from .problem import BlockProblem, Limit, Needs
+from .problem import BlockProblem, Due, Limit, Needs
 from .topological import greatest_needed, ranks_of
 from .whole_values import upward
 
 # A schedule may take this part of the years more that its limits ask for.
 MORE_YEARS = 0.2
 WASTE = "waste"
+# How the names of sums of the table's columns begin.
+SUM = "sum_"
 # By block and destination.
 Flows = dict[str, NDArray[np.float64]]
 
@@ -51,21 +53,67 @@ def of_plan(plan: Plan) -> PlannedBlocks:
     """The blocks of a plan. Raises PlanError where the project asks for what is not done by block, or for too many years."""
     project, rules = plan.project, plan.project.schedule_rules or ScheduleRules()
     demand_of_blocks(project, rules)
-    flows, limits, money = flows_of(plan), limits_of(project, rules), of_project(project)
+    flows, limits, money = flows_of(plan), limits_of_blocks(project, rules), of_project(project)
     best = cash_of(flows, money, 1 + max((len(more) for more in money.premiums.values()), default=0)).max(axis=(1, 2))
-    cells = np.flatnonzero(trim.used_blocks(plan.grid, plan.walls, best > 0))
+    cells = cells_of(plan, (best > 0) | owing(plan, flows, limits))
     needs = needs_of(plan, cells)
     is_under_rock = greatest_needed(needs, ranks_of(needs), (plan.values.tonnes[cells] > 0).astype(float)) > 0
     cells, needs = cells[is_under_rock], needs.within(is_under_rock)
+    pays, forced = pays_of(plan)[cells], np.isin(cells, plan.fixed.forced)
     flows = {name: amounts[cells] for name, amounts in flows.items()}
-    pit = pitshell.solve(upward(best[cells]).amounts, (needs.starts, needs.needed), millionths=True).in_pit
+    fixed = np.where(forced, pitshell.FORCED, pitshell.FREE).astype(np.uint8)
+    pit = pitshell.solve(upward(best[cells]).amounts, (needs.starts, needs.needed), fixed, millionths=True).in_pit
     years = rules.years or years_of({name: amounts[pit].max(axis=1).sum() for name, amounts in flows.items()}, limits, project)
+    above = [Limit(name, flows[name], most) for name, most in zip(limits.most, limits.of_years(years).T)]
+    # What yields nothing there is not sent to a process for the sake of a least amount.
+    below = [
+        Limit(name, np.where(pays | (flows[name][:, :1] > 0), flows[name], 0.0), np.full(years, np.inf), least)
+        for name, least in limits.least_of_years(years).items()
+    ]
+    of_forced = np.repeat(forced[:, None], pays.shape[1], axis=1).astype(float)
+    due = Due(f"{forced.sum():,} blocks that must be dug", of_forced, float(forced.sum()))
     problem = BlockProblem(
         values=cash_of(flows, money, years) * year_discounts(project.schedule, years),
         needs=needs,
-        limits=tuple(Limit(name, flows[name], most) for name, most in zip(limits.most, limits.of_years(years).T)),
+        limits=(*above, *below),
+        dues=(due,) if forced.any() else (),
     )
     return PlannedBlocks(plan, cells, destinations_of(project), limits, flows, problem)
+
+
+def limits_of_blocks(project: Project, rules: ScheduleRules) -> Limits:
+    """The limits of `[schedule]` and `[shells]`, those of sums and the least amounts among them."""
+    limits, names = limits_of(project, rules), {"ore": ORE, "rock": ROCK}
+    names |= {metal.name: f"metal_{metal.name}" for metal in project.metals} | {it.name: f"{ORE}_{it.name}" for it in project.processes}
+    most = limits.most | {f"{SUM}{it.name}": it.most for it in rules.sums if it.most is not None}
+    least = {names[name]: amount for name, amount in rules.least.items()} | {f"{SUM}{it.name}": it.least for it in rules.sums if it.least}
+    return replace(limits, most=most, least={name: amount for name, amount in least.items() if amount > 0})
+
+
+def cells_of(plan: Plan, wanted: NDArray[np.bool_]) -> NDArray[np.int64]:
+    """The cells that are wanted, or must be dug, with all that they need; none that may not be dug, and none that needs one such."""
+    left = np.zeros(plan.grid.count, dtype=bool) if plan.settled is None else plan.settled.left
+    wanted = wanted & ~left
+    wanted[plan.fixed.forced] = True
+    return np.flatnonzero(trim.used_blocks(plan.grid, plan.walls, wanted))
+
+
+def owing(plan: Plan, flows: Flows, limits: Limits) -> NDArray[np.bool_]:
+    """The cells that add to an amount that has a least. Raises PlanError where of a model that is too large some were left out."""
+    found = np.zeros(plan.grid.count, dtype=bool)
+    for name in limits.least:
+        found |= (flows[name] > 0).any(axis=1)
+    if limits.least and plan.left_out:
+        why = "blocks that no shell can reach were left out, and a least amount may need them: put rows together by [table] reblock"
+        raise PlanError(f"{plan.source}: {plan.left_out:,} {why}")
+    return found
+
+
+def pays_of(plan: Plan) -> NDArray[np.bool_]:
+    """Whether a cell yields anything in each destination; of one alone, which is also waste's, always."""
+    if not plan.project.processes:
+        return np.ones((plan.grid.count, 1), dtype=bool)
+    return np.stack([np.zeros(plan.grid.count, dtype=bool), *(way.revenue > 0 for way in plan.values.ways)], axis=1)
 
 
 def demand_of_blocks(project: Project, rules: ScheduleRules) -> None:
@@ -75,7 +123,6 @@ def demand_of_blocks(project: Project, rules: ScheduleRules) -> None:
         "[schedule] lag: is of phases": rules.lag > 0,
         "[schedule] sinking_rate: is of the benches of a phase": rules.sinking_rate is not None,
         "[schedule] bins: are of benches, and a block is ore or waste as a whole": rules.bins is not None,
-        "[fixed]: blocks that must be dug or may not be are not scheduled one by one": project.fixed is not None,
         "[money] fixed_cost_per_year, capital: what years cost is no part of a schedule by block": costs_years,
     }
     for why, is_asked in asked.items():
@@ -89,6 +136,25 @@ def destinations_of(project: Project) -> tuple[str, ...]:
 
 def flows_of(plan: Plan) -> Flows:
     """What each cell holds of each amount that may be limited, and its cash at the price as given."""
+    flows = of_money(plan)
+    rules = plan.project.schedule_rules
+    return flows | {f"{SUM}{it.name}": sum_of(plan, it) for it in (rules.sums if rules else ())}
+
+
+def sum_of(plan: Plan, asked: Sum) -> NDArray[np.float64]:
+    """What each cell adds to a sum in each destination."""
+    values, processes = plan.values, [process.name for process in plan.project.processes]
+    amounts = plan.grid.spread(plan.table[asked.column].to_numpy())
+    if asked.a_tonne:
+        amounts = amounts * (values.tonnes if asked.of == "rock" else values.undiluted)
+    if not processes:
+        return (amounts if asked.of == "rock" else np.where(values.pays, amounts, 0.0))[:, None]
+    counts = [asked.of == "rock", *(asked.of in ("rock", "ore", name) for name in processes)]
+    return amounts[:, None] * np.array(counts, dtype=float)
+
+
+def of_money(plan: Plan) -> Flows:
+    """Tonnes, metals and cash."""
     values, processes = plan.values, plan.project.processes
     if not processes:
         ore = values.pays

@@ -8,6 +8,7 @@ problem (PCPSP) of Espinoza, Goycoolea, Moreno and Newman (MineLib: a library of
 from __future__ import annotations
 
 from dataclasses import dataclass, replace
+from typing import Optional
 
 import numpy as np
 from numpy.typing import NDArray
@@ -17,16 +18,32 @@ from ..errors import PlanError
 
 @dataclass(frozen=True)
 class Limit:
-    """The most of a sum that a year may hold.
+    """The most of a sum that a year may hold, and the least that it must.
 
     name     as it is told
     amounts  what each block adds to the sum in each destination, 0 or more: shape (blocks, destinations)
     most     by year, infinite where there is no limit: shape (years,)
+    least    by year; None: 0 in all
     """
 
     name: str
     amounts: NDArray[np.float64]
     most: NDArray[np.float64]
+    least: Optional[NDArray[np.float64]] = None
+
+    @property
+    def floor(self) -> NDArray[np.float64]:
+        """The least by year, 0 where nothing is due."""
+        return np.zeros_like(self.most) if self.least is None else self.least
+
+
+@dataclass(frozen=True)
+class Due:
+    """The least of a sum that all years together must hold; amounts as of a limit."""
+
+    name: str
+    amounts: NDArray[np.float64]
+    least: float
 
 
 @dataclass(frozen=True)
@@ -70,11 +87,27 @@ class BlockProblem:
             years)
     needs   what must be dug in the same year or before
     limits  what a year may hold
+    dues    what all years must hold together
     """
 
     values: NDArray[np.float64]
     needs: Needs
     limits: tuple[Limit, ...]
+    dues: tuple[Due, ...] = ()
+
+    @property
+    def owes(self) -> bool:
+        """Whether something is the least that must be held."""
+        return any(due.least > 0 for due in self.dues) or any((limit.floor > 0).any() for limit in self.limits)
+
+    @property
+    def owing(self) -> NDArray[np.bool_]:
+        """The blocks that add to a sum that has a least: a truth for each, shape (blocks,)."""
+        found = np.zeros(self.blocks, dtype=bool)
+        owed = [it.amounts for it in self.limits if (it.floor > 0).any()] + [due.amounts for due in self.dues if due.least > 0]
+        for amounts in owed:
+            found |= (amounts > 0).any(axis=1)
+        return found
 
     @property
     def blocks(self) -> int:
@@ -90,17 +123,18 @@ class BlockProblem:
 
     def in_order(self, order: NDArray[np.int64]) -> BlockProblem:
         """The same problem with its blocks in an order."""
-        limits = tuple(replace(limit, amounts=limit.amounts[order]) for limit in self.limits)
-        return BlockProblem(self.values[order], self.needs.in_order(order), limits)
+        limits, dues = (tuple(replace(it, amounts=it.amounts[order]) for it in sums) for sums in (self.limits, self.dues))
+        return BlockProblem(self.values[order], self.needs.in_order(order), limits, dues)
 
     def of_blocks(self, kept: NDArray[np.bool_]) -> BlockProblem:
         """The problem of these blocks alone, which need none of the others."""
-        limits = tuple(replace(limit, amounts=limit.amounts[kept]) for limit in self.limits)
-        return BlockProblem(self.values[kept], self.needs.within(kept), limits)
+        limits, dues = (tuple(replace(it, amounts=it.amounts[kept]) for it in sums) for sums in (self.limits, self.dues))
+        return BlockProblem(self.values[kept], self.needs.within(kept), limits, dues)
 
 
 def demand_sound(problem: BlockProblem) -> None:
-    """Raises PlanError where an amount is negative or no number, a limit is negative, or shapes differ: then no bound would hold."""
+    """Raises PlanError where an amount is negative or no number, a limit is negative, a least above the most, or shapes differ: then no bound
+    would hold."""
     shape = problem.values.shape
     if len(shape) != 3 or 0 in shape[1:] or not np.isfinite(problem.values).all():
         raise PlanError("values of blocks are finite numbers by block, destination and year, of one destination and one year at least")
@@ -111,3 +145,13 @@ def demand_sound(problem: BlockProblem) -> None:
             raise PlanError(f"{limit.name}: an amount is negative or no number, and limits are of amounts from 0 on")
         if np.isnan(limit.most).any() or (limit.most < 0).any():
             raise PlanError(f"{limit.name}: the most of a year is negative or no number")
+        floor = limit.floor
+        if floor.shape != limit.most.shape or not np.isfinite(floor).all() or (floor < 0).any():
+            raise PlanError(f"{limit.name}: the least of a year is negative or no number")
+        if (floor > limit.most).any():
+            year = int((floor > limit.most).argmax())
+            raise PlanError(f"{limit.name}: the least of year {year + 1} is {floor[year]:.10g}, above its most of {limit.most[year]:.10g}")
+    for due in problem.dues:
+        is_whole = due.amounts.shape == shape[:2] and np.isfinite(due.amounts).all() and not (due.amounts < 0).any()
+        if not is_whole or not 0 <= due.least < np.inf:
+            raise PlanError(f"{due.name}: amounts are by block and destination, from 0 on, and so is the least")

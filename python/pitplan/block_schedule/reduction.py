@@ -20,14 +20,15 @@ def worth_digging(problem: BlockProblem) -> NDArray[np.bool_]:
     """The blocks that a schedule of greatest worth needs to dig: a truth for each, shape (blocks,).
 
     They are a closed set U such that in no year a closed set gains by what it has besides U, where a block gains what it earns in the year
-    less what it earns in the next one. A schedule without its blocks outside U still keeps every limit, since limits are upper ones and
-    amounts are 0 or more, and it earns no less: what these earn is the sum over years of what they gain with all of them that are dug by
-    then. Where a block earns one value times a discount that falls with the years, U is the ultimate pit.
+    less what it earns in the next one. What adds to a sum that has a least is in U, with all that it needs. So a schedule without its
+    blocks outside U still keeps every limit: from above since amounts are 0 or more, and from below since those blocks add nothing. And it
+    earns no less: what these earn is the sum over years of what they gain with all of them that are dug by then. Where a block earns one
+    value times a discount that falls with the years, and nothing is due, U is the ultimate pit.
 
     Raises pitshell.Refusal where the needs are none.
     """
     gains = by_end(upward(problem.values.max(axis=1)).amounts)
-    needs, kept = (problem.needs.starts, problem.needs.needed), np.zeros(problem.blocks, dtype=bool)
+    needs, kept = (problem.needs.starts, problem.needs.needed), problem.owing
     years_without = 0
     for year in cycle(range(problem.years)):
         gain = np.ascontiguousarray(gains[:, year])

@@ -9,7 +9,7 @@ from __future__ import annotations
 
 import time
 from collections.abc import Callable, Iterator
-from dataclasses import dataclass, field
+from dataclasses import dataclass, field, replace
 
 import numpy as np
 import pitshell
@@ -25,6 +25,8 @@ from .whole_values import upward
 
 # Pits by whose rims nodes are in groups at first: those of so many factors.
 FIRST_PITS = 40
+# So small a share that lacks of what is due is the solver's tolerance, and so small a price.
+LACKING, SLIGHT = 1e-7, 1e-15
 
 
 @dataclass(frozen=True)
@@ -50,7 +52,7 @@ class Relaxation:
 
     bound        in money: no schedule earns more
     cumulative   the share of each block that is dug by the end of each year: shape (blocks, years)
-    prices       of a unit of each limit in each year, in money: shape (limits, years)
+    prices       of a unit of each limit in each year, in money, and of each due: shape (limits and dues, years)
     rounds       what each round found
     interrupted  whether it was ended by an interruption
     """
@@ -66,10 +68,13 @@ def relaxed(nodes: Nodes, effort: Effort, tell: Callable[[Round], None] = lambda
     """Solves the relaxation until its value is within the effort's gap, a share of the bound, or its seconds are over; `tell` is called
     with each round. An interruption (Ctrl-C), or a programme that HiGHS cannot solve, ends it with what it has, once there is a round.
 
-    Raises PlanError where HiGHS finds no optimum of the first round or the nodes are too many, and KeyboardInterrupt within the first
-    round.
+    Raises PlanError where no schedule keeps what is due, HiGHS finds no optimum of the first round or the nodes are too many, and
+    KeyboardInterrupt within the first round.
     """
-    solver = Solver(nodes, Master(nodes), first_groups(nodes), time.monotonic())
+    groups = first_groups(nodes)
+    if nodes.problem.owes:
+        groups = keeping_dues(nodes, groups)
+    solver = Solver(nodes, Master(nodes), groups, time.monotonic())
     try:
         for found in solver:
             tell(found)
@@ -112,6 +117,37 @@ class Solver:
         assert self.restricted is not None and self.label is not None
         cumulative = self.nodes.gathered(self.restricted.share[self.label])[:, -1]
         return Relaxation(self.bound, cumulative, self.restricted.prices, tuple(self.rounds), interrupted)
+
+
+def keeping_dues(nodes: Nodes, groups: Groups) -> Groups:
+    """The groups divided until the relaxation over them keeps what is due.
+
+    By the same rounds, where blocks earn nothing and what lacks of a due costs its share: then the prices of a round at which the closure's
+    bound is below 0 show that nothing keeps all dues. Raises PlanError then.
+    """
+    nothing = replace(nodes, problem=replace(nodes.problem, values=np.zeros_like(nodes.problem.values)))
+    master = Master(nothing)
+    while True:
+        found = master.solve(groups, seeks_dues=True)
+        if found.value >= -LACKING:
+            return groups
+        closure = priced(nothing, found.prices)
+        if closure.bound < 0:
+            raise PlanError(f"no schedule keeps what must be held at least: {owed_by(nodes, found.prices)}")
+        divided = groups.divided(closure.in_closure)
+        if divided.count == groups.count:
+            raise PlanError("HiGHS does not tell whether a schedule keeps what must be held at least")
+        groups = divided
+
+
+def owed_by(nodes: Nodes, prices: NDArray[np.float64]) -> str:
+    """The sums and years whose least amounts clash, by their prices."""
+    problem, told = nodes.problem, []
+    for limit, by_year in zip(problem.limits, prices):
+        years = [str(year + 1) for year in np.flatnonzero(by_year < -SLIGHT)]
+        told += [f"{limit.name} in year{'s' * (len(years) > 1)} {', '.join(years)}"] if years else []
+    told += [due.name for due, by_year in zip(problem.dues, prices[len(problem.limits) :]) if by_year[0] < -SLIGHT]
+    return "; ".join(told) or "all of it together"
 
 
 def first_groups(nodes: Nodes) -> Groups:

@@ -74,7 +74,7 @@ class ScheduledBlocks:
     @property
     def table(self) -> pd.DataFrame:
         """One row: value, discounted, and bound, in money; below_bound, by which share of the bound the value is less; years; blocks of
-        rock that are dug; tonnes of rock, and ore_tonnes."""
+        rock that are dug; tonnes of rock, and ore_tonnes; metal_NAME recovered."""
         dug = (self.found.schedule.year < self.planned.problem.years) & (self.planned.flows[ROCK][:, 0] > 0)
         row = {
             "value": self.found.value,
@@ -84,8 +84,16 @@ class ScheduledBlocks:
             "blocks": int(dug.sum()),
             "tonnes": self.years[ROCK].sum(),
             "ore_tonnes": self.years[ORE].sum(),
+            **self.years.filter(like="metal_").sum(),
         }
         return pd.DataFrame([row])
+
+    @property
+    def ways(self) -> pd.DataFrame:
+        """The same as the row of a way, which is called as its case in years.csv."""
+        table = self.table
+        table.insert(0, "way", CASE)
+        return table
 
     @property
     def record(self) -> dict[str, Any]:
@@ -98,6 +106,7 @@ class ScheduledBlocks:
             "gap": round(found.gap, 9),
             "years": self.planned.problem.years,
             "limits": limits.most,
+            **({"least": limits.least} if limits.least else {}),
             "ramp_up": list(limits.ramp_up),
             "blocks": found.blocks,
             "nodes": found.nodes,

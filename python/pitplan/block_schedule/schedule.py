@@ -39,7 +39,24 @@ class BlockSchedule:
         by_year = [np.bincount(self.year, amounts, minlength=problem.years + 1)[: problem.years] for amounts in taken]
         return np.array(by_year).reshape(len(problem.limits), problem.years)
 
+    def lacking(self, problem: BlockProblem) -> float:
+        """What lacks of what years must hold at least, as shares of it added up; 0 where nothing does but for a hair."""
+        floors = np.array([limit.floor for limit in problem.limits]).reshape(len(problem.limits), problem.years)
+        short = [np.maximum(floors - self.sums(problem), 0.0) / np.where(floors > 0, floors, 1.0)]
+        short += [np.array([max(due.least - float((due.amounts * self.share).sum()), 0.0) / (due.least or 1.0)]) for due in problem.dues]
+        shares = np.concatenate([part.ravel() for part in short])
+        return float(shares[shares > HAIR].sum())
+
+    def is_better(self, other: BlockSchedule, problem: BlockProblem) -> bool:
+        """Whether less lacks than of another, or no more and it earns more."""
+        mine, its = self.lacking(problem), other.lacking(problem)
+        return mine < its - HAIR or (mine <= its + HAIR and self.value(problem) > other.value(problem))
+
     def keeps(self, problem: BlockProblem) -> bool:
+        """Whether it is allowed, and nothing lacks."""
+        return self.is_allowed(problem) and not self.lacking(problem)
+
+    def is_allowed(self, problem: BlockProblem) -> bool:
         """Whether no block is dug before one that it needs, each goes whole to destinations, and no year is above a limit but for a
         hair."""
         is_dug = self.year < problem.years

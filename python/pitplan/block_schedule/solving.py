@@ -10,6 +10,7 @@ from typing import Optional
 import numpy as np
 from numpy.typing import NDArray
 
+from ..errors import PlanError
 from ..progress import Progress, silent
 from ..schedule_rules import Effort
 from .destinations import with_best_shares
@@ -19,7 +20,7 @@ from .nodes import Nodes, nodes_of
 from .problem import BlockProblem, demand_sound
 from .reduction import earliest_years, worth_digging
 from .relaxation import Relaxation, Round, relaxed
-from .schedule import BlockSchedule, nothing
+from .schedule import HAIR, BlockSchedule, nothing
 from .topological import Ranks, ranks_of
 from .toposort import sequences
 from .windows import Window, sizes_of, window_of
@@ -30,6 +31,8 @@ RELAXED = 1e-4
 WINDOW_SECONDS, PATIENCE = 60.0, 180.0
 # HiGHS ends so many seconds after its time is up, or much later.
 LATE = 10.0
+# For so long windows are solved anew where years lack what they must hold at least, and so many of these years are told.
+DUE_SECONDS, TOLD = 600.0, 5
 
 
 @dataclass(frozen=True)
@@ -99,13 +102,16 @@ def solve(problem: BlockProblem, effort: Optional[Effort] = None, progress: Prog
     With an effort integer programmes make the schedule better until it is within the effort's gap, a share of the bound, or its seconds are
     over, those of the bound among them. An interruption (Ctrl-C) ends what is at work, once there is a bound, with the best so far.
 
-    Raises PlanError where the problem has a fault or is too large, and KeyboardInterrupt where it is interrupted before there is a bound.
+    Raises PlanError where the problem has a fault or is too large, no schedule keeps what must be held at least, or none was found that
+    does, and KeyboardInterrupt where it is interrupted before there is a bound.
     """
     demand_sound(problem)
     began = time.monotonic()
     with progress.step(f"leaving out what no schedule needs to dig, of {problem.blocks:,} blocks"):
         part = reduced(problem)
     if not part.problem.blocks:
+        if problem.owes:
+            raise PlanError("no schedule keeps what must be held at least: no block can be dug in time")
         return Scheduled(nothing(problem), 0.0, 0.0, 0, 0)
     progress.say(f"bounding all schedules of {part.problem.blocks:,} blocks by {len(part.nodes):,} nodes")
     relaxation = relaxed(part.nodes, Effort(RELAXED, effort and effort.seconds), lambda found: progress.say(told(found)))
@@ -114,10 +120,13 @@ def solve(problem: BlockProblem, effort: Optional[Effort] = None, progress: Prog
         if not relaxation.interrupted:
             search.fill()
             search.move()
+            search.keep_dues(began)
             if effort is not None:
                 search.windows(effort, began)
     except KeyboardInterrupt:
+        search.demand_kept()
         return search.scheduled(problem, True)
+    search.demand_kept()
     return search.scheduled(problem, relaxation.interrupted)
 
 
@@ -149,7 +158,7 @@ class Search:
 
     def offer(self, schedule: BlockSchedule) -> None:
         """Takes a schedule that is better."""
-        if schedule.value(self.problem) > self.best.value(self.problem):
+        if schedule.is_better(self.best, self.problem):
             self.best = schedule
 
     def fill(self) -> None:
@@ -157,6 +166,8 @@ class Search:
         with self.progress.step("filling years in the order of the relaxation"):
             for sequence in sequences(self.problem, self.part.ranks, self.relaxation.cumulative):
                 self.offer(self.filling.without_loss(sequence))
+                if self.problem.owes:
+                    self.offer(self.filling.fill(sequence))
 
     def move(self) -> None:
         """Moves blocks of the best schedule, and chooses where they go."""
@@ -164,23 +175,43 @@ class Search:
             self.offer(moved(self.filling, self.part.ranks, self.best))
             self.offer(with_best_shares(self.problem, self.best))
 
+    def keep_dues(self, began: float) -> None:
+        """Solves windows anew while something lacks of what must be held at least, and less does."""
+        effort = Effort(0.0, time.monotonic() - began + DUE_SECONDS)
+        for size in sizes_of(self.problem) if self.best.lacking(self.problem) else []:
+            while self.best.lacking(self.problem) and self.sweep(size, effort, began, until_kept=True):
+                pass
+
+    def demand_kept(self) -> None:
+        """Raises PlanError where something lacks of what must be held at least."""
+        if not self.best.lacking(self.problem):
+            return
+        problem, sums, told = self.problem, self.best.sums(self.problem), []
+        for limit, by_year in zip(problem.limits, sums):
+            short = np.flatnonzero(by_year < limit.floor * (1 - HAIR))
+            told += [f"year {year + 1} has {by_year[year]:,.10g} of {limit.name} for {limit.floor[year]:,.10g}" for year in short[:TOLD]]
+        told += [due.name for due in problem.dues if float((due.amounts * self.best.share).sum()) < due.least * (1 - HAIR)]
+        why = "no schedule of whole blocks was found that keeps what must be held at least, which shares of blocks keep"
+        raise PlanError(f"{why}: {'; '.join(told)}: ask for less, or give integer programmes more seconds")
+
     def windows(self, effort: Effort, began: float) -> None:
         """Solves window after window anew, larger ones once none has become better, until the gap is reached or the seconds are over."""
         for size in sizes_of(self.problem):
             while self.sweep(size, effort, began):
                 pass
 
-    def sweep(self, size: tuple[int, int], effort: Effort, began: float) -> bool:
-        """Solves each window of a size, years and most unknowns, once; gives whether the schedule has become better and there is time
-        left."""
-        before = self.best.value(self.problem)
+    def sweep(self, size: tuple[int, int], effort: Effort, began: float, until_kept: bool = False) -> bool:
+        """Solves each window of a size, years and most unknowns, once, or until nothing lacks of what must be held at least; gives whether
+        the schedule has become better and there is time left."""
+        before = self.best
         for first in range(self.problem.years - size[0] + 1):
             left = np.inf if effort.seconds is None else effort.seconds - (time.monotonic() - began)
-            if left <= 0 or self.gap <= effort.gap:
+            is_kept = not self.best.lacking(self.problem)
+            if left <= 0 or (is_kept and (until_kept or self.gap <= effort.gap)):
                 return False
             window = window_of(self.problem, self.best, self.relaxation.cumulative, (first, first + size[0]), size[1])
             self.offer(self.solved(window, Effort(effort.gap, min(left, WINDOW_SECONDS)), min(PATIENCE, left + LATE)))
-        return self.best.value(self.problem) > before
+        return self.best.is_better(before, self.problem)
 
     def solved(self, window: Window, effort: Effort, patience: float) -> BlockSchedule:
         """The schedule with a window solved anew, unless that was done of the same blocks in the same years."""

@@ -13,20 +13,22 @@ from functools import cached_property
 
 import numpy as np
 from numpy.typing import NDArray
-from scipy.sparse import coo_matrix, csr_matrix, eye, hstack, kron, vstack
+from scipy.sparse import bmat, coo_matrix, csr_matrix, eye, hstack, kron, vstack
 
 from ..highs import Programme
 from ..optimiser import solve
 from ..schedule_rules import Effort
-from .problem import BlockProblem, Limit
+from .problem import BlockProblem, Due, Limit
 from .reduction import earliest_years
-from .schedule import BlockSchedule
+from .schedule import HAIR, BlockSchedule
 from .topological import ranks_of
 
 # Windows have about so many whole unknowns at most, at first the fewer ones, and so many years unless all blocks fit.
 FEWER, MOST_UNKNOWNS, MOST_YEARS = 2_500, 5_000, 4
 # A share that may be the solver's tolerance alone.
 SLIGHT = 1e-6
+# So many times what all free blocks earn or cost a least costs that is not held at all.
+LACKING = 10.0
 
 
 @dataclass(frozen=True)
@@ -62,13 +64,29 @@ class Window:
         soonest, latest = self.bounds()
         parts = [*self.shares(), self.order(), self.limits(), self.due(latest)]
         allowed = np.arange(self.first, self.last) >= soonest[:, None]
+        matrix, owed = vstack([matrix for matrix, _ in parts], format="csr"), self.owed()
+        # What lacks of a least costs more than all blocks could earn.
+        penalty = LACKING * max(float(np.abs(gain).sum()) / unit, 1.0)
         return Programme(
-            gain=np.concatenate([np.zeros(truths), gain / unit]),
-            matrix=vstack([matrix for matrix, _ in parts], format="csr"),
-            most=np.concatenate([most for _, most in parts]),
-            upper=np.concatenate([allowed.ravel().astype(float), np.ones(len(gain))]),
-            whole=np.arange(truths + len(gain)) < truths,
+            gain=np.concatenate([np.zeros(truths), gain / unit, np.full(owed.shape[0], -penalty)]),
+            matrix=bmat([[matrix, None], [-owed, -eye(owed.shape[0])]], format="csr") if owed.shape[0] else matrix,
+            most=np.concatenate([*(most for _, most in parts), -np.ones(owed.shape[0])]),
+            upper=np.concatenate([allowed.ravel().astype(float), np.ones(len(gain) + owed.shape[0])]),
+            whole=np.arange(truths + len(gain) + owed.shape[0]) < truths,
         )
+
+    def owed(self) -> csr_matrix:
+        """A row for each sum that must be held at least, of which the other blocks leave something due: what shares add, as parts of
+        that."""
+        rows = [csr_matrix((0, self.width))]
+        for limit in self.part.limits:
+            for year in np.flatnonzero(limit.floor > 0):
+                shares = limit.amounts[:, None, :] * (np.arange(self.years) == year)[None, :, None] / limit.floor[year]
+                rows.append(hstack([csr_matrix((1, self.place.size)), csr_matrix(shares.reshape(1, -1))], format="csr"))
+        for due in self.part.dues:
+            shares = np.repeat(due.amounts[:, None, :] / due.least, self.years, axis=1)
+            rows.append(hstack([csr_matrix((1, self.place.size)), csr_matrix(shares.reshape(1, -1))], format="csr"))
+        return vstack(rows, format="csr")
 
     def bounds(self) -> tuple[NDArray[np.int64], NDArray[np.int64]]:
         """For each free block the first year in which all that it needs of the others is dug, and what it needs of the free ones fits into
@@ -111,13 +129,15 @@ class Window:
         """The free blocks and the window's years alone, with what the others leave as limits."""
         others = self.schedule.share.copy()
         others[self.blocks] = 0.0
-        taken = BlockSchedule(self.schedule.year, others).sums(self.problem)[:, self.first : self.last]
+        taken, years = BlockSchedule(self.schedule.year, others).sums(self.problem)[:, self.first : self.last], slice(self.first, self.last)
         limits = [
-            Limit(limit.name, limit.amounts[self.blocks], np.maximum(limit.most[self.first : self.last] - sums, 0.0))
+            Limit(limit.name, limit.amounts[self.blocks], *(np.maximum(it[years] - sums, 0.0) for it in (limit.most, limit.floor)))
             for limit, sums in zip(self.problem.limits, taken)
         ]
+        owed = [(due, due.least - float((due.amounts * others).sum())) for due in self.problem.dues]
+        dues = tuple(Due(due.name, due.amounts[self.blocks], least) for due, least in owed if least > HAIR * due.least)
         needs = self.problem.needs.within(self.number >= 0)
-        return BlockProblem(self.problem.values[self.blocks, :, self.first : self.last], needs, tuple(limits))
+        return BlockProblem(self.problem.values[self.blocks, :, years], needs, tuple(limits), dues)
 
     def limits(self) -> tuple[csr_matrix, NDArray[np.float64]]:
         """A row for each limit and year that has one, as shares of the greatest amount of a block."""
@@ -148,14 +168,14 @@ class Window:
             return self.schedule
         problem, truths = self.problem, self.place.size
         is_dug = found.unknowns[:truths].reshape(self.place.shape) > 0.5
-        parts = np.clip(found.unknowns[truths:].reshape(*self.place.shape, problem.destinations), 0.0, 1.0).sum(axis=1)
+        shares = found.unknowns[truths : self.width].reshape(*self.place.shape, problem.destinations)
+        parts = np.clip(shares, 0.0, 1.0).sum(axis=1)
         year, share = self.schedule.year.copy(), self.schedule.share.copy()
         year[self.blocks] = np.where(is_dug.any(axis=1), self.first + is_dug.argmax(axis=1), problem.years)
         whole = parts.sum(axis=1, keepdims=True)
         share[self.blocks] = np.where(is_dug.any(axis=1)[:, None], parts / np.where(whole > 0, whole, 1.0), 0.0)
         better = BlockSchedule(year, share)
-        gains = better.value(problem) > self.schedule.value(problem)
-        return better if gains and better.keeps(problem) else self.schedule
+        return better if better.is_better(self.schedule, problem) and better.is_allowed(problem) else self.schedule
 
 
 def sizes_of(problem: BlockProblem) -> list[tuple[int, int]]:

@@ -14,6 +14,8 @@ import numpy as np
 
 from .. import files
 from ..errors import MissingPackage, PlanError
+from ..picture_rules import PictureRules
+from ..pictures import also_as
 from ..progress import Progress
 from ..project import REFERENCE_FACTOR, Project
 from ..verification import demand
@@ -158,7 +160,9 @@ def draw(shared: Shared, gathered: answers.Gathered, factor: int, stage: Path) -
     share = gathered.share[:, gathered.factors.index(factor)]
     solid = grid.spread(shared.frame[shared.project.table.tonnes].to_numpy() > 0)
     count = gathered.table["scenario"].nunique()
-    likely = pictures.Likely(grid, grid.cube(grid.spread(share)), grid.cube(solid), factor, count)
-    pictures.write_plans(likely, stage / PICTURES["plans"])
-    pictures.write_sections(likely, stage / PICTURES["sections"])
-    pictures.write_spread(gathered.table, shared.project.money.currency, stage / PICTURES["spread"])
+    rules = shared.project.pictures or PictureRules()
+    likely = pictures.Likely(grid, grid.cube(grid.spread(share)), grid.cube(solid), factor, count, rules)
+    with also_as(rules.formats):
+        pictures.write_plans(likely, stage / PICTURES["plans"])
+        pictures.write_sections(likely, stage / PICTURES["sections"])
+        pictures.write_spread(gathered.table, shared.project.money.currency, stage / PICTURES["spread"])

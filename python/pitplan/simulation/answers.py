@@ -94,10 +94,12 @@ def quantiles(table: pd.DataFrame) -> pd.DataFrame:
 
 
 def by_block(shared: Shared, gathered: Gathered, blocks: pd.DataFrame) -> pd.DataFrame:
-    """The rows of blocks.csv, by the program's id, with `probability_F` for each factor F."""
+    """The rows of blocks.csv, by the program's id, with `probability_F` for each factor F; numbers as they are written."""
     order = np.argsort(shared.grid.rows)
     columns = {f"probability_{factor}": gathered.share[order, k] for k, factor in enumerate(gathered.factors)}
-    return pd.concat([blocks, pd.DataFrame(columns)], axis=1)
+    # A coordinate has seven digits before the point, and more behind.
+    written = {name: blocks[name].map("{:.15g}".format) for name in blocks.select_dtypes("float").columns}
+    return pd.concat([blocks.assign(**written), pd.DataFrame(columns)], axis=1)
 
 
 def read_blocks(folder: Path, codes: list[str]) -> pd.DataFrame:

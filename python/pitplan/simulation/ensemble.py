@@ -18,7 +18,7 @@ from ..money_rules import Metal
 from ..plan import Plan, notes_of, plan_of
 from ..project import Project, Scenarios
 from ..table import HEADER_ROWS, Table, at_row
-from ..table_format import format_of
+from ..table_format import demand_text, format_of
 from ..walls import Walls
 
 
@@ -79,6 +79,7 @@ def column_lists(project: Project) -> dict[str, list[str]]:
     if not asked:
         return {}
     columns = project.table
+    demand_text(columns.file, "[scenarios] columns")
     header = list(tables.read_header(columns.file, format_of(columns.file, columns)))
     lists = {}
     for metal, names in asked.items():
@@ -149,9 +150,8 @@ def rows_by_place(frame: pd.DataFrame, base: Base, source: str) -> np.ndarray:
     """For each row of a model the row of the table whose block has the same centre."""
     grid, names = base.grid, base.project.table
     steps, inside = [], np.ones(len(frame), dtype=bool)
-    for axis, name in enumerate((names.x, names.y, names.z)):
-        values, _ = tables.filled_numbers(frame[name], source, name, False)
-        step = (values - grid.origin[axis]) / grid.size[axis]
+    x, y, z = (tables.filled_numbers(frame[name], source, name, False)[0] for name in (names.x, names.y, names.z))
+    for axis, step in enumerate((*grid.steps(x, y), (z - grid.origin[2]) / grid.size[2])):
         place = np.rint(step)
         inside &= np.abs(step - place) * grid.size[axis] <= base.project.grid.tolerance
         steps.append((-place if axis == 2 else place).astype(np.int64))

@@ -140,6 +140,7 @@ def meaning(project: Project, reference: float) -> dict[str, Any]:
     project = referred(project, reference)
     without_prices = [asdict(replace(metal, price=Decimal(0))) for metal in project.metals]
     parts = {"money": asdict(project.money), "metals": without_prices, "slopes": asdict(project.slopes)}
+    parts |= {"haulage": asdict(project.haulage)} if project.haulage else {}
     return {**parts, "factors": list(project.schedule.factors)}
 
 

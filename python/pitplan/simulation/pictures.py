@@ -19,9 +19,10 @@ from matplotlib.figure import Figure
 from matplotlib.lines import Line2D
 
 from ..grid import Grid, metres
-from ..map_marks import mark_map, mark_section_cells
+from ..map_marks import axes_of_map, mark_map, mark_section_cells, section_titles
 from ..outlines import edges
-from ..pictures import GROUND, MAP, STYLE, busiest, finish, list_of, name_axes, scaled, write_maps
+from ..picture_rules import PictureRules
+from ..pictures import GROUND, MAP, STYLE, finish, list_of, name_axes, scaled, section_column, section_levels, section_row, write_maps
 
 STEPS = np.linspace(0, 1, 11)
 COLOURS = ListedColormap(matplotlib.colormaps["viridis_r"](np.linspace(0.02, 1, len(STEPS) - 1)))
@@ -39,13 +40,15 @@ SET_MARKS = ("o", "s", "^", "D", "v", "P")
 
 @dataclass(frozen=True)
 class Likely:
-    """The share of scenarios with each cell in the pit of a factor, and where there is rock; levels, rows, columns."""
+    """The share of scenarios with each cell in the pit of a factor, and where there is rock, levels, rows, columns; and which levels and
+    sections are shown."""
 
     grid: Grid
     share: np.ndarray
     solid: np.ndarray
     factor: int
     count: int
+    rules: PictureRules = PictureRules()
 
     @property
     def shown(self) -> np.ndarray:
@@ -54,32 +57,34 @@ class Likely:
 
     @property
     def section_row(self) -> int:
-        """The row of blocks along which a section goes: that in which most of the pit lies that half of the scenarios hold."""
-        return busiest(self.shown >= 0.5, 1)
+        """The row of blocks along which a section goes; the pit is what half of the scenarios hold."""
+        return section_row(self.rules, self.grid, self.shown >= 0.5)
 
     @property
     def section_column(self) -> int:
-        return busiest(self.shown >= 0.5, 2)
+        return section_column(self.rules, self.grid, self.shown >= 0.5)
 
 
 def write_plans(likely: Likely, path: Path) -> None:
-    write_maps(likely.grid, partial(plot_plans, likely), path)
+    write_maps(likely.grid, partial(plot_plans, likely), path, 1 + len(levels_to_show(likely)))
 
 
 def plot_plans(likely: Likely, axes: Any) -> list[Axes]:
-    """The probability of the most probable block of each column, and of the blocks of three levels, on four axes, which it gives."""
-    first, *others = found = list_of(axes, 4)
+    """The probability of the most probable block of each column, and of the blocks of some levels, by default three, on axes for each, which
+    it gives."""
+    levels = levels_to_show(likely)
+    first, *others = found = list_of(axes, 1 + len(levels))
     west, east, south, north, _, top = likely.grid.extent()
     extent, height = (west, east, south, north), likely.grid.size[2]
     draw(first, likely.shown.max(axis=0), likely.solid.any(axis=0), extent)
     first.set_title("Any level")
     mark_section_cells(first, likely.grid, likely.section_row, likely.section_column)
-    for ax, number in zip(others, levels_to_show(likely)):
+    for ax, number in zip(others, levels):
         draw(ax, likely.shown[number], likely.solid[number], extent)
         ax.set_title(f"Level {metres(top - (number + 1) * height)} to {metres(top - number * height)} m")
     for ax in found:
         mark_map(ax, likely.grid)
-        name_axes(ax, "east", "north")
+        name_axes(ax, *axes_of_map(likely.grid))
     explain(found, likely)
     return found
 
@@ -99,11 +104,11 @@ def plot_sections(likely: Likely, axes: Any) -> list[Axes]:
     found = list_of(axes, 2)
     west, east, south, north, bottom, top = likely.grid.extent()
     row, column = likely.section_row, likely.section_column
-    x, y, _ = likely.grid.centres(np.array(row * likely.grid.shape[2] + column))
+    (first, second), (along, up) = section_titles(likely.grid, row, column), likely.grid.frame.names
     cuts: tuple[Any, ...] = ((slice(None, None, -1), row, slice(None)), (slice(None, None, -1), slice(None), column))
     places = (
-        ((west, east, bottom, top), f"West to east (A) at north {metres(y)}", "east"),
-        ((south, north, bottom, top), f"South to north (B) at east {metres(x)}", "north"),
+        ((west, east, bottom, top), f"{first[0].upper()}{first[1:]}", along),
+        ((south, north, bottom, top), f"{second[0].upper()}{second[1:]}", up),
     )
     for ax, cut, (extent, title, label) in zip(found, cuts, places):
         draw(ax, likely.shown[cut], likely.solid[cut], extent)
@@ -140,11 +145,8 @@ def explain(axes: list[Axes], likely: Likely) -> None:
 
 
 def levels_to_show(likely: Likely) -> list[int]:
-    """Three levels of what any scenario digs: near the top, in the middle and near the floor."""
-    used = np.flatnonzero((likely.shown > 0).any(axis=(1, 2)))
-    if not len(used):
-        used = np.arange(likely.grid.shape[0])
-    return [int(used[int(share * (len(used) - 1))]) for share in (0.2, 0.5, 0.8)]
+    """Those that are asked for, else three of what any scenario digs."""
+    return section_levels(likely.rules, likely.grid, likely.shown > 0)
 
 
 def write_spread(table: pd.DataFrame, currency: str, path: Path) -> None:

@@ -10,7 +10,7 @@ from typing import Any
 
 import numpy as np
 
-from .. import csv_file, files, summary as summaries
+from .. import csv_file, files, pictures, summary as summaries
 from ..mine import counted_rows
 from ..money_rules import ByRegion
 from ..plan import Plan
@@ -39,6 +39,7 @@ def prepare(project: Project, folder: Path, progress: Progress) -> folders.Share
     solver = chosen(project.solver)
     with progress.step(f"reading {project.table.file}"):
         base = read_base(project)
+    pictures.demand_within(project, base.grid)
     progress.lines(summaries.of_ground(base.table, base.grid, project))
     with progress.step("reading the models"):
         read = write_models(base, folder)
@@ -99,7 +100,7 @@ def write_shared(base: Base, plan: Plan, solver: Solver, stage: Path) -> list[st
     shutil.copyfile(base.project.path, stage / folders.PROJECT)
     frame = plan.blocks
     grades = [metal.column for metal in base.project.metals]
-    costs = ["mining_cost", "revenue", "processing_cost"]
+    costs = ["mining_cost", "revenue", "processing_cost", *(["haulage_cost", "ore_haulage_cost"] if base.project.haulage else [])]
     csv_file.write(stage / BLOCKS, frame.drop(columns=[*grades, *costs]))
     return [folders.BASE, *needs, folders.PROJECT, BLOCKS]
 
@@ -121,6 +122,7 @@ def list_of(base: Base, plan: Plan, read: Models, solver: Solver) -> list[Scenar
     walls = {"code": base.walls.code, **{str(k): p.cone for k, p in enumerate(base.walls.patterns)}}
     common = {
         "project": folders.meaning(project, plan.reference),
+        "grid": plan.grid.as_json(),
         "blocks": folders.hash_of_arrays({**arrays_of(base), **walls, **settled}),
         "solver": solver.sha256,
     }
@@ -142,7 +144,7 @@ def write_record(plan: Plan, scenarios: list[Scenario], solver: Solver, written:
         "project": os.path.relpath(plan.project.path, stage.parent),
         "factors": list(plan.project.schedule.factors),
         "solver": vars(solver),
-        "grid": {"shape": plan.grid.shape, "origin": plan.grid.origin, "size": plan.grid.size},
+        "grid": plan.grid.as_json(),
         "walls": [pattern.as_json() for pattern in plan.walls.patterns],
         "mining_cost_reference": plan.reference,
         "notes": [note for note in plan.notes if "amounts were rounded" not in note],

@@ -12,6 +12,7 @@ import pandas as pd
 
 from ..errors import PlanError
 from ..files import grid_of
+from ..picture_rules import PictureRules
 from ..plan import codes_of, shown_name
 from ..project import REFERENCE_FACTOR, load
 from . import folder as folders
@@ -57,9 +58,11 @@ class ScenarioResult:
             raise PlanError(f"{self.folder / PROBABILITY}: has no factor {factor}")
         record = json.loads((self.folder / folders.RECORD).read_text(encoding="utf-8"))
         grid = grid_of(record["grid"], blocks["id"].to_numpy())
-        solid = blocks[shown_name(load(self.folder / folders.PROJECT).table.tonnes)].to_numpy() > 0
+        project = load(self.folder / folders.PROJECT)
+        solid = blocks[shown_name(project.table.tonnes)].to_numpy() > 0
         count = self.table["scenario"].nunique()
-        return Likely(grid, grid.cube(grid.spread(blocks[name].to_numpy())), grid.cube(grid.spread(solid, fill=False)), factor, count)
+        share, rules = grid.cube(grid.spread(blocks[name].to_numpy())), project.pictures or PictureRules()
+        return Likely(grid, share, grid.cube(grid.spread(solid, fill=False)), factor, count, rules)
 
     def frame(self, name: str, **reading: Any) -> pd.DataFrame:
         try:

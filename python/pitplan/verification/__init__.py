@@ -13,7 +13,7 @@ of the program, for the files that it was given; here is looked whether these sa
 - what must be dug is in every shell and what may not be is in none; the surface as mined over a column without points is there a
   triangle of three points whose circle holds no other, and where several may be laid, as on a regular grid of points, the highest;
 - each cost and each revenue is the product of the table's and the project's numbers: by floats for all blocks, and exactly, by
-  decimals, for those at the edge of a shell and 10,000 others;
+  decimals, for those at the edge of a shell and 10,000 others; with haulage each road is right to a millimetre, by geometry;
 - the table of shells adds up, and the program's worth of each shell is that of its blocks to the last digit that blocks.csv holds;
 - no year exceeds a capacity, the years add up to their shell, and both net present values follow from its benches;
 - of `pit`, both rows of pits.csv are right in all this, and the pit without fixed blocks is worth no less;
@@ -33,8 +33,8 @@ import pandas as pd
 
 from ..errors import PlanError
 from ..project import Project
-from . import absent, answer as answers, block_schedule, fixed, money, phases, planned_table, reach, reblocked, scenarios, schedule, sensitivity, sums
-from . import walls, years
+from . import absent, answer as answers, block_schedule, fixed, haulage, money, phases, planned_table, reach, reblocked, scenarios, schedule
+from . import sensitivity, sums, walls, years
 from .answer import TOLD, Answer, Rule, rule
 
 OF_PITS = (walls.verify, sums.verify, sums.verify_worth, years.verify)
@@ -50,6 +50,7 @@ def verify(folder: Path, project: Optional[Project] = None, table: Optional[pd.D
     answer = answers.read(folder, project, table)
     more = [reblocked.verify(answer)] if answer.parts is not None else []
     more += [reach.verify(answer)] if answer.beyond is not None else []
+    more += [haulage.verify(answer, money.sample(answer))] if answer.project.haulage else []
     more += [verify_free(answer, answer.free)] if answer.free else []
     more += phases.verify(answer) if answer.phases is not None else []
     more += [planned_table.verify(answer, folder / planned_table.NAME)] if (folder / planned_table.NAME).exists() else []

@@ -18,6 +18,7 @@ from ..project import AbsentRock, Project, load
 from ..wall_rules import Wall
 from .feed import by_code, recovered
 from .put_together import divided, together, written_rows
+from .turned import steps_of
 
 # In place of a factor: a cell that is not dug at any, and one where there is nothing to dig.
 UNDUG, NOTHING = 2**30, 0
@@ -27,6 +28,8 @@ TOLD = 10
 SAID = ("id", "mining_cost", "revenue", "processing_cost", "factor", "process_factor")
 # Of several processes that of each block at the price as given, "" where it is waste; there are amounts of each process then.
 PROCESS = "process"
+# With `[haulage]` the road of each block, and what of the costs is hauling.
+HAULED = ("road", "haulage_cost", "ore_haulage_cost")
 # Those that `pitplan pit` writes besides, of the pit that keeps to no fixed blocks.
 FREE = ("free_factor", "free_process_factor")
 # Those that `pitplan pushbacks` and `pitplan schedule` write besides.
@@ -103,6 +106,11 @@ class Answer:
     def tonnes(self) -> np.ndarray:
         return self.rows[self.project.table.tonnes].to_numpy()
 
+    @property
+    def azimuth(self) -> float:
+        """Degrees clockwise from the planner's north to the grid's."""
+        return float(self.record["grid"].get("azimuth", 0.0))
+
     @cached_property
     def elevations(self) -> np.ndarray:
         """Metres of the centres of each level, from the top."""
@@ -172,11 +180,8 @@ class Answer:
     @property
     def steps(self) -> tuple[np.ndarray, np.ndarray, np.ndarray]:
         """Blocks east, north and down from the first block, which are whole but for the tolerance."""
-        columns, origin = self.project.table, self.record["grid"]["origin"]
-        east, north, up = (
-            (self.rows[name].to_numpy() - first) / size
-            for name, first, size in zip((columns.x, columns.y, columns.z), origin, self.size)
-        )
+        columns = self.project.table
+        east, north, up = steps_of(self.rows[[columns.x, columns.y, columns.z]].to_numpy(), self.record["grid"]).T
         return east, north, -up
 
     @cached_property
@@ -250,9 +255,11 @@ def shares_of(project: Project) -> list[str]:
 
 def said_of(project: Project) -> tuple[str, ...]:
     """The columns of blocks.csv that are the answer's to a project."""
+    hauled = HAULED if project.haulage else ()
     if not project.processes:
-        return SAID
-    return (*SAID, PROCESS, *(f"{name}_{process.name}" for process in project.processes for name in ("revenue", "processing_cost")))
+        return (*SAID, *hauled)
+    of_each = (f"{name}_{process.name}" for process in project.processes for name in ("revenue", "processing_cost"))
+    return (*SAID, *hauled, PROCESS, *of_each)
 
 
 def read_shells(folder: Path, record: dict[str, Any], project: Project, written: pd.DataFrame, table: TableRows) -> Answer:
@@ -309,7 +316,7 @@ def read_blocks(path: Path, project: Project, said: Optional[tuple[str, ...]] = 
 
 def own_name(column: str) -> str:
     """A column of the planner's, as blocks.csv names it."""
-    return f"planner_{column}" if column in (*SAID, *FREE, PHASE, YEAR, PROCESS) else column
+    return f"planner_{column}" if column in (*SAID, *FREE, *HAULED, PHASE, YEAR, PROCESS) else column
 
 
 def beside(
@@ -342,5 +349,5 @@ def beside(
 
 def nearest_cells(centres: np.ndarray, grid: dict[str, Any]) -> np.ndarray:
     """The numbers of the cells to whose centres rows x, y, z in metres are nearest, from the top down and there from the south-west."""
-    east, north, up = np.rint((centres - grid["origin"]) / grid["size"]).astype(np.int64).T
+    east, north, up = np.rint(steps_of(centres, grid)).astype(np.int64).T
     return np.ravel_multi_index((-up, north, east), grid["shape"], mode="clip")

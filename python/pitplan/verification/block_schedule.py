@@ -6,13 +6,15 @@ import json
 import math
 from collections.abc import Iterator
 from dataclasses import replace
-from typing import Any
+from itertools import product
+from typing import Any, Optional
 
 import numpy as np
 import pandas as pd
 
 from ..money_rules import GRADE_UNITS
-from . import walls
+from ..schedule_rules import Sum
+from . import fixed, walls, ways_table
 from .answer import SHARE, TOLD, YEAR, Answer, Rule, rule
 from .feed import recovered
 from .money_of_years import premiums
@@ -25,11 +27,23 @@ Shares = list[tuple[str, np.ndarray]]
 
 
 def verify(answer: Answer) -> list[Rule]:
-    """Three rules."""
+    """Four rules."""
     told = json.loads((answer.folder / FILE).read_text(encoding="utf-8"))
     flows = flows_of(answer)
     sums = flows.groupby(answer.said[YEAR].to_numpy()).sum()
-    return [verify_order(answer, told), verify_limits(answer, told, sums), verify_value(answer, told, sums)]
+    rules = [verify_order(answer, told), verify_limits(answer, told, sums), verify_fixed(answer), verify_value(answer, told, sums)]
+    return [found for found in rules if found is not None]
+
+
+def verify_fixed(answer: Answer) -> Optional[Rule]:
+    """What must be dug is dug, and what may not be is not, nor what needs it."""
+    if answer.project.fixed is None:
+        return None
+    year, (must, never) = answer.said[YEAR].to_numpy(), fixed.demanded(answer, answer.project.fixed)
+    left, dug = np.flatnonzero(must & (year == 0)), np.flatnonzero(never & (year > 0))
+    differences = [f"{answer.called(row)} must be dug, and is in no year" for row in left[:TOLD]]
+    differences += [f"{answer.called(row)} may not be dug, and is in year {year[row]}" for row in dug[:TOLD]]
+    return rule("block fixed", "what must be dug is dug in some year, and what may not be in none", differences, len(left) + len(dug))
 
 
 def flows_of(answer: Answer) -> pd.DataFrame:
@@ -37,11 +51,25 @@ def flows_of(answer: Answer) -> pd.DataFrame:
     shares = shares_of(answer)
     columns = {"rock_tonnes": answer.tonnes, "ore_tonnes": sum(share for _, share in shares) * answer.feed}
     columns |= {f"ore_tonnes_{name}": share * answer.feed for name, share in shares if name}
+    columns |= {f"sum_{it.name}": sum_of(answer, it, shares) for it in sums_asked(answer)}
     columns |= {f"metal_{metal.name}": quantity(answer, number, shares) for number, metal in enumerate(answer.project.metals)}
     frame, said = pd.DataFrame(columns), answer.said
     amounts = zip(shares, answer.amounts_of_ways)
     gain = sum(share * (said[revenue] - said[cost]).to_numpy() for (_, share), (revenue, cost) in amounts)
     return frame.assign(cash=gain - said["mining_cost"].to_numpy() + more_by_years(answer, frame))
+
+
+def sums_asked(answer: Answer) -> tuple[Sum, ...]:
+    rules = answer.project.schedule_rules
+    return rules.sums if rules else ()
+
+
+def sum_of(answer: Answer, asked: Sum, shares: Shares) -> np.ndarray:
+    """What each block adds to a sum of a column: of what is dug, or of what is milled, in one process or in any."""
+    milled = sum((share for name, share in shares if asked.of in ("ore", name)), np.zeros(len(answer.rows)))
+    counted = np.ones(len(answer.rows)) if asked.of == "rock" else milled
+    tonnes = answer.tonnes if asked.of == "rock" else answer.undiluted
+    return answer.rows[asked.column].to_numpy() * counted * (tonnes if asked.a_tonne else 1.0)
 
 
 def quantity(answer: Answer, number: int, shares: Shares) -> np.ndarray:
@@ -86,7 +114,7 @@ def verify_order(answer: Answer, told: dict[str, Any]) -> Rule:
 
 
 def verify_limits(answer: Answer, told: dict[str, Any], sums: pd.DataFrame) -> Rule:
-    """No year is above a limit, the mill's ramp-up among them."""
+    """No year is above a limit, the mill's ramp-up among them, nor holds less than the least."""
     differences = []
     for name, ramps, most in limits_of(answer):
         if told["limits"].get(name) != most:
@@ -95,7 +123,26 @@ def verify_limits(answer: Answer, told: dict[str, Any], sums: pd.DataFrame) -> R
             allowed = most * ramps[min(int(year), len(ramps)) - 1]
             if amount > allowed * (1 + 1e-8) + CENT:
                 differences.append(f"year {year}: {name} {amount:.10g} above {allowed:.10g}")
-    return rule("block limits", "no year is above a limit of ore, rock or metal", differences)
+    due = dict(least_of(answer))
+    if told.get("least", {}) != due:
+        differences.append(f"least amounts are told as {told.get('least', {})} for {due}")
+    for (name, least), year in product(due.items(), range(1, told["years"] + 1)):
+        of_mill = answer.project.schedule_rules.ramp_up if name.startswith("ore_tonnes") else (1.0,)
+        amount, owed = float(sums[name].get(year, 0.0)), least * of_mill[min(year, len(of_mill)) - 1]
+        if amount < owed * (1 - 1e-8) - CENT:
+            differences.append(f"year {year}: {name} {amount:.10g} below {owed:.10g}")
+    return rule("block limits", "no year is above a limit of ore, rock, metal or a sum, nor below a least amount", differences)
+
+
+def least_of(answer: Answer) -> Iterator[tuple[str, float]]:
+    """Name of an amount that has a least by year, and this."""
+    rules = answer.project.schedule_rules
+    for name, least in (rules.least if rules else {}).items():
+        kind = "ore_tonnes" if name == "ore" else "rock_tonnes" if name == "rock" else f"metal_{name}"
+        kind = f"ore_tonnes_{name}" if name in {process.name for process in answer.project.processes} else kind
+        if least:
+            yield kind, least
+    yield from ((f"sum_{it.name}", it.least) for it in sums_asked(answer) if it.least)
 
 
 def limits_of(answer: Answer) -> Iterator[tuple[str, tuple[float, ...], float]]:
@@ -110,6 +157,9 @@ def limits_of(answer: Answer) -> Iterator[tuple[str, tuple[float, ...], float]]:
         yield f"ore_tonnes_{process.name}", of_mill, process.per_year
     for name, most in (rules.metal_per_year if rules else {}).items():
         yield f"metal_{name}", (1.0,), most
+    for it in sums_asked(answer):
+        if it.most is not None:
+            yield f"sum_{it.name}", (1.0,), it.most
 
 
 def verify_value(answer: Answer, told: dict[str, Any], sums: pd.DataFrame) -> Rule:
@@ -132,5 +182,7 @@ def verify_value(answer: Answer, told: dict[str, Any], sums: pd.DataFrame) -> Ru
     gap = (bound - value) / abs(bound) if bound else 0.0
     if abs(told["gap"] - gap) > 1e-6:
         differences.append(f"gap {told['gap']:.9g} for {gap:.9g}")
+    dug = int(((answer.said[YEAR] > 0) & (answer.tonnes > 0)).sum())
+    differences += ways_table.differences(answer, {CASE: {"value": told["value"], "bound": bound, "blocks": dug}})
     holds = "cash is discounted as the project asks, years and value are the sums of blocks, and it is not above the bound"
     return rule("block value", holds, differences)

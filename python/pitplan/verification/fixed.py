@@ -62,7 +62,10 @@ def within(answer: Answer, corners: np.ndarray, inside: bool) -> np.ndarray:
 
 def verify_places(answer: Answer) -> Rule:
     """Each block lies in a cell of its own, at its centre, and bears its number; a shell's factor is one of the list."""
-    tolerance, differences, count = answer.project.grid.tolerance, [], 0
+    rules, differences, count = answer.project.grid, [], 0
+    tolerance = rules.tolerance
+    if rules.azimuth is not None and rules.azimuth != answer.azimuth:
+        differences, count = [f"the grid's north has azimuth {answer.azimuth:.10g} for {rules.azimuth:.10g} of the project"], 1
     for steps, cell, size in zip(answer.steps, answer.cells[::-1], answer.size):
         off = np.abs(steps - cell) * size
         far = np.flatnonzero(off > tolerance + 1e-6)

@@ -11,12 +11,15 @@ import numpy as np
 
 from ..money_rules import GRADE_UNITS, Curve, Recovery
 from ..project import Project
+from . import haulage
 from .answer import PROCESS, TOLD, UNDUG, Answer, Rule, rule
 from .feed import at_grade, by_code, of_code
 from .walls import needed_by
 
 SAMPLE = 10_000
 MINING = "mining_cost"
+# Mining cost, revenue and processing cost.
+Amounts = tuple[Decimal, Decimal, Decimal]
 
 
 def verify(answer: Answer) -> Rule:
@@ -137,6 +140,7 @@ class Exactly:
     codes   of each block, of rock and region
     costs   by these codes
     depths  what mining a tonne costs more, by level from the top
+    roads   metres to the exit of each block as the answer tells them, 0 where the project has no haulage
     weighed the amounts of blocks that were asked for, by their numbers, since many blocks of waste have the same
     """
 
@@ -147,7 +151,8 @@ class Exactly:
     costs: dict[tuple[str, str], Costs]
     level: list[int]
     depths: list[Decimal]
-    weighed: dict[tuple, tuple[Decimal, Decimal, Decimal]] = field(default_factory=dict)
+    roads: list[float]
+    weighed: dict[tuple, Amounts] = field(default_factory=dict)
 
     @staticmethod
     def of(answer: Answer) -> "Exactly":
@@ -157,20 +162,25 @@ class Exactly:
         costs = {code: Costs.of(project, *code) for code in set(codes)}
         grades = [answer.rows[metal.column].tolist() for metal in project.metals]
         depths = [more_for_depth(answer, z) for z in answer.elevations]
-        return Exactly(answer, answer.tonnes.tolist(), grades, codes, costs, answer.cells[0].tolist(), depths)
+        rules = project.haulage
+        roads = (haulage.roads_of(answer, rules) if rules else np.zeros(len(answer.rows))).tolist()
+        return Exactly(answer, answer.tonnes.tolist(), grades, codes, costs, answer.cells[0].tolist(), depths, roads)
 
-    def amounts(self, row: int) -> tuple[Decimal, Decimal, Decimal]:
+    def amounts(self, row: int) -> Amounts:
         """Mining cost, revenue and processing cost of a block."""
-        numbers = (self.tonnes[row], self.codes[row], self.level[row], *(grades[row] for grades in self.grades))
+        place = self.level[row], self.roads[row]
+        numbers = (self.tonnes[row], self.codes[row], place, *(grades[row] for grades in self.grades))
         if numbers not in self.weighed:
             self.weighed[numbers] = self.of_numbers(*numbers)
         return self.weighed[numbers]
 
-    def of_numbers(self, rock: float, codes: tuple[str, str], level: int, *grades: float) -> tuple[Decimal, Decimal, Decimal]:
-        """The amounts of a block of so many tonnes of rock, of these codes, on a level, with a grade of each metal."""
-        project, tonnes = self.answer.project, Decimal(repr(rock))
-        costs = self.costs[codes]
-        mining = tonnes * (costs.mining + self.depths[level])
+    def of_numbers(self, rock: float, codes: tuple[str, str], place: tuple[int, float], *grades: float) -> Amounts:
+        """The amounts of a block of so many tonnes of rock, of these codes, on a level and so far from the exit, with a grade of each
+        metal."""
+        project, tonnes, (level, road) = self.answer.project, Decimal(repr(rock)), place
+        costs, rules = self.costs[codes], self.answer.project.haulage
+        waste, ore = (haulage.a_tonne(road, kind) for kind in (rules.waste, rules.ore)) if rules else (Decimal(0), Decimal(0))
+        mining = tonnes * (costs.mining + self.depths[level] + waste)
         revenue = selling = Decimal(0)
         for number, (metal, told) in enumerate(zip(project.metals, grades)):
             if not told:
@@ -180,7 +190,7 @@ class Exactly:
             revenue += quantity * metal.price
             selling += quantity * metal.selling_cost
         unit = Decimal(1).scaleb(-project.money.decimals)
-        processing = tonnes * costs.mining_recovery * (1 + costs.dilution) * (costs.processing + project.money.royalty_per_tonne)
+        processing = tonnes * costs.mining_recovery * (1 + costs.dilution) * (costs.processing + project.money.royalty_per_tonne + ore - waste)
         amounts = (mining, revenue - revenue * project.money.royalty, processing + selling)
         mining, revenue, processing = (amount.quantize(unit, ROUND_HALF_EVEN) for amount in amounts)
         return mining, revenue, processing if revenue else Decimal(0)
@@ -203,8 +213,10 @@ def by_floats(answer: Answer) -> tuple[np.ndarray, np.ndarray, np.ndarray]:
     """Mining cost, revenue, and cost of processing and selling of each block, as floats that are not rounded."""
     money, columns = answer.project.money, answer.project.table
     deeper = np.array([float(more_for_depth(answer, z)) for z in answer.elevations])
-    mining = answer.tonnes * (by_code(money.mining_cost, answer.rows, columns) + deeper[answer.cells[0]])
-    return mining, *gains_by_floats(answer)
+    a_tonne = by_code(money.mining_cost, answer.rows, columns) + deeper[answer.cells[0]]
+    if rules := answer.project.haulage:
+        a_tonne = a_tonne + haulage.rate(haulage.roads_of(answer, rules), rules.waste)
+    return answer.tonnes * a_tonne, *gains_by_floats(answer)
 
 
 def gains_by_floats(answer: Answer) -> tuple[np.ndarray, np.ndarray]:
@@ -216,4 +228,6 @@ def gains_by_floats(answer: Answer) -> tuple[np.ndarray, np.ndarray]:
         revenue += quantity * float(metal.price) * (1 - float(money.royalty))
         selling += quantity * float(metal.selling_cost)
     a_tonne = by_code(money.processing_cost, answer.rows, columns) + float(money.royalty_per_tonne)
+    if rules := project.haulage:
+        a_tonne = a_tonne + haulage.rate(haulage.roads_of(answer, rules), rules.ore, rules.waste)
     return revenue, answer.feed * a_tonne + selling

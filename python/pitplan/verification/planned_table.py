@@ -15,6 +15,7 @@ from .. import table as tables
 from ..project import Project
 from ..table_format import format_of, opened
 from .answer import Answer, Rule, own_name, rule
+from .turned import steps_of
 
 NAME = "table.csv"
 FOUND = ("factor", "process_factor", "phase", "year")
@@ -52,7 +53,7 @@ def found_of(answer: Answer) -> pd.DataFrame:
     """For each row of the table what is said of the block whose centre is nearest, 0 where that is none of the answer's."""
     columns, shape = answer.project.table, np.array(answer.shape)
     centres = tables.read(answer.project).frame[[columns.x, columns.y, columns.z]].to_numpy()
-    east, north, up = np.rint((centres - answer.record["grid"]["origin"]) / answer.size).astype(np.int64).T
+    east, north, up = np.rint(steps_of(centres, answer.record["grid"])).astype(np.int64).T
     cells = np.array([-up, north, east])
     inside = ((cells >= 0) & (cells < shape[:, None])).all(axis=0)
     row_of = np.full(answer.shape, -1)

@@ -9,12 +9,13 @@ import pandas as pd
 
 from ..errors import PlanError
 from ..project import Project, TableColumns
+from .turned import places_of, steps_of
 
 
 def together(parts: pd.DataFrame, project: Project, grid: dict[str, Any]) -> pd.DataFrame:
     """A row a cell that holds rows, from the floor up, from the south, from the west."""
     columns, fixed = project.table, project.fixed
-    steps = (parts[[columns.x, columns.y, columns.z]].to_numpy() - np.array(grid["origin"])) / np.array(grid["size"])
+    steps = steps_of(parts[[columns.x, columns.y, columns.z]].to_numpy(), grid)
     east, north, up = np.floor(steps + 0.5).astype(np.int64).T
     frame = parts.assign(east_=east, north_=north, up_=up + grid["shape"][0] - 1)
     for metal in project.metals:
@@ -29,9 +30,9 @@ def together(parts: pd.DataFrame, project: Project, grid: dict[str, Any]) -> pd.
     for name in (fixed.forced, fixed.barred) if fixed else ():
         if name:
             found[name] = by[name].max()
-    for name, size, first in zip((columns.x, columns.y, columns.z), grid["size"], grid["origin"]):
-        place = found.index.get_level_values({columns.x: "east_", columns.y: "north_", columns.z: "up_"}[name])
-        found[name] = first + size * (place - (grid["shape"][0] - 1 if name == columns.z else 0))
+    up, north, east = (found.index.get_level_values(name).to_numpy() for name in found.index.names)
+    found[columns.x], found[columns.y] = places_of(np.stack([east, north], axis=1), grid).T
+    found[columns.z] = grid["origin"][2] + grid["size"][2] * (up - (grid["shape"][0] - 1))
     if columns.id:
         # From the west, the south and the floor of all that the table holds, of which some may be left out.
         first = [found.index.get_level_values(name).min() - 1 for name in ("up_", "north_", "east_")]
@@ -54,7 +55,7 @@ def written_rows(expected: pd.DataFrame, written: pd.DataFrame, project: Project
     axes = [project.table.x, project.table.y, project.table.z]
 
     def places(frame: pd.DataFrame) -> pd.MultiIndex:
-        steps = np.rint((frame[axes].to_numpy() - np.array(grid["origin"])) / np.array(grid["size"])).astype(np.int64)
+        steps = np.rint(steps_of(frame[axes].to_numpy(), grid)).astype(np.int64)
         return pd.MultiIndex.from_arrays(steps.T)
 
     at = places(written).get_indexer(places(expected))
@@ -69,7 +70,7 @@ def divided(frame: pd.DataFrame, project: Project, grid: dict[str, Any]) -> tupl
     Raises PlanError where these are not as many as were left out.
     """
     columns = project.table
-    east, north, up = np.rint((frame[[columns.x, columns.y, columns.z]].to_numpy() - grid["origin"]) / grid["size"]).T
+    east, north, up = np.rint(steps_of(frame[[columns.x, columns.y, columns.z]].to_numpy(), grid)).T
     levels, rows, width = grid["shape"]
     inside = (east >= 0) & (east < width) & (north >= 0) & (north < rows) & (up <= 0) & (up > -levels)
     beyond = np.count_nonzero(~inside)

@@ -9,6 +9,7 @@ import pandas as pd
 
 from .answer import NOTHING, TOLD, UNDUG, Answer, Rule, rule
 from .money import gains_by_floats
+from .turned import steps_of
 from .walls import Run, cone, runs
 
 HAIR = 1e-9
@@ -41,9 +42,7 @@ def beyond_sides(answer: Answer) -> tuple[int, int, int, int]:
     """How many rows of the model lie south and north of the grid, and how many columns west and east of it."""
     assert answer.beyond is not None
     columns, (_, rows, width) = answer.project.table, answer.shape
-    x, y = (answer.beyond[name].to_numpy() for name in (columns.x, columns.y))
-    east = np.rint((x - answer.record["grid"]["origin"][0]) / answer.size[0])
-    north = np.rint((y - answer.record["grid"]["origin"][1]) / answer.size[1])
+    east, north = np.rint(steps_of(answer.beyond[[columns.x, columns.y]].to_numpy(), answer.record["grid"])).T
     far = (-north.min(), north.max() - rows + 1, -east.min(), east.max() - width + 1)
     south, up, west, right = (max(0, int(steps)) for steps in far)
     return south, up, west, right
@@ -58,7 +57,7 @@ def leading_off(answer: Answer) -> np.ndarray:
     for number, wall in enumerate(answer.project.slopes.walls):
         mine = (entry == number) & (dug != UNDUG) & (dug != NOTHING)
         for up in range(1, answer.levels(wall) + 1):
-            for run in runs(cone(wall, answer.size, up)):
+            for run in runs(cone(wall, answer.size, up, answer.azimuth)):
                 wrong |= mine & (level >= up) & leads_off(run, row, column, (answer.shape[1:], (south, north, west, east)))
     return np.flatnonzero(wrong)
 

@@ -10,6 +10,7 @@ import pandas as pd
 from ..project import Project
 from .answer import TOLD, Answer, Rule, rule
 from .put_together import divided, together
+from .turned import steps_of
 
 # What is kept of tonnes and of grades, and a hair for sums in another order.
 TONNES, GRADE = 0.51e-6, 0.51e-9
@@ -41,10 +42,13 @@ def unlike_grid(parts: pd.DataFrame, project: Project, grid: dict[str, Any]) -> 
     """Where the blocks have not the size that the project asks for, or their edges do not lie where they should."""
     columns, rules, found = project.table, project.table.reblock, []
     assert rules is not None
-    levels = grid["shape"][0]
-    for k, name in enumerate((columns.x, columns.y, columns.z)):
-        centres, size = np.unique(parts[name].to_numpy()), grid["size"][k]
-        edge = grid["origin"][k] - size / 2 - (size * (levels - 1) if k == 2 else 0.0)
+    levels, axes = grid["shape"][0], [columns.x, columns.y, columns.z]
+    # Metres along the grid's own axes from its first block, where it is turned, else the planner's.
+    first = np.array([0.0, 0.0, grid["origin"][2]]) if grid.get("azimuth") else np.array(grid["origin"])
+    along = steps_of(parts[axes].to_numpy(), grid) * grid["size"] + first if grid.get("azimuth") else parts[axes].to_numpy()
+    for k, name in enumerate(axes):
+        centres, size = np.unique(along[:, k]), grid["size"][k]
+        edge = first[k] - size / 2 - (size * (levels - 1) if k == 2 else 0.0)
         if rules.counts is not None:
             own = size / rules.counts[k]
             expected, start = own * rules.counts[k], centres[0] - own / 2
@@ -55,7 +59,8 @@ def unlike_grid(parts: pd.DataFrame, project: Project, grid: dict[str, Any]) -> 
                 found.append(f"{name}: blocks of {size:.10g} m are no {rules.counts[k]} of the table's")
         else:
             assert rules.size is not None and rules.corner is not None
-            expected, start = rules.size[k], rules.corner[k] + size * np.rint((edge - rules.corner[k]) / size)
+            corner = (steps_of(np.array([rules.corner]), grid)[0] * grid["size"] + first)[k] if grid.get("azimuth") else rules.corner[k]
+            expected, start = rules.size[k], corner + size * np.rint((edge - corner) / size)
         if abs(expected - size) > HAIR or abs(edge - start) > max(HAIR, project.grid.tolerance):
             found.append(f"{name}: blocks of {size:.10g} m from {edge:.10g} on for {expected:.10g} from {start:.10g}")
     return found

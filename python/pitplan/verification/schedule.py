@@ -12,7 +12,7 @@ from typing import Any
 import numpy as np
 import pandas as pd
 
-from . import milling, years
+from . import milling, ways_table, years
 from .answer import TOLD, Answer, Rule, rule
 from .money_of_years import capital, more_by_prices, most_premium
 
@@ -189,6 +189,9 @@ def verify_value(ways: list[Way], told: dict[str, Any], sums: pd.DataFrame) -> R
             if told[name] is not None and way.said["value"] > told[name] + CENT + 1e-7 * abs(told[name]):
                 differences.append(f"{way.name}: value {way.said['value']:.12g} is above {name} {told[name]:.12g}")
         differences += unlike_years(way, told["factor"])
+    if ways:
+        of_record = {way.name: {"value": way.said["value"], "bound": told["bound"], "left_tonnes": way.said["left_tonnes"]} for way in ways}
+        differences += ways_table.differences(ways[0].answer, of_record)
     holds = "cash is discounted as the project asks, values and years are the sums of it, and none is above the bound"
     return rule("schedule value", holds, differences[:TOLD], len(differences))
 

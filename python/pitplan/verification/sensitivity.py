@@ -215,6 +215,8 @@ def is_given(project: Project, name: str) -> bool:
     data = text_of(project.path)
     if name == "selling_cost":
         return any(metal.get(name, 0) != 0 for metal in data["metals"])
+    if name == "haulage":
+        return "haulage" in data
     return name != "slopes" or any({"angle", "azimuths", "bench"} & {*wall} for wall in data["slopes"]["walls"])
 
 
@@ -284,4 +286,5 @@ NUMBERS: dict[str, Any] = {
     "recovery": in_recoveries,
     "slopes": in_walls,
     "capacity": in_section("shells", "ore_per_year", "rock_per_year", of_process="per_year"),
+    "haulage": in_section("haulage", "cost"),
 }

@@ -15,6 +15,7 @@ from matplotlib.tri import Triangulation
 from scipy.spatial import ConvexHull, cKDTree
 
 from .answer import Answer
+from .turned import places_of, steps_of
 
 # Metres: so near to the outline of all points nothing is demanded.
 HAIR = 1e-6
@@ -36,9 +37,9 @@ def above(answer: Answer, file: Path) -> np.ndarray:
 
 def means(answer: Answer, points: pd.DataFrame) -> np.ndarray:
     """The mean height of the points over each column of blocks, in metres, by row and column; nan where there is none."""
-    origin, size, (_, rows, columns) = answer.record["grid"]["origin"], answer.size, answer.shape
-    over = [np.floor((points[name] - first) / step + 0.5).astype(int) for name, first, step in zip("xy", origin, size)]
-    mean = points["z"].groupby([over[1].rename("row"), over[0].rename("column")]).mean()
+    _, rows, columns = answer.shape
+    column, row = np.floor(steps_of(points[["x", "y"]].to_numpy(), answer.record["grid"]) + 0.5).astype(int).T
+    mean = points["z"].groupby([pd.Series(row, name="row"), pd.Series(column, name="column")]).mean()
     every = pd.MultiIndex.from_product([range(rows), range(columns)])
     return mean.reindex(every).to_numpy().reshape(rows, columns)
 
@@ -49,9 +50,8 @@ def between(answer: Answer, points: np.ndarray, places: np.ndarray) -> np.ndarra
     points  rows x, y, z in metres
     places  rows of the row and the column of each column of blocks
     """
-    origin, size = np.array(answer.record["grid"]["origin"][:2]), np.array(answer.size[:2])
     middle = points[:, :2].mean(axis=0)
-    flat, centres = points[:, :2] - middle, places[:, ::-1] * size + origin - middle
+    flat, centres = points[:, :2] - middle, places_of(places[:, ::-1], answer.record["grid"]) - middle
     found = np.full(len(centres), np.inf)
     corners = np.unique(flat, axis=0)
     try:

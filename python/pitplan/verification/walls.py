@@ -36,8 +36,9 @@ def flatness(wall: Wall, azimuth: np.ndarray) -> np.ndarray:
     return np.interp(azimuth, [given[-1] - 360, *given, given[0] + 360], [back[-1], *back, back[0]])
 
 
-def cone(wall: Wall, size: tuple[float, float, float], up: int) -> np.ndarray:
-    """Which cells lie in the cone so many levels up: a square of truths, rows from the south, round the cell straight above."""
+def cone(wall: Wall, size: tuple[float, float, float], up: int, turn: float = 0.0) -> np.ndarray:
+    """Which cells lie in the cone so many levels up: a square of truths, rows from the south, round the cell straight above; of a grid
+    whose north has the azimuth `turn` in degrees."""
     if wall.pattern:
         corner = NEIGHBOURS[wall.pattern]
         return np.array([[abs(north) + abs(east) <= corner for east in (-1, 0, 1)] for north in (-1, 0, 1)])
@@ -48,7 +49,7 @@ def cone(wall: Wall, size: tuple[float, float, float], up: int) -> np.ndarray:
     back = up * size[2] * max(flatness(wall, np.arange(0.0, 360.0, 0.25)))
     far = int(back / min(size[0], size[1])) + 1
     north, east = np.mgrid[-far : far + 1, -far : far + 1] * np.array([size[1], size[0]])[:, None, None]
-    allowed = up * size[2] * flatness(wall, np.degrees(np.arctan2(east, north)) % 360)
+    allowed = up * size[2] * flatness(wall, (np.degrees(np.arctan2(east, north)) + turn) % 360)
     return np.hypot(north, east) <= allowed * (1 + HAIR) + HAIR
 
 
@@ -90,7 +91,7 @@ def verify(answer: Answer) -> Rule:
             below = box(mine[up:])
             if below is None:
                 continue
-            inside = runs(cone(wall, answer.size, up))
+            inside = runs(cone(wall, answer.size, up, answer.azimuth))
             if not inside:
                 continue
             reach = max(max(abs(run.north), abs(run.west), abs(run.east)) for run in inside)
@@ -108,22 +109,24 @@ def verify_steepness(answer: Answer) -> Rule:
         return rule("levels", f"the needs reach over {slopes.levels} levels, as the project says", [])
     for number, wall in enumerate(slopes.walls):
         levels = answer.levels(wall)
-        steeper = 0.0 if wall.pattern or wall.steps else float((high_walls(wall, answer.size, levels) - asked(wall)).max())
+        steeper = 0.0
+        if not wall.pattern and not wall.steps:
+            steeper = float((high_walls(wall, answer.size, levels, answer.azimuth) - asked(wall, answer.azimuth)).max())
         if steeper > STEEPER + 1e-6 and levels < MOST_LEVELS:
             differences.append(f"wall entry {number + 1}: over {levels} levels it comes out {steeper:.2f} degrees steeper than asked")
     return rule("levels", f"no wall comes out more than {STEEPER} degrees steeper than asked, or needs reach over {MOST_LEVELS} levels", differences)
 
 
-def asked(wall: Wall) -> np.ndarray:
-    """Degrees, by whole azimuth."""
-    return np.degrees(np.arctan2(1.0, flatness(wall, np.arange(360.0))))
+def asked(wall: Wall, turn: float) -> np.ndarray:
+    """Degrees, by whole azimuth from the north of a grid that has the azimuth `turn`."""
+    return np.degrees(np.arctan2(1.0, flatness(wall, (np.arange(360.0) + turn) % 360)))
 
 
-def high_walls(wall: Wall, size: tuple[float, float, float], levels: int) -> np.ndarray:
-    """Degrees, by whole azimuth, of the high walls that cones upon cones make: their sides are those of the cone's convex hull."""
+def high_walls(wall: Wall, size: tuple[float, float, float], levels: int, turn: float = 0.0) -> np.ndarray:
+    """Degrees, likewise, of the high walls that cones upon cones make: their sides are those of the cone's convex hull."""
     points = []
     for up in range(1, levels + 1):
-        inside = cone(wall, size, up)
+        inside = cone(wall, size, up, turn)
         north, east = (np.argwhere(inside) - len(inside) // 2).T
         points.append(np.stack([east * size[0], north * size[1]], axis=1) / (up * size[2]))
     try:
@@ -140,7 +143,8 @@ def needed_by(answer: Answer, blocks: np.ndarray) -> np.ndarray:
     """The given blocks and all that they need, directly or through others: a truth for each cell."""
     found = blocks.copy()
     entries = answer.entries
-    cones = [[runs(cone(wall, answer.size, up)) for up in range(1, answer.levels(wall) + 1)] for wall in answer.project.slopes.walls]
+    walls, turn = answer.project.slopes.walls, answer.azimuth
+    cones = [[runs(cone(wall, answer.size, up, turn)) for up in range(1, answer.levels(wall) + 1)] for wall in walls]
     for level in range(answer.shape[0] - 1, 0, -1):
         for number, of_wall in enumerate(cones):
             mine = found[level] & (entries[level] == number)

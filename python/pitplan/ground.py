@@ -1,0 +1,157 @@
+"""The ground with a pit in it, as an open surface of triangles: the tops of the blocks that stay, and the faces between them.
+
+It has no lid over the pit and no walls at the model's sides. Smoothed no corner of a face, and so no point of it, is moved by more than half a
+block along an axis. Ground of which the table has no rock has no surface.
+"""
+
+from __future__ import annotations
+
+from dataclasses import dataclass, replace
+
+import numpy as np
+
+from .errors import PlanError
+from .grid import Grid, metres
+from .stages import Stage
+
+# By what part the volume under the surface may differ from that of the cells.
+TOLERANCE = 1e-3
+NONE = -1
+# Shares of the way to the mean of those beside it that a corner goes, and how often it goes both.
+SHRINK, GROW, TURNS = 0.5, -0.53, 10
+# Blocks by which it moves at most along an axis.
+MOST = 0.5
+
+
+@dataclass(frozen=True)
+class Heights:
+    """Of each row and column how many levels, from the model's floor, the ground has; NONE where it has no rock.
+
+    before  as it was
+    after   once it is dug
+    """
+
+    before: np.ndarray
+    after: np.ndarray
+
+    @property
+    def cells(self) -> int:
+        """How many lie between the two."""
+        return int((self.before - self.after).sum())
+
+
+@dataclass(frozen=True)
+class Surface:
+    """A surface of triangles that look upwards or into the pit.
+
+    corners  one row a corner: steps from the west, the south and the floor of the grid
+    faces    three numbers of corners a triangle
+    bench    of each triangle the level, from the floor, of the bench that it belongs to; NONE where nothing was dug
+    """
+
+    corners: np.ndarray
+    faces: np.ndarray
+    bench: np.ndarray
+
+
+def heights_of(rock: np.ndarray, stage: Stage, grid: Grid) -> Heights:
+    """`rock` and what is dug are truths for each level (from the top), row and column. Raises PlanError where rock stays over what is dug."""
+    levels = rock.shape[0]
+    before = np.where(rock.any(axis=0), levels - rock.argmax(axis=0), NONE)
+    floor = stage.dug[::-1].argmax(axis=0)
+    after = np.where(stage.dug.any(axis=0), floor, before)
+    stays = rock & ~stage.dug & (np.arange(levels)[::-1, None, None] > after)
+    if stays.any():
+        level, row, column = np.argwhere(stays)[0]
+        x, y, z = grid.centres(np.ravel_multi_index((level, row, column), grid.shape))
+        raise PlanError(f"the block at {metres(x)}, {metres(y)}, {metres(z)} stays over one that is dug: the ground is no surface")
+    return Heights(before, after)
+
+
+def stepped(heights: Heights) -> Surface:
+    """The faces of blocks, each wall in pieces of one bench."""
+    high = heights.after
+    rows, columns = np.nonzero(high != NONE)
+    tops = np.stack([columns, rows, high[rows, columns]], axis=1)
+    dug = high[rows, columns] < heights.before[rows, columns]
+    found = [(tops, np.array([[0, 0, 0], [1, 0, 0], [1, 1, 0], [0, 1, 0]]), np.where(dug, tops[:, 2], NONE))]
+    found += [walls(heights, 1, step) for step in (1, -1)] + [walls(heights, 0, step) for step in (1, -1)]
+    # Four corners a face, shape (faces, 4, 3), in two triangles each.
+    quads = np.concatenate([base[:, None] + corners for base, corners, _ in found])
+    corners, at = np.unique(quads.reshape(-1, 3), axis=0, return_inverse=True)
+    at = at.reshape(-1, 4)
+    faces = np.stack([at[:, [0, 1, 2]], at[:, [0, 2, 3]]], axis=1).reshape(-1, 3)
+    return Surface(corners.astype(float), faces, np.repeat(np.concatenate([bench for _, _, bench in found]), 2))
+
+
+def walls(heights: Heights, axis: int, step: int) -> tuple[np.ndarray, np.ndarray, np.ndarray]:
+    """The walls that look to the east (axis 1, step 1), west, north (axis 0, step 1) or south, from a higher column to a lower one beside it:
+    the lower corner of each, its four corners from there, and its bench."""
+    of_here, of_there = (slice(None, -1), slice(1, None))[::step]
+    here, there = (np.moveaxis(heights.after, axis, 0)[part] for part in (of_here, of_there))
+    was = np.moveaxis(heights.before, axis, 0)[of_there]
+    first, second = np.nonzero((there != NONE) & (here > there))
+    low, count = there[first, second], (here - there)[first, second]
+    line, other, bottom, least = (np.repeat(part, count) for part in (first, second, low, was[first, second]))
+    level = bottom + np.arange(len(bottom)) - np.repeat(np.cumsum(count) - count, count)
+    # The wall stands where the two columns meet.
+    at, bench = line + 1, np.where(level < least, level, NONE)
+    if axis == 1:
+        corners = [[0, 0, 0], [0, 1, 0], [0, 1, 1], [0, 0, 1]]
+        base = np.stack([at, other, level], axis=1)
+    else:
+        corners = [[1, 0, 0], [0, 0, 0], [0, 0, 1], [1, 0, 1]]
+        base = np.stack([other, at, level], axis=1)
+    return base, np.array(corners if step > 0 else corners[::-1]), bench
+
+
+def smoothed(surface: Surface) -> Surface:
+    """The same faces with corners that have given way to those beside them, by turns inwards and outwards (Taubin 1995), so that volumes stay
+    near; by at most half a block along each axis, and not at all at the rims of the surface, which are the model's sides."""
+    sides = sides_of(surface.faces)
+    edges, uses = np.unique(np.sort(sides, axis=1), axis=0, return_counts=True)
+    ends = np.concatenate([edges, edges[:, ::-1]])
+    beside = np.bincount(ends[:, 0], minlength=len(surface.corners))[:, None]
+    is_free = np.ones(len(surface.corners), dtype=bool)
+    is_free[edges[uses == 1]] = False
+    moved = surface.corners.copy()
+    for by in (SHRINK, GROW) * TURNS:
+        total = np.stack([np.bincount(ends[:, 0], moved[ends[:, 1], axis], len(moved)) for axis in range(3)], axis=1)
+        moved[is_free] += by * (total / beside - moved)[is_free]
+        moved = np.clip(moved, surface.corners - MOST, surface.corners + MOST)
+    return replace(surface, corners=moved)
+
+
+def sides_of(faces: np.ndarray) -> np.ndarray:
+    """The sides of the faces of blocks, each of which is two triangles that follow each other, without what divides them."""
+    first, second = faces[::2], faces[1::2]
+    return np.concatenate([first[:, [0, 1]], first[:, [1, 2]], second[:, [1, 2]], second[:, [2, 0]]])
+
+
+def volume_under(surface: Surface) -> float:
+    """What lies between a surface and the model's floor, in cells; faces that stand upright hold nothing."""
+    a, b, c = (surface.corners[surface.faces[:, k]] for k in range(3))
+    area = ((b - a)[:, 0] * (c - a)[:, 1] - (b - a)[:, 1] * (c - a)[:, 0]) / 2
+    return float((area * (a + b + c)[:, 2] / 3).sum())
+
+
+def of_stage(rock: np.ndarray, stage: Stage, grid: Grid, smooth: bool) -> tuple[Surface, str]:
+    """The surface of a stage, and a sentence with the volume between it and the ground as it was beside that of the cells that are dug.
+
+    Raises PlanError where rock stays over what is dug, and where the volumes of faces differ.
+    """
+    heights = heights_of(rock, stage, grid)
+    untouched = Heights(heights.before, heights.before)
+    cell = float(np.prod(grid.size))
+    faces = stepped(heights)
+    volume, expected = (volume_under(stepped(untouched)) - volume_under(faces)) * cell, heights.cells * cell
+    said = f"{volume:,.0f} m3 lie between it and the ground as it was, and the {heights.cells:,} cells that are dug hold {expected:,.0f} m3"
+    if abs(volume - expected) > TOLERANCE * expected:
+        raise PlanError(f"{stage.name}: {said}: please report this")
+    if not smooth:
+        return faces, f"{len(faces.faces):,} triangles; {said}"
+    found = smoothed(faces)
+    volume = (volume_under(smoothed(stepped(untouched))) - volume_under(found)) * cell
+    more = f", {100 * (volume / expected - 1):+.2f} %" if expected else ""
+    said = f"smoothed within half a block, {volume:,.0f} m3 lie between it and the ground as it was, smoothed too"
+    return found, f"{len(found.faces):,} triangles; {said}; the {heights.cells:,} cells that are dug hold {expected:,.0f} m3{more}"

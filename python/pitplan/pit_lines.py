@@ -1,0 +1,51 @@
+"""Toes and crests of a pit's benches, as closed lines in metres.
+
+A bench's faces are those of blocks, upright, so that its toe, at its floor, and its crest, at its top, are the same outline at two heights: that
+of what is dug on its level."""
+
+from __future__ import annotations
+
+from collections.abc import Iterator
+from dataclasses import dataclass
+
+import numpy as np
+
+from .files import Folder
+from .grid import Grid
+from .outlines import rings
+from .stages import Shape, Stage, places_of, stages_of
+
+TOE, CREST = "toe", "crest"
+
+
+@dataclass(frozen=True)
+class Line:
+    """A closed line, the dug side on its left.
+
+    kind    toe or crest
+    bench   metres of the bench's floor
+    points  x, y, z of its corners, in metres, each once
+    """
+
+    stage: Stage
+    kind: str
+    bench: float
+    points: np.ndarray
+
+
+def lines_of(folder: Folder, shape: Shape) -> Iterator[Line]:
+    """All lines of the pits that are asked for: stage by stage, bench by bench from the top, toes before crests. Raises PlanError as
+    `stages_of` does."""
+    for stage in stages_of(folder, shape):
+        yield from lines_of_stage(stage, folder.grid)
+
+
+def lines_of_stage(stage: Stage, grid: Grid) -> Iterator[Line]:
+    levels = grid.shape[0]
+    for level in np.flatnonzero(stage.dug.any(axis=(1, 2))):
+        outlines, floor = rings(stage.dug[level]), levels - 1 - int(level)
+        bench = float(places_of(grid, np.array([[0, 0, floor]]))[0, 2])
+        for kind, height in ((TOE, floor), (CREST, floor + 1)):
+            for ring in outlines:
+                corners = np.column_stack([np.array(ring), np.full(len(ring), height)])
+                yield Line(stage, kind, bench, places_of(grid, corners))

@@ -1,0 +1,246 @@
+"""The report: one HTML page, with its pictures in it, which can be mailed as it is and prints on A4.
+
+It is made of the files of a plan's folder, for those who decide: the answer, how sure it is, pictures, tables, inputs and hashes. Each figure
+is a cell of a written table, and names it by file, row and column where a pointer rests on it; the header is row 1, as in spreadsheets.
+"""
+
+from __future__ import annotations
+
+import base64
+from dataclasses import dataclass
+from pathlib import Path
+from typing import Any, Callable, Optional
+
+import pandas as pd
+
+from . import files, report
+from .errors import PlanError
+from .files import hash_of
+from .project import REFERENCE_FACTOR, Project
+from .report import TEMPLATES, Columns
+
+SENSITIVITY, SENSITIVITY_RECORD, TORNADO = "sensitivity.csv", "sensitivity.json", "tornado.png"
+DISCOUNTED = {
+    "continuous": "from the moment when cash flows",
+    "end_of_year": "from the end of each year",
+    "mid_year": "from the middle of each year",
+}
+BY_BLOCK = "block"
+# What is told in words of a column.
+NAMED = {(SENSITIVITY, "case"): "number"}
+# More columns than these are not legible on A4, and stand in several tables below each other.
+MOST_COLUMNS = 13
+
+
+@dataclass(frozen=True)
+class Figure:
+    """One figure of the answer: what it is, as text, and the cell that it is."""
+
+    name: str
+    text: str
+    source: str
+
+
+@dataclass(frozen=True)
+class Written:
+    """A table of a folder as it was written, by the name of its file; its index counts the rows from 0."""
+
+    file: str
+    frame: pd.DataFrame
+
+    def source(self, row: int, column: str) -> str:
+        return f"{self.file} row {row + 2} column {NAMED.get((self.file, column), column)}"
+
+    def figure(self, name: str, row: int, column: tuple[str, str, float, int]) -> Figure:
+        """A figure with its unit, which stands in the column's heading behind the comma."""
+        ((text,),) = report.cells_of(self.frame.loc[[row]], [column])
+        unit = column[1].partition(", ")[2]
+        return Figure(name, text if text == "–" else f"{text} {unit}".strip(), self.source(row, column[0]))
+
+
+def read_table(folder: Path, name: str) -> Written:
+    return Written(name, pd.read_csv(folder / name, keep_default_na=True))
+
+
+@dataclass(frozen=True)
+class Sensitivity:
+    """What `pitplan sensitivity` has written of the same project and table."""
+
+    folder: Path
+    record: dict[str, Any]
+
+
+def sensitivity_beside(project: Project, inputs: dict[str, str], folder: Optional[Path]) -> tuple[Optional[Sensitivity], str]:
+    """The sensitivity of a folder, by default of that in the project's own, and else why there is none, in words.
+
+    Raises PlanError where a folder that is given has none, or one of another project or table.
+    """
+    place = project.folder / "sensitivity" if folder is None else folder
+    for name in (SENSITIVITY_RECORD, SENSITIVITY):
+        if not (place / name).is_file():
+            if folder is not None:
+                raise PlanError(f"{place}: has no {name}: run pitplan sensitivity first")
+            return None, ""
+    try:
+        record = files.read_json(place / SENSITIVITY_RECORD)
+        is_same = all(inputs.get(name) == digest for name, digest in record["inputs"].items())
+    except (ValueError, KeyError):
+        is_same = False
+    if not is_same:
+        why = f"{place}: is a sensitivity of another state of project or table"
+        if folder is not None:
+            raise PlanError(f"{why}: run pitplan sensitivity again")
+        return None, f"{why}, and is left out here"
+    return Sensitivity(place, record), ""
+
+
+def write(path: Path, folder: Path, project: Project, sensitivity: Optional[Path] = None) -> None:
+    """The page of a folder that holds an answer with its record, its tables and its pictures.
+
+    `sensitivity` is the folder of one; without it that in the project's folder is taken, where it is of the same inputs. Raises PlanError
+    as `sensitivity_beside` does.
+    """
+    record = files.read_record(folder)
+    found, missing = sensitivity_beside(project, record["inputs"], sensitivity)
+    warnings = [note for note in record["notes"] if note.startswith("WARNING")]
+    page = TEMPLATES.get_template("report.html").render(
+        **of_answer(folder, project, record),
+        sensitivity=found and of_sensitivity(found, project),
+        no_sensitivity=missing,
+        title=project.title,
+        warnings=[note.removeprefix("WARNING: ") for note in warnings],
+        notes=[note for note in record["notes"] if note not in warnings],
+        pictures={Path(name).stem: picture(folder / name) for name in record["files"] if name.endswith(".png")},
+        rate=project.schedule.rate,
+        discounting=DISCOUNTED[project.schedule.discounting],
+        has_fixed=project.fixed is not None,
+        project_file=project.path.name,
+        project_text=without_comments(project.path.read_text(encoding="utf-8")),
+        files={**record["inputs"], **record["files"]},
+        **{name: record["shells"][name] for name in ("chosen", "solver")},
+        **{name: record[name] for name in ("summary", "verified")},
+    )
+    path.write_text(page, encoding="utf-8")
+
+
+def picture(path: Path) -> str:
+    """A PNG as an address that holds it."""
+    return "data:image/png;base64," + base64.b64encode(path.read_bytes()).decode("ascii")
+
+
+def without_comments(text: str) -> str:
+    """The lines of a project that say something, without what stands behind a # outside of quotes."""
+    lines = []
+    for line in text.splitlines():
+        quoted = ""
+        for at, letter in enumerate(line):
+            if letter in "\"'" and quoted in ("", letter):
+                quoted = "" if quoted else letter
+            elif letter == "#" and not quoted:
+                line = line[:at]
+                break
+        if line.strip():
+            lines.append(line.rstrip())
+    return "\n".join(lines)
+
+
+def of_answer(folder: Path, project: Project, record: dict[str, Any]) -> dict[str, Any]:
+    """Figures and tables of shells, and where there are such of phases and of a schedule."""
+    chosen = record["shells"]["chosen"]
+    shells, years = read_table(folder, files.SHELLS), read_table(folder, files.YEARS)
+    marks = shells.frame["factor"].map(lambda factor: " ".join(["chosen"] * (factor == chosen) + ["given"] * (factor == REFERENCE_FACTOR)))
+    found: dict[str, Any] = {"shells": parts_of(shells, report.columns_of, project, marks)}
+    cases, figures = ["best", "worst"], of_shell(shells, chosen, project)
+    if files.PHASES in record["files"]:
+        found["phases"] = parts_of(read_table(folder, files.PHASES), report.columns_of_phases, project)
+    if files.WAYS in record["files"]:
+        ways = read_table(folder, files.WAYS)
+        shown = record.get("schedule", BY_BLOCK)
+        of_ways = report.columns_by_block if shown == BY_BLOCK else report.columns_of_ways
+        found["ways"], found["shown"] = parts_of(ways, of_ways, project, ways.frame["way"].map({shown: "chosen"}).fillna("")), shown
+        # What is scheduled by block is the pit of the price as given, whichever shell is shown.
+        pit = REFERENCE_FACTOR if shown == BY_BLOCK else chosen
+        cases, figures = [shown], [*of_way(ways, shown, project), *grades(shells, pit, project)]
+    dug = years.frame[years.frame["case"].isin(cases) & ((years.frame["factor"] == chosen) | (years.frame["case"] == BY_BLOCK))]
+    found["years"] = parts_of(Written(years.file, dug), report.columns_of_years, project) if len(dug) else []
+    return found | {"figures": figures}
+
+
+def parts_of(
+    table: Written, columns_of: Callable[[pd.DataFrame, Project], Columns], project: Project, marks: Optional[pd.Series] = None
+) -> list[dict[str, Any]]:
+    """A table of the page with its file, headings and rows; several, each with the first column, where it is too wide for a page."""
+    first, *others = columns_of(table.frame, project)
+    count = -(-len(others) // (MOST_COLUMNS - 1))
+    parts = []
+    while others:
+        many = -(-len(others) // (count - len(parts)))
+        # The grade of a metal and what is recovered of it stay beside each other.
+        many -= many < len(others) and others[many][0].startswith("metal_") and others[many - 1][0].startswith("grade_")
+        parts.append(part_of(table, [first, *others[:many]], marks))
+        others = others[many:]
+    return parts
+
+
+def part_of(table: Written, columns: Columns, marks: Optional[pd.Series]) -> dict[str, Any]:
+    rows = []
+    for at, texts in zip(table.frame.index, report.cells_of(table.frame, columns)):
+        cells = [{"text": text, "source": table.source(at, column[0])} for text, column in zip(texts, columns)]
+        rows.append({"mark": "" if marks is None else marks[at], "cells": cells})
+    return {"file": table.file, "headings": [heading for _, heading, _, _ in columns], "rows": rows}
+
+
+def of_shell(shells: Written, chosen: int, project: Project) -> list[Figure]:
+    """What the board asks first of a pit that has no schedule."""
+    row = int(shells.frame.index[shells.frame["factor"] == chosen][0])
+    columns = {column[0]: column for column in report.columns_of(shells.frame.loc[[row]], project)}
+    names = {
+        "npv_best": "Net present value, best case",
+        "npv_worst": "Net present value, worst case",
+        "worth": "Worth, not discounted",
+        "tonnes": "Rock",
+        "ore_tonnes": "Ore",
+        "strip_ratio": "Waste a tonne of ore",
+    }
+    found = [shells.figure(name, row, columns[column]) for column, name in names.items()]
+    found += [*grades(shells, chosen, project), *recovered(shells, row, columns, project)]
+    return [*found, shells.figure("Life, best case", row, ("years", "life, years", 1.0, 1))]
+
+
+def grades(shells: Written, factor: int, project: Project) -> list[Figure]:
+    row = int(shells.frame.index[shells.frame["factor"] == factor][0])
+    return [
+        shells.figure(f"{metal.name.capitalize()} in the ore of the pit of factor {factor}", row, (f"grade_{metal.name}", f"grade, {metal.sign}", 1.0, 3))
+        for metal in project.metals
+    ]
+
+
+def recovered(table: Written, row: int, columns: dict[str, tuple[str, str, float, int]], project: Project) -> list[Figure]:
+    return [table.figure(f"{metal.name.capitalize()} recovered", row, columns[f"metal_{metal.name}"]) for metal in project.metals]
+
+
+def of_way(ways: Written, shown: str, project: Project) -> list[Figure]:
+    """What the board asks first of a schedule."""
+    row = int(ways.frame.index[ways.frame["way"] == shown][0])
+    only = ways.frame.loc[[row]]
+    columns = {column[0]: column for column in (report.columns_by_block if shown == BY_BLOCK else report.columns_of_ways)(only, project)}
+    names = {"value": "Net present value", "bound": "No such schedule earns more than", "tonnes": "Rock", "ore_tonnes": "Ore"}
+    names |= {"left_tonnes": "Rock that is left"} if "left_tonnes" in columns else {}
+    found = [ways.figure(name, row, columns[column]) for column, name in names.items()]
+    return [*found, *recovered(ways, row, columns, project), ways.figure("Life", row, ("years", "life, years", 1.0, 0))]
+
+
+def of_sensitivity(found: Sensitivity, project: Project) -> dict[str, Any]:
+    """Table and picture of a sensitivity: the cases of one number each, and the pit as given before them."""
+    table = read_table(found.folder, SENSITIVITY)
+    alone = table.frame[table.frame["second"].isna()].fillna({"number": "", "second": ""})
+    named = alone.assign(case=report.cases_in_words(alone))
+    record = found.record
+    return {
+        "parts": parts_of(Written(table.file, named), report.columns_of_cases, project),
+        "tornado": picture(found.folder / TORNADO) if (found.folder / TORNADO).is_file() else "",
+        "factor": record["factor"],
+        "verified": record["verified"],
+        "pairs": len(table.frame) > len(alone),
+        "sha256": hash_of(found.folder / SENSITIVITY),
+    }

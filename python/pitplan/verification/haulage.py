@@ -1,0 +1,63 @@
+"""Roads of blocks by geometry, and what hauling along them costs: all by floats, and exactly, by decimals, a sample."""
+
+from __future__ import annotations
+
+import math
+from decimal import ROUND_HALF_EVEN, Decimal
+
+import numpy as np
+
+from ..haulage_rules import Haulage, Road
+from .answer import HAULED, TOLD, Answer, Rule, rule
+from .turned import places_of
+
+ROAD, WASTE, MORE = HAULED
+# Metres: roads are kept to a millimetre.
+SLIGHT = 0.51e-3
+
+
+def verify(answer: Answer, chosen: np.ndarray) -> Rule:
+    """Roads are right to a millimetre, and the costs of hauling follow from them, exactly so for the chosen rows."""
+    rules = answer.project.haulage
+    if rules is None:
+        return rule("haulage", "the project says nothing of haulage", [])
+    told, expected = answer.said[ROAD].to_numpy(), lengths(answer, rules)
+    off = np.flatnonzero(~(np.abs(told - expected) <= SLIGHT + 1e-9))
+    differences = [f"{answer.called(row)}: road {told[row]:.10g} for {expected[row]:.10g}" for row in off[:TOLD]]
+    count, unit = len(off), Decimal(1).scaleb(-answer.project.money.decimals)
+    for name, tonnes, kinds in ((WASTE, answer.tonnes, (rules.waste,)), (MORE, answer.feed, (rules.ore, rules.waste))):
+        said, due = answer.said[name].to_numpy(), tonnes * rate(told, *kinds)
+        far = np.flatnonzero(~(np.abs(said - due) <= 0.51 * float(unit) + 1e-12 * np.abs(due)))
+        differences += [f"{answer.called(row)}: {name} {said[row]:.10g} for {due[row]:.10g}" for row in far[:TOLD]]
+        count += len(far)
+    for row in chosen.tolist() if not count else []:
+        due_exactly = Decimal(repr(float(answer.tonnes[row]))) * a_tonne(told[row], rules.waste)
+        if not math.isclose(float(due_exactly.quantize(unit, ROUND_HALF_EVEN)), answer.said[WASTE].iloc[row], rel_tol=1e-15):
+            differences.append(f"{answer.called(row)}: {WASTE} {answer.said[WASTE].iloc[row]:.10g} for {due_exactly}")
+    holds = "roads to the exit are right to a millimetre, and what hauling costs follows from them"
+    return rule("haulage", holds, differences, max(count, len(differences)))
+
+
+def lengths(answer: Answer, rules: Haulage) -> np.ndarray:
+    """Metres of each row's road: from its column's centre to the exit in plan, and a ramp between its bench's floor and the exit."""
+    grid = answer.record["grid"]
+    level, row, column = answer.cells
+    x, y = places_of(np.stack([column, row], axis=1), grid).T
+    floor = grid["origin"][2] - (level + 0.5) * grid["size"][2]
+    away = np.sqrt((x - float(rules.exit[0])) ** 2 + (y - float(rules.exit[1])) ** 2)
+    return away + np.abs(float(rules.exit[2]) - floor) / float(rules.gradient)
+
+
+def rate(metres: np.ndarray, road: Road, less: Road | None = None) -> np.ndarray:
+    """What a tonne costs along roads to the exit and on, less what it costs along those of another kind."""
+    cost = float(road.cost) / 1000 * (metres + float(road.beyond))
+    return cost if less is None else cost - rate(metres, less)
+
+
+def a_tonne(metres: float, road: Road) -> Decimal:
+    return road.cost / 1000 * (Decimal(repr(float(metres))) + road.beyond)
+
+
+def roads_of(answer: Answer, rules: Haulage) -> np.ndarray:
+    """As the answer tells them, which the rule above looks at; of rows that it says nothing of by geometry, to a millimetre."""
+    return answer.said[ROAD].to_numpy() if ROAD in answer.said else lengths(answer, rules).round(3)

@@ -1,0 +1,52 @@
+"""The row of each way to schedule in ways.csv: the sums of its years, and what the schedule's record says of it."""
+
+from __future__ import annotations
+
+from typing import Any
+
+import pandas as pd
+
+from .answer import Answer
+
+FILE = "ways.csv"
+# years.csv has thousandths, and ways.csv too.
+AMOUNT, SHARE = 0.6e-3, 0.6e-9
+SUMS = {"tonnes": "rock_tonnes", "ore_tonnes": "ore_tonnes"}
+
+
+def differences(answer: Answer, told: dict[str, dict[str, Any]]) -> list[str]:
+    """What ways.csv says, and is not so; `told` has of each way, by column, what the record says of it."""
+    assert answer.years is not None
+    if not (answer.folder / FILE).is_file():
+        return [f"{FILE} is missing"]
+    said = pd.read_csv(answer.folder / FILE).set_index("way")
+    if said.index.tolist() != list(told):
+        return [f"{FILE} has the ways {said.index.tolist()} for {list(told)}"]
+    found = []
+    for way, record in told.items():
+        years = answer.years[answer.years["case"] == way]
+        expected = record | {"years": len(years), "below_bound": below(record["value"], record["bound"])}
+        expected |= {name: years[column].sum() for name, column in SUMS.items()}
+        expected |= {name: years[name].sum() for name in years.columns if name.startswith("metal_")}
+        if set(said.columns) != set(expected):
+            found.append(f"{FILE} has the columns {sorted(said.columns)} for {sorted(expected)}")
+            continue
+        for name, amount in expected.items():
+            slack = AMOUNT * (len(years) + 2) + 1e-9 * abs(amount or 0)
+            if name == "below_bound":
+                slack = SHARE + 2 * AMOUNT / abs(record["bound"] or 1.0)
+            if unlike(said.at[way, name], amount, slack):
+                found.append(f"{FILE}, {way}: {name} {said.at[way, name]:.12g} for {amount}")
+    return found
+
+
+def below(value: float, bound: float | None) -> float | None:
+    """By which share of the bound a value is less; None where there is no bound, or one of 0."""
+    return (bound - value) / abs(bound) if bound else None
+
+
+def unlike(said: float, expected: float | None, slack: float) -> bool:
+    if expected is None or pd.isna(said):
+        # Of a bound of 0 a schedule may say that it is less by nothing.
+        return not (expected is None and (pd.isna(said) or said == 0))
+    return bool(abs(said - expected) > slack)

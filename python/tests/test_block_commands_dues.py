@@ -1,0 +1,179 @@
+"""`pitplan schedule --by block` with least amounts, sums of columns and fixed blocks: by hand, what is refused, and the second look."""
+
+import json
+
+import pandas as pd
+import pytest
+from conftest import PROJECT, rows
+from test_block_commands import YEARLY, rewrite, scheduled, with_processes, wrong, years_of
+from test_pushbacks import pillars
+
+from pitplan import PlanError, commands, load
+
+pytestmark = pytest.mark.usefixtures("blank_pictures")
+# Mill and shovels take all three pillars in a year.
+WIDE = YEARLY.replace("ore_per_year = 100", "ore_per_year = 300").replace("rock_per_year = 200", "rock_per_year = 600")
+
+
+def years(folder):
+    """The year of each pillar's ore."""
+    return pd.read_csv(folder / "blocks.csv").set_index("name")["year"][["b0-0-0", "b1-0-0", "b2-0-0"]].tolist()
+
+
+@pytest.mark.parametrize(
+    ("words", "cash"),
+    [
+        ("years = 3", [4600]),
+        ("years = 3\nleast = { ore = 100 }", [2600, 1400, 600]),
+        ("years = 3\nleast = { rock = 200 }", [2600, 1400, 600]),
+        # Two pillars in the first year are all that is left: 0.5 t of copper need the richest, and so it waits.
+        ("years = 2\nleast = { copper = 0.5 }", [2600, 2000]),
+        # 150 t of ore are the most of the first year, and 100 the least; 200 the least of the second.
+        ("years = 2\nleast = { ore = 200 }\nramp_up = [0.5, 1.0]", [2600, 2000]),
+    ],
+)
+def test_each_least_amount_by_hand(plan_folder, words, cash):
+    row, folder = scheduled(plan_folder, f"[schedule]\n{words}\n", WIDE)
+    assert years_of(folder)["cash"].tolist() == cash and wrong(folder) == set()
+    assert row["value"] == pytest.approx(sum(amount / 1.1 ** (year + 1) for year, amount in enumerate(cash)))
+    assert row["bound"] >= row["value"] - 1e-6
+
+
+def test_what_none_can_keep_is_told(plan_folder):
+    with pytest.raises(PlanError, match="^no schedule keeps what must be held at least: ore_tonnes in years 1, 2, 3, 4$"):
+        scheduled(plan_folder, "[schedule]\nyears = 4\nleast = { ore = 100 }\n", WIDE)
+
+
+def test_a_block_that_does_not_pay_is_dug_for_a_least_amount(plan_folder):
+    """A fourth pillar without ore is outside the pit: 400 t of rock in each of two years need it, at a loss of 400, in the second year."""
+    table = rows(4, 1, 2, cu=lambda i, j, k: 0 if k or i == 3 else (1, 0.7, 0.5)[i])
+    row, folder = scheduled(plan_folder, "[schedule]\nyears = 2\nleast = { rock = 400 }\n", WIDE, table)
+    assert years_of(folder)["cash"].tolist() == [4000, 200] and wrong(folder) == set()
+    assert row["value"] == pytest.approx(4000 / 1.1 + 200 / 1.21) == pytest.approx(row["bound"])
+
+
+ARSENIC = {"as_kg": lambda i, j, k: 0 if k else (5, 4, 1)[i], "as_ppm": lambda i, j, k: 0 if k else (0.05, 0.04, 0.01)[i]}
+
+
+@pytest.mark.parametrize("words", ['column = "as_kg"', 'column = "as_ppm"\na_tonne = true\nname = "as_kg"'])
+@pytest.mark.parametrize("of", ["rock", "ore"])
+def test_a_sum_of_a_column_by_hand(plan_folder, words, of):
+    """Of 5, 4 and 1 kg at most 6 a year: the richest and the poorest pillar first, 3200, and then the other, 1400; the other way it were
+    2600 and 2000, which is 49.6 less."""
+    text = f'[schedule]\nyears = 3\n[[schedule.sums]]\n{words}\nof = "{of}"\nmost = 6\n'
+    row, folder = scheduled(plan_folder, text, WIDE, pillars(**ARSENIC))
+    assert years(folder) == [1, 2, 1] and row["value"] == pytest.approx(3200 / 1.1 + 1400 / 1.21) and wrong(folder) == set()
+    assert years_of(folder)["sum_as_kg"].tolist() == pytest.approx([6, 4])
+    assert json.loads((folder / "block_schedule.json").read_text())["limits"]["sum_as_kg"] == 6
+
+
+def test_the_least_of_a_sum_by_hand(plan_folder):
+    """At least 3 kg in each of three years do not come of 5, 4 and 1; 1 kg does, one pillar a year."""
+    text = '[schedule]\nyears = 3\n[[schedule.sums]]\ncolumn = "as_kg"\nof = "ore"\nleast = {}\n'
+    with pytest.raises(PlanError, match="no schedule .*keeps what must be held at least.*sum_as_kg"):
+        scheduled(plan_folder, text.format(3.5), WIDE, pillars(**ARSENIC))
+    row, folder = scheduled(plan_folder, text.format(1), WIDE, pillars(**ARSENIC))
+    assert years(folder) == [1, 2, 3] and wrong(folder) == set()
+    assert json.loads((folder / "block_schedule.json").read_text())["least"] == {"sum_as_kg": 1}
+
+
+def test_hours_of_one_process(plan_folder):
+    """The mill takes 2 hours for the richest and 1 for the others, of 2 a year; leach none. A per cent and tonne earns 40 more in the mill,
+    less 10 a tonne: 3000, 1800 and 1000, which are 1500, 1800 and 1000 an hour. So the second is milled and half of the richest."""
+    hours = pillars(hours=lambda i, j, k: 0 if k else (2, 1, 1)[i])
+    text = with_processes().replace("per_year = 100\n", "per_year = 300\n")
+    assert text.count("per_year = 300") >= 1
+    words = '[schedule]\nyears = 1\n[[schedule.sums]]\ncolumn = "hours"\nof = "mill"\nmost = 2\n'
+    _, folder = scheduled(plan_folder, words, text, hours)
+    blocks = pd.read_csv(folder / "blocks.csv").set_index("name")
+    assert blocks["share_mill"][["b0-0-0", "b1-0-0", "b2-0-0"]].tolist() == pytest.approx([0.5, 1, 0]) and wrong(folder) == set()
+    assert years_of(folder)["sum_hours"].tolist() == pytest.approx([2])
+
+
+def test_barren_rock_is_not_milled_for_a_least_amount(plan_folder):
+    """300 t of ore are there; 350 t are not made of waste."""
+    text = with_processes()
+    with pytest.raises(PlanError, match="^no schedule keeps what must be held at least: ore_tonnes in year 1$"):
+        scheduled(plan_folder, "[schedule]\nyears = 1\nleast = { ore = 350 }\n", text)
+
+
+FIXED = '[fixed]\nforced = "must"\nbarred = "never"\n'
+
+
+def test_fixed_blocks_by_hand(plan_folder):
+    """The fourth pillar holds nothing and must be dug, at a loss of 400: in the last of four years. The richest may not be dug."""
+    fixed = {"must": lambda i, j, k: int((i, k) == (3, 0)), "never": lambda i, j, k: int((i, k) == (0, 1))}
+    table = rows(4, 1, 2, cu=lambda i, j, k: 0 if k or i == 3 else (1, 0.7, 0.5)[i], **fixed)
+    row, folder = scheduled(plan_folder, FIXED + "[schedule]\nyears = 4\n", YEARLY, table)
+    blocks = pd.read_csv(folder / "blocks.csv").set_index("name")["year"]
+    assert blocks.to_dict() == {"b0-0-0": 0, "b0-0-1": 0, "b1-0-0": 1, "b1-0-1": 1, "b2-0-0": 2, "b2-0-1": 2, "b3-0-0": 4, "b3-0-1": 4}
+    assert row["value"] == pytest.approx(1400 / 1.1 + 600 / 1.21 - 400 / 1.1**4) == pytest.approx(row["bound"]) and wrong(folder) == set()
+    for name in ("b3-0-0", "b0-0-1"):
+        kept = (folder / "blocks.csv").read_text()
+        rewrite(folder / "blocks.csv", lambda it: it.__setitem__("year", it["year"].where(it["name"] != name, 0 if name[1] == "3" else 3)))
+        assert "block fixed" in wrong(folder)
+        (folder / "blocks.csv").write_text(kept)
+
+
+def test_fixed_blocks_that_no_year_has_room_for_are_told(plan_folder):
+    table = pillars(must=lambda i, j, k: int(k == 0), never=lambda i, j, k: 0)
+    with pytest.raises(PlanError, match="^no schedule keeps what must be held at least: 3 blocks that must be dug$"):
+        scheduled(plan_folder, FIXED + "[schedule]\nyears = 2\n", YEARLY, table)
+
+
+def test_a_year_below_a_least_amount_is_found(plan_folder):
+    _, folder = scheduled(plan_folder, "[schedule]\nyears = 3\nleast = { ore = 100 }\n", WIDE)
+    rewrite(folder / "blocks.csv", lambda table: table.__setitem__("year", table["year"].replace({3: 2})))
+    assert {"block limits", "block value"} <= wrong(folder)
+    told = json.loads((folder / "block_schedule.json").read_text())
+    (folder / "block_schedule.json").write_text(json.dumps(told | {"least": {"ore_tonnes": 50}}))
+    assert "block limits" in wrong(folder)
+
+
+@pytest.mark.parametrize("name", ["sum_as_kg"])
+def test_a_sum_that_is_not_that_of_its_blocks_is_found(plan_folder, name):
+    text = '[schedule]\nyears = 3\n[[schedule.sums]]\ncolumn = "as_kg"\nmost = 6\n'
+    _, folder = scheduled(plan_folder, text, WIDE, pillars(**ARSENIC))
+    rewrite(folder / "years.csv", lambda table: table.__setitem__(name, table[name] + 1))
+    assert "block value" in wrong(folder)
+
+
+@pytest.mark.parametrize(
+    ("words", "said"),
+    [
+        ("least = { ore = 100 }", r"\[schedule\] years: is missing: in each of so many years there must be what is asked for at least"),
+        ("years = 2\nleast = { gold = 1 }", r"\[schedule.least\] gold: is none of ore, rock, copper"),
+        ("years = 2\nleast = { ore = 400 }", r"\[schedule.least\] ore: 400 is above the most of a year, 300"),
+        ("years = 2\nleast = { ore = -1 }", r"\[schedule.least\] ore: -1 is below 0"),
+        ('[[schedule.sums]]\ncolumn = "cu"', r"\[schedule.sums 1\] most: is missing, and so is least"),
+        ('[[schedule.sums]]\ncolumn = "cu"\nmost = 1\nof = "mill"', r"\[schedule.sums\] cu: of mill is none of rock, ore"),
+        ('[[schedule.sums]]\ncolumn = "cu"\nmost = 1\nleast = 2', r"\[schedule.sums 1\] least: 2 is above the most of 1"),
+        ('[[schedule.sums]]\ncolumn = "as t"\nmost = 1', r'\[schedule.sums 1\] name: "as t" is not one word'),
+        ('[[schedule.sums]]\ncolumn = "cu"\nmost = 1\n[[schedule.sums]]\ncolumn = "cu"\nmost = 2', r"\[schedule\] sums: two have one name"),
+        ('[[schedule.sums]]\ncolumn = "lead"\nmost = 1', "there is no column lead"),
+    ],
+)
+def test_what_is_refused(plan_folder, words, said):
+    with pytest.raises(PlanError, match=said):
+        scheduled(plan_folder, f"[schedule]\n{words}\n", WIDE)
+
+
+def test_an_amount_below_0_is_refused(plan_folder):
+    with pytest.raises(PlanError, match="row 2 column as_kg: -1 is negative"):
+        scheduled(plan_folder, '[schedule]\n[[schedule.sums]]\ncolumn = "as_kg"\nmost = 1\n', WIDE, pillars(as_kg=lambda i, j, k: -1))
+
+
+def test_phases_keep_no_least_amounts(plan_folder):
+    project = load(plan_folder(pillars(), WIDE + "[pushbacks]\ncount = 2\n[schedule]\nyears = 2\nleast = { ore = 10 }\n"))
+    with pytest.raises(PlanError, match=r"\[schedule\] least, sums: are kept by --by block alone"):
+        commands.write_schedule(project)
+
+
+def test_a_hill_with_all_of_it_passes_the_second_look(plan_folder):
+    grades = {(3, 4, 1): 6, (7, 4, 1): 2, (5, 2, 2): 0.9, (3, 3, 2): 1.5, (8, 4, 2): 0.8}
+    more = {"must": lambda i, j, k: int((i, j, k) == (9, 7, 2)), "never": lambda i, j, k: int(i == 0), "arsenic": lambda i, j, k: 0.1 * i}
+    table = rows(11, 9, 4, cu=lambda i, j, k: grades.get((i, j, k), 0), **more)
+    words = FIXED + "[schedule]\nyears = 5\nrock_per_year = 1200\nleast = { rock = 400 }\n[[schedule.sums]]\ncolumn = 'arsenic'\nmost = 7\n"
+    row, folder = scheduled(plan_folder, words, PROJECT, table)
+    assert wrong(folder) == set() and row["value"] <= row["bound"] and row["years"] == 5
+    assert years_of(folder)["rock_tonnes"].min() >= 400 and years_of(folder)["sum_arsenic"].max() <= 7 + 1e-9

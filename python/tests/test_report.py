@@ -1,0 +1,250 @@
+"""The report: its numbers read back and found in the tables that they come from, its order, and how it prints."""
+
+import csv
+import re
+import shutil
+import subprocess
+from decimal import Decimal
+from html.parser import HTMLParser
+
+import pandas as pd
+import pytest
+from conftest import PROJECT, rows
+
+import pitplan
+from pitplan import PlanError, commands, report_page
+from pitplan.cli import main
+from pitplan.verification import verify
+
+CHROMIUM, PDFTOTEXT = shutil.which("chromium"), shutil.which("pdftotext")
+PARTS = ["The answer", "How sure it is", "Pictures", "Tables", "Inputs"]
+MORE = """[pushbacks]
+count = 2
+[schedule]
+rock_per_year = 700
+ramp_up = [0.5, 1]
+[sensitivity]
+by = [-0.1, 0.1]
+vary = ["price", "mining_cost"]
+pairs = [["price", "mining_cost"]]
+"""
+GOLD = '[[metals]]\nname = "gold"\ncolumn = "au"\nunit = "gram_per_tonne"\nprice = 60\nrecovery = 0.9\n[slopes]\n'
+# By how much a number is divided that is shown with a unit; a grade's has its column's.
+SIZES = {"M": 10**6, "k": 10**3, "kg": 10**3}
+
+
+class Page(HTMLParser):
+    """What the page shows: parts, and of each cell or figure its source, its text and its heading."""
+
+    def __init__(self, text):
+        super().__init__()
+        self.parts, self.shown, self.bare, self.headings, self.files = [], [], [], [], []
+        self.tag, self.source, self.column, self.classes = "", None, 0, ""
+        self.feed(text)
+
+    def handle_starttag(self, tag, attributes):
+        given = dict(attributes)
+        self.tag = tag
+        if tag == "table":
+            self.headings = []
+        if tag == "tr":
+            self.column = -1
+        if tag in ("td", "b"):
+            self.column += 1
+            self.source, self.classes = given.get("title"), given.get("class", "")
+
+    def handle_endtag(self, tag):
+        self.tag = ""
+
+    def handle_data(self, text):
+        if self.tag == "h2":
+            self.parts.append(text)
+        if self.tag == "th":
+            self.headings.append(text)
+        if self.tag in ("td", "b") and self.source:
+            self.shown.append((self.source, text, self.headings[self.column] if self.tag == "td" else text))
+        elif self.tag in ("td", "b") and self.classes != "text":
+            self.bare.append(text)
+
+
+@pytest.fixture(scope="module")
+def written(tmp_path_factory):
+    """A hill with two metals: its schedule, and a sensitivity of it in the project's own folder."""
+    place = tmp_path_factory.mktemp("reported")
+    grades = {(3, 4, 1): 6, (7, 4, 1): 2, (5, 2, 2): 0.9, (3, 3, 2): 1.5}
+    table = rows(11, 9, 4, cu=lambda i, j, k: grades.get((i, j, k), 0), au=lambda i, j, k: 0.005 * (i + k))
+    table.to_csv(place / "blocks.csv", index=False)
+    text = PROJECT.replace("[slopes]\n", GOLD).replace("[money]", '[money]\ncurrency = "EUR"') + MORE
+    (place / "project.toml").write_text(text)
+    pitplan.sensitivity(place / "project.toml")
+    pitplan.write_schedule(place / "project.toml")
+    pitplan.write_shells(place / "project.toml")
+    return place
+
+
+@pytest.fixture
+def copied(written, tmp_path):
+    return shutil.copytree(written, tmp_path / "mine")
+
+
+def cells_of(folder):
+    return {path.name: list(csv.reader(path.open())) for path in folder.glob("*.csv")}
+
+
+def size_of(heading, column):
+    """The unit of a heading such as "rock, kt" or a figure such as "12.4 M EUR"."""
+    unit = heading.partition(", ")[2] if ", " in heading and not heading[0].isdigit() else heading.partition(" ")[2]
+    if column == "below_bound":
+        return Decimal("0.01")
+    if column.startswith("grade_") or not unit:
+        return 1
+    first = unit.split()[0]
+    return SIZES.get(first) or (SIZES[first[0]] if re.fullmatch("[Mk]t", first) else 1)
+
+
+@pytest.mark.parametrize("place", ["plan", "plan/schedule"])
+def test_each_number_of_the_page_is_one_of_a_written_table(written, place):
+    """The page is read by the test's own parser, and tables by csv; what is shown is within half of its last digit of what is written."""
+    page = Page((written / place / "report.html").read_text())
+    tables = cells_of(written / "plan" / "sensitivity") | cells_of(written / place)
+    found = set()
+    for source, text, heading in page.shown:
+        file, row, column = re.fullmatch(r"(\S+) row (\d+) column (\S+)", source).groups()
+        written_as = tables[file][int(row) - 1][tables[file][0].index(column)]
+        found.add((file, column))
+        number = text.split()[0].replace(",", "")
+        if not re.fullmatch(r"-?[\d.]+", number):
+            assert text in ("–", written_as) or column == "number" and written_as.replace("_", " ") in text
+            continue
+        shown = Decimal(number) * size_of(heading, column)
+        half = Decimal(1).scaleb(Decimal(number).as_tuple().exponent) * size_of(heading, column) / 2
+        assert abs(shown - Decimal(written_as)) <= half, f"{source}: {text} for {written_as}"
+    assert {("shells.csv", "npv_best"), ("shells.csv", "grade_gold"), ("years.csv", "discounted"), ("sensitivity.csv", "npv")} <= found
+    if place == "plan/schedule":
+        assert {("ways.csv", "value"), ("ways.csv", "bound"), ("ways.csv", "metal_gold"), ("phases.csv", "worth")} <= found
+    assert page.parts == PARTS and page.bare == []
+
+
+def test_the_answer_is_the_first_that_is_told(written):
+    """The schedule's value, bound, rock and life, by the table of its ways; the pit's grades, by the last shell."""
+    page = Page((written / "plan" / "schedule" / "report.html").read_text())
+    ways = pd.read_csv(written / "plan" / "schedule" / "ways.csv")
+    row = 2 + int(ways["value"].round(2).argmax())
+    names = ["value", "bound", "tonnes", "ore_tonnes", "left_tonnes", "metal_copper", "metal_gold", "years"]
+    assert [source for source, _, _ in page.shown[:8]] == [f"ways.csv row {row} column {name}" for name in names]
+    assert page.shown[7][1] == f"{ways['years'][row - 2]} years"
+    assert [source.partition(" column ")[2] for source, _, _ in page.shown[8:10]] == ["grade_copper", "grade_gold"]
+
+
+def test_ways_are_the_sums_of_their_years(written):
+    """Anew, from schedule.csv and schedule.json."""
+    folder = written / "plan" / "schedule"
+    rows_of, told = pd.read_csv(folder / "schedule.csv").groupby("way"), commands.files.read_json(folder / "schedule.json")
+    for way in pd.read_csv(folder / "ways.csv").itertuples():
+        dug = rows_of.get_group(way.way)
+        assert (way.tonnes, way.ore_tonnes) == (pytest.approx(dug["rock_tonnes"].sum()), pytest.approx(dug["ore_tonnes"].sum()))
+        assert way.metal_gold == pytest.approx(dug["metal_gold"].sum(), abs=0.05)
+        assert (way.value, way.years, way.left_tonnes) == tuple(told["ways"][way.way][name] for name in ("value", "years", "left_tonnes"))
+        assert way.bound == told["bound"] and way.below_bound == pytest.approx(1 - way.value / told["bound"], abs=1e-6)
+
+
+@pytest.mark.parametrize("name", ["value", "bound", "below_bound", "years", "tonnes", "ore_tonnes", "left_tonnes", "metal_copper"])
+def test_a_way_that_is_bent_is_found(copied, name):
+    folder = copied / "plan" / "schedule"
+    table = pd.read_csv(folder / "ways.csv")
+    table.loc[0, name] += 1 if name != "below_bound" else 1e-4
+    table.to_csv(folder / "ways.csv", index=False)
+    assert {rule.name for rule in verify(folder) if rule.differences} == {"schedule value"}
+
+
+def test_ways_that_are_missing_or_others_are_found(copied):
+    path = copied / "plan" / "schedule" / "ways.csv"
+    text = path.read_text()
+    for bent, said in ((text.replace("rule", "hand"), "ways.csv has the ways ['hand', 'lp'] for ['rule', 'lp']"), (None, "ways.csv is missing")):
+        path.unlink() if bent is None else path.write_text(bent)
+        found = {rule.name: rule.differences for rule in verify(path.parent) if rule.differences}
+        assert found == {"schedule value": (said,)}
+
+
+def test_the_report_is_made_anew_with_a_sensitivity_of_the_same_inputs(copied, capsys):
+    folder = copied / "plan"
+    shutil.move(folder / "sensitivity", copied / "other")
+    assert main(["report", str(copied / "project.toml")]) == 0
+    assert capsys.readouterr().out.strip() == str(folder / "report.html")
+    assert "What it hangs on" not in (folder / "report.html").read_text()
+    assert main(["report", str(copied / "project.toml"), "--sensitivity", str(copied / "other")]) == 0
+    page = (folder / "report.html").read_text()
+    assert "What it hangs on" in page and "mining cost +10 %" in page and "Pairs of numbers are in the same file." in page
+    assert commands.files.hash_of(copied / "other" / "sensitivity.csv") in page
+    (copied / "other" / "tornado.png").unlink()
+    commands.write_report(folder, copied / "other")
+    assert (folder / "report.html").read_text().count("data:image/png") == page.count("data:image/png") - 1
+    assert main(["report", str(copied / "project.toml"), "--sensitivity", str(copied)]) == 1
+    assert f"pitplan: {copied}: has no sensitivity.json: run pitplan sensitivity first" in capsys.readouterr().err
+
+
+def test_a_sensitivity_of_other_inputs_is_left_out_and_refused_where_it_is_asked_for(copied):
+    project = copied / "project.toml"
+    project.write_text(project.read_text().replace("mining_cost = 2", "mining_cost = 3"))
+    pitplan.write_shells(project, verifies=False)
+    page = (copied / "plan" / "report.html").read_text()
+    assert "is a sensitivity of another state of project or table, and is left out here." in page and "What it hangs on" not in page
+    with pytest.raises(PlanError, match="another state of project or table: run pitplan sensitivity again"):
+        commands.write_report(copied / "plan", copied / "plan" / "sensitivity")
+
+
+@pytest.mark.parametrize("text", ["{", "{}"])
+def test_a_record_that_is_none_of_a_sensitivity_stops_no_report(copied, text):
+    (copied / "plan" / "sensitivity" / "sensitivity.json").write_text(text)
+    page = commands.write_report(copied / "plan").read_text()
+    assert "and is left out here." in page and "What it hangs on" not in page
+
+
+def test_a_report_of_a_project_that_has_changed_is_refused(copied):
+    project = copied / "project.toml"
+    project.write_text(project.read_text() + "\n# looked at\n")
+    with pytest.raises(PlanError, match="project.toml: has changed since .* was written: run pitplan again"):
+        commands.write_report(copied / "plan")
+
+
+@pytest.mark.parametrize("count", [12, 13, 25, 40])
+def test_a_table_that_is_too_wide_stands_in_parts(count):
+    """Each with the first column, and of at most 13; none is lost, and the grade of a metal is beside what is recovered of it."""
+    names = ["factor", *(f"{kind}_{k}" for k in range(count) for kind in ("grade", "metal"))][:count]
+    table = report_page.Written("shells.csv", pd.DataFrame({name: [1.0, 2.0] for name in names}))
+    parts = report_page.parts_of(table, lambda frame, project: [(name, name, 1.0, 0) for name in names], None)
+    assert all(part["headings"][0] == "factor" and len(part["headings"]) <= 13 and len(part["rows"]) == 2 for part in parts)
+    assert [name for part in parts for name in part["headings"][1:]] == names[1:] and len(parts) == -(-(count - 1) // 12)
+    assert not any(part["headings"][1].startswith("metal") for part in parts)
+    assert parts[-1]["rows"][1]["cells"][0]["source"] == "shells.csv row 3 column factor"
+
+
+def test_a_bound_that_was_not_found_is_a_dash_without_a_unit():
+    ways = report_page.Written("ways.csv", pd.DataFrame({"way": ["rule"], "value": [2.5e7], "bound": [float("nan")]}))
+    told = [ways.figure("NPV", 0, (name, "NPV, M EUR", 1e6, 1)) for name in ("value", "bound")]
+    assert [(it.text, it.source) for it in told] == [("25.0 M EUR", "ways.csv row 2 column value"), ("–", "ways.csv row 2 column bound")]
+
+
+def test_a_project_is_shown_without_what_it_says_of_itself():
+    text = '# All keys.\ntitle = "Pit #7"  # of nine\n\n[table]\nfile = \'a#b.csv\'   \nkey = "it\'s" # "so"\n'
+    assert report_page.without_comments(text) == 'title = "Pit #7"\n[table]\nfile = \'a#b.csv\'\nkey = "it\'s"'
+
+
+@pytest.mark.skipif(CHROMIUM is None or PDFTOTEXT is None, reason="needs the Debian packages chromium and poppler-utils")
+def test_it_prints_on_a4_and_nothing_is_cut_off(written, tmp_path):
+    """Each number of the page's tables is in the text of the PDF, and each of its words lies within the margins of 13, 14 and 10 mm."""
+    page, pdf = written / "plan" / "schedule" / "report.html", tmp_path / "report.pdf"
+    flags = ["--headless", "--no-sandbox", "--disable-gpu", "--no-pdf-header-footer"]
+    subprocess.run([CHROMIUM, *flags, f"--print-to-pdf={pdf}", f"file://{page}"], capture_output=True, timeout=60, check=True)
+    boxes = subprocess.run([PDFTOTEXT, "-bbox", pdf, "-"], capture_output=True, text=True, check=True).stdout
+    sheets = re.findall(r'<page width="([\d.]+)" height="([\d.]+)"', boxes)
+    assert 7 <= len(sheets) <= 13 and all((round(float(wide)), round(float(high))) == (595, 842) for wide, high in sheets)
+    words = re.findall(r'<word xMin="([\d.]+)" yMin="([\d.]+)" xMax="([\d.]+)" yMax="([\d.]+)">([^<]*)</word>', boxes)
+    left, low, right, high = (max(float(word[k]) if k > 1 else -float(word[k]) for word in words) for k in range(4))
+    assert -left >= 36 and -low >= 39 and right <= 595 - 36 and high <= 842 - 10
+    # Chromium makes all smaller where something is too wide: the title has 16 points.
+    assert float(words[0][3]) - float(words[0][1]) > 16 and words[0][4] == "Test"
+    told = {word for *_, word in words}
+    numbers = {text for _, text, _ in Page(page.read_text()).shown if " " not in text and text != "–"}
+    assert len(numbers) > 80 and numbers <= told
+    assert {f"{k}" for k in range(1, len(sheets) + 1)} <= told, "pages are numbered"
