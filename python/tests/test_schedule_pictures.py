@@ -1,6 +1,7 @@
 """Pictures, workbook and 3D page of a yearly schedule, by what they hold."""
 
 import base64
+import gzip
 from dataclasses import replace
 from types import SimpleNamespace
 
@@ -145,13 +146,13 @@ def test_a_library_that_is_missing_is_named_before_anything_is_solved(monkeypatc
 def test_the_page_has_a_colour_a_year(solved):
     """The last year of the blocks has the last colour; a folder without a schedule has none."""
     folder = files.read_folder(solved[1])
-    assert "year" not in page.model_of(folder)
+    assert page.model_of(folder)["stages"] == []
     years = np.where(folder.blocks["factor"] > 0, 1 + np.arange(len(folder.blocks)) % 3, 0)
     scheduled = files.Folder(folder.path, folder.blocks.assign(year=years), folder.record | {"schedule": "lp"})
-    model = page.model_of(scheduled)
-    cells = np.frombuffer(base64.b64decode(model["year"]), dtype=np.uint8)
+    (stage,) = page.model_of(scheduled)["stages"]
+    cells = np.frombuffer(gzip.decompress(base64.b64decode(stage["cells"])), dtype=np.uint8)
     assert cells[folder.blocks["id"]].tolist() == years.tolist() and cells.sum() == years.sum()
-    assert len(model["year_colours"]) == 3 and len(set(map(tuple, model["year_colours"]))) == 3
+    assert stage["name"] == "year" and len(stage["colours"]) == 3 and len(set(map(tuple, stage["colours"]))) == 3
 
 
 @pytest.mark.parametrize(("bound", "told"), [(1234.56789, 1234.568), (np.inf, None), (None, None)])
