@@ -13,7 +13,7 @@ from dataclasses import dataclass, replace
 import numpy as np
 import pandas as pd
 
-from . import fixed as fixing, grid as grids, money, trim, walls as laying
+from . import fixed as fixing, grid as grids, money, trim
 from .errors import PlanError
 from .grid import Grid
 from .project import Project
