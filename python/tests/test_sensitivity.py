@@ -263,7 +263,7 @@ def test_cases_are_solved_here_or_over_dask_alone(small, capsys):
         ("by = [10.5]", "by: shares are above -1"),
         ("by = [0.1, 0.10]", "by: shares are above -1"),
         ('by = ["much"]', "by: 'much' is not a number"),
-        ('vary = "rent"', 'vary: "rent" is none of price, mining_cost, processing_cost, selling_cost, recovery, slopes, capacity; price, selling_cost'),
+        ('vary = "rent"', 'vary: "rent" is none of price, mining_cost, processing_cost, selling_cost, recovery, slopes, capacity, haulage; price, selling_cost'),
         ('vary = "slopes copper"', 'vary: "slopes copper" is none of'),
         ('vary = "price tin"', 'vary: "price tin" is none of'),
         ('vary = ["price", "price"]', "vary: names a number twice"),
