@@ -44,9 +44,10 @@ def keep_only(copy: pathlib.Path, kept: set[str]) -> None:
     (copy / "crates.txt").write_text("".join(line for line in listed if re.split(r"[ :]", line)[0] in kept))
 
 
-def prove(copy: pathlib.Path, tell: Callable[[str], None]) -> int:
-    """Runs the gate's proofs in a copy, and hands on each line that they print; gives their status."""
-    with subprocess.Popen(["rt", "ci"], cwd=copy, stdout=subprocess.PIPE, stderr=subprocess.STDOUT, text=True, errors="replace") as ran:
+def prove(copy: pathlib.Path, tell: Callable[[str], None], names: Iterable[str] = ()) -> int:
+    """Runs the gate's proofs in a copy, of these crates and those below them alone where any are named, and hands on each line that they
+    print; gives their status."""
+    with subprocess.Popen(["rt", "ci", *names], cwd=copy, stdout=subprocess.PIPE, stderr=subprocess.STDOUT, text=True, errors="replace") as ran:
         for line in ran.stdout:
             tell(line)
     return ran.returncode

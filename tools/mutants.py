@@ -3,7 +3,8 @@
 
     tools/mutants.py --changed     for the gate: those of each crate that is not as it was when the table was written, and those of one
                                    crate more, another each day; the programs and the library are taken into build/
-    tools/mutants.py [CRATE..]     those of these crates, or all, for an hour or two; the table is renewed
+    tools/mutants.py [CRATE..]     those of these crates, or all, for an hour or two; the table is renewed, and where the toolchain proves
+                                   single crates no others are proved
     tools/mutants.py --read        none: looks whether each can be planted and stands in the table
 
 bench/results/mutants.md says of each mutant by what it was refused, and of each crate in which state: the SHA-256 over its sources,
@@ -18,6 +19,7 @@ import re
 import sys
 from typing import NamedTuple
 
+import ahead
 import build
 import clone
 from crates import TOP, crates, in_order
@@ -114,8 +116,9 @@ def due(table: Table) -> list[str]:
     return changed + others[turn : turn + 1]
 
 
-def tried(chosen: list[str], table: Table) -> tuple[int, list[str]]:
-    """Plants the mutants of these crates and proves; notes in the table what was told of each. The status, and those not refused."""
+def tried(chosen: list[str], table: Table, alone: bool) -> tuple[int, list[str]]:
+    """Plants the mutants of these crates and proves, those crates alone where that will do, else all; notes in the table what was told of
+    each. The status, and those not refused."""
     mutants = [(crate, mutant) for crate in chosen for mutant in mutants_of(crate)]
     print(f"{len(mutants)} mutants are planted, of {', '.join(chosen)}", flush=True)
     told: dict[tuple[str, str], str] = {}
@@ -126,8 +129,8 @@ def tried(chosen: list[str], table: Table) -> tuple[int, list[str]]:
             told[found[1], found[2]] = found[3].strip()
 
     with clone.clone(mutant for _, mutant in mutants) as copy:
-        status = clone.prove(copy, tell)
-        if status == 0:
+        status = clone.prove(copy, tell, chosen if alone else ())
+        if status == 0 and not alone:
             for crate in build.FILES:
                 if crate != build.LIBRARY or build.has_libraries(copy):
                     build.take(copy, crate)
@@ -154,7 +157,8 @@ def main() -> int:
         return 1
     if given.read:
         return 0
-    status, wrong = tried(due(table) if given.changed else [it for it in named if mutants_of(it)], table)
+    chosen = due(table) if given.changed else [it for it in named if mutants_of(it)]
+    status, wrong = tried(chosen, table, bool(given.crates) and ahead.keeps())
     write_table(table)
     print("".join(f"not refused: {mutant}\n" for mutant in wrong), end="")
     return status or bool(wrong)
