@@ -9,6 +9,7 @@ import re
 import subprocess
 import sys
 import time
+from collections.abc import Callable
 
 import pytest
 
@@ -70,6 +71,19 @@ def test_the_closing_loop_merges_nothing_on_mines_of_the_bench(mine: Mine, slope
     assert int(told["MERGERS"]) > 1000
     assert int(told["RELABELS"]) > 0
     assert {told[field] for field in ("CLOSING", "PLANNED", "SWEEPS", "ASKS", "STALE")} == {"0"}
+
+
+@pytest.mark.parametrize("number", [lambda depth: depth, lambda depth: 199 - depth], ids=["from the top", "from the bottom"])
+def test_labels_begin_as_distances(mine: Mine, number: Callable[[int], int]) -> None:
+    """A column of 200 blocks, the highest waste and the others ore: each is as many pairs from the waste as it is deep, so that its label is
+    never raised. Labels that all began at 1 would be raised thousands of times."""
+    worth = {number(depth): 1 if depth else -1000 for depth in range(200)}
+    needs = {number(depth): number(depth - 1) for depth in range(1, 200)}
+    mine.write("mine.upit", model_of([str(worth[block]) for block in range(200)]))
+    mine.write("mine.prec", "".join(f"{block} 1 {needs[block]}\n" for block in sorted(needs)))
+    assert mine.run(*SOLVE, "--stats", "made.stats") == (0, pit_of(200, [], "0.000000"), "")
+    told = stats(mine)
+    assert (told["MERGERS"], told["RELABELS"]) == ("199", "0")
 
 
 def test_what_workers_decided_is_counted_by_their_journal(mine: Mine) -> None:
