@@ -38,18 +38,23 @@ EOF
 PREC = "0 0\n1 1 0\n2 0\n3 1 2\n"
 
 
+def written(path, text, changes):
+    """A model with each change, whose old words stand in it once, and the precedences beside it."""
+    for old, new in changes:
+        assert text.count(old) == 1, old
+        text = text.replace(old, new)
+    path.write_text(text)
+    prec = path.with_suffix(".prec")
+    prec.write_text(PREC)
+    return path, prec
+
+
 @pytest.fixture
 def published(tmp_path):
     """Writes both files, the model with changes; gives their paths."""
 
     def write(*changes):
-        text = CPIT
-        for old, new in changes:
-            assert text.count(old) == 1, old
-            text = text.replace(old, new)
-        (tmp_path / "mine.cpit").write_text(text)
-        (tmp_path / "mine.prec").write_text(PREC)
-        return tmp_path / "mine.cpit", tmp_path / "mine.prec"
+        return written(tmp_path / "mine.cpit", CPIT, changes)
 
     return write
 
@@ -163,13 +168,7 @@ def taken(order):
 @pytest.fixture
 def with_destinations(tmp_path):
     def write(order="destination", *changes):
-        text = PCPSP.replace("{taken}", taken(order))
-        for old, new in changes:
-            assert text.count(old) == 1, old
-            text = text.replace(old, new)
-        (tmp_path / "mine.pcpsp").write_text(text)
-        (tmp_path / "mine.prec").write_text(PREC)
-        return tmp_path / "mine.pcpsp", tmp_path / "mine.prec"
+        return written(tmp_path / "mine.pcpsp", PCPSP.replace("{taken}", taken(order)), changes)
 
     return write
 
