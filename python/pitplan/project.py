@@ -155,7 +155,7 @@ class Project:
         """The project's own file, and those that a plan is made of: its table, a surface as mined, and areas."""
         rules = self.fixed
         of_fixed = () if rules is None else (*([rules.surface] if rules.surface else []), *(area.polygon for area in rules.areas))
-        return (self.path, self.table.file, *of_fixed)
+        return (self.path, self.table.file, *(file.path for file in of_fixed))
 
     def of_process(self, process: Process) -> Project:
         metals = tuple(replace(metal, recovery=process.recovery.get(metal.name, Decimal(0))) for metal in self.metals)

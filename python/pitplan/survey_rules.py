@@ -1,0 +1,34 @@
+"""Which file of surveyors a project names, of heights or of areas on the map, and what of it is taken."""
+
+from __future__ import annotations
+
+from dataclasses import dataclass
+from pathlib import Path
+from typing import Optional
+
+from .section import Section
+
+
+@dataclass(frozen=True)
+class SurveyFile:
+    """A file of heights or of areas.
+
+    layers  names of its layers, in which * stands for any letters; none: its only layer
+    height  a field of a map with the heights of points and lines that have none of their own
+    """
+
+    path: Path
+    layers: tuple[str, ...] = ()
+    height: Optional[str] = None
+
+
+def read_survey(section: Section, key: str, folder: Path, heights: bool = True) -> SurveyFile:
+    """`KEY = "file"`, or `{ file, layer, height }`. Raises PlanError, with the key, where it is neither."""
+    if section.has("layer"):
+        raise section.wrong("layer", f'stands beside its file: {key} = {{ file = "..", layer = ".." }}')
+    if not isinstance(section.get(key), dict):
+        return SurveyFile(folder / section.text(key))
+    inner = section.section(key)
+    file = SurveyFile(folder / inner.text("file"), inner.names("layer") or (), inner.optional_text("height") if heights else None)
+    inner.finish()
+    return file
