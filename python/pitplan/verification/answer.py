@@ -174,6 +174,15 @@ class Answer:
         return np.where(self.ore, gain, 0.0) - self.said["mining_cost"].to_numpy()
 
     @cached_property
+    def earned(self) -> np.ndarray:
+        """The worths without what each phase's own mining cost takes of them, once blocks have phases."""
+        rules = self.project.phases
+        if PHASE not in self.said or rules is None or not rules.mining_cost_added:
+            return self.worths
+        a_tonne = np.array([0.0, *map(float, rules.mining_cost_added)])
+        return self.worths - a_tonne[np.clip(self.said[PHASE].to_numpy(), 0, len(a_tonne) - 1)] * self.tonnes
+
+    @cached_property
     def cells(self) -> tuple[np.ndarray, np.ndarray, np.ndarray]:
         """Level from the top, row from the south and column from the west of each block, told by its centre."""
         steps = self.steps
