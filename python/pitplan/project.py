@@ -274,11 +274,19 @@ def demand_sums_agree(project: Project) -> None:
     for it in rules.sums:
         if it.of not in ("ore", "rock", *names):
             raise PlanError(f"{project.path}: [schedule.sums] {it.name}: of {it.of} is none of {', '.join(('rock', 'ore', *names))}")
-        if project.table.topography and not it.a_tonne:
+    demand_sums_of_parts(project, rules)
+
+
+def demand_sums_of_parts(project: Project, rules: ScheduleRules) -> None:
+    """Refuses sums of whole blocks where a topography cuts these, and where those that are put together have the means of that column."""
+    means = {*rules.columns_of(a_tonne=True), *(metal.column for metal in project.metals)}
+    for it in [it for it in rules.sums if not it.a_tonne]:
+        if project.table.topography:
             why = "is of whole blocks, and [table] topography cuts some: give it a_tonne, or leave out one of the two"
             raise PlanError(f"{project.path}: [schedule.sums] {it.name}: {why}")
-    if rules.sums and project.table.reblock:
-        raise PlanError(f"{project.path}: [schedule.sums]: are not of rows that are put together: leave out [table] reblock")
+        if project.table.reblock and it.column in means:
+            why = f"{it.column} is of a tonne too, and [table] reblock makes means of that: let the table have it twice"
+            raise PlanError(f"{project.path}: [schedule.sums] {it.name}: {why}")
 
 
 def demand_processes_agree(project: Project) -> None:
