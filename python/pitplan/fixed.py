@@ -146,10 +146,12 @@ def in_area(grid: Grid, area: Area) -> tuple[np.ndarray, list[str]]:
     """Which rows have their centre in the barred side of an area, and notes. Raises PlanError where the file is not usable, or bars all."""
     file, areas = area.polygon.path, survey_files.areas(area.polygon)
     x, y, _ = grid.centres(np.arange(grid.per_level))
-    inside = np.zeros(grid.per_level, dtype=bool)
+    count = np.zeros(grid.per_level, dtype=np.int64)
     for polygon in areas.polygons:
-        inside |= np.logical_xor.reduce([within(x, y, ring) for ring in polygon])
-    barred, notes = inside[grid.rows % grid.per_level], list(areas.notes)
+        count += np.logical_xor.reduce([within(x, y, ring) for ring in polygon])
+    barred, notes = (count > 0)[grid.rows % grid.per_level], list(areas.notes)
+    if (count > 1).any():
+        notes.append(f"WARNING: {file}: {np.count_nonzero(count > 1):,} columns of blocks lie in several of its polygons, and none of these is a hole")
     if not barred.any():
         said = f"{file}: no block lies in it: {terrain.beside(np.concatenate([polygon[0] for polygon in areas.polygons]), grid)}"
         if area.barred == "outside":

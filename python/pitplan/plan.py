@@ -230,8 +230,11 @@ def prepare(
         bare = grids.of_table(frame, laid, source, any_size=True)
         summary = summaries.of_table(checked, bare, project)
         frame, grid = absent.with_rows(frame, bare, project)
-        frame, cut = topography.cut(frame, grid, project)
     progress.lines(summary)
+    cut: list[str] = []
+    if project.table.topography:
+        with progress.step(f"cutting blocks by {project.table.topography.path}"):
+            frame, cut = topography.cut(frame, grid, project, project.table.topography)
     with progress.step("laying the walls"):
         region = laying.regions_of(frame, grid, project.table.region)
         walls = laying.walls_of(region, grid, project.slopes)

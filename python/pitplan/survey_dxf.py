@@ -3,6 +3,7 @@
 from __future__ import annotations
 
 from collections import defaultdict
+from functools import lru_cache
 from pathlib import Path
 from typing import Any, Iterable
 
@@ -25,11 +26,16 @@ def layers_of(path: Path) -> tuple[dict[str, Layer], list[str]]:
 
     Raises MissingPackage without ezdxf, and PlanError where the file is no drawing, or is in feet.
     """
+    stat = path.stat()
+    return read(path, (stat.st_mtime_ns, stat.st_size))
+
+
+@lru_cache(maxsize=2)
+def read(path: Path, state: tuple[int, int]) -> tuple[dict[str, Layer], list[str]]:
+    """The same, once for a file that stays in this state, since a second takes 10,000 faces, and the second look reads them too."""
     ezdxf = load("ezdxf", PACKAGE, "a .dxf file")
     try:
         drawing = ezdxf.readfile(path)
-    except FileNotFoundError as error:
-        raise PlanError(f"{path}: cannot be read: {error.strerror}") from error
     except (OSError, UnicodeError, ezdxf.DXFError) as error:
         raise PlanError(f"{path}: cannot be read as a drawing: {error}") from error
     found: dict[str, Layer] = defaultdict(Layer)

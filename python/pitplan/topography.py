@@ -16,21 +16,19 @@ from .errors import PlanError
 from .grid import Grid, metres
 from .project import Project
 from .reblock import TONNES_PLACES
+from .survey_rules import SurveyFile
 from .terrain import HAIR, Below
 
 # By so much of its plan a column of blocks may be covered twice, or not at all, without a word.
 SLIP = 0.01
 
 
-def cut(frame: pd.DataFrame, grid: Grid, project: Project) -> tuple[pd.DataFrame, list[str]]:
-    """The rows of a grid with the tonnes, to a gram, that lie below the project's topography, and notes; as they are where it names none.
+def cut(frame: pd.DataFrame, grid: Grid, project: Project, file: SurveyFile) -> tuple[pd.DataFrame, list[str]]:
+    """The rows of a grid with the tonnes, to a gram, that lie below a topography, and notes.
 
     Raises PlanError where the file is not usable, lies over no block or below all, or has several heights at a place, and MissingPackage where
     what reads it is not installed.
     """
-    file = project.table.topography
-    if file is None:
-        return frame, []
     read = survey_files.topography(file, terrain.box_of(grid))
     triangles = terrain.triangles_of(read)
     if not len(triangles):

@@ -217,6 +217,12 @@ def test_a_layer_is_named_in_the_project(plan_folder, tmp_path):
     assert forced == [9, 3]
 
 
+def test_a_drawing_that_is_written_anew_is_read_anew(tmp_path):
+    for height in (3, 4):
+        path = drawing(tmp_path / "mined.dxf", lambda space: space.add_point((1, 2, height), **layer("SPOT")))  # noqa: B023
+        assert read(path).points.tolist() == [[1, 2, height]]
+
+
 def test_units_of_a_drawing(tmp_path):
     assert any("WARNING: " in note and "$INSUNITS is 4" in note for note in read(drawing(tmp_path / "mm.dxf", faces_of_plane, units=4)).notes)
     assert len(read(drawing(tmp_path / "none.dxf", faces_of_plane, units=0)).notes) == 1
@@ -346,6 +352,20 @@ def test_several_polygons_of_a_drawing_are_one_area(plan_folder, tmp_path):
     drawing(tmp_path / "lease.dxf", two)
     text = PROJECT + AREA + '{ file = "lease.dxf", layer = "LEASE" }\nbarred = "inside"\n'
     assert prepare(load(plan_folder(rows(4, 1, 1), text))).fixed.barred.tolist() == [0, 2]
+
+
+def test_a_polyline_in_another_is_no_hole(plan_folder, tmp_path):
+    """The second of four columns lies in both: it is told."""
+
+    def two(space):
+        for west, east in ((0, 40), (10, 20)):
+            space.add_lwpolyline([(west, -1), (east, -1), (east, 11), (west, 11)], close=True, **layer("LEASE"))
+
+    drawing(tmp_path / "lease.dxf", two)
+    plan = prepare(load(plan_folder(rows(5, 1, 1), PROJECT + AREA + '"lease.dxf"\nbarred = "inside"\n')))
+    assert plan.fixed.barred.tolist() == [0, 1, 2, 3]
+    said = "1 columns of blocks lie in several of its polygons, and none of these is a hole"
+    assert f"WARNING: {tmp_path / 'lease.dxf'}: {said}" in plan.notes
 
 
 def test_an_arc_is_followed_to_a_centimetre(tmp_path):

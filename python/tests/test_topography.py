@@ -267,7 +267,7 @@ def wrong(folder):
 def test_the_second_look_agrees(cut_hill):
     rules = {rule.name: rule for rule in verify(cut_hill)}
     assert not any(rule.differences for rule in rules.values())
-    assert rules["topography"].holds == "tonnes lie below the topography, in 72 columns of blocks exactly, in 72 by 36 heights to a tenth"
+    assert rules["topography"].holds == "tonnes lie below the triangles of the topography, in 72 columns of blocks exactly, in 72 by 36 heights to a tenth"
     tonnes = pd.read_csv(cut_hill / "blocks.csv")["tonnes"]
     assert (tonnes == 0).sum() > 20 and ((tonnes > 0) & (tonnes < 99)).sum() > 60
     assert (pd.read_csv(cut_hill / "shells.csv")["blocks"] > 0).any()
@@ -303,7 +303,7 @@ def test_a_run_that_cuts_wrong_is_refused(plan_folder, tmp_path, monkeypatch, be
     plane(tmp_path, lambda x, y: 12 + 0.2 * x)
     right = terrain.below
     if bent == "share":
-        monkeypatch.setattr(topography, "cut", lambda frame, grid, project: (frame, []))
+        monkeypatch.setattr(topography, "cut", lambda frame, *_: (frame, []))
     else:
         monkeypatch.setattr(terrain, "below", lambda triangles, grid: right(triangles + [0, 0, 1], grid))
     with pytest.raises(PlanError, match="topography: block "):

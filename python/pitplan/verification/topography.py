@@ -129,7 +129,7 @@ def verify(answer: Answer) -> Rule:
         at[numbers] = np.arange(len(numbers))
         expected = np.where(at[place] >= 0, share[at[place], up], np.nan) * before
         differences += told(answer, np.abs(after - expected) > GRAM + missed * before, expected)
-    holds = f"tonnes lie below the topography, in {len(exact):,} columns of blocks exactly, in {len(looked):,} by {ACROSS**2} heights to a tenth"
+    holds = f"tonnes lie below the triangles of the topography, in {len(exact):,} columns of blocks exactly, in {len(looked):,} by {ACROSS**2} heights to a tenth"
     return rule("topography", holds, differences)
 
 
