@@ -1,4 +1,4 @@
-"""Topographies and areas of the files that surveyors give: tables of points, drawings (DXF), maps, and rasters of heights.
+"""Topographies and areas of the files that surveyors give: tables of points, strings, drawings (DXF), maps, and rasters of heights.
 
 What reads a file is told by its ending. Coordinates are taken as they are written, in metres of the table's own system: none is transformed.
 """
@@ -10,7 +10,7 @@ from pathlib import Path
 
 import numpy as np
 
-from . import survey_dxf, survey_gdal
+from . import survey_dxf, survey_gdal, survey_strings
 from .errors import PlanError
 from .survey_layers import Layer, chosen, named
 from .survey_rules import SurveyFile
@@ -18,7 +18,8 @@ from .table import at_row, demand_columns, numbers_of, read_columns
 from .table_format import TableFormat, guessed_separator
 
 TABLES = (".csv", ".txt", ".dat", ".xyz", ".gz", ".zip")
-DRAWING = ".dxf"
+DRAWING, STRINGS = ".dxf", ".str"
+READERS = {DRAWING: "ezdxf", STRINGS: "pitplan"}
 HEIGHTS, CLOSED = "points, lines with heights or 3D faces", "polygons or closed lines"
 NO_FACES = np.zeros((0, 3), dtype=np.int64)
 # Least x and greatest, least y and greatest, in metres.
@@ -92,7 +93,7 @@ def areas(file: SurveyFile) -> Areas:
 def ending_of(file: SurveyFile, by_gdal: tuple[str, ...]) -> str:
     """What a file's name ends with, in small letters. Raises PlanError where nothing reads such, or where it is no file."""
     path, ending = file.path, file.path.suffix.lower()
-    endings = (*TABLES, DRAWING, *by_gdal)
+    endings = (*TABLES, DRAWING, STRINGS, *by_gdal)
     if ending not in endings:
         why = f"{ending} files are not read" if ending else "has no ending, which tells what reads it"
         raise PlanError(f"{path}: {why}: give one of {', '.join(endings)}")
@@ -104,10 +105,11 @@ def ending_of(file: SurveyFile, by_gdal: tuple[str, ...]) -> str:
 
 
 def layers_of(file: SurveyFile) -> tuple[dict[str, Layer], list[str]]:
-    """The layers of a drawing or a map, and notes."""
-    if file.path.suffix.lower() == DRAWING:
+    """The layers of a drawing, of strings or of a map, and notes."""
+    ending = file.path.suffix.lower()
+    if ending == DRAWING:
         return survey_dxf.layers_of(file.path)
-    return survey_gdal.layers_of(file), []
+    return (survey_strings.layers_of(file.path) if ending == STRINGS else survey_gdal.layers_of(file)), []
 
 
 def demand_points(found: Topography, file: SurveyFile) -> Topography:
@@ -117,8 +119,7 @@ def demand_points(found: Topography, file: SurveyFile) -> Topography:
 
 
 def told(file: SurveyFile, what: str) -> str:
-    by = "ezdxf" if file.path.suffix.lower() == DRAWING else "GDAL"
-    return f"{file.path}: {what} were read by {by}; no coordinates are transformed"
+    return f"{file.path}: {what} were read by {READERS.get(file.path.suffix.lower(), 'GDAL')}; no coordinates are transformed"
 
 
 def in_layers(layers: dict[str, Layer]) -> str:

@@ -11,7 +11,7 @@ from ezdxf.render import MeshBuilder
 from osgeo import gdal, ogr, osr
 from test_verify import looked_at
 
-from pitplan import PlanError, fixed, load, prepare, survey_files, terrain
+from pitplan import PlanError, commands, fixed, load, prepare, survey_files, terrain
 from pitplan.survey_rules import SurveyFile
 
 gdal.UseExceptions()
@@ -186,6 +186,41 @@ def test_triangles_of_a_drawing_are_those_that_gdal_reads(tmp_path):
     theirs = [feature.GetGeometryRef().GetGeometryRef(0).GetPoints()[:3] for feature in features]
     assert sorted(np.array(theirs).round(6).tolist()) == sorted(found.points[found.faces].round(6).tolist())
     assert len(theirs) == 100
+
+
+STRINGS = """topo,26-Nov-26,a pit,
+0, 0.000, 0.000, 0.000, 0.000, 0.000, 0.000
+1, 2.000, 600001.000, 3.250, toe
+1, 5.000, 600004.000, 6.000,
+0, 0.000, 0.000, 0.000,
+7, 0.000, 0.000, 1.000
+7, 0.000, 10.000, 1.000
+7, 10.000, 10.000, 1.000
+7, 0.000, 0.000, 1.000
+0, 0.000, 0.000, 0.000,
+0, 0.000, 0.000, 0.000, END
+
+"""
+
+
+def test_strings_have_north_before_east(tmp_path):
+    """Of string 1 two points, and string 7 is closed."""
+    (tmp_path / "topo.str").write_text(STRINGS)
+    assert read(tmp_path / "topo.str", "1").points.tolist() == [[600001, 2, 3.25], [600004, 5, 6]]
+    assert len(read(tmp_path / "topo.str", "*").points) == 6
+    (polygon,) = areas(tmp_path / "topo.str").polygons
+    assert polygon[0].tolist() == [[0, 0], [10, 0], [10, 10], [0, 0]]
+    assert "1 polygons of the layer 7 were read by pitplan" in areas(tmp_path / "topo.str").notes[0]
+
+
+def test_strings_that_are_written_are_read(plan_folder, tmp_path, blank_pictures):
+    """The toes and crests of a pit, which the export has in two forms."""
+    path = plan_folder(rows(7, 7, 3, cu=lambda i, j, k: 9 * ((i, j, k) == (3, 3, 1))), PROJECT)
+    commands.write_shells(path)
+    strings, table = (commands.export(path.parent / "plan", kind) for kind in ("str", "lines"))
+    expected = pd.read_csv(table)[["x", "y", "z"]].to_numpy()
+    assert sorted(map(tuple, read(strings, "*").points)) == sorted(map(tuple, expected)) and len(expected) > 8
+    assert len(areas(strings, "*").polygons) > 1
 
 
 def test_layers_are_chosen_by_name_list_and_star(tmp_path):

@@ -36,7 +36,7 @@ def test_pictures_are_no_heights(tmp_path):
 @pytest.mark.parametrize(
     ("name", "text", "said"),
     [
-        ("topo.dwg", "AC1027", r"topo.dwg: .dwg files are not read: give one of .csv, .*, .dxf, .gpkg, .shp, .geojson, .json, .tif, .tiff, .asc"),
+        ("topo.dwg", "AC1027", r"topo.dwg: .dwg files are not read: give one of .csv, .*, .dxf, .str, .gpkg, .shp, .geojson, .json, .tif, .tiff, .asc"),
         ("topo", "x", "topo: has no ending, which tells what reads it: give one of"),
         ("topo.dxf", "", "topo.dxf: cannot be read as a drawing"),
         ("topo.dxf", "0\nSECTION\n2\nENTITIES\n0\nPOINT\n8\nTOPO\n10\n1\n", "topo.dxf: cannot be read as a drawing"),
@@ -46,6 +46,9 @@ def test_pictures_are_no_heights(tmp_path):
         ("topo.tif", "", "topo.tif: cannot be read by GDAL's driver GTiff: "),
         ("topo.asc", "", "topo.asc: cannot be read by GDAL's driver AAIGrid: "),
         ("topo.geojson", "{}", "topo.geojson: cannot be read by GDAL's driver GeoJSON: "),
+        ("topo.str", "", "topo.str: has no points, lines with heights or 3D faces: it holds nothing"),
+        ("topo.str", "a,b\n0,0\n1, 2.0, 3.0\n", "topo.str row 3: has no number, north, east and height of a string"),
+        ("topo.str", "a,b\n0,0\n1, 2.0, 3.0, 4.0\n", "topo.str: breaks off: its last string has no end"),
         ("topo.csv", "", "topo.csv: is no table: No columns to parse from file"),
         ("topo.csv", "x,y,z\n", "topo.csv: has no heights, or none where the model lies"),
         ("topo.csv", "1,2,3\n", "topo.csv row 1: there is no column x; the columns are 1, 2, 3"),

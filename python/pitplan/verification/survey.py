@@ -13,7 +13,7 @@ from ..survey_rules import SurveyFile
 from .turned import places_of
 
 # Endings of what is no table.
-OTHERS = (".dxf", ".gpkg", ".shp", ".geojson", ".json", ".tif", ".tiff", ".asc")
+OTHERS = (".dxf", ".str", ".gpkg", ".shp", ".geojson", ".json", ".tif", ".tiff", ".asc")
 
 
 def heights(file: SurveyFile, grid: dict[str, Any], cells: Optional[np.ndarray] = None) -> tuple[np.ndarray, np.ndarray]:
