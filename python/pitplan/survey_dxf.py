@@ -12,6 +12,7 @@ import numpy as np
 from .errors import PlanError
 from .packages import load
 from .survey_layers import Layer
+from .survey_rules import SurveyFile
 
 PACKAGE = "python3-ezdxf"
 # Metres by which the chords of an arc may lie off it.
@@ -21,13 +22,12 @@ FEET = {2: "feet", 10: "yards", 21: "US survey feet", 22: "US survey inches", 23
 METRES = (0, 6)
 
 
-def layers_of(path: Path) -> tuple[dict[str, Layer], list[str]]:
+def layers_of(file: SurveyFile) -> tuple[dict[str, Layer], list[str]]:
     """The layers of the drawing's model space, and what is to be told of it.
 
     Raises MissingPackage without ezdxf, and PlanError where the file is no drawing, or is in feet.
     """
-    stat = path.stat()
-    return read(path, (stat.st_mtime_ns, stat.st_size))
+    return read(file.path, file.state)
 
 
 @lru_cache(maxsize=2)

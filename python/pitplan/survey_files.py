@@ -68,8 +68,9 @@ def topography(file: SurveyFile, around: Box) -> Topography:
         some = chosen(layers, file, "faces", "3D faces")
         corners = np.concatenate([faces for layer in some.values() for faces in layer.faces])
         points, faces = np.unique(corners.reshape(-1, 3), axis=0, return_inverse=True)
-        what = f"{len(corners):,} triangles of {in_layers(some)}"
-        return Topography(points, faces.reshape(-1, 3), (told(file, what), *notes))
+        # Drawings often have a face twice.
+        faces = np.unique(np.sort(faces.reshape(-1, 3), axis=1), axis=0)
+        return Topography(points, faces, (told(file, f"{len(faces):,} triangles of {in_layers(some)}"), *notes))
     some = chosen(layers, file, "points", HEIGHTS)
     points = np.concatenate([part for layer in some.values() for part in layer.points])
     return Topography(points, NO_FACES, (told(file, f"{len(points):,} points of {in_layers(some)}"), *notes))
@@ -108,7 +109,7 @@ def layers_of(file: SurveyFile) -> tuple[dict[str, Layer], list[str]]:
     """The layers of a drawing, of strings or of a map, and notes."""
     ending = file.path.suffix.lower()
     if ending == DRAWING:
-        return survey_dxf.layers_of(file.path)
+        return survey_dxf.layers_of(file)
     return (survey_strings.layers_of(file.path) if ending == STRINGS else survey_gdal.layers_of(file)), []
 
 

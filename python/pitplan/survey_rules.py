@@ -21,6 +21,12 @@ class SurveyFile:
     layers: tuple[str, ...] = ()
     height: Optional[str] = None
 
+    @property
+    def state(self) -> tuple[int, int]:
+        """By what it is seen to be another than it was: when it was written, in nanoseconds, and its size; of no file 0 and 0."""
+        found = self.path.stat() if self.path.is_file() else None
+        return (found.st_mtime_ns, found.st_size) if found else (0, 0)
+
 
 def read_survey(section: Section, key: str, folder: Path, heights: bool = True) -> SurveyFile:
     """`KEY = "file"`, or `{ file, layer, height }`. Raises PlanError, with the key, where it is neither."""

@@ -6,6 +6,7 @@ above is air, of 0 tonnes.
 
 from __future__ import annotations
 
+from functools import lru_cache
 from pathlib import Path
 
 import numpy as np
@@ -16,9 +17,12 @@ from .errors import PlanError
 from .grid import Grid, metres
 from .project import Project
 from .reblock import TONNES_PLACES
+from .survey_files import Topography
 from .survey_rules import SurveyFile
 from .terrain import HAIR, Below
 
+# Of a grid the shape, the origin, the size and the azimuth.
+Box = tuple[tuple[int, int, int], tuple[float, float, float], tuple[float, float, float], float]
 # By so much of its plan a column of blocks may be covered twice, or not at all, without a word.
 SLIP = 0.01
 
@@ -29,11 +33,7 @@ def cut(frame: pd.DataFrame, grid: Grid, project: Project, file: SurveyFile) -> 
     Raises PlanError where the file is not usable, lies over no block or below all, or has several heights at a place, and MissingPackage where
     what reads it is not installed.
     """
-    read = survey_files.topography(file, terrain.box_of(grid))
-    triangles = terrain.triangles_of(read)
-    if not len(triangles):
-        raise PlanError(f"{file.path}: its points lie on one line, and make no surface")
-    found = terrain.below(triangles, grid)
+    read, found = surveyed(file, file.state, (grid.shape, grid.origin, grid.size, grid.azimuth))
     place = grid.rows % grid.per_level
     if (found.covered[place] <= HAIR).all():
         raise PlanError(f"{file.path}: lies over no block: {terrain.beside(read.points, grid)}")
@@ -45,6 +45,19 @@ def cut(frame: pd.DataFrame, grid: Grid, project: Project, file: SurveyFile) -> 
         raise PlanError(f"{file.path}: all blocks lie above it: are its heights the table's, in metres?")
     notes = [*read.notes, f"{file.path}: {told(before, after)}", *(f"WARNING: {file.path}: {said}" for said in doubts(found, grid))]
     return frame.assign(**{project.table.tonnes: after}), notes
+
+
+@lru_cache(maxsize=1)
+def surveyed(file: SurveyFile, state: tuple[int, int], box: Box) -> tuple[Topography, Below]:
+    """A topography and what of the cells of a box lies below it; once for all plans of a run, since a sensitivity makes many. Raises as
+    `cut`."""
+    shape, origin, size, azimuth = box
+    grid = Grid(shape, origin, size, np.zeros(0, dtype=np.int64), azimuth)
+    read = survey_files.topography(file, terrain.box_of(grid))
+    triangles = terrain.triangles_of(read)
+    if not len(triangles):
+        raise PlanError(f"{file.path}: its points lie on one line, and make no surface")
+    return read, terrain.below(triangles, grid)
 
 
 def demand_one_height(found: Below, grid: Grid, file: Path) -> None:

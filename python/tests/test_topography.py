@@ -170,6 +170,34 @@ def test_faces_of_a_drawing(plan_folder, tmp_path):
     assert any("2 triangles of the layer TOPO were read by ezdxf" in note for note in pitplan.prepare(path).notes)
 
 
+def test_faces_that_stand_twice_count_once(plan_folder, tmp_path):
+    """In another order too; the same tonnes as those of the valley."""
+    text = 'file = "blocks.csv"\ntopography = { file = "topo.dxf", layer = "TOPO" }'
+
+    def again(space):
+        space.add_3dface([(0, 30, 15), (0, 0, 0), (30, 30, 0)], **layer("TOPO"))
+
+    found = []
+    for shapes in ((valley,), (valley, again, valley)):
+        drawing(tmp_path / "topo.dxf", *shapes)
+        path = plan_folder(rows(3, 3, 2), PROJECT, (CUT[0], text))
+        found.append(tonnes_of(path))
+        assert any("2 triangles of the layer TOPO" in note for note in pitplan.prepare(path).notes)
+    assert found[0].equals(found[1]) and (found[0] < 100).any()
+
+
+def test_a_topography_is_read_once_while_it_stays(plan_folder, tmp_path, monkeypatch):
+    """Plans of other costs take what was cut; with another file or grid it is cut anew."""
+    right, cuts = terrain.below, []
+    monkeypatch.setattr(terrain, "below", lambda *given: cuts.append(1) or right(*given))
+    plane(tmp_path, lambda x, y: x)
+    path = plan_folder(rows(3, 1, 3), PROJECT, CUT)
+    assert [tonnes_of(path)["b0-0-0"] for _ in range(3)] == [50] * 3 and len(cuts) == 1
+    plane(tmp_path, lambda x, y: x + 5)
+    assert tonnes_of(path)["b0-0-0"] == 87.5 and len(cuts) == 2
+    assert tonnes_of(plan_folder(rows(4, 1, 3), PROJECT, CUT))["b0-0-0"] == 87.5 and len(cuts) == 3
+
+
 def test_cells_of_a_raster(plan_folder, tmp_path):
     """The plane x + y at middles of cells of 4 m, which a raster's triangles hold."""
     x, y = np.meshgrid(-10 + 4 * np.arange(14), 22 - 4 * np.arange(10))
