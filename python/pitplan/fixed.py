@@ -126,8 +126,8 @@ def read_surface(grid: Grid, file: SurveyFile) -> tuple[Surface, list[str]]:
 
 
 def surface_of(grid: Grid, topography: Topography) -> Surface:
-    """Of a topography of triangles the surface over a column of blocks is theirs at its middle. Of one of points it is the mean of those that
-    lie over the column, and where there is none that of the triangles between them."""
+    """Of a topography of triangles the surface over a column of blocks is theirs at its middle. Of one of points it is the mean of those
+    that lie over the column, and where there is none that of the triangles between them."""
     at_middle = terrain.heights(terrain.triangles_of(topography), grid)
     if len(topography.faces):
         return Surface(at_middle, np.zeros(grid.per_level, dtype=bool))
@@ -151,7 +151,8 @@ def in_area(grid: Grid, area: Area) -> tuple[np.ndarray, list[str]]:
         count += np.logical_xor.reduce([within(x, y, ring) for ring in polygon])
     barred, notes = (count > 0)[grid.rows % grid.per_level], list(areas.notes)
     if (count > 1).any():
-        notes.append(f"WARNING: {file}: {np.count_nonzero(count > 1):,} columns of blocks lie in several of its polygons, and none of these is a hole")
+        twice = f"{np.count_nonzero(count > 1):,} columns of blocks lie in several of its polygons, and none of these is a hole"
+        notes.append(f"WARNING: {file}: {twice}")
     if not barred.any():
         said = f"{file}: no block lies in it: {terrain.beside(np.concatenate([polygon[0] for polygon in areas.polygons]), grid)}"
         if area.barred == "outside":

@@ -86,8 +86,8 @@ def with_factors(project: Project, factors: tuple[int, ...]) -> Project:
 def divide(plan: Plan, mine: Optional[Mine] = None, progress: Progress = silent) -> Phases:
     """Divides the pit of the plan's last factor as the project asks; the mine is that of the plan, which is else made for the time being.
 
-    Raises PlanError where that pit is empty, more than a hundred phases are asked for, or there are more or fewer than mining costs are given
-    for, and ProgramError where the solver refuses.
+    Raises PlanError where that pit is empty, more than a hundred phases are asked for, or there are not as many as mining costs are given,
+    and ProgramError where the solver refuses.
     """
     if mine is None:
         with mines.temporary(plan) as made:
@@ -211,8 +211,8 @@ def table(phases: Phases) -> pd.DataFrame:
     """One row a phase, of what it adds to those before, at the price as given.
 
     phase from 1; factor, per mille, of the shell that ends it; blocks (with rock); tonnes, ore_tonnes, waste_tonnes; strip_ratio;
-    grade_NAME of the ore in its column's unit, metal_NAME recovered of it (tonnes, or grams); worth in money; where phases have mining costs of
-    their own mining_cost_added, what these are, which is not in the worth; cost_of_width, the shell's worth less that of the phases up to this
+    grade_NAME of the ore in its column's unit, metal_NAME recovered of it (tonnes, or grams); worth in money; mining_cost_added, where
+    phases have mining costs of their own, which are not in the worth; cost_of_width, the shell's worth less that of the phases up to this
     one; pieces that do not touch by a side; least_width in metres.
     """
     plan, cells = phases.plan, analyse.cells_of(phases.plan, phases.solution)

@@ -10,7 +10,8 @@ from typing import Any, Optional, Union
 import numpy as np
 import pandas as pd
 
-from . import absent, files, fixed as fixing, grid as grids, haulage, money, reach, reblock, summary as summaries, table as tables, topography, trim, walls as laying, yearly_money
+from . import absent, files, fixed as fixing, grid as grids, haulage, money, reach, reblock, summary as summaries, table as tables
+from . import topography, trim, walls as laying, yearly_money
 from .errors import PlanError
 from .files import MOST_PAIRS, Needs, Pairs
 from .fixed import NOTHING, FixedBlocks, Settled

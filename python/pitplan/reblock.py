@@ -1,8 +1,8 @@
 """Makes blocks of one size of a table's rows: whole blocks put together, or sub-blocks of uneven sizes put into their parents.
 
 Tonnes are summed, grades are means by tonnes, rock and region those of most tonnes; a block is forced or barred where a part of it is. Of
-columns that a schedule sums those that are of a tonne are means too, and others are summed. What is of another rock or region than its block
-is told in tonnes.
+columns that a schedule sums those that are of a tonne are means too, and others are summed. What is of another rock or region than its
+block is told in tonnes.
 """
 
 from __future__ import annotations

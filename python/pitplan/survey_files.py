@@ -1,6 +1,7 @@
 """Topographies and areas of the files that surveyors give: tables of points, strings, drawings (DXF), maps, and rasters of heights.
 
-What reads a file is told by its ending. Coordinates are taken as they are written, in metres of the table's own system: none is transformed.
+What reads a file is told by its ending. Coordinates are taken as they are written, in metres of the table's own system: none is
+transformed.
 """
 
 from __future__ import annotations
@@ -42,8 +43,8 @@ class Topography:
 
 @dataclass(frozen=True)
 class Areas:
-    """Polygons on the map, each a list of rings x, y in metres, the first of which is its outline and the others its holes; and what a planner
-    should know of them."""
+    """Polygons on the map, each a list of rings x, y in metres, of which the first is its outline and the others its holes; and what a
+    planner should know of them."""
 
     polygons: list[list[np.ndarray]]
     notes: tuple[str, ...] = ()

@@ -22,7 +22,7 @@ DEGREES = (360.0, 90.0)
 
 
 def opened(path: Path, kind: str, drivers: dict[str, str]) -> Any:
-    """The file, of a kind that GDAL calls OF_VECTOR or OF_RASTER. Raises MissingPackage without GDAL, and PlanError where it cannot be read."""
+    """The file, of a kind that GDAL calls OF_VECTOR or OF_RASTER. Raises MissingPackage without GDAL, PlanError where it cannot be read."""
     gdal = load("osgeo.gdal", PACKAGE, f"a {path.suffix} file")
     driver = drivers[path.suffix.lower()]
     # Else heights have 24 bits, which are 0.2 mm of 2000 m.
@@ -44,7 +44,8 @@ def demand_metres(system: Any, path: Path, places: np.ndarray) -> None:
         return
     if system.IsGeographic():
         if len(places) and (np.abs(places) <= DEGREES).all():
-            raise PlanError(f"{path}: is in degrees ({system.GetName()}), and nothing is transformed: give it in the table's own coordinates")
+            why = f"is in degrees ({system.GetName()}), and nothing is transformed: give it in the table's own coordinates"
+            raise PlanError(f"{path}: {why}")
     elif abs(system.GetLinearUnits() - 1) > 1e-9:
         raise PlanError(f"{path}: is in {system.GetLinearUnitsName()} ({system.GetName()}), and lengths are in metres: convert it")
 
@@ -109,8 +110,9 @@ def places_of(geometry: Any, height: Optional[float]) -> np.ndarray:
 
 
 def raster(path: Path, around: tuple[float, float, float, float]) -> tuple[np.ndarray, np.ndarray]:
-    """The middles x, y, z of a raster's cells with a height, shape (some, 3), and the triangles between them, three numbers of middles each:
-    a square of four is cut from its north-west to its south-east. Both are of the part round least x and y and greatest x and y in metres.
+    """The middles x, y, z of a raster's cells with a height, shape (some, 3), and the triangles between them, three numbers of middles
+    each: a square of four is cut from its first corner, the north-west, to the opposite. Both are of the part round a box, of least and
+    greatest x and least and greatest y in metres.
 
     Raises PlanError as `opened` and `demand_metres` do, and where the raster has several bands, does not say where it lies, or is in feet.
     """

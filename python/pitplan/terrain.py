@@ -1,7 +1,7 @@
 """A topography as triangles over the columns of a grid: its height at their middles, and how much of each block lies below it.
 
-The share of a block is exact for these triangles. Each is cut to the columns that it comes over, and over what is left of it, where its height
-goes linearly, the volume above an elevation has a closed form; a block has what lies above its floor without what lies above its top.
+The share of a block is exact for these triangles. Each is cut to the columns that it comes over, and over what is left of it, where its
+height goes linearly, the volume above an elevation has a closed form; a block has what lies above its floor without what lies above its top.
 """
 
 from __future__ import annotations
@@ -30,8 +30,8 @@ def box_of(grid: Grid) -> Box:
 
 
 def triangles_of(topography: Topography) -> np.ndarray:
-    """The corners x, y, z of the triangles of a topography, shape (triangles, 3, 3): its faces, or Delaunay's between its points. None where
-    these lie on a line."""
+    """The corners x, y, z of the triangles of a topography, shape (triangles, 3, 3): its faces, or Delaunay's between its points. None
+    where these lie on a line."""
     points, faces = topography.points, topography.faces
     if not len(faces):
         # About the points' middle, since coordinates of seven digits leave little room for differences.
@@ -98,8 +98,8 @@ def heights(triangles: np.ndarray, grid: Grid) -> np.ndarray:
 class Below:
     """What lies below a topography.
 
-    share    of each block of a level from the floor and a column of blocks, shape (levels, columns); of one that the topography covers a part
-             of, of this part
+    share    of each block of a level from the floor and a column of blocks, shape (levels, columns); where the topography covers a part
+             of a column, of this part
     covered  the part of each column on the map that triangles come over; more than 1 where they lie over each other
     height   the mean of the topography over each column, in levels above the model's floor
     """
@@ -113,9 +113,7 @@ def below(triangles: np.ndarray, grid: Grid) -> Below:
     """Shares of blocks below triangles; 1 in columns that none comes over."""
     sums = Sums(grid.shape[0], grid.per_level)
     for some, place in pairs(over_grid(triangles, grid), grid, 0.5):
-        whole = some
-        for axis in (0, 1):
-            whole = cut(cut(whole, axis, 1), axis, -1)
+        whole = over_column(some)
         fans = np.stack([np.broadcast_to(whole[:, :1], whole[:, 2:].shape), whole[:, 1:-1], whole[:, 2:]], axis=2)
         area = np.abs(areas(fans))
         one = area > 0
@@ -126,9 +124,15 @@ def below(triangles: np.ndarray, grid: Grid) -> Below:
     return Below(np.where(share < HAIR, 0.0, np.where(share > 1 - HAIR, 1.0, share)), covered, height)
 
 
+def over_column(triangles: np.ndarray) -> np.ndarray:
+    """What of triangles lies over the column from whose middle their corners are counted, as `cut` gives it; shape (triangles, 7, 3)."""
+    along_x = cut(cut(triangles, 0, 1), 0, -1)
+    return cut(cut(along_x, 1, 1), 1, -1)
+
+
 def cut(polygons: np.ndarray, axis: int, side: int) -> np.ndarray:
-    """The parts of convex polygons that lie within half a block on one side of a middle along an axis, by Sutherland and Hodgman (1974): shape
-    (polygons, corners, 3), with a corner more. Where there are fewer corners the first one is repeated."""
+    """The parts of convex polygons that lie within half a block on one side of a middle along an axis, by Sutherland and Hodgman (1974):
+    shape (polygons, corners, 3), with a corner more. Where there are fewer corners the first one is repeated."""
     inner = 0.5 - side * polygons[..., axis]
     following, beyond = np.roll(polygons, -1, axis=1), np.roll(inner, -1, axis=1)
     crosses = (inner >= 0) != (beyond >= 0)

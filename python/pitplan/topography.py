@@ -1,7 +1,7 @@
 """Blocks that the ground cuts: of each the tonnes below a topography are kept, exactly for its triangles, and its grades stay.
 
-Blocks are cut as the grid has them, those that are put together as a whole, and those that stand for cells without rows too. What lies wholly
-above is air, of 0 tonnes.
+Blocks are cut as the grid has them, those that are put together as a whole, and those that stand for cells without rows too. What lies
+wholly above is air, of 0 tonnes.
 """
 
 from __future__ import annotations
@@ -30,8 +30,8 @@ SLIP = 0.01
 def cut(frame: pd.DataFrame, grid: Grid, project: Project, file: SurveyFile) -> tuple[pd.DataFrame, list[str]]:
     """The rows of a grid with the tonnes, to a gram, that lie below a topography, and notes.
 
-    Raises PlanError where the file is not usable, lies over no block or below all, or has several heights at a place, and MissingPackage where
-    what reads it is not installed.
+    Raises PlanError where the file is not usable, lies over no block or below all, or has several heights at a place, and MissingPackage
+    where what reads it is not installed.
     """
     read, found = surveyed(file, file.state, (grid.shape, grid.origin, grid.size, grid.azimuth))
     place = grid.rows % grid.per_level
@@ -64,8 +64,8 @@ def demand_one_height(found: Below, grid: Grid, file: Path) -> None:
     twice = np.flatnonzero(found.covered > 1 + SLIP)
     if len(twice):
         x, y, _ = grid.centres(twice[:1])
-        at = f"{metres(x[0])}, {metres(y[0])}"
-        raise PlanError(f"{file}: has several heights over {len(twice):,} columns of blocks, the first at {at}: give one surface, by its layer")
+        where = f"over {len(twice):,} columns of blocks, the first at {metres(x[0])}, {metres(y[0])}"
+        raise PlanError(f"{file}: has several heights {where}: give one surface, by its layer")
 
 
 def told(before: np.ndarray, after: np.ndarray) -> str:

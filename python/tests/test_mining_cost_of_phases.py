@@ -93,8 +93,8 @@ def test_blocks_that_come_in_another_phase_for_its_width_pay_there(plan_folder):
 @pytest.mark.parametrize(
     ("words", "said"),
     [
-        ("count = 5\nmining_cost_added = [0, 1, 2, 3, 4]", r"mining_cost_added has 5 amounts, and the pit has 3 phases, of the factors 351, 501, 1000"),
-        ("count = 3\nmining_cost_added = [0, 1]", "mining_cost_added has 2 amounts, and the pit has 3 phases, of the factors 500, 700, 1000"),
+        ("count = 5\nmining_cost_added = [0, 1, 2, 3, 4]", "has 5 amounts, and the pit has 3 phases, of the factors 351, 501, 1000"),
+        ("count = 3\nmining_cost_added = [0, 1]", "has 2 amounts, and the pit has 3 phases, of the factors 500, 700, 1000"),
         ("count = 3\nmining_cost_added = [0, 1, -1]", r"\[pushbacks\] mining_cost_added: may not be negative"),
         ("count = 3\nmining_cost_added = 1", r"\[pushbacks\] mining_cost_added: must be a list with what a tonne costs more in each phase"),
         ("count = 3\nmining_cost_added = []", r"\[pushbacks\] mining_cost_added: must be a list with what a tonne costs more in each phase"),
@@ -124,7 +124,12 @@ def test_the_second_look_agrees(pushed):
 
 @pytest.mark.parametrize(
     ("name", "column", "rule"),
-    [("phases.csv", "mining_cost_added", "phases"), ("years.csv", "cash", "years"), ("shells.csv", "npv_best", "years"), ("shells.csv", "npv_worst", "years")],
+    [
+        ("phases.csv", "mining_cost_added", "phases"),
+        ("years.csv", "cash", "years"),
+        ("shells.csv", "npv_best", "years"),
+        ("shells.csv", "npv_worst", "years"),
+    ],
 )
 def test_numbers_that_are_bent_are_found(pushed, name, column, rule):
     table = pd.read_csv(pushed / name, dtype={"worth_at_factor": str})

@@ -42,7 +42,9 @@ def gis(path, driver, layers, epsg=None):
         system.ImportFromEPSG(epsg)
     source = ogr.GetDriverByName(driver).CreateDataSource(str(path))
     for name, geometries in layers.items():
-        made = source.CreateLayer(name, system, ogr.wkbUnknown if driver != "ESRI Shapefile" else ogr.CreateGeometryFromWkt(geometries[0][0]).GetGeometryType())
+        # A shapefile is of one kind, which its first geometry tells.
+        kind = ogr.CreateGeometryFromWkt(geometries[0][0]).GetGeometryType() if driver == "ESRI Shapefile" else ogr.wkbUnknown
+        made = source.CreateLayer(name, system, kind)
         made.CreateField(ogr.FieldDefn("ELEV", ogr.OFTReal))
         for text, value in geometries:
             feature = ogr.Feature(made.GetLayerDefn())
@@ -261,7 +263,8 @@ def test_a_drawing_that_is_written_anew_is_read_anew(tmp_path):
 
 
 def test_units_of_a_drawing(tmp_path):
-    assert any("WARNING: " in note and "$INSUNITS is 4" in note for note in read(drawing(tmp_path / "mm.dxf", faces_of_plane, units=4)).notes)
+    notes = read(drawing(tmp_path / "mm.dxf", faces_of_plane, units=4)).notes
+    assert any("WARNING: " in note and "$INSUNITS is 4" in note for note in notes)
     assert len(read(drawing(tmp_path / "none.dxf", faces_of_plane, units=0)).notes) == 1
     with pytest.raises(PlanError, match=r"feet.dxf: is in feet \(\$INSUNITS is 2\), and lengths are in metres: convert it"):
         read(drawing(tmp_path / "feet.dxf", faces_of_plane, units=2))

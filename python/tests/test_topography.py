@@ -81,7 +81,9 @@ def test_densities_volumes_and_the_size_of_blocks(plan_folder, tmp_path):
     table = rows(1, 1, 1).drop(columns="tonnes").assign(sg=2.5, vol=600)
     for more, tonnes in (("", 1250), ('\nvolume = "vol"', 750)):
         change = (CUT[0], f'{CUT[1]}\ndensity = "sg"{more}')
-        assert tonnes_of(plan_folder(table, PROJECT, change)).tolist() == [tonnes]
+        path = plan_folder(table, PROJECT, change)
+        assert tonnes_of(path).tolist() == [tonnes]
+        assert [rule.differences for rule in looked_at(pitplan.prepare(path))] == [()] * 10
 
 
 def test_blocks_that_are_put_together_are_cut_as_a_whole(plan_folder, tmp_path):

@@ -1,7 +1,8 @@
 """A second way to every number that a plan's folder tells: from the project, its table and the files of the answer alone.
 
-It has nothing in common with what it checks but the readers of the project, of its table, and of drawings, maps and rasters. Whether each shell is the best is proved
-of the program, for the files that it was given; here is looked whether these say what the project says, and whether the answer does:
+It has nothing in common with what it checks but the readers of the project, of its table, and of drawings, maps and rasters. Whether each
+shell is the best is proved of the program, for the files that it was given; here is looked whether these say what the project says, and
+whether the answer does:
 
 - each block of the table stands in the answer, in its own cell; where the project gives a rock to cells without rows, each that is not
   above the highest row of its column is a block of that rock, and no other is;

@@ -1,4 +1,4 @@
-"""What the files of surveyors hold, for the second look: a table is read anew, and of a drawing, a map or a raster what their readers give."""
+"""What the files of surveyors hold, for the second look: a table is read anew, and of others it is what their readers give."""
 
 from __future__ import annotations
 

@@ -8,6 +8,7 @@ from dataclasses import dataclass
 from typing import Optional
 
 import numpy as np
+import pandas as pd
 from scipy.spatial import Delaunay
 
 from ..survey_rules import SurveyFile
@@ -66,13 +67,12 @@ class Ground:
 
     def pieces(self, places: np.ndarray) -> Iterator[tuple[int, list[list[Corner]]]]:
         """Of each column what of the triangles lies over it."""
-        near_by: dict[int, list[int]] = {}
-        for place, face in near(places[:, ::-1].astype(float), self.corners, 0.71):
-            for one, other in zip(place.tolist(), face.tolist()):
-                near_by.setdefault(one, []).append(other)
-        for number, faces in near_by.items():
+        # A column reaches the root of a half from its middle.
+        found = [np.stack(pair, axis=1) for pair in near(places[:, ::-1].astype(float), self.corners, 0.71)]
+        near_by = pd.DataFrame(np.concatenate([np.zeros((0, 2), dtype=int), *found]), columns=["place", "face"])
+        for number, faces in near_by.groupby("place")["face"]:
             row, column = places[number].tolist()
-            moved = (self.corners[faces] - [column, row, 0]).tolist()
+            moved = (self.corners[faces.to_numpy()] - [column, row, 0]).tolist()
             cut = [over_column([(x, y, z) for x, y, z in corners]) for corners in moved]
             yield number, [piece for piece in cut if len(piece) > 2]
 
@@ -129,8 +129,8 @@ def verify(answer: Answer) -> Rule:
         at[numbers] = np.arange(len(numbers))
         expected = np.where(at[place] >= 0, share[at[place], up], np.nan) * before
         differences += told(answer, np.abs(after - expected) > GRAM + missed * before, expected)
-    holds = f"tonnes lie below the triangles of the topography, in {len(exact):,} columns of blocks exactly, in {len(looked):,} by {ACROSS**2} heights to a tenth"
-    return rule("topography", holds, differences)
+    where = f"in {len(exact):,} columns of blocks exactly, in {len(looked):,} by {ACROSS**2} heights to a tenth"
+    return rule("topography", f"tonnes lie below the triangles of the topography, {where}", differences)
 
 
 def told(answer: Answer, wrong: np.ndarray, expected: np.ndarray) -> list[str]:
