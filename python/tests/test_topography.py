@@ -327,6 +327,20 @@ def test_many_columns_are_looked_at_by_heights(cut_hill, monkeypatch):
     assert f"block {blocks['name'][row]}: " in wrong(cut_hill)["topography"]
 
 
+@pytest.mark.usefixtures("blank_pictures")
+@pytest.mark.parametrize("tonnes", [150, -1])
+def test_no_block_has_more_than_the_table_gives_or_less_than_nothing(cut_hill, monkeypatch, tonnes):
+    """Of a column that is not looked at otherwise."""
+    from pitplan.verification import topography as second
+
+    monkeypatch.setattr(second, "EXACTLY", 1)
+    monkeypatch.setattr(second, "MANY", 1)
+    blocks = pd.read_csv(cut_hill / "blocks.csv", dtype={"region": str})
+    blocks.loc[50, "tonnes"] = tonnes
+    blocks.to_csv(cut_hill / "blocks.csv", index=False)
+    assert f"block {blocks['name'][50]}: {tonnes} t for " in wrong(cut_hill)["topography"]
+
+
 @pytest.mark.parametrize("bent", ["share", "heights"])
 def test_a_run_that_cuts_wrong_is_refused(plan_folder, tmp_path, monkeypatch, bent):
     """Blocks are left whole, or cut a metre too high."""
