@@ -159,7 +159,7 @@ class Project:
         rules = self.fixed
         surfaces = (self.table.topography, rules.surface if rules else None)
         areas = () if rules is None else (area.polygon for area in rules.areas)
-        return (self.path, self.table.file, *(file.path for file in (*surfaces, *areas) if file))
+        return (self.path, self.table.file, *(path for file in (*surfaces, *areas) if file for path in file.parts))
 
     def of_process(self, process: Process) -> Project:
         metals = tuple(replace(metal, recovery=process.recovery.get(metal.name, Decimal(0))) for metal in self.metals)

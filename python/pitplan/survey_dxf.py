@@ -20,6 +20,8 @@ OFF_ARC = 0.01
 # Of the header's $INSUNITS: what lengths are not, and what is no unit or metres.
 FEET = {2: "feet", 10: "yards", 21: "US survey feet", 22: "US survey inches", 23: "US survey yards"}
 METRES = (0, 6)
+# What a reference to a drawing's block is called, since it is not looked into.
+EXPLODED = "INSERT (explode it)"
 
 
 def layers_of(file: SurveyFile) -> tuple[dict[str, Layer], list[str]]:
@@ -31,7 +33,7 @@ def layers_of(file: SurveyFile) -> tuple[dict[str, Layer], list[str]]:
 
 
 @lru_cache(maxsize=2)
-def read(path: Path, state: tuple[int, int]) -> tuple[dict[str, Layer], list[str]]:
+def read(path: Path, state: tuple[tuple[int, int], ...]) -> tuple[dict[str, Layer], list[str]]:
     """The same, once for a file that stays in this state, since a second takes 10,000 faces, and the second look reads them too."""
     ezdxf = load("ezdxf", PACKAGE, "a .dxf file")
     try:
@@ -67,7 +69,7 @@ def add(layer: Layer, entity: Any) -> None:
     elif kind == "LINE":
         layer.add_line(kind, as_array([entity.dxf.start, entity.dxf.end]), False, True)
     else:
-        layer.kinds[kind] += 1
+        layer.kinds[EXPLODED if kind == "INSERT" else kind] += 1
         if kind == "POINT":
             layer.points.append(as_array([entity.dxf.location]))
 

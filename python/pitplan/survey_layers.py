@@ -75,7 +75,7 @@ def chosen(layers: dict[str, Layer], file: SurveyFile, part: str, called: str) -
         raise PlanError(f"{file.path}: has no {called}: {there if not some else f'its layer {there}'}")
     if len(found) > 1 and not file.layers:
         one = f'{{ file = "{file.path.name}", layer = "{next(iter(found))}" }}'
-        raise PlanError(f"{file.path}: has {called} in the layers {listed(list(found))}: name one, or a list of them, by {one}")
+        raise PlanError(f'{file.path}: has {called} in the layers {listed(list(found))}: name one, a list, or "*" for all, by {one}')
     return found
 
 

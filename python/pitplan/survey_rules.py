@@ -22,10 +22,16 @@ class SurveyFile:
     height: Optional[str] = None
 
     @property
-    def state(self) -> tuple[int, int]:
-        """By what it is seen to be another than it was: when it was written, in nanoseconds, and its size; of no file 0 and 0."""
-        found = self.path.stat() if self.path.is_file() else None
-        return (found.st_mtime_ns, found.st_size) if found else (0, 0)
+    def parts(self) -> tuple[Path, ...]:
+        """The files that it is read from: a shapefile has its fields in one of their own."""
+        fields = self.path.with_suffix(".dbf")
+        return (self.path, fields) if self.height and fields.is_file() else (self.path,)
+
+    @property
+    def state(self) -> tuple[tuple[int, int], ...]:
+        """By what it is seen to be another than it was: when each part was written, in nanoseconds, and its size."""
+        found = [path.stat() for path in self.parts if path.is_file()]
+        return tuple((it.st_mtime_ns, it.st_size) for it in found)
 
 
 def read_survey(section: Section, key: str, folder: Path, heights: bool = True) -> SurveyFile:

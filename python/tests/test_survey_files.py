@@ -236,6 +236,7 @@ def test_layers_are_chosen_by_name_list_and_star(tmp_path):
     assert read(path, "road").points.tolist() == [[2, 0, 2]]
     assert read(path, "BENCH_*").points.tolist() == [[0, 0, 0], [1, 0, 1]]
     assert read(path, "BENCH_20", "ROAD").points.tolist() == [[1, 0, 1], [2, 0, 2]]
+    assert len(read(path, "*").points) == 3
     with pytest.raises(PlanError, match=r"in the layers BENCH_10, BENCH_20, ROAD: name one.* \{ file = .mined.dxf., layer = .BENCH_10. \}"):
         read(path)
     with pytest.raises(PlanError, match="has no layer TOPO; the layers are BENCH_10, BENCH_20, ROAD"):
@@ -287,6 +288,16 @@ def test_contours_of_a_map_have_their_heights_in_a_field(tmp_path):
     empty = gis(tmp_path / "empty.gpkg", "GPKG", {"lines": [("LINESTRING (1 2,3 4)", None)]})
     with pytest.raises(PlanError, match="the field ELEV of the feature 1 is empty"):
         read(empty, height="ELEV")
+
+
+def test_fields_of_a_shapefile_are_an_input(plan_folder, tmp_path):
+    """They stand in a file of their own, by whose hash it is seen that heights have changed."""
+    gis(tmp_path / "contours.shp", "ESRI Shapefile", {"contours": [("LINESTRING (-9 -9,-9 19)", 15), ("LINESTRING (49 -9,49 19)", 20)]})
+    text = PROJECT + SURFACE + '{ file = "contours.shp", height = "ELEV" }\n'
+    project = load(plan_folder(rows(3, 1, 3), text))
+    assert [path.name for path in project.inputs] == ["project.toml", "blocks.csv", "contours.shp", "contours.dbf"]
+    # Over the columns it rises from 16.2 to 18.
+    assert prepare(project).fixed.forced.tolist() == [0, 1, 2]
 
 
 def test_triangles_of_a_map(tmp_path):

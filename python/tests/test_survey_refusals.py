@@ -60,6 +60,15 @@ def test_files_that_cannot_be_read(tmp_path, name, text, said):
         read(tmp_path / name)
 
 
+def test_blocks_of_a_drawing_are_not_looked_into(tmp_path):
+    def reference(space):
+        space.doc.blocks.new("TIN").add_3dface([(0, 0, 0), (9, 0, 0), (0, 9, 0)])
+        space.add_blockref("TIN", (0, 0), **layer("TOPO"))
+
+    with pytest.raises(PlanError, match=r"its layer TOPO has 1 INSERT \(explode it\)"):
+        read(drawing(tmp_path / "topo.dxf", reference))
+
+
 @pytest.mark.parametrize("ending", ["csv", "dxf", "gpkg", "tif"])
 def test_files_that_are_not_there(tmp_path, ending):
     with pytest.raises(PlanError, match=f"topo.{ending}: cannot be read: No such file or directory"):
