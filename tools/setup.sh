@@ -15,8 +15,8 @@ python3-matplotlib    core     pictures
 python3-openpyxl      core     the workbook of pitplan schedule
 python3-jinja2        core     the report's page and the 3D page
 python3-vtk9          tests    pitplan export --to vti, and probability.vti of scenarios
-python3-ezdxf         tests    pitplan export --to dxf
-python3-gdal          tests    pitplan export --to gpkg
+python3-ezdxf         tests    pitplan export --to dxf; heights and areas of drawings
+python3-gdal          tests    pitplan export --to gpkg; heights and areas of maps and rasters
 libjs-three           tests    pitplan view
 python3-pulp          tests    the test of a bound by another solver
 coinor-cbc            tests    the same: that solver

@@ -6,6 +6,7 @@ When a pit is dug, and what it is worth discounted, is told by `schedule`.
 from __future__ import annotations
 
 from dataclasses import dataclass
+from typing import Optional
 
 import numpy as np
 import pandas as pd
@@ -73,8 +74,8 @@ def blocks(plan: Plan, solution: Solution) -> pd.DataFrame:
     return frame
 
 
-def shells(plan: Plan, solution: Solution) -> pd.DataFrame:
-    """One row a factor.
+def shells(plan: Plan, solution: Solution, more: Optional[np.ndarray] = None) -> pd.DataFrame:
+    """One row a factor; `more` is for each cell what digging it costs in years besides its worth, in money.
 
     factor per mille; blocks (with rock) in the pit; tonnes, ore_tonnes (that come to the mill), waste_tonnes (the rest); strip_ratio;
     processed_tonnes at the factor's own price; ore_tonnes_NAME of each of several processes; grade_NAME of the ore in its column's unit, metal_NAME recovered of it
@@ -82,7 +83,7 @@ def shells(plan: Plan, solution: Solution) -> pd.DataFrame:
     worth_at_factor, exact (Decimal), as the program answers it. Raises PlanError where it takes too many years.
     """
     cells, settings = cells_of(plan, solution), plan.project.schedule
-    benches = benches_of(plan, cells)
+    benches = benches_of(plan, cells, more)
     money = yearly_money.of_project(plan.project)
     best, worst = schedules.best_case(benches, settings, money), schedules.worst_case(benches, settings, money)
     table = amounts(plan, cells)
@@ -94,8 +95,8 @@ def shells(plan: Plan, solution: Solution) -> pd.DataFrame:
     return table
 
 
-def years(plan: Plan, solution: Solution) -> pd.DataFrame:
-    """One row a case, a factor whose pit is not empty, and a year.
+def years(plan: Plan, solution: Solution, more: Optional[np.ndarray] = None) -> pd.DataFrame:
+    """One row a case, a factor whose pit is not empty, and a year; `more` as of `shells`.
 
     case best or worst; factor per mille; year from 1; rock_tonnes and, of these, ore_tonnes; metal_NAME recovered (tonnes,
     or grams); fixed_cost and capital, where the project has any; cash after these, and discounted, the same as it counts for
@@ -103,11 +104,11 @@ def years(plan: Plan, solution: Solution) -> pd.DataFrame:
     PlanError where it takes too many years.
     """
     money = yearly_money.of_project(plan.project)
-    return schedules.table_of(benches_of(plan, cells_of(plan, solution)), plan.project.schedule, money)
+    return schedules.table_of(benches_of(plan, cells_of(plan, solution), more), plan.project.schedule, money)
 
 
-def benches_of(plan: Plan, cells: Cells) -> Benches:
-    """The sums that the years are made of. Raises PlanError where there are too many years."""
+def benches_of(plan: Plan, cells: Cells, more: Optional[np.ndarray] = None) -> Benches:
+    """The sums that the years are made of, `more` as of `shells`. Raises PlanError where there are too many years."""
     factors, levels = plan.project.schedule.factors, plan.grid.shape[0]
     inside = np.flatnonzero(cells.factor > 0)
     _, _, level = plan.grid.indices(inside)
@@ -116,7 +117,7 @@ def benches_of(plan: Plan, cells: Cells) -> Benches:
     flows = {"rock_tonnes": cells.tonnes[inside], "ore_tonnes": np.where(ore, cells.feed[inside], 0.0)}
     flows |= {name: feed[inside] for name, feed in feeds_of(plan, cells).items()}
     flows |= {f"metal_{name}": np.where(ore, metal[inside], 0.0) for name, metal in plan.values.metal.items()}
-    flows["cash"] = cells.worth[inside]
+    flows["cash"] = cells.worth[inside] - (0.0 if more is None else more[inside])
     count = len(factors) * levels
     sums = np.column_stack([np.bincount(piece, flow, minlength=count) for flow in flows.values()])
     benches = Benches(factors, tuple(flows), sums.reshape(len(factors), levels, len(flows)))

@@ -10,7 +10,7 @@ import pandas as pd
 
 from . import mine as mines
 from .commands import Answered, Place, Source, Writing, begun, read, write_answer
-from .errors import MissingPackage
+from .errors import MissingPackage, PlanError
 from .progress import Progress, silent
 
 
@@ -28,6 +28,9 @@ def write_block_schedule(
     """
     result = of_library()
     project = read(project)
+    if project.phases and project.phases.mining_cost_added:
+        why = "mining_cost_added is by phase, and a schedule by block has none: leave it out"
+        raise PlanError(f"{project.path}: [pushbacks] {why}, or schedule phases")
     target = project.folder / "block_schedule" if folder is None else Path(folder)
     with begun(project, target, progress) as (mine, record, stage):
         solution = mines.solve(mine.plan, mine, progress)

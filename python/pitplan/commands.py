@@ -279,7 +279,8 @@ def write_tables(answered: Answered, stage: Path) -> tuple[pd.DataFrame, pd.Data
     """Writes the program's own answer, if it solved, blocks.csv, shells.csv, years.csv, of phases phases.csv, and of a schedule
     schedule.csv, ways.csv, schedule.json and where ore is divided into bins milling.csv; gives the shells and the years."""
     plan, solution, phases, schedule = answered.plan, answered.solution, answered.phases, answered.schedule
-    table, years = analyse.shells(plan, solution), analyse.years(plan, solution)
+    more = None if phases is None else phases.mining_cost_added
+    table, years = analyse.shells(plan, solution, more), analyse.years(plan, solution, more)
     if solution.answer is not None:
         (stage / files.ANSWER).write_bytes(solution.answer)
     blocks = analyse.blocks(plan, solution) if phases is None else phasing.blocks(phases)

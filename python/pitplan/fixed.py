@@ -13,16 +13,16 @@ from typing import Optional
 import numpy as np
 import pandas as pd
 
-from . import text
+from . import survey_files, terrain, text
 from .errors import PlanError
 from .fixed_rules import Area
 from .grid import Grid
-from .packages import load
 from .project import Project
-from .walls import Walls
-from .table import at_row, called, demand_columns, numbers_of, read_columns
-from .table_format import TableFormat, guessed_separator
+from .survey_files import Topography
+from .survey_rules import SurveyFile
+from .table import called
 from .trim import used_blocks, users_of
+from .walls import Walls
 
 
 @dataclass(frozen=True)
@@ -70,7 +70,7 @@ def marks(grid: Grid, cells: np.ndarray) -> np.ndarray:
 def of_table(frame: pd.DataFrame, grid: Grid, project: Project, source: str = "table") -> FixedBlocks:
     """What `[fixed]` says of the rows of a checked table; nothing where there is no such section.
 
-    Raises PlanError where a file is not usable, and where a block would be both.
+    Raises PlanError where a file is not usable, and where a block would be both; MissingPackage where what reads a file is not there.
     """
     rules = project.fixed
     if rules is None:
@@ -79,11 +79,13 @@ def of_table(frame: pd.DataFrame, grid: Grid, project: Project, source: str = "t
     forced, barred = marked(frame, rules.forced) & rock, marked(frame, rules.barred) & rock
     notes = []
     if rules.surface is not None:
-        surface = surface_of(grid, rules.surface)
+        surface, told = read_surface(grid, rules.surface)
         forced |= (grid.centres(grid.rows)[2] > surface.height[grid.rows % grid.per_level]) & rock
-        notes += surface.notes(rules.surface, grid)
+        notes += told
     for area in rules.areas:
-        barred |= in_area(grid, area) & rock
+        inside, told = in_area(grid, area)
+        barred |= inside & rock
+        notes += told
     both = forced & barred
     if both.any():
         raise PlanError(f"{source}: {called(frame, project, int(both.argmax()))} must be dug and may not be dug")
@@ -114,45 +116,53 @@ class Surface:
         return found
 
 
-def surface_of(grid: Grid, file: Path) -> Surface:
-    """The surface over a column of blocks is the mean of the points that lie over it. Where there is none it is that of the
-    triangles between the points, at the column's centre."""
-    points = numbers_in(file, ("x", "y", "z"))
+def read_surface(grid: Grid, file: SurveyFile) -> tuple[Surface, list[str]]:
+    """The ground as mined, and notes. Raises PlanError where the file is not usable, or tells of no column of blocks."""
+    topography = survey_files.topography(file, terrain.box_of(grid))
+    surface = surface_of(grid, topography)
+    if np.isinf(surface.height[grid.rows % grid.per_level]).all():
+        raise PlanError(f"{file.path}: lies over no block: {terrain.beside(topography.points, grid)}")
+    return surface, [*topography.notes, *surface.notes(file.path, grid)]
+
+
+def surface_of(grid: Grid, topography: Topography) -> Surface:
+    """Of a topography of triangles the surface over a column of blocks is theirs at its middle. Of one of points it is the mean of those
+    that lie over the column, and where there is none that of the triangles between them."""
+    at_middle = terrain.heights(terrain.triangles_of(topography), grid)
+    if len(topography.faces):
+        return Surface(at_middle, np.zeros(grid.per_level, dtype=bool))
+    points = topography.points
     _, rows, columns = grid.shape
     column, row = (np.floor(steps + 0.5).astype(int) for steps in grid.steps(points[:, 0], points[:, 1]))
     inside = (column >= 0) & (column < columns) & (row >= 0) & (row < rows)
     place = row[inside] * columns + column[inside]
     count = np.bincount(place, minlength=rows * columns)
     total = np.bincount(place, weights=points[inside, 2], minlength=rows * columns)
-    height = np.where(count > 0, total / np.maximum(count, 1), np.inf)
-    empty = np.flatnonzero(count == 0)
-    height[empty] = between_points(points, *grid.centres(empty)[:2])
+    height = np.where(count > 0, total / np.maximum(count, 1), at_middle)
     return Surface(height, (count == 0) & np.isfinite(height))
 
 
-def between_points(points: np.ndarray, x: np.ndarray, y: np.ndarray) -> np.ndarray:
-    """Heights in the triangles (Delaunay's) between points x, y, z; infinite beyond them, and where the points make no triangle."""
-    places = points[:, :2]
-    if not len(x) or np.linalg.matrix_rank(places - places[0]) < 2:
-        return np.full(len(x), np.inf)
-    interpolate = load("scipy.interpolate", "python3-scipy", "[fixed] surface")
-    # About the points' middle, since coordinates of seven digits leave little room for differences.
-    middle = places.mean(axis=0)
-    heights = interpolate.LinearNDInterpolator(places - middle, points[:, 2], fill_value=np.inf)
-    return np.asarray(heights(x - middle[0], y - middle[1]))
-
-
-def in_area(grid: Grid, area: Area) -> np.ndarray:
-    """Which rows have their centre in the barred side of an area."""
-    corners = numbers_in(area.polygon, ("x", "y"))
-    if len(corners) < 3:
-        raise PlanError(f"{area.polygon}: a polygon has three corners or more")
-    x, y, _ = grid.centres(grid.rows)
-    return within(x, y, corners) == (area.barred == "inside")
+def in_area(grid: Grid, area: Area) -> tuple[np.ndarray, list[str]]:
+    """Which rows have their centre in the barred side of an area, and notes. Raises PlanError where the file is not usable, or bars all."""
+    file, areas = area.polygon.path, survey_files.areas(area.polygon)
+    x, y, _ = grid.centres(np.arange(grid.per_level))
+    count = np.zeros(grid.per_level, dtype=np.int64)
+    for polygon in areas.polygons:
+        count += np.logical_xor.reduce([within(x, y, ring) for ring in polygon])
+    barred, notes = (count > 0)[grid.rows % grid.per_level], list(areas.notes)
+    if (count > 1).any():
+        twice = f"{np.count_nonzero(count > 1):,} columns of blocks lie in several of its polygons, and none of these is a hole"
+        notes.append(f"WARNING: {file}: {twice}")
+    if not barred.any():
+        said = f"{file}: no block lies in it: {terrain.beside(np.concatenate([polygon[0] for polygon in areas.polygons]), grid)}"
+        if area.barred == "outside":
+            raise PlanError(said)
+        notes.append(f"WARNING: {said}")
+    return barred == (area.barred == "inside"), notes
 
 
 def within(x: np.ndarray, y: np.ndarray, corners: np.ndarray) -> np.ndarray:
-    """Which points lie in a polygon: those from which a ray to the east crosses its sides an odd number of times.
+    """Which points lie in a ring: those from which a ray to the east crosses its sides an odd number of times.
 
     By code of its own, since every planner would have to have shapely for these lines alone.
     """
@@ -162,17 +172,6 @@ def within(x: np.ndarray, y: np.ndarray, corners: np.ndarray) -> np.ndarray:
             crossed = (ay > y) != (by > y)
             odd ^= crossed & (x < ax + (y - ay) * (bx - ax) / (by - ay))
     return odd
-
-
-def numbers_in(file: Path, names: tuple[str, ...]) -> np.ndarray:
-    """Columns of a CSV file as numbers. Raises PlanError, with file, row and column, where one is missing or is no number."""
-    frame = read_columns(file, TableFormat(guessed_separator(file, "utf-8-sig"), ".", "utf-8-sig"), [], list(names))
-    demand_columns(frame, list(names), str(file))
-    columns = [numbers_of(frame[name], str(file), name) for name in names]
-    for name, numbers in zip(names, columns):
-        if np.isnan(numbers).any():
-            raise at_row(str(file), int(np.isnan(numbers).argmax()), name, "is empty")
-    return np.stack(columns, axis=1)
 
 
 def numbers(fixed: FixedBlocks, nodes: int) -> np.ndarray:

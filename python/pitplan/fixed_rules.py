@@ -7,13 +7,15 @@ from pathlib import Path
 from typing import Optional
 
 from .section import Section
+from .survey_rules import SurveyFile, read_survey
 
 
 @dataclass(frozen=True)
 class Area:
-    """A polygon on the map, by a table of its corners x and y in order, of which the inside or the outside may not be dug."""
+    """Polygons on the map, by a table of the corners x and y of one in order, or of a drawing or a map, of which the inside or the outside
+    may not be dug."""
 
-    polygon: Path
+    polygon: SurveyFile
     barred: str
 
 
@@ -23,13 +25,13 @@ class FixedRules:
 
     forced   a column of the table: blocks with a number above 0 must be dug
     barred   a column of the table: blocks with a number above 0 may not be dug
-    surface  a table of points x, y, z of the ground as mined: the rock above it must be dug
+    surface  heights of the ground as mined: the rock above it must be dug
     areas    what may not be dug on the map
     """
 
     forced: Optional[str]
     barred: Optional[str]
-    surface: Optional[Path]
+    surface: Optional[SurveyFile]
     areas: tuple[Area, ...]
 
 
@@ -37,7 +39,7 @@ def read_fixed(section: Section, folder: Path) -> FixedRules:
     rules = FixedRules(
         forced=section.optional_text("forced"),
         barred=section.optional_text("barred"),
-        surface=folder / section.text("surface") if section.has("surface") else None,
+        surface=read_survey(section, "surface", folder) if section.has("surface") else None,
         areas=tuple(read_area(area, folder) for area in section.sections("areas")) if section.has("areas") else (),
     )
     section.finish()
@@ -45,6 +47,7 @@ def read_fixed(section: Section, folder: Path) -> FixedRules:
 
 
 def read_area(section: Section, folder: Path) -> Area:
-    area = Area(folder / section.text("polygon"), section.choice("barred", ("inside", "outside"), None))
+    polygon = read_survey(section, "polygon", folder, heights=False)
+    area = Area(polygon, section.choice("barred", ("inside", "outside"), None))
     section.finish()
     return area

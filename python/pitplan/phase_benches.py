@@ -71,7 +71,7 @@ class PhaseBenches:
 
 
 def of_phases(phases: Phases, lag: int = 0) -> PhaseBenches:
-    """The benches of a pit's phases, at the price as given."""
+    """The benches of a pit's phases, at the price as given and with the phases' own mining costs."""
     plan, cells = phases.plan, analyse.cells_of(phases.plan, phases.solution)
     inside = np.flatnonzero((phases.phase > 0) & (cells.tonnes > 0))
     levels = plan.grid.shape[0]
@@ -81,6 +81,6 @@ def of_phases(phases: Phases, lag: int = 0) -> PhaseBenches:
     flows = {ROCK: cells.tonnes[inside], ORE: np.where(ore, cells.feed[inside], 0.0)}
     flows |= {name: feed[inside] for name, feed in analyse.feeds_of(plan, cells).items()}
     flows |= {f"metal_{name}": np.where(ore, metal[inside], 0.0) for name, metal in plan.values.metal.items()}
-    flows[CASH] = cells.worth[inside]
+    flows[CASH] = (cells.worth - phases.mining_cost_added)[inside]
     sums = np.column_stack([np.bincount(bench, flow, minlength=len(used)) for flow in flows.values()])
     return PhaseBenches(used // levels + 1, used % levels, tuple(flows), sums, lag)

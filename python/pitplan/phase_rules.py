@@ -3,6 +3,7 @@
 from __future__ import annotations
 
 from dataclasses import dataclass
+from decimal import Decimal
 from typing import Optional
 
 from .section import Section
@@ -21,6 +22,7 @@ class PhaseRules:
     last     the factor of the last phase's shell, per mille; None: the project's chosen one, else 1000
     width    metres that a phase is wide on each level at least; None: any
     bottom   metres that the pit up to a phase is wide on each level at least, its bottom with it; None: any
+    mining_cost_added  of each phase what digging a tonne costs more there, in money; none: nothing
     """
 
     count: Optional[int]
@@ -29,6 +31,7 @@ class PhaseRules:
     last: Optional[int]
     width: Optional[float] = None
     bottom: Optional[float] = None
+    mining_cost_added: tuple[Decimal, ...] = ()
 
 
 def read_phases(section: Section, most_factor: int) -> PhaseRules:
@@ -45,11 +48,24 @@ def read_phases(section: Section, most_factor: int) -> PhaseRules:
         last=section.whole("last", 1000, 1, most_factor) if section.has("last") else None,
         width=read_metres(section, "width"),
         bottom=read_metres(section, "bottom"),
+        mining_cost_added=read_added(section),
     )
     section.finish()
     if rules.tonnes is not None and rules.tonnes <= 0:
         raise section.wrong("tonnes", "a phase has more than 0 tonnes")
     return rules
+
+
+def read_added(section: Section) -> tuple[Decimal, ...]:
+    if not section.has("mining_cost_added"):
+        return ()
+    value = section.data["mining_cost_added"]
+    if not isinstance(value, list) or not value:
+        raise section.wrong("mining_cost_added", "must be a list with what a tonne costs more in each phase, such as [0, 0.15]")
+    amounts = tuple(section.as_number("mining_cost_added", item) for item in value)
+    if min(amounts) < 0:
+        raise section.wrong("mining_cost_added", "may not be negative")
+    return amounts
 
 
 def read_metres(section: Section, key: str) -> Optional[float]:

@@ -53,6 +53,14 @@ class Phases:
         """Of each phase the factor of the shell that ends it, per mille, rising."""
         return self.plan.project.schedule.factors
 
+    @property
+    def mining_cost_added(self) -> np.ndarray:
+        """For each cell what digging it costs more in its phase, in money, which is no part of its worth."""
+        a_tonne = np.zeros(len(self.factors) + 1)
+        if amounts := rules_of(self.plan.project).mining_cost_added:
+            a_tonne[1:] = [float(amount) for amount in amounts]
+        return np.asarray(a_tonne[self.phase] * self.plan.values.tonnes)
+
 
 def rules_of(project: Project) -> PhaseRules:
     """Raises PlanError where the project says nothing of phases."""
@@ -78,7 +86,8 @@ def with_factors(project: Project, factors: tuple[int, ...]) -> Project:
 def divide(plan: Plan, mine: Optional[Mine] = None, progress: Progress = silent) -> Phases:
     """Divides the pit of the plan's last factor as the project asks; the mine is that of the plan, which is else made for the time being.
 
-    Raises PlanError where that pit is empty, or more than a hundred phases are asked for, and ProgramError where the solver refuses.
+    Raises PlanError where that pit is empty, more than a hundred phases are asked for, or there are not as many as mining costs are given,
+    and ProgramError where the solver refuses.
     """
     if mine is None:
         with mines.temporary(plan) as made:
@@ -98,6 +107,7 @@ def divide(plan: Plan, mine: Optional[Mine] = None, progress: Progress = silent)
     else:
         tonnes, notes = even_shells(rules, last, tonnes_at, plan.project)
     factors, more = not_empty(tonnes, plan.project)
+    more += notes_of_added(rules, factors, plan.project)
     part, solution = solved(factors)
     entry = solution.entry[: plan.grid.count]
     phase = np.where(entry > 0, np.searchsorted(factors, entry) + 1, 0).astype(np.int16)
@@ -120,6 +130,19 @@ def not_empty(tonnes: dict[int, float], project: Project) -> tuple[tuple[int, ..
     if not kept:
         raise PlanError(f"{project.path}: [pushbacks] the pit of factor {max(tonnes)} is empty: there is nothing to divide")
     return tuple(kept), notes
+
+
+def notes_of_added(rules: PhaseRules, factors: tuple[int, ...], project: Project) -> list[str]:
+    """That phases have mining costs of their own. Raises PlanError where these are not as many as the phases."""
+    amounts = rules.mining_cost_added
+    if not amounts:
+        return []
+    if len(amounts) != len(factors):
+        said = f"mining_cost_added has {len(amounts)} amounts, and the pit has {len(factors)} phases, of the factors"
+        raise PlanError(f"{project.path}: [pushbacks] {said} {', '.join(map(str, factors))}: give one for each")
+    told = ", ".join(f"{amount:f}" for amount in amounts)
+    where = "in phases, years, net present values and schedules, not in the worth of blocks, shells and phases"
+    return [f"by phase a tonne costs {told} {project.money.currency} more to dig: {where}"]
 
 
 def even_shells(rules: PhaseRules, last: int, tonnes_at: TonnesAt, project: Project) -> tuple[dict[int, float], list[str]]:
@@ -188,8 +211,9 @@ def table(phases: Phases) -> pd.DataFrame:
     """One row a phase, of what it adds to those before, at the price as given.
 
     phase from 1; factor, per mille, of the shell that ends it; blocks (with rock); tonnes, ore_tonnes, waste_tonnes; strip_ratio;
-    grade_NAME of the ore in its column's unit, metal_NAME recovered of it (tonnes, or grams); worth in money; cost_of_width, the shell's
-    worth less that of the phases up to this one; pieces that do not touch by a side; least_width in metres.
+    grade_NAME of the ore in its column's unit, metal_NAME recovered of it (tonnes, or grams); worth in money; mining_cost_added, where
+    phases have mining costs of their own, which are not in the worth; cost_of_width, the shell's worth less that of the phases up to this
+    one; pieces that do not touch by a side; least_width in metres.
     """
     plan, cells = phases.plan, analyse.cells_of(phases.plan, phases.solution)
     ore = np.where(cells.ore, phases.phase, 0)
@@ -208,6 +232,8 @@ def table(phases: Phases) -> pd.DataFrame:
         columns[f"grade_{metal.name}"] = analyse.ratio(added(ore, cells.content[metal.name], phases), ore_tonnes)
         columns[f"metal_{metal.name}"] = added(ore, plan.values.metal[metal.name], phases)
     columns["worth"] = added(phases.phase, cells.worth, phases)
+    if rules_of(plan.project).mining_cost_added:
+        columns["mining_cost_added"] = added(phases.phase, phases.mining_cost_added, phases)
     columns["cost_of_width"] = analyse.within(plan, cells.factor, cells.worth) - np.cumsum(columns["worth"])
     return pd.DataFrame(columns | shapes(phases))
 

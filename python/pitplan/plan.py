@@ -10,7 +10,8 @@ from typing import Any, Optional, Union
 import numpy as np
 import pandas as pd
 
-from . import absent, files, fixed as fixing, grid as grids, haulage, money, reach, reblock, summary as summaries, table as tables, trim, walls as laying, yearly_money
+from . import absent, files, fixed as fixing, grid as grids, haulage, money, reach, reblock, summary as summaries, table as tables
+from . import topography, trim, walls as laying, yearly_money
 from .errors import PlanError
 from .files import MOST_PAIRS, Needs, Pairs
 from .fixed import NOTHING, FixedBlocks, Settled
@@ -36,7 +37,7 @@ OWN_COLUMNS = (
 class Plan:
     """What is prepared of a project.
 
-    table   the planner's rows as they were read and checked, in the file's order
+    table   the planner's rows as they were read and checked, in the file's order, with the tonnes below a topography where there is one
     grid    the cells; `grid.rows` has each row's id
     values  cost and revenue of each cell
     walls   the needs' patterns
@@ -231,6 +232,10 @@ def prepare(
         summary = summaries.of_table(checked, bare, project)
         frame, grid = absent.with_rows(frame, bare, project)
     progress.lines(summary)
+    cut: list[str] = []
+    if project.table.topography:
+        with progress.step(f"cutting blocks by {project.table.topography.path}"):
+            frame, cut = topography.cut(frame, grid, project, project.table.topography)
     with progress.step("laying the walls"):
         region = laying.regions_of(frame, grid, project.table.region)
         walls = laying.walls_of(region, grid, project.slopes)
@@ -243,7 +248,7 @@ def prepare(
     with progress.step("weighing the blocks"):
         plan = plan_of(project, model.frame, model.grid, walls, model.source)
     plan.filled, plan.summary, plan.left_out, plan.read = checked.filled, summary, whole.known - model.known, read
-    plan.notes = [*checked.notes, *dropped, *notes_of(plan)]
+    plan.notes = [*checked.notes, *cut, *dropped, *notes_of(plan)]
     return plan
 
 

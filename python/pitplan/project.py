@@ -18,6 +18,7 @@ from .picture_rules import PictureRules, read_pictures
 from .schedule_rules import ScheduleRules, read_schedule_rules
 from .section import Section
 from .sensitivity_rules import SensitivityRules, read_sensitivity
+from .survey_rules import SurveyFile, read_survey
 from .wall_rules import Slopes, read_slopes
 
 REFERENCE_FACTOR = 1000
@@ -55,6 +56,7 @@ class TableColumns:
     density  a column of tonnes a cubic metre, where the table has no tonnes
     volume   a column of cubic metres; without it a block has the grid's size
     reblock  of what rows blocks are put together; None: each row is a block
+    topography  heights of the ground, by which blocks are cut; None: they are whole
     """
 
     file: Path
@@ -73,6 +75,7 @@ class TableColumns:
     empty: str
     absent: Union[str, AbsentRock]
     reblock: Optional[Reblock] = None
+    topography: Optional[SurveyFile] = None
 
 
 @dataclass(frozen=True)
@@ -152,10 +155,11 @@ class Project:
 
     @property
     def inputs(self) -> tuple[Path, ...]:
-        """The project's own file, and those that a plan is made of: its table, a surface as mined, and areas."""
+        """The project's own file, and those that a plan is made of: its table, a topography, a surface as mined, and areas."""
         rules = self.fixed
-        of_fixed = () if rules is None else (*([rules.surface] if rules.surface else []), *(area.polygon for area in rules.areas))
-        return (self.path, self.table.file, *of_fixed)
+        surfaces = (self.table.topography, rules.surface if rules else None)
+        areas = () if rules is None else (area.polygon for area in rules.areas)
+        return (self.path, self.table.file, *(path for file in (*surfaces, *areas) if file for path in file.parts))
 
     def of_process(self, process: Process) -> Project:
         metals = tuple(replace(metal, recovery=process.recovery.get(metal.name, Decimal(0))) for metal in self.metals)
@@ -234,6 +238,8 @@ def demand_agreement(project: Project) -> None:
         raise PlanError(f"{path}: [grid] size: is missing, by which a density gives tonnes, unless [table] names a volume")
     if project.table.reblock and project.scenarios:
         raise PlanError(f"{path}: [table] reblock: is not done of [scenarios]: give a table that is reblocked")
+    if project.table.topography and project.scenarios:
+        raise PlanError(f"{path}: [table] topography: is not taken by [scenarios]: give a table of blocks that are cut")
     demand_processes_agree(project)
     names = [metal.name for metal in project.metals]
     if len(set(names)) < len(names):
@@ -268,8 +274,19 @@ def demand_sums_agree(project: Project) -> None:
     for it in rules.sums:
         if it.of not in ("ore", "rock", *names):
             raise PlanError(f"{project.path}: [schedule.sums] {it.name}: of {it.of} is none of {', '.join(('rock', 'ore', *names))}")
-    if rules.sums and project.table.reblock:
-        raise PlanError(f"{project.path}: [schedule.sums]: are not of rows that are put together: leave out [table] reblock")
+    demand_sums_of_parts(project, rules)
+
+
+def demand_sums_of_parts(project: Project, rules: ScheduleRules) -> None:
+    """Refuses sums of whole blocks where a topography cuts these, and where those that are put together have the means of that column."""
+    means = {*rules.columns_of(a_tonne=True), *(metal.column for metal in project.metals)}
+    for it in [it for it in rules.sums if not it.a_tonne]:
+        if project.table.topography:
+            why = "is of whole blocks, and [table] topography cuts some: give it a_tonne, or leave out one of the two"
+            raise PlanError(f"{project.path}: [schedule.sums] {it.name}: {why}")
+        if project.table.reblock and it.column in means:
+            why = f"{it.column} is of a tonne too, and [table] reblock makes means of that: let the table have it twice"
+            raise PlanError(f"{project.path}: [schedule.sums] {it.name}: {why}")
 
 
 def demand_processes_agree(project: Project) -> None:
@@ -307,6 +324,7 @@ def read_table(section: Section, folder: Path) -> TableColumns:
         empty=section.choice("empty", ("refuse", "zero"), "refuse"),
         absent=read_absent(section),
         reblock=read_reblock(section),
+        topography=read_survey(section, "topography", folder) if section.has("topography") else None,
     )
     section.finish()
     if columns.density and section.has("tonnes"):

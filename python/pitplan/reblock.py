@@ -1,7 +1,8 @@
 """Makes blocks of one size of a table's rows: whole blocks put together, or sub-blocks of uneven sizes put into their parents.
 
-Tonnes are summed, grades are means by tonnes, rock and region those of most tonnes; a block is forced or barred where a part of it is. What
-is of another rock or region than its block is told in tonnes.
+Tonnes are summed, grades are means by tonnes, rock and region those of most tonnes; a block is forced or barred where a part of it is. Of
+columns that a schedule sums those that are of a tonne are means too, and others are summed. What is of another rock or region than its
+block is told in tonnes.
 """
 
 from __future__ import annotations
@@ -15,6 +16,7 @@ import pandas as pd
 from . import grid as grids
 from .frame import Frame
 from .project import GridRules, Project, Reblock
+from .schedule_rules import ScheduleRules
 from .table import Table, at_row
 
 # Kept of tonnes (a gram) and of grades, so that they have an end of decimals; at the half to the even one.
@@ -119,9 +121,7 @@ def put_together(frame: pd.DataFrame, lattice: Lattice, project: Project) -> tup
         result[columns.id] = [f"{east + 1}-{north + 1}-{up + 1}" for east, north, up in places.tolist()]
     for name, centre in zip((columns.x, columns.y, columns.z), lattice.centres(places)):
         result[name] = centre
-    result[columns.tonnes] = parts.whole.round(TONNES_PLACES)
-    for name in dict.fromkeys(metal.column for metal in project.metals):
-        result[name] = parts.mean(frame[name].to_numpy()).round(GRADE_PLACES)
+    result = result.assign(**{columns.tonnes: parts.whole.round(TONNES_PLACES)}, **amounts(frame, parts, project))
     for name in (columns.rock, columns.region):
         if name:
             result[name], other = parts.most(frame[name].to_numpy())
@@ -130,6 +130,15 @@ def put_together(frame: pd.DataFrame, lattice: Lattice, project: Project) -> tup
         if name:
             result[name] = parts.greatest(frame[name].to_numpy())
     return result, mixed
+
+
+def amounts(frame: pd.DataFrame, parts: Parts, project: Project) -> dict[str, np.ndarray]:
+    """Of each block the means of what is of a tonne, and the sums of what else a schedule sums."""
+    rules = project.schedule_rules or ScheduleRules()
+    means = {*(metal.column for metal in project.metals), *rules.columns_of(a_tonne=True)}
+    whole = rules.columns_of(a_tonne=False)
+    found = {name: parts.mean if name in means else parts.total for name in frame.columns if name in (*means, *whole)}
+    return {name: of_parts(frame[name].to_numpy()).round(GRADE_PLACES) for name, of_parts in found.items()}
 
 
 @dataclass(frozen=True)
@@ -143,11 +152,14 @@ class Parts:
     @property
     def whole(self) -> np.ndarray:
         """Tonnes of each block."""
-        return np.bincount(self.block, self.tonnes, minlength=self.count)
+        return self.total(self.tonnes)
+
+    def total(self, values: np.ndarray) -> np.ndarray:
+        return np.bincount(self.block, values, minlength=self.count)
 
     def mean(self, values: np.ndarray) -> np.ndarray:
         """The mean by tonnes; 0 where a block weighs nothing."""
-        whole, sums = self.whole, np.bincount(self.block, self.tonnes * values, minlength=self.count)
+        whole, sums = self.whole, self.total(self.tonnes * values)
         return np.divide(sums, whole, out=np.zeros(self.count), where=whole > 0)
 
     def most(self, codes: np.ndarray) -> tuple[np.ndarray, float]:

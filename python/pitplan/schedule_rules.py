@@ -76,6 +76,10 @@ class ScheduleRules:
         """The columns of the table that sums are of."""
         return tuple(it.column for it in self.sums)
 
+    def columns_of(self, a_tonne: bool) -> tuple[str, ...]:
+        """Those that are multiplied by tonnes, or those that are of the whole block."""
+        return tuple(dict.fromkeys(it.column for it in self.sums if it.a_tonne == a_tonne))
+
     @property
     def asks_least(self) -> bool:
         """Whether a year must hold something at least."""

@@ -67,6 +67,28 @@ def test_a_sum_of_a_column_by_hand(plan_folder, words, of):
     assert json.loads((folder / "block_schedule.json").read_text())["limits"]["sum_as_kg"] == 6
 
 
+HALVES = {
+    "as_kg": lambda i, j, k: 0 if k else (2, 3, 4, 0, 0, 1)[i],
+    "as_ppm": lambda i, j, k: 0 if k else (0.04, 0.06, 0.05, 0.03, 0, 0.02)[i],
+}
+
+
+@pytest.mark.parametrize("words", ['column = "as_kg"', 'column = "as_ppm"\na_tonne = true\nname = "as_kg"'])
+def test_a_sum_of_blocks_that_are_put_together(plan_folder, words):
+    """The same three pillars in halves of 50 t each, of 5, 4 and 1 kg in all: the richest and the poorest first. A bent number is found."""
+    table = rows(6, 1, 2, tonnes=lambda i, j, k: 50, cu=lambda i, j, k: 0 if k else (1, 0.7, 0.5)[i // 2], **HALVES)
+    text = f'[schedule]\nyears = 3\n[[schedule.sums]]\n{words}\nmost = 6\n'
+    wide = WIDE.replace('file = "blocks.csv"', 'file = "blocks.csv"\nreblock = [2, 1, 1]')
+    row, folder = scheduled(plan_folder, text, wide, table)
+    blocks = pd.read_csv(folder / "blocks.csv", dtype={"region": str})
+    ore = blocks[blocks["name"].isin(["1-1-1", "2-1-1", "3-1-1"])].sort_values("x")
+    assert ore["year"].tolist() == [1, 2, 1] and row["value"] == pytest.approx(3200 / 1.1 + 1400 / 1.21) and wrong(folder) == set()
+    assert years_of(folder)["sum_as_kg"].tolist() == pytest.approx([6, 4])
+    column = "as_kg" if "as_ppm" not in words else "as_ppm"
+    blocks.assign(**{column: blocks[column] + 1e-5}).to_csv(folder / "blocks.csv", index=False)
+    assert "reblocked" in wrong(folder)
+
+
 def test_the_least_of_a_sum_by_hand(plan_folder):
     """At least 3 kg in each of three years do not come of 5, 4 and 1; 1 kg does, one pillar a year."""
     text = '[schedule]\nyears = 3\n[[schedule.sums]]\ncolumn = "as_kg"\nof = "ore"\nleast = {}\n'

@@ -29,6 +29,20 @@ def test_four_blocks_in_one_by_hand(plan_folder):
         assert said in plan.summary
 
 
+def test_columns_that_a_schedule_sums(plan_folder):
+    """Of the four blocks arsenic is 10, 20, 30 and 40 ppm, 100 t x 10 + .. = 29,000 in 1000 t; power is of whole blocks."""
+    table = four(as_ppm=lambda i, j, k: 10 + 10 * (i + 2 * j), kwh=lambda i, j, k: 1.5 + i + 2 * j)
+    sums = '[[schedule.sums]]\ncolumn = "{}"\nmost = 1\n{}'
+    text = PROJECT + sums.format("as_ppm", "a_tonne = true\n") + sums.format("kwh", "")
+    plan = pitplan.prepare(plan_folder(table, text, TWOS))
+    assert plan.table[["as_ppm", "kwh", "cu"]].values.tolist() == [[29, 12, 0.7]]
+    text = PROJECT + sums.format("as_ppm", "a_tonne = true\n") + sums.format("as_ppm", 'name = "whole"\n')
+    with pytest.raises(PlanError, match=r"\[schedule.sums\] whole: as_ppm is of a tonne too, and \[table\] reblock makes means of that"):
+        pitplan.load(plan_folder(table, text, TWOS))
+    with pytest.raises(PlanError, match=r"\[schedule.sums\] cu: cu is of a tonne too, and \[table\] reblock makes means of that"):
+        pitplan.load(plan_folder(table, PROJECT + sums.format("cu", ""), TWOS))
+
+
 def test_sides_that_are_not_full_and_fixed_blocks(plan_folder):
     """Five blocks from the west: the third of the new ones holds one. A block is fixed where a part of it is."""
     table = rows(5, 1, 3, must=lambda i, j, k: int((i, k) == (1, 2)), cu=lambda i, j, k: i)

@@ -15,7 +15,7 @@ from test_fixed import FIXED_SECTION, ores_and_fixed, with_section
 from test_scenarios import COLUMNS, UPRIGHT, pillar, prepared, solved_in_turn
 from test_verify import looked_at, ore_everywhere, wrong
 
-from pitplan import PlanError, absent, commands, files, fixed, load, mine, prepare, simulation
+from pitplan import PlanError, absent, commands, files, fixed, load, mine, prepare, simulation, terrain
 from pitplan.progress import silent
 from pitplan.simulation import Request
 from pitplan.verification import verify
@@ -120,10 +120,10 @@ def test_a_surface_that_is_not_laid_between_its_points_is_found(plan_folder, tmp
     path = surfaced(plan_folder, tmp_path, [(x, y, 20 - 0.3 * x) for x in (-90, 160) for y in (-70, 120)])
     assert fixed_rule(path).differences == ()
     assert "with the rock above the surface as mined" in fixed_rule(path).holds
-    monkeypatch.setattr(fixed, "between_points", lambda points, x, y: np.full(len(x), np.inf))
+    monkeypatch.setattr(terrain, "heights", lambda triangles, grid: np.full(grid.per_level, 1000.0))
     rule = fixed_rule(path)
     assert (rule.count, rule.differences[0]) == (3 * 5 + 3 * 2, "block b5-0-0 must be dug, and is so from factor 0 on")
-    monkeypatch.setattr(fixed, "between_points", lambda points, x, y: 20 - 0.3 * (x - 600_000) + 3)
+    monkeypatch.setattr(terrain, "heights", lambda triangles, grid: 20 - 0.3 * (grid.centres(np.arange(grid.per_level))[0] - 600_000) + 3)
     # The plane three metres higher: from x = 35 and 65 on.
     assert fixed_rule(path).count == 3 + 3
 

@@ -1,12 +1,14 @@
 """A second way to every number that a plan's folder tells: from the project, its table and the files of the answer alone.
 
-It has nothing in common with what it checks but the reader of the project and of its table. Whether each shell is the best is proved
-of the program, for the files that it was given; here is looked whether these say what the project says, and whether the answer does:
+It has nothing in common with what it checks but the readers of the project, of its table, and of drawings, maps and rasters. Whether each
+shell is the best is proved of the program, for the files that it was given; here is looked whether these say what the project says, and
+whether the answer does:
 
 - each block of the table stands in the answer, in its own cell; where the project gives a rock to cells without rows, each that is not
   above the highest row of its column is a block of that rock, and no other is;
 - of what was left out since no shell can reach it nothing pays or must be dug, and no shell needs ground there;
 - where rows are put together to blocks, each block holds those that lie in it;
+- where a topography cuts blocks, their tonnes are right in 200 columns of blocks exactly, and in 2,000 to a tenth of a block;
 - no shell leaves a block standing, or ground of which nothing is known, in the whole cone above a block that it digs, by that block's
   own region and over as many levels as its needs reach; where the project leaves the levels open, no wall comes out more than half a
   degree steeper than asked;
@@ -34,7 +36,7 @@ import pandas as pd
 from ..errors import PlanError
 from ..project import Project
 from . import absent, answer as answers, block_schedule, fixed, haulage, money, phases, planned_table, reach, reblocked, scenarios, schedule
-from . import sensitivity, sums, walls, years
+from . import sensitivity, sums, topography, walls, years
 from .answer import TOLD, Answer, Rule, rule
 
 OF_PITS = (walls.verify, sums.verify, sums.verify_worth, years.verify)
@@ -49,6 +51,7 @@ def verify(folder: Path, project: Optional[Project] = None, table: Optional[pd.D
     """
     answer = answers.read(folder, project, table)
     more = [reblocked.verify(answer)] if answer.parts is not None else []
+    more += [topography.verify(answer)] if answer.project.table.topography else []
     more += [reach.verify(answer)] if answer.beyond is not None else []
     more += [haulage.verify(answer, money.sample(answer))] if answer.project.haulage else []
     more += [verify_free(answer, answer.free)] if answer.free else []

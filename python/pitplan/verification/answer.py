@@ -34,6 +34,8 @@ HAULED = ("road", "haulage_cost", "ore_haulage_cost")
 FREE = ("free_factor", "free_process_factor")
 # Those that `pitplan pushbacks` and `pitplan schedule` write besides.
 PHASE, YEAR = "phase", "year"
+# With a topography what is read of a block's tonnes, of which the answer has those below it.
+UNCUT = "tonnes before the cut"
 # Of a schedule by block the share of each block that goes to each of several processes.
 SHARE = "share_"
 # What `rows_of` gives of a table.
@@ -172,6 +174,15 @@ class Answer:
         return np.where(self.ore, gain, 0.0) - self.said["mining_cost"].to_numpy()
 
     @cached_property
+    def earned(self) -> np.ndarray:
+        """The worths without what each phase's own mining cost takes of them, once blocks have phases."""
+        rules = self.project.phases
+        if PHASE not in self.said or rules is None or not rules.mining_cost_added:
+            return self.worths
+        a_tonne = np.array([0.0, *map(float, rules.mining_cost_added)])
+        return self.worths - a_tonne[np.clip(self.said[PHASE].to_numpy(), 0, len(a_tonne) - 1)] * self.tonnes
+
+    @cached_property
     def cells(self) -> tuple[np.ndarray, np.ndarray, np.ndarray]:
         """Level from the top, row from the south and column from the west of each block, told by its centre."""
         steps = self.steps
@@ -287,7 +298,10 @@ def rows_of(project: Project, written: pd.DataFrame, grid: dict[str, Any], table
         return inside, None, beyond
     inside, beyond = divided(together(frame, project, grid), project, grid)
     own = written.rename(columns={own_name(name): name for name in frame.columns})
-    return written_rows(inside, own.loc[:, ~own.columns.duplicated(keep="last")], project, grid), frame, beyond
+    found = written_rows(inside, own.loc[:, ~own.columns.duplicated(keep="last")], project, grid)
+    # What is cut is what was put together.
+    tonnes = project.table.tonnes
+    return found if project.table.topography is None else found.assign(**{tonnes: inside[tonnes].to_numpy().round(6)}), frame, beyond
 
 
 def read_pits(folder: Path, record: dict[str, Any], project: Project, written: pd.DataFrame, table: TableRows) -> Answer:
@@ -305,11 +319,11 @@ def read_pits(folder: Path, record: dict[str, Any], project: Project, written: p
 
 def read_blocks(path: Path, project: Project, said: Optional[tuple[str, ...]] = None) -> pd.DataFrame:
     """The centres and those of these columns that the file has; every column where none are named, where rows may stand for cells that the
-    table has none of, or where they are put together."""
+    table has none of, or where they are put together or cut."""
     columns = project.table
     codes = {own_name(name): str for name in (columns.id, columns.rock, columns.region) if name}
     wanted = {*(said or ()), *(own_name(name) for name in (columns.x, columns.y, columns.z))}
-    is_whole = said is None or isinstance(columns.absent, AbsentRock) or columns.reblock is not None
+    is_whole = said is None or isinstance(columns.absent, AbsentRock) or bool(columns.reblock or columns.topography)
     usecols = None if is_whole else wanted.__contains__
     return pd.read_csv(path, dtype=codes, keep_default_na=False, na_values={}, float_precision="round_trip", usecols=usecols)
 
@@ -323,7 +337,7 @@ def beside(
     table: pd.DataFrame, written: pd.DataFrame, project: Project, grid: dict[str, Any], source: str
 ) -> tuple[pd.DataFrame, int, np.ndarray]:
     """The table's rows, with the answer's own behind them, which are of cells without a row; how many are the table's; and for each the
-    row of the answer.
+    row of the answer. With a topography tonnes are the answer's, and UNCUT those of the table.
 
     Raises PlanError, with `source`, the answer's file, where a block of either is not in the other.
     """
@@ -339,12 +353,15 @@ def beside(
     more = np.setdiff1d(np.arange(len(written)), at)
     if len(more) and not isinstance(columns.absent, AbsentRock):
         raise PlanError(f"{source}: {len(more):,} of its blocks are not in the table: has the table changed since?")
-    if not len(more):
-        return table, len(table), at
-    own = written.rename(columns={own_name(name): name for name in table.columns})
-    own = own.loc[:, ~own.columns.duplicated(keep="last")]
-    added = own.iloc[more].reindex(columns=table.columns, fill_value=0.0)
-    return pd.concat([table, added], ignore_index=True), len(table), np.concatenate([at, more])
+    known, rows, order = len(table), table, np.concatenate([at, more])
+    if len(more):
+        own = written.rename(columns={own_name(name): name for name in table.columns})
+        own = own.loc[:, ~own.columns.duplicated(keep="last")]
+        rows = pd.concat([table, own.iloc[more].reindex(columns=table.columns, fill_value=0.0)], ignore_index=True)
+    if columns.topography is not None:
+        uncut = np.concatenate([table[columns.tonnes], np.full(len(more), getattr(columns.absent, "tonnes", 0.0))])
+        rows = rows.assign(**{UNCUT: uncut, columns.tonnes: written[own_name(columns.tonnes)].to_numpy()[order]})
+    return rows, known, order
 
 
 def nearest_cells(centres: np.ndarray, grid: dict[str, Any]) -> np.ndarray:

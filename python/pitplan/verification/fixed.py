@@ -3,11 +3,10 @@
 from __future__ import annotations
 
 import numpy as np
-import pandas as pd
 from matplotlib.path import Path as Outline
 
 from ..fixed_rules import FixedRules
-from . import surface
+from . import surface, survey
 from .answer import TOLD, Answer, Rule, rule
 
 # Metres: of a centre that lies at the edge of an area to within so much nothing is demanded.
@@ -37,7 +36,7 @@ def demanded(answer: Answer, rules: FixedRules) -> tuple[np.ndarray, np.ndarray]
         if rules.surface is not None:
             must = must | surface.above(answer, rules.surface)
         for area in rules.areas:
-            never = never | within(answer, table(area.polygon)[["x", "y"]].to_numpy(), area.barred == "inside")
+            never = never | within(answer, survey.polygons(area.polygon), area.barred == "inside")
         answer.found["fixed"] = must & rock, never & rock
     return answer.found["fixed"]
 
@@ -46,18 +45,25 @@ def marked(answer: Answer, column: str | None) -> np.ndarray:
     return np.zeros(len(answer.rows), dtype=bool) if column is None else answer.rows[column].to_numpy() > 0
 
 
-def table(path: object) -> pd.DataFrame:
-    return pd.read_csv(path, sep=None, engine="python", encoding="utf-8-sig")
-
-
-def within(answer: Answer, corners: np.ndarray, inside: bool) -> np.ndarray:
-    """Blocks with their centre in a polygon, or out of it; of those at its very edge none."""
+def within(answer: Answer, polygons: list[list[np.ndarray]], inside: bool) -> np.ndarray:
+    """Blocks with their centre in one of some polygons, or out of all; of those at the very edge of one none."""
     columns = answer.project.table
+    centres, place = np.unique(answer.rows[[columns.x, columns.y]].to_numpy(), axis=0, return_inverse=True)
+    surely, perhaps = (np.zeros(len(centres), dtype=bool) for _ in range(2))
+    for outline, *holes in polygons:
+        (narrow, wide), cut = in_ring(centres, outline), [in_ring(centres, hole) for hole in holes]
+        surely |= narrow & ~np.logical_or.reduce([wide for _, wide in cut], initial=False)
+        perhaps |= wide & ~np.logical_or.reduce([narrow for narrow, _ in cut], initial=False)
+    return surely[place] if inside else ~perhaps[place]
+
+
+def in_ring(centres: np.ndarray, corners: np.ndarray) -> tuple[np.ndarray, np.ndarray]:
+    """Which centres lie in a ring, without those at its very edge and with them."""
     middle = corners.mean(axis=0)
     outline = Outline(corners - middle)
-    centres = answer.rows[[columns.x, columns.y]].to_numpy() - middle
-    narrow, wide = (outline.contains_points(centres, radius=radius) for radius in (-HAIR, HAIR))
-    return narrow & wide if inside else ~narrow & ~wide
+    one, other = (outline.contains_points(centres - middle, radius=radius) for radius in (-HAIR, HAIR))
+    # By which way the ring goes round either is the wider.
+    return one & other, one | other
 
 
 def verify_places(answer: Answer) -> Rule:

@@ -62,6 +62,8 @@ def unlike_rules(answer: Answer, factors: list[int]) -> list[str]:
     if asked.factors is not None:
         last = max(asked.factors)
         found += [f"factor {factor} was not asked for" for factor in factors if factor not in asked.factors]
+    if asked.mining_cost_added and len(factors) != len(asked.mining_cost_added):
+        found.append(f"{len(factors)} phases for mining costs of {len(asked.mining_cost_added)}")
     if asked.count is not None and len(factors) > asked.count:
         found.append(f"{len(factors)} phases for {asked.count}")
     if factors[-1] > last:
@@ -79,6 +81,10 @@ def verify_sums(answer: Answer) -> Rule:
         lost = answer.worths[sums.within(answer, int(said["factor"]))].sum() - answer.worths[up_to].sum()
         if not np.isclose(said["cost_of_width"], lost, rtol=1e-9, atol=CENT):
             differences.append(f"phase {number}: cost_of_width {said['cost_of_width']:.10g} for {lost:.10g}")
+        if answer.project.phases and answer.project.phases.mining_cost_added:
+            added, told = float((answer.worths - answer.earned)[mine].sum()), said.get("mining_cost_added", np.nan)
+            if not abs(told - added) <= 1e-9 * abs(added) + CENT:
+                differences.append(f"phase {number}: mining_cost_added {told:.10g} for {added:.10g}")
         gross = float(np.abs(answer.worths[mine]).sum())
         for name, amount in of_blocks(answer, mine, mine & ore).items():
             slack = 0.6 * sums.smallest(name) + (1e-12 * gross if name == "worth" else 0.0)

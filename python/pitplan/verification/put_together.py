@@ -18,12 +18,16 @@ def together(parts: pd.DataFrame, project: Project, grid: dict[str, Any]) -> pd.
     steps = steps_of(parts[[columns.x, columns.y, columns.z]].to_numpy(), grid)
     east, north, up = np.floor(steps + 0.5).astype(np.int64).T
     frame = parts.assign(east_=east, north_=north, up_=up + grid["shape"][0] - 1)
-    for metal in project.metals:
-        frame[f"content_{metal.column}"] = frame[metal.column] * frame[columns.tonnes]
+    sums = project.schedule_rules.sums if project.schedule_rules else ()
+    of_a_tonne = {*(metal.column for metal in project.metals), *(it.column for it in sums if it.a_tonne)}
+    for name in of_a_tonne:
+        frame[f"content_{name}"] = frame[name] * frame[columns.tonnes]
     by = frame.groupby(["up_", "north_", "east_"], sort=True)
     found = pd.DataFrame({columns.tonnes: by[columns.tonnes].sum()})
-    for metal in project.metals:
-        found[metal.column] = (by[f"content_{metal.column}"].sum() / found[columns.tonnes]).fillna(0.0)
+    for name in of_a_tonne:
+        found[name] = (by[f"content_{name}"].sum() / found[columns.tonnes]).fillna(0.0)
+    for name in {it.column for it in sums if not it.a_tonne}:
+        found[name] = by[name].sum()
     for name in (columns.rock, columns.region):
         if name:
             found[name] = of_most(frame, name, columns)

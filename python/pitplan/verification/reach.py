@@ -7,6 +7,7 @@ from dataclasses import replace
 import numpy as np
 import pandas as pd
 
+from . import topography
 from .answer import NOTHING, TOLD, UNDUG, Answer, Rule, rule
 from .money import gains_by_floats
 from .turned import steps_of
@@ -24,18 +25,25 @@ def verify(answer: Answer) -> Rule:
     for way in answer.project.ways:
         part = replace(answer, project=way, rows=rows, said=pd.DataFrame(index=rows.index), found={})
         revenue, processing = gains_by_floats(part)
-        pays = np.flatnonzero(factor / 1000 * revenue - processing > HAIR * revenue + 10.0**-answer.project.money.decimals)
+        pays = rock_of(part, np.flatnonzero(factor / 1000 * revenue - processing > HAIR * revenue + 10.0**-answer.project.money.decimals))
         differences += [f"{part.called(row)} was left out, and pays at factor {factor}" for row in pays[:TOLD]]
         count += len(pays)
     fixed = answer.project.fixed
     if fixed is not None and fixed.forced:
-        forced = np.flatnonzero((rows[fixed.forced] > 0) & (rows[answer.project.table.tonnes] > 0))
-        differences += [f"{replace(answer, rows=rows).called(row)} was left out, and must be dug" for row in forced[:TOLD]]
+        part = replace(answer, rows=rows)
+        forced = rock_of(part, np.flatnonzero((rows[fixed.forced] > 0) & (rows[answer.project.table.tonnes] > 0)))
+        differences += [f"{part.called(row)} was left out, and must be dug" for row in forced[:TOLD]]
         count += len(forced)
     reaching = leading_off(answer)
     differences += [f"{answer.called(row)}, dug at {answer.said['factor'].iloc[row]}, needs ground that was left out" for row in reaching[:TOLD]]
     holds = f"of {len(rows):,} blocks that were left out none pays for its processing or must be dug, and no shell needs ground there"
     return rule("reach", holds, differences, count + len(reaching))
+
+
+def rock_of(part: Answer, numbers: np.ndarray) -> np.ndarray:
+    """Those of some rows that do not lie wholly above the topography; what it leaves of a block pays as the whole does."""
+    level, row, column = (axis[numbers] for axis in part.cells)
+    return numbers[~topography.air(part, row, column, level)]
 
 
 def beyond_sides(answer: Answer) -> tuple[int, int, int, int]:

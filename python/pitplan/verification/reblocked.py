@@ -26,7 +26,9 @@ def verify(answer: Answer) -> Rule:
     columns, count = answer.project.table, len(differences)
     if len(expected) != answer.known:
         return rule("reblocked", "rows are put together", [f"{answer.known:,} blocks for {len(expected):,}"])
-    for name in [name for name in expected if name not in (columns.x, columns.y, columns.z)]:
+    # What a topography leaves of tonnes is looked at by itself.
+    passed = (columns.x, columns.y, columns.z, *([columns.tonnes] if columns.topography else []))
+    for name in [name for name in expected if name not in passed]:
         column = said[name].iloc[: answer.known].to_numpy()
         slack = TONNES if name == columns.tonnes else GRADE
         is_code = name in (columns.id, columns.rock, columns.region)

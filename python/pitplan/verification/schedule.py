@@ -85,7 +85,7 @@ def ways_of(answer: Answer, told: dict[str, Any]) -> tuple[list[str], list[Way]]
 
 def sums_of_benches(answer: Answer) -> pd.DataFrame:
     """By phase and level what the blocks add up to, of benches that hold rock."""
-    columns = {"rock_tonnes": answer.tonnes, "ore_tonnes": np.where(answer.ore, answer.feed, 0.0), "cash": answer.worths}
+    columns = {"rock_tonnes": answer.tonnes, "ore_tonnes": np.where(answer.ore, answer.feed, 0.0), "cash": answer.earned}
     columns |= answer.feeds
     columns |= {f"metal_{name}": np.where(answer.ore, metal, 0.0) for name, metal in answer.quantities.items()}
     frame = pd.DataFrame(columns | {"phase": answer.said["phase"].to_numpy(), "level": answer.cells[0]})

@@ -18,7 +18,7 @@ import pandas as pd
 
 from ..errors import PlanError
 from ..project import Project, load, of_data
-from . import absent, fixed, money, sums, walls, years
+from . import absent, fixed, money, sums, topography, walls, years
 from .answer import Answer, Rule, beside, read_blocks, rows_of, rule
 from .weighing import gains, weighed
 
@@ -97,6 +97,7 @@ class Told:
                 for name, it in self.of_case(case, self.rows.iloc[[number]]).items():
                     found[name].append(replace(it, differences=tuple(f"{case.label}: {said}" for said in it.differences)))
         of_ground = [fixed.verify_places(self.ground), absent.verify(self.ground), listed, self.outside_skin()]
+        of_ground += [topography.verify(self.ground)] if self.ground.project.table.topography else []
         count = f"in {len(self.cases):,} cases: "
         return [*of_ground, *(joined(name, count + holds, found[name]) for name, holds in OF_EACH.items())]
 

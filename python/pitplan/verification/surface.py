@@ -1,4 +1,5 @@
-"""The ground as mined, by its points: over a column of blocks their mean, and where there is none a triangle of those round it.
+"""The ground as mined. By its own triangles it is theirs at the middle of a column of blocks; by points it is over a column their mean, and
+where there is none a triangle of those round it.
 
 Three points make a triangle of the surface where the circle through them holds no other point. Where more than three lie on one circle,
 as of a regular grid, several triangles may be laid, and the highest of them is taken.
@@ -7,14 +8,16 @@ as of a regular grid, several triangles may be laid, and the highest of them is 
 from __future__ import annotations
 
 from itertools import combinations
-from pathlib import Path
 
 import numpy as np
 import pandas as pd
 from matplotlib.tri import Triangulation
 from scipy.spatial import ConvexHull, cKDTree
 
+from ..survey_rules import SurveyFile
 from .answer import Answer
+from .survey import heights
+from .triangles import cross, highest as highest_of
 from .turned import places_of, steps_of
 
 # Metres: so near to the outline of all points nothing is demanded.
@@ -23,15 +26,18 @@ HAIR = 1e-6
 MOST_ON_A_CIRCLE = 12
 
 
-def above(answer: Answer, file: Path) -> np.ndarray:
+def above(answer: Answer, file: SurveyFile) -> np.ndarray:
     """A truth for each block: whether its centre is above the surface. Beyond all points nothing is."""
-    points = pd.read_csv(file, sep=None, engine="python", encoding="utf-8-sig")[["x", "y", "z"]]
-    height = means(answer, points)
+    points, faces = heights(file, answer.record["grid"])
+    height = means(answer, pd.DataFrame(points[: 0 if len(faces) else None], columns=["x", "y", "z"]))
     level, row, column = answer.cells
     empty = np.isnan(height[row, column])
     places = np.unique(np.stack([row[empty], column[empty]], axis=1), axis=0)
-    if len(places):
-        height[places[:, 0], places[:, 1]] = between(answer, points.to_numpy(), places)
+    if len(faces):
+        centres = places_of(places[:, ::-1], answer.record["grid"])
+        height[places[:, 0], places[:, 1]] = highest_of(centres, points[faces])
+    elif len(places):
+        height[places[:, 0], places[:, 1]] = between(answer, points, places)
     return answer.elevations[level] > np.nan_to_num(height[row, column], nan=np.inf) + HAIR
 
 
@@ -101,8 +107,3 @@ def highest(centres: np.ndarray, corners: np.ndarray, heights: np.ndarray) -> np
         height = (shares * heights[:, three]).sum(axis=1)
         best = np.where(shares.min(axis=1) >= -1e-9, np.maximum(best, height), best)
     return np.where(np.isinf(best), np.inf, best)
-
-
-def cross(first: np.ndarray, second: np.ndarray) -> np.ndarray:
-    """Twice the area between each two of rows x, y; below 0 where the second lies clockwise of the first."""
-    return first[:, 0] * second[:, 1] - first[:, 1] * second[:, 0]

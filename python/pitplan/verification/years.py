@@ -9,6 +9,7 @@ import pandas as pd
 
 from .answer import Answer, Rule, rule
 from .money_of_years import capital, last_year, more_by_prices, most_premium, premiums, years_cut
+from .sums import within
 
 CENT = 0.01
 
@@ -48,6 +49,8 @@ def unlike_sums(answer: Answer, case: str, factor: int, years: pd.DataFrame) -> 
     # Of cash the part that blocks are worth; a metal's last place is worth so much.
     plain = years.assign(cash=years["cash"] + costs_told(years) - more_by_prices(answer.project, years))
     last_place = 5e-4 * (1 + most_premium(answer.project))
+    # Phases may cost more than the worth of their blocks says.
+    plain.loc[plain.index[:1], "cash"] += (answer.worths - answer.earned)[within(answer, factor)].sum()
     for name, whole in pairs.items():
         total = plain[name].sum()
         if abs(total - shell[whole]) > CENT + 1e-9 * abs(shell[whole]) + last_place * len(years):
@@ -95,7 +98,7 @@ def verify_npv(answer: Answer, flows: pd.DataFrame) -> Rule:
 
 def flows_of(answer: Answer) -> pd.DataFrame:
     """Rock, ore, metals, cash, and cash without signs, of each shell's part of each level."""
-    rock, cash = answer.tonnes, answer.worths
+    rock, cash = answer.tonnes, answer.earned
     frame = pd.DataFrame({"rock": rock, "ore": np.where(answer.ore, answer.feed, 0.0), "cash": cash, "gross": np.abs(cash)})
     frame = frame.assign(**answer.feeds, **{f"metal_{name}": np.where(answer.ore, metal, 0.0) for name, metal in answer.quantities.items()})
     frame = frame.assign(factor=answer.said["factor"].to_numpy(), level=answer.cells[0])

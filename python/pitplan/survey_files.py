@@ -1,0 +1,139 @@
+"""Topographies and areas of the files that surveyors give: tables of points, strings, drawings (DXF), maps, and rasters of heights.
+
+What reads a file is told by its ending. Coordinates are taken as they are written, in metres of the table's own system: none is
+transformed.
+"""
+
+from __future__ import annotations
+
+from dataclasses import dataclass
+from pathlib import Path
+
+import numpy as np
+
+from . import survey_dxf, survey_gdal, survey_strings
+from .errors import PlanError
+from .survey_layers import Layer, chosen, named
+from .survey_rules import SurveyFile
+from .table import at_row, demand_columns, numbers_of, read_columns
+from .table_format import TableFormat, guessed_separator
+
+TABLES = (".csv", ".txt", ".dat", ".xyz", ".gz", ".zip")
+DRAWING, STRINGS = ".dxf", ".str"
+READERS = {DRAWING: "ezdxf", STRINGS: "pitplan"}
+HEIGHTS, CLOSED = "points, lines with heights or 3D faces", "polygons or closed lines"
+NO_FACES = np.zeros((0, 3), dtype=np.int64)
+# Least x and greatest, least y and greatest, in metres.
+Box = tuple[float, float, float, float]
+
+
+@dataclass(frozen=True)
+class Topography:
+    """Heights of the ground.
+
+    points  x, y, z in metres, shape (points, 3)
+    faces   numbers of the three points of each triangle of the ground, shape (faces, 3); none where the file has points alone
+    notes   by what it was read, and what else a planner should know
+    """
+
+    points: np.ndarray
+    faces: np.ndarray
+    notes: tuple[str, ...] = ()
+
+
+@dataclass(frozen=True)
+class Areas:
+    """Polygons on the map, each a list of rings x, y in metres, of which the first is its outline and the others its holes; and what a
+    planner should know of them."""
+
+    polygons: list[list[np.ndarray]]
+    notes: tuple[str, ...] = ()
+
+
+def topography(file: SurveyFile, around: Box) -> Topography:
+    """The heights of a file; of a raster those round a box.
+
+    Raises PlanError, with the file and its layer, where it cannot be read or has no heights, and MissingPackage, with the Debian package,
+    where what reads it is not installed.
+    """
+    ending = ending_of(file, (*survey_gdal.MAPS, *survey_gdal.RASTERS))
+    if file.height is not None and ending not in survey_gdal.MAPS:
+        raise PlanError(f"{file.path}: has heights of its own: height is a field of {', '.join(survey_gdal.MAPS)}")
+    if ending in TABLES:
+        return demand_points(Topography(numbers_in(file.path, ("x", "y", "z")), NO_FACES), file)
+    if ending in survey_gdal.RASTERS:
+        points, faces = survey_gdal.raster(file.path, around)
+        return demand_points(Topography(points, faces, (told(file, f"{len(points):,} cells of the raster"),)), file)
+    layers, notes = layers_of(file)
+    if any(layer.faces for layer in named(layers, file).values()):
+        some = chosen(layers, file, "faces", "3D faces")
+        corners = np.concatenate([faces for layer in some.values() for faces in layer.faces])
+        points, faces = np.unique(corners.reshape(-1, 3), axis=0, return_inverse=True)
+        # Drawings often have a face twice.
+        faces = np.unique(np.sort(faces.reshape(-1, 3), axis=1), axis=0)
+        return Topography(points, faces, (told(file, f"{len(faces):,} triangles of {in_layers(some)}"), *notes))
+    some = chosen(layers, file, "points", HEIGHTS)
+    points = np.concatenate([part for layer in some.values() for part in layer.points])
+    return Topography(points, NO_FACES, (told(file, f"{len(points):,} points of {in_layers(some)}"), *notes))
+
+
+def areas(file: SurveyFile) -> Areas:
+    """The polygons of a file. Raises PlanError and MissingPackage as `topography` does, and PlanError where it has no polygons."""
+    if ending_of(file, tuple(survey_gdal.MAPS)) in TABLES:
+        corners = numbers_in(file.path, ("x", "y"))
+        if len(corners) < 3:
+            raise PlanError(f"{file.path}: a polygon has three corners or more")
+        return Areas([[corners]])
+    layers, notes = layers_of(file)
+    some = chosen(layers, file, "polygons", CLOSED)
+    polygons = [polygon for layer in some.values() for polygon in layer.polygons]
+    count = sum(number for layer in some.values() for kind, number in layer.kinds.items() if kind.endswith("(open)"))
+    passed = [f"WARNING: {file.path}: {count:,} open lines of {in_layers(some)} are passed over: close them"] if count else []
+    return Areas(polygons, (told(file, f"{len(polygons):,} polygons of {in_layers(some)}"), *notes, *passed))
+
+
+def ending_of(file: SurveyFile, by_gdal: tuple[str, ...]) -> str:
+    """What a file's name ends with, in small letters. Raises PlanError where nothing reads such, or where it is no file."""
+    path, ending = file.path, file.path.suffix.lower()
+    endings = (*TABLES, DRAWING, STRINGS, *by_gdal)
+    if ending not in endings:
+        why = f"{ending} files are not read" if ending else "has no ending, which tells what reads it"
+        raise PlanError(f"{path}: {why}: give one of {', '.join(endings)}")
+    if not path.is_file():
+        raise PlanError(f"{path}: cannot be read: {'is a folder' if path.is_dir() else 'No such file or directory'}")
+    if file.layers and ending in (*TABLES, *survey_gdal.RASTERS):
+        raise PlanError(f"{path}: has no layers: leave out layer")
+    return ending
+
+
+def layers_of(file: SurveyFile) -> tuple[dict[str, Layer], list[str]]:
+    """The layers of a drawing, of strings or of a map, and notes."""
+    ending = file.path.suffix.lower()
+    if ending == DRAWING:
+        return survey_dxf.layers_of(file)
+    return (survey_strings.layers_of(file.path) if ending == STRINGS else survey_gdal.layers_of(file)), []
+
+
+def demand_points(found: Topography, file: SurveyFile) -> Topography:
+    if not len(found.points):
+        raise PlanError(f"{file.path}: has no heights, or none where the model lies")
+    return found
+
+
+def told(file: SurveyFile, what: str) -> str:
+    return f"{file.path}: {what} were read by {READERS.get(file.path.suffix.lower(), 'GDAL')}; no coordinates are transformed"
+
+
+def in_layers(layers: dict[str, Layer]) -> str:
+    return f"the layer{'s' if len(layers) > 1 else ''} {', '.join(layers)}"
+
+
+def numbers_in(file: Path, names: tuple[str, ...]) -> np.ndarray:
+    """Columns of a CSV file as numbers. Raises PlanError, with file, row and column, where one is missing or is no number."""
+    frame = read_columns(file, TableFormat(guessed_separator(file, "utf-8-sig"), ".", "utf-8-sig"), [], list(names))
+    demand_columns(frame, list(names), str(file))
+    columns = [numbers_of(frame[name], str(file), name) for name in names]
+    for name, numbers in zip(names, columns):
+        if np.isnan(numbers).any():
+            raise at_row(str(file), int(np.isnan(numbers).argmax()), name, "is empty")
+    return np.stack(columns, axis=1)

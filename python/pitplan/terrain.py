@@ -1,0 +1,199 @@
+"""A topography as triangles over the columns of a grid: its height at their middles, and how much of each block lies below it.
+
+The share of a block is exact for these triangles. Each is cut to the columns that it comes over, and over what is left of it, where its
+height goes linearly, the volume above an elevation has a closed form; a block has what lies above its floor without what lies above its top.
+"""
+
+from __future__ import annotations
+
+from collections.abc import Iterator
+from dataclasses import dataclass
+
+import numpy as np
+
+from .grid import Grid, metres
+from .packages import load
+from .survey_files import Box, Topography
+
+# Triangles over columns that are in memory at once.
+PAIRS = 100_000
+# Shares of a triangle, and blocks, by which sums of floats are off.
+HAIR = 1e-9
+
+
+def box_of(grid: Grid) -> Box:
+    """Least and greatest x, least and greatest y in metres of a grid's corners."""
+    _, rows, columns = grid.shape
+    middles = grid.centres(np.array([0, columns - 1, (rows - 1) * columns, rows * columns - 1]))
+    x, y, half = middles[0], middles[1], float(np.hypot(*grid.size[:2])) / 2
+    return float(x.min()) - half, float(x.max()) + half, float(y.min()) - half, float(y.max()) + half
+
+
+def triangles_of(topography: Topography) -> np.ndarray:
+    """The corners x, y, z of the triangles of a topography, shape (triangles, 3, 3): its faces, or Delaunay's between its points. None
+    where these lie on a line."""
+    points, faces = topography.points, topography.faces
+    if not len(faces):
+        # About the points' middle, since coordinates of seven digits leave little room for differences.
+        flat = points[:, :2] - points[:, :2].mean(axis=0)
+        if np.linalg.matrix_rank(flat - flat[0]) < 2:
+            return np.zeros((0, 3, 3))
+        faces = load("scipy.spatial", "python3-scipy", "a topography of points").Delaunay(flat).simplices
+    return points[faces]
+
+
+def over_grid(triangles: np.ndarray, grid: Grid) -> np.ndarray:
+    """The triangles that come over a grid and have an area on the map, with corners in columns east and rows north from the middle of the
+    first column, and in levels from the floor; shape (some, 3, 3)."""
+    _, _, _, _, floor, _ = grid.extent()
+    east, north = grid.steps(triangles[..., 0], triangles[..., 1])
+    corners = np.stack([east, north, (triangles[..., 2] - floor) / grid.size[2]], axis=-1)
+    low, high = corners[..., :2].min(axis=1), corners[..., :2].max(axis=1)
+    _, rows, columns = grid.shape
+    near = (high > -0.5).all(axis=1) & (low < np.array([columns, rows]) - 0.5).all(axis=1)
+    return corners[near & (np.abs(areas(corners)) > HAIR**2)]
+
+
+def areas(corners: np.ndarray) -> np.ndarray:
+    """Areas on the map of triangles by their last two axes, above 0 where they go round anticlockwise."""
+    a, b, c = (corners[..., corner, :2] for corner in range(3))
+    return ((b - a)[..., 0] * (c - a)[..., 1] - (b - a)[..., 1] * (c - a)[..., 0]) / 2
+
+
+def pairs(corners: np.ndarray, grid: Grid, reach: float) -> Iterator[tuple[np.ndarray, np.ndarray]]:
+    """Some at a time, triangles with their corners from the middle of a column that the box round them comes within a reach of, in blocks;
+    and the column's number."""
+    _, rows, columns = grid.shape
+    low = np.clip(np.ceil(corners[..., :2].min(axis=1) - reach), 0, None).astype(np.int64)
+    high = np.minimum(np.floor(corners[..., :2].max(axis=1) + reach).astype(np.int64), [columns - 1, rows - 1])
+    wide = np.maximum(high - low + 1, 0)
+    counts = wide.prod(axis=1)
+    ends = np.cumsum(counts)
+    start = 0
+    while start < len(corners):
+        before = int(ends[start] - counts[start])
+        stop = max(start + 1, int(np.searchsorted(ends, before + PAIRS, "right")))
+        number = np.repeat(np.arange(start, stop), counts[start:stop])
+        row, column = np.divmod(np.arange(len(number)) - (ends - counts - before)[number], wide[number, 0])
+        column, row = column + low[number, 0], row + low[number, 1]
+        middle = np.stack([column, row, np.zeros(len(row))], axis=-1)
+        yield corners[number] - middle[:, None], row * columns + column
+        start = stop
+
+
+def heights(triangles: np.ndarray, grid: Grid) -> np.ndarray:
+    """The elevation in metres of the triangles at the middle of each column of blocks, of several the greatest; infinite beyond them."""
+    corners = over_grid(triangles, grid)
+    found = np.full(grid.per_level, -np.inf)
+    for some, place in pairs(corners, grid, HAIR):
+        a, b, c = (some[:, corner, :2] for corner in range(3))
+        parts = np.stack([one[:, 0] * two[:, 1] - one[:, 1] * two[:, 0] for one, two in ((b, c), (c, a), (a, b))], axis=1)
+        shares = parts / parts.sum(axis=1, keepdims=True)
+        inside = (shares >= -HAIR).all(axis=1)
+        np.maximum.at(found, place[inside], (shares * some[..., 2]).sum(axis=1)[inside])
+    return np.where(np.isinf(found), np.inf, grid.extent()[4] + found * grid.size[2])
+
+
+@dataclass(frozen=True)
+class Below:
+    """What lies below a topography.
+
+    share    of each block of a level from the floor and a column of blocks, shape (levels, columns); where the topography covers a part
+             of a column, of this part
+    covered  the part of each column on the map that triangles come over; more than 1 where they lie over each other
+    height   the mean of the topography over each column, in levels above the model's floor
+    """
+
+    share: np.ndarray
+    covered: np.ndarray
+    height: np.ndarray
+
+
+def below(triangles: np.ndarray, grid: Grid) -> Below:
+    """Shares of blocks below triangles; 1 in columns that none comes over."""
+    sums = Sums(grid.shape[0], grid.per_level)
+    for some, place in pairs(over_grid(triangles, grid), grid, 0.5):
+        whole = over_column(some)
+        fans = np.stack([np.broadcast_to(whole[:, :1], whole[:, 2:].shape), whole[:, 1:-1], whole[:, 2:]], axis=2)
+        area = np.abs(areas(fans))
+        one = area > 0
+        sums.add(fans[one][..., 2], area[one], np.repeat(place, area.shape[1]).reshape(area.shape)[one])
+    covered, above = sums.covered, sums.above()
+    share = np.divide(above[:-1] - above[1:], covered, out=np.ones((grid.shape[0], grid.per_level)), where=covered > HAIR)
+    height = np.divide(above[0], covered, out=np.zeros(grid.per_level), where=covered > HAIR)
+    return Below(np.where(share < HAIR, 0.0, np.where(share > 1 - HAIR, 1.0, share)), covered, height)
+
+
+def over_column(triangles: np.ndarray) -> np.ndarray:
+    """What of triangles lies over the column from whose middle their corners are counted, as `cut` gives it; shape (triangles, 7, 3)."""
+    along_x = cut(cut(triangles, 0, 1), 0, -1)
+    return cut(cut(along_x, 1, 1), 1, -1)
+
+
+def cut(polygons: np.ndarray, axis: int, side: int) -> np.ndarray:
+    """The parts of convex polygons that lie within half a block on one side of a middle along an axis, by Sutherland and Hodgman (1974):
+    shape (polygons, corners, 3), with a corner more. Where there are fewer corners the first one is repeated."""
+    inner = 0.5 - side * polygons[..., axis]
+    following, beyond = np.roll(polygons, -1, axis=1), np.roll(inner, -1, axis=1)
+    crosses = (inner >= 0) != (beyond >= 0)
+    way = np.divide(inner, inner - beyond, out=np.zeros_like(inner), where=crosses)
+    crossing = polygons + way[..., None] * (following - polygons)
+    count, corners = inner.shape
+    both = np.stack([polygons, crossing], axis=2).reshape(count, 2 * corners, 3)
+    kept = np.stack([inner >= 0, crosses], axis=2).reshape(count, 2 * corners)
+    order = np.argsort(~kept, axis=1, kind="stable")[:, : corners + 1]
+    found = np.take_along_axis(both, order[..., None], axis=1)
+    return np.where((np.arange(corners + 1) < kept.sum(axis=1)[:, None])[..., None], found, found[:, :1])
+
+
+class Sums:
+    """Volumes above each boundary of levels, from the floor of the model on, added up by columns; in blocks."""
+
+    def __init__(self, levels: int, columns: int) -> None:
+        self.levels, self.columns = levels, columns
+        # By the count of boundaries that do not lie above a piece: its area, and its volume above the floor.
+        self.area, self.volume = np.zeros((levels + 2, columns)), np.zeros((levels + 2, columns))
+        self.more = np.zeros((levels + 1, columns))
+
+    def add(self, heights: np.ndarray, area: np.ndarray, place: np.ndarray) -> None:
+        """Triangles by the heights of their corners, shape (some, 3), their areas and their columns."""
+        low, middle, high = np.sort(heights, axis=1).T
+        first = np.clip(np.floor(low) + 1, 0, self.levels + 1).astype(np.int64)
+        last = np.clip(np.ceil(high), 0, self.levels + 1).astype(np.int64)
+        np.add.at(self.area, (first, place), area)
+        np.add.at(self.volume, (first, place), area * heights.mean(axis=1))
+        count = np.maximum(last - first, 0)
+        of = np.repeat(np.arange(len(area)), count)
+        at = first[of] + np.arange(len(of)) - np.repeat(np.cumsum(count) - count, count)
+        share = share_above(np.stack([low, middle, high], axis=1)[of], at)
+        np.add.at(self.more, (at, place[of]), share * area[of])
+
+    @property
+    def covered(self) -> np.ndarray:
+        return np.asarray(self.area.sum(axis=0))
+
+    def above(self) -> np.ndarray:
+        """The volume between each boundary and the triangles above it, shape (levels + 1, columns)."""
+        area, volume = (np.cumsum(sums[::-1], axis=0)[::-1][1:] for sums in (self.area, self.volume))
+        return np.asarray(volume - np.arange(self.levels + 1)[:, None] * area + self.more)
+
+
+def share_above(heights: np.ndarray, at: np.ndarray) -> np.ndarray:
+    """The mean, over triangles whose corners have heights that rise, shape (some, 3), of what lies above an elevation between the least and
+    the greatest of them: the volume of a pyramid at the highest corner, or all without one at the lowest."""
+    low, middle, high = heights.T
+    is_upper = at >= middle
+    edge = np.where(is_upper, high, low)
+    product = (high - low) * np.where(is_upper, high - middle, middle - low)
+    pyramid = np.divide(np.abs(edge - at) ** 3, 3 * product, out=np.zeros(len(at)), where=product > 0)
+    return np.where(is_upper, pyramid, heights.mean(axis=1) - at + pyramid)
+
+
+def beside(places: np.ndarray, grid: Grid) -> str:
+    """How far places x, y reach, and the model's blocks: for a file that lies beside these."""
+    x, y, _ = grid.centres(grid.rows)
+    reach = [f"{metres(axis.min())} to {metres(axis.max())}" for axis in (*places.T[:2], x, y)]
+    return (
+        f"its x go from {reach[0]} and y from {reach[1]}, and those of the blocks from {reach[2]} and {reach[3]}: are its coordinates the "
+        "table's, in metres?"
+    )

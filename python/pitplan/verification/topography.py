@@ -1,0 +1,156 @@
+"""Blocks that a topography cuts, anew: for some columns exactly, each triangle being cut to the column and at each level's floor, corner by
+corner; and for many by heights at places in them."""
+
+from __future__ import annotations
+
+from collections.abc import Callable, Iterator
+from dataclasses import dataclass
+from typing import Optional
+
+import numpy as np
+import pandas as pd
+from scipy.spatial import Delaunay
+
+from ..survey_rules import SurveyFile
+from . import survey
+from .answer import TOLD, UNCUT, Answer, Rule, rule
+from .triangles import highest, near
+from .turned import steps_of
+
+# A gram, to which tonnes are kept, and shares of a block by which sums of floats are off, of coordinates of seven digits.
+GRAM, HAIR = 0.51e-6, 1e-8
+# So many columns are looked at by heights at so many places each way, and of them so many exactly.
+MANY, ACROSS, EXACTLY = 2_000, 6, 200
+# The share of a block by which such heights may miss it, as of a wall along the blocks' sides, which they do by a twelfth at most.
+MISSED = 0.1
+
+Corner = tuple[float, float, float]
+
+
+@dataclass(frozen=True)
+class Ground:
+    """The corners of triangles, shape (triangles, 3, 3), in columns east and rows north of the middle of the first column of blocks, and in
+    levels above the model's floor; and how many levels, rows and columns there are."""
+
+    corners: np.ndarray
+    shape: tuple[int, int, int]
+
+    @staticmethod
+    def of(answer: Answer, file: SurveyFile, cells: Optional[np.ndarray] = None) -> Ground:
+        """Of a raster what lies round the answer's grid, or round some cells, a row of the column and the row each."""
+        grid = answer.record["grid"]
+        points, faces = survey.heights(file, grid, cells)
+        if not len(faces):
+            faces = Delaunay(points[:, :2] - points[:, :2].mean(axis=0)).simplices
+        steps = steps_of(points, grid) + [0, 0, answer.shape[0] - 0.5]
+        return Ground(steps[faces], answer.shape)
+
+    def quickly(self, places: np.ndarray) -> np.ndarray:
+        """For columns, a row of the row and the column each, the share of each level from the floor that lies below, by heights at places in
+        them; not a number where the triangles do not cover all of these."""
+        within = (np.arange(ACROSS) + 0.5) / ACROSS - 0.5
+        spots = np.stack(np.meshgrid(within, within), axis=-1).reshape(-1, 2)
+        found = highest((places[:, None, ::-1] + spots).reshape(-1, 2), self.corners).reshape(len(places), -1)
+        heights = np.where(np.isfinite(found).all(axis=1)[:, None], found, np.nan)
+        levels = np.arange(self.shape[0])
+        return np.asarray(np.clip(heights[:, None] - levels[:, None], 0, 1).mean(axis=2))
+
+    def exactly(self, places: np.ndarray) -> np.ndarray:
+        """The same, exactly; 1 where no triangle lies over a column."""
+        found = np.ones((len(places), self.shape[0]))
+        for number, pieces in self.pieces(places):
+            covered = sum(area(piece) for piece in pieces)
+            if covered > HAIR:
+                above = [sum(volume_above(piece, level) for piece in pieces) for level in range(self.shape[0] + 1)]
+                found[number] = -np.diff(above) / covered
+        return found
+
+    def pieces(self, places: np.ndarray) -> Iterator[tuple[int, list[list[Corner]]]]:
+        """Of each column what of the triangles lies over it."""
+        # A column reaches the root of a half from its middle.
+        found = [np.stack(pair, axis=1) for pair in near(places[:, ::-1].astype(float), self.corners, 0.71)]
+        near_by = pd.DataFrame(np.concatenate([np.zeros((0, 2), dtype=int), *found]), columns=["place", "face"])
+        for number, faces in near_by.groupby("place")["face"]:
+            row, column = places[number].tolist()
+            moved = (self.corners[faces.to_numpy()] - [column, row, 0]).tolist()
+            cut = [over_column([(x, y, z) for x, y, z in corners]) for corners in moved]
+            yield number, [piece for piece in cut if len(piece) > 2]
+
+
+def part(polygon: list[Corner], of: Callable[[Corner], float]) -> list[Corner]:
+    """The part of a convex polygon where a linear function of its corners is not below 0."""
+    found = []
+    for one, other in zip(polygon, polygon[1:] + polygon[:1]):
+        here, there = of(one), of(other)
+        if here >= 0:
+            found.append(one)
+        if here * there < 0:
+            way = here / (here - there)
+            x, y, z = (a + way * (b - a) for a, b in zip(one, other))
+            found.append((x, y, z))
+    return found
+
+
+def over_column(polygon: list[Corner]) -> list[Corner]:
+    """The part of a triangle over the square of half a block to each side of the middle."""
+    for axis in (0, 1):
+        polygon = part(part(polygon, lambda corner: 0.5 - corner[axis]), lambda corner: 0.5 + corner[axis])
+    return polygon
+
+
+def fans(polygon: list[Corner]) -> Iterator[tuple[float, float]]:
+    """The area on the map and the mean height of each triangle round a polygon's first corner."""
+    for (ax, ay, az), (bx, by, bz) in zip(polygon[1:], polygon[2:]):
+        x, y, z = polygon[0]
+        yield abs((ax - x) * (by - y) - (ay - y) * (bx - x)) / 2, (az + bz + z) / 3
+
+
+def area(polygon: list[Corner]) -> float:
+    return sum(size for size, _ in fans(polygon))
+
+
+def volume_above(polygon: list[Corner], level: float) -> float:
+    """What lies between an elevation and the part of a polygon above it."""
+    return sum(size * (height - level) for size, height in fans(part(polygon, lambda corner: corner[2] - level)))
+
+
+def verify(answer: Answer) -> Rule:
+    """Tonnes of the blocks of the columns that are looked at are the table's below the topography."""
+    file = answer.project.table.topography
+    assert file is not None
+    ground = Ground.of(answer, file)
+    level, row, column = answer.cells
+    places, place = np.unique(np.stack([row, column], axis=1), axis=0, return_inverse=True)
+    up, before, after = answer.shape[0] - 1 - level, answer.rows[UNCUT].to_numpy(), answer.tonnes
+    differences = told(answer, (after < 0) | (after > before + GRAM), before)
+    looked, exact = some(len(places), MANY), some(len(places), EXACTLY)
+    for numbers, share, missed in ((looked, ground.quickly(places[looked]), MISSED), (exact, ground.exactly(places[exact]), HAIR)):
+        at = np.full(len(places), -1)
+        at[numbers] = np.arange(len(numbers))
+        expected = np.where(at[place] >= 0, share[at[place], up], np.nan) * before
+        differences += told(answer, np.abs(after - expected) > GRAM + missed * before, expected)
+    where = f"in {len(exact):,} columns of blocks exactly, in {len(looked):,} by {ACROSS**2} heights to a tenth"
+    return rule("topography", f"tonnes lie below the triangles of the topography, {where}", differences)
+
+
+def told(answer: Answer, wrong: np.ndarray, expected: np.ndarray) -> list[str]:
+    off = np.flatnonzero(wrong)
+    return [f"{answer.called(row)}: {answer.tonnes[row]:.12g} t for {expected[row]:.12g}" for row in off[:TOLD]]
+
+
+def some(count: int, most: int) -> np.ndarray:
+    """At most so many numbers below a count, evenly."""
+    return np.unique(np.linspace(0, count - 1, min(count, most)).round().astype(np.int64))
+
+
+def air(answer: Answer, rows: np.ndarray, columns: np.ndarray, levels: np.ndarray) -> np.ndarray:
+    """Whether cells, which may lie beyond the answer's grid, lie wholly above the topography."""
+    file = answer.project.table.topography
+    if file is None or not len(rows):
+        return np.zeros(len(rows), dtype=bool)
+    places, place = np.unique(np.stack([rows, columns], axis=1), axis=0, return_inverse=True)
+    tops = np.full(len(places), np.inf)
+    for number, pieces in Ground.of(answer, file, places[:, ::-1]).pieces(places):
+        if pieces:
+            tops[number] = max(z for piece in pieces for _, _, z in piece)
+    return np.asarray(tops[place] <= answer.shape[0] - 1 - levels + HAIR)
