@@ -49,6 +49,17 @@ def test_small_schedules_are_the_best_that_there_are(batch):
         assert best - slack <= found.value <= found.bound + slack and (problem.destinations > 1 or found.value <= best + slack), seed
 
 
+def test_ore_waits_for_room_in_the_mill_where_it_could_be_dug_as_waste():
+    """Two blocks, of which the mill takes one a year, and shovels both: as waste each costs 400, in the mill it earns 2600. A third of 900
+    would be milled in no year, and is left."""
+    earned = np.array([[-400, 2600], [-400, 2600], [-400, 900]])
+    takes, discounts = np.array([[0, 100], [0, 100], [0, 100]]), 1.1 ** -np.arange(1.0, 3.0)
+    problem = problem_of(earned[:, :, None] * discounts, [], (takes, [100, 100]), (np.full((3, 2), 100), [300, 300]))
+    found = solve(problem)
+    assert found.value == pytest.approx(2600 / 1.1 + 2600 / 1.21) == found.bound
+    assert sorted(found.schedule.year.tolist()) == [0, 1, 2] and demand_sound(problem, found.schedule) == pytest.approx(found.value)
+
+
 @pytest.mark.parametrize("batch", range(4))
 def test_schedules_without_integer_programmes_keep_to_all(batch):
     for seed in range(3000 + 10 * batch, 3010 + 10 * batch):

@@ -3,7 +3,7 @@
 from __future__ import annotations
 
 import time
-from dataclasses import dataclass, field
+from dataclasses import dataclass, field, replace
 from functools import cached_property
 from typing import Optional
 
@@ -156,6 +156,11 @@ class Search:
     def filling(self) -> Filling:
         return Filling(self.problem, preferences(self.problem, self.relaxation.prices))
 
+    @cached_property
+    def waiting(self) -> Filling:
+        """The same, whose blocks wait for room where they are worth most."""
+        return replace(self.filling, waits=True)
+
     def offer(self, schedule: BlockSchedule) -> None:
         """Takes a schedule that is better."""
         if schedule.is_better(self.best, self.problem):
@@ -166,6 +171,8 @@ class Search:
         with self.progress.step("filling years in the order of the relaxation"):
             for sequence in sequences(self.problem, self.part.ranks, self.relaxation.cumulative):
                 self.offer(self.filling.without_loss(sequence))
+                if self.problem.destinations > 1:
+                    self.offer(self.waiting.without_loss(sequence))
                 if self.problem.owes:
                     self.offer(self.filling.fill(sequence))
 
