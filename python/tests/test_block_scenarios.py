@@ -3,6 +3,7 @@
 import io
 import json
 import os
+import shutil
 import subprocess
 import sys
 from contextlib import redirect_stderr, redirect_stdout
@@ -304,6 +305,17 @@ def test_whatever_changes_a_schedule_changes_its_name(plan_folder, old, new):
     keys = [job.key for job in before.jobs]
     after = [job.key for job in prepared(plan_folder(table, TWO_YEARS, (old, new))).jobs]
     assert not set(keys) & set(after)
+
+
+def test_a_schedule_that_is_searched_for_by_other_code_has_another_name(plan_folder, monkeypatch, tmp_path):
+    path = plan_folder(pillars([1, 0.5, 0]), TWO_YEARS)
+    keys = [job.key for job in prepared(path).jobs]
+    shutil.copytree(folders.SEARCH, tmp_path / "search")
+    monkeypatch.setattr(folders, "SEARCH", tmp_path / "search")
+    assert [job.key for job in prepared(path).jobs] == keys
+    with open(tmp_path / "search" / "filling.py", "a") as file:
+        file.write("# other\n")
+    assert not set(keys) & {job.key for job in prepared(path).jobs}
 
 
 def test_factors_are_no_part_of_a_schedule(plan_folder):

@@ -1,12 +1,15 @@
 """The second look at schedules over scenarios: what is right passes, and each wrong answer, number and mistake in the code is found."""
 
 import json
+import re
 import shutil
 
 import numpy as np
 import pandas as pd
 import pytest
+from conftest import PROJECT
 from test_block_scenarios import TWO_YEARS, pillars, prepared, solved_in_turn
+from test_features_together import pick, project_of, table_of
 from test_verify import TEXT
 from test_verify_scenarios import SETS, answer_of, bend, simulated
 
@@ -254,3 +257,30 @@ def test_the_dual_of_milling_is_worth_what_the_best_choice_is(seed):
     most = rng.uniform(1, 12, len(takes))
     shares = one_schedule.best_shares(gain, takes, most)
     assert gain @ shares == pytest.approx(most_earned(gain, takes, most), rel=1e-6)
+
+
+HAULAGE = "[haulage]\nexit = [400, 60, 60]\ngradient = 0.1\ncost = { ore = 1.4, waste = 1.1 }\nbeyond = 300\n"
+REFUSED = re.compile(r"^(fixed_cost_per_year|capital|prices|reblock) = .*\n", re.MULTILINE)
+
+
+@pytest.mark.parametrize("seed", range(6))
+def test_schedules_of_random_projects_are_right(plan_folder, seed):
+    """With many keys at once, but for those that are refused; gathering looks a second time by itself."""
+    rng = np.random.default_rng(seed)
+    changes, is_one = project_of(rng)
+    while not is_one:
+        changes, is_one = project_of(rng)
+    text = PROJECT
+    for old, new in changes:
+        assert text.count(old) == 1
+        text = text.replace(old, REFUSED.sub("", new))
+    table = table_of(rng)
+    for name in ("cu_1", "cu_2", "cu_3"):
+        table[name] = (table["cu"] * rng.lognormal(0, 0.7, len(table))).round(2)
+    limits = "[schedule]\nyears = 5\nramp_up = [0.6, 1]\n" + pick(rng, "", "metal_per_year = { copper = 15, gold = 300 }\n")
+    text += limits + pick(rng, "", HAULAGE) + pick(rng, "", '[fixed]\nforced = "must"\nbarred = "never"\n')
+    sets = pick(rng, "", "[[scenarios.prices]]\ncopper = 6500\n[[scenarios.prices]]\ngold = 75\n")
+    text += '[scenarios]\ncolumns = { copper = "cu_*" }\n' + sets
+    folder = solved_in_turn(prepared(plan_folder(table.drop(columns="cu"), text)))
+    rows = pd.read_csv(folder / "schedules.csv")
+    assert (rows["one_value"] <= rows["bound"] + 0.01).all() and rows["blocks"].max() > 0

@@ -42,6 +42,8 @@ RECORD, PROJECT, BASE = "scenarios.json", "project.toml", "base.npz"
 STARTS, NEEDS = "starts.npy", "needs.npy"
 DIGGABLE, MEAN = "diggable.npz", "mean.npz"
 MODELS, DONE, FAILED = "models", "done", "failed"
+# The sources of what searches for schedules.
+SEARCH = Path(__file__).parents[1] / "block_schedule"
 # What is found of each scenario: its pits, or a schedule of its blocks.
 PIT, BLOCK = "pit", "block"
 
@@ -177,10 +179,11 @@ def meaning(project: Project, reference: float) -> dict[str, Any]:
 
 
 def meaning_of_years(project: Project, years: int) -> dict[str, Any]:
-    """What besides changes a schedule of so many years."""
+    """What besides changes a schedule of so many years: limits, discounting, and how schedules are searched for, which no proof settles."""
     shells, rules = project.schedule, project.schedule_rules or ScheduleRules()
     limits = {"ore": shells.ore_per_year, "rock": shells.rock_per_year, "rules": asdict(rules)}
-    return {**limits, "rate": shells.rate, "discounting": shells.discounting, "years": years, "highs": f"scipy {scipy.__version__}"}
+    search = {"highs": f"scipy {scipy.__version__}", "sources": [files.hash_of(path) for path in sorted(SEARCH.glob("*.py"))]}
+    return {**limits, **search, "rate": shells.rate, "discounting": shells.discounting, "years": years}
 
 
 def hash_of_arrays(arrays: dict[str, np.ndarray]) -> str:
