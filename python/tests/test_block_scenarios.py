@@ -377,7 +377,7 @@ def test_a_factor_another_kind_of_folder_and_the_program_are_refused(plan_folder
     folder = prepared(path).folder
     with pytest.raises(PlanError, match="holds scenarios --by block: give another folder by --out for those --by pit"):
         scenarios(path, folder)
-    with pytest.raises(PlanError, match="3 of 3|2 of 2 scenarios have no answer, first sim_1: was not solved"):
+    with pytest.raises(PlanError, match="2 of 2 schedules have no answer, first sim_1: was not solved"):
         gather(folder)
     with pytest.raises(PlanError, match="--factor: schedules by block"):
         gather(folder, Request(factor=500))
@@ -420,21 +420,22 @@ def test_jobs_of_slurm_solve_their_lines(plan_folder):
     assert result.start == folder / "start.sh" and (folder / "jobs.txt").read_text() == "1\n2\n3\n"
     subprocess.run(["sh", str(folder / "array.sbatch")], check=True, env={**os.environ, "SLURM_ARRAY_TASK_ID": "3"})
     assert [job.number for job in folders.read_shared(folder).missing()] == [1, 2]
-    with pytest.raises(PlanError, match="2 of 3 scenarios have no answer, first sim_1: was not solved"):
+    with pytest.raises(PlanError, match="2 of 3 schedules have no answer, first sim_1: was not solved"):
         gather(folder)
 
 
 def test_some_schedules_are_gathered_on_request_alone(plan_folder):
-    """The first model and the one schedule have answers; the second still digs it, and has no bound beside."""
+    """The second model and the one schedule have answers; the first still digs it, and has no bound beside."""
     shared = prepared(plan_folder(pillars([1, 0.5, 0], [0, 0.5, 1]), TWO_YEARS))
-    assert work.solve(str(shared.folder), 1).status == 0
+    assert work.solve(str(shared.folder), 2).status == 0
     with pytest.raises(PlanError, match="the one schedule for all was not made: was not solved: run pitplan scenarios again"):
         gather(shared.folder, Request(partial=True))
     assert work.solve(str(shared.folder), 3).status == 0
     notes = gather(shared.folder, Request(partial=True)).notes
     assert "WARNING: 1 scenarios have no answer and are left out of everything" in notes
     table = table_of(shared.folder)
-    assert table["status"].tolist() == ["solved", "was not solved"] and np.isnan(table["bound"]["sim_2"])
+    assert table.columns[:4].tolist() == ["scenario", "status", "value", "bound"]
+    assert table["status"].tolist() == ["was not solved", "solved"] and np.isnan(table["bound"]["sim_1"])
     assert table["one_value"].tolist() == pytest.approx([(3000 - 800) / 1.1 + 600 / 1.21] * 2)
     assert record_of(shared.folder)["answered"] == 1 and record_of(shared.folder)["bound"]["mean"] == pytest.approx(EACH, abs=1e-3)
 

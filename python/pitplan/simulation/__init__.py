@@ -59,8 +59,7 @@ def solve(project: Project, folder: Path, request: Request, progress: Progress) 
     if not shared.is_by_block:
         shown_factor(shared, request)
     missing, count = shared.missing(), len(shared.jobs)
-    what = "schedules" if shared.is_by_block else "scenarios"
-    notes = [*shared.record["notes"], f"{count - len(missing):,} of {count:,} {what} have their answer already"]
+    notes = [*shared.record["notes"], f"{count - len(missing):,} of {count:,} {shared.called} have their answer already"]
     if request.where in ("slurm", "parallel"):
         if missing:
             return ScenarioResult(folder, tuple(notes), job_lists.write(request.where, folder, missing, shared.solver))

@@ -52,7 +52,7 @@ def missing_of(shared: Shared, partial: bool) -> dict[int, str]:
     if missing and (not partial or all(scenario.number in missing for scenario in shared.scenarios)):
         first, why = next(iter(missing.items()))
         raise PlanError(
-            f"{len(missing):,} of {len(shared.jobs):,} scenarios have no answer, first {shared.jobs[first - 1].label}: {why}: "
+            f"{len(missing):,} of {len(shared.jobs):,} {shared.called} have no answer, first {shared.jobs[first - 1].label}: {why}: "
             "run them again, or gather the others by --partial"
         )
     return missing

@@ -85,8 +85,8 @@ def gather(shared: Shared, partial: bool = False) -> Schedules:
         weights = weights_of(plan_of(shared, scenario), shared.grid.rows)
         dug = years_of_dug(Dug(one.year, weights, shared.project), planned)
         heads, why = answers.heads_of(scenario), missing.get(scenario.number)
-        own = {"status": why} if why else {"status": SOLVED, **read_answer(shared, scenario).row}
-        rows.append(heads | own | row_of(dug))
+        own = dict.fromkeys(one.row, np.nan) if why else read_answer(shared, scenario).row
+        rows.append(heads | {"status": why or SOLVED} | own | row_of(dug))
         years.append(pd.DataFrame(heads | {name: dug[name] for name in dug}))
     return Schedules(pd.DataFrame(rows), pd.concat(years, ignore_index=True), one, missing)
 

@@ -104,6 +104,11 @@ class Shared:
         return self.record.get("by", PIT) == BLOCK
 
     @property
+    def called(self) -> str:
+        """What its answers are of."""
+        return "schedules" if self.is_by_block else "scenarios"
+
+    @property
     def scenarios(self) -> list[Scenario]:
         return [Scenario(**entry) for entry in self.record["scenarios"]]
 
