@@ -54,6 +54,7 @@ def spread(laid: Laid, folder: Path, progress: Progress) -> tuple[Diggable, Weig
     the project, or else as many as the longest of all pits, that of the mean among them, and a fifth more."""
     plan, project, count = laid.plan, laid.base.project, len(laid.scenarios)
     with progress.step("gathering the blocks that may be dug"):
+        # What pays in a scenario pays at the greatest grades and prices and without selling cost, since no recovery falls with the grade.
         cells, needs = diggable(plan, np.array(plan.values.greatest_value(REFERENCE_FACTOR) > 0, dtype=bool))
         forced = np.isin(cells, plan.fixed.forced)
     rules = project.schedule_rules or ScheduleRules()
