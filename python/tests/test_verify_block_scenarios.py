@@ -114,6 +114,18 @@ def test_a_wrong_schedule_for_all_is_found(copied, changed):
     assert {"block value", "tables"} <= wrong(copied)
 
 
+@pytest.mark.parametrize(("old", "new"), [("rock_per_year = 9000", "rock_per_year = 3000"), ("gold = 60", "gold = 20")])
+def test_a_year_above_a_limit_is_found(copied, old, new):
+    """By a project whose limit is less than that by which schedules were made."""
+    path = copied / "project.toml"
+    text = path.read_text()
+    assert text.count(old) == 1
+    path.write_text(text.replace(old, new))
+    (rule,) = [rule for rule in verify_folder(copied) if rule.name == "block value"]
+    name = "rock_tonnes" if "rock" in old else "metal_gold"
+    assert any(f": {name} " in said and f"above {new.split()[-1]}" in said for said in rule.differences)
+
+
 def test_the_schedule_of_another_scenario_is_found(copied):
     """That of the same model at other prices."""
     shutil.copyfile(answer_of(copied, 2), answer_of(copied, 1))
