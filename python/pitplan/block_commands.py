@@ -3,14 +3,13 @@
 from __future__ import annotations
 
 from pathlib import Path
-from types import ModuleType
 from typing import Optional
 
 import pandas as pd
 
 from . import mine as mines
 from .commands import Answered, Place, Source, Writing, begun, read, write_answer
-from .errors import MissingPackage, PlanError
+from .packages import by_library
 from .progress import Progress, silent
 
 
@@ -26,11 +25,8 @@ def write_block_schedule(
     Raises MissingPackage without the library libpitshell.so, and PlanError where the project asks for what is not done by block, the
     blocks are too many, and where what is written is not right, unless it is not verified.
     """
-    result = of_library()
+    result = by_library("block_schedule.result")
     project = read(project)
-    if project.phases and project.phases.mining_cost_added:
-        why = "mining_cost_added is by phase, and a schedule by block has none: leave it out"
-        raise PlanError(f"{project.path}: [pushbacks] {why}, or schedule phases")
     target = project.folder / "block_schedule" if folder is None else Path(folder)
     with begun(project, target, progress) as (mine, record, stage):
         solution = mines.solve(mine.plan, mine, progress)
@@ -38,12 +34,3 @@ def write_block_schedule(
         record["notes"] += made.notes
         write_answer(Answered(mine.plan, solution, blocks=made), mine, record, Writing(stage, progress, verifies))
     return made.table
-
-
-def of_library() -> ModuleType:
-    """What needs the library of pits. Raises MissingPackage without it."""
-    try:
-        from .block_schedule import result
-    except ImportError as error:
-        raise MissingPackage(f"a schedule by block needs the library of pits: {error}") from error
-    return result

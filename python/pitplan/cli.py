@@ -18,6 +18,7 @@ from . import __version__, block_commands, commands, exports, files, init, repor
 from .errors import PlanError
 from .progress import Progress, on_standard_error, silent
 from .project import REFERENCE_FACTOR, Project, load
+from .simulation.folder import BLOCK, PIT
 from .simulation.on_dask import Where
 from .solver import BY
 from .verification import demand
@@ -100,14 +101,16 @@ def add_init(subs: Any) -> None:
 def add_scenarios(subs: Any) -> None:
     """`scenarios`, and the two commands that its lists of jobs call."""
     words = {
-        "scenarios": "solve simulated models at several prices, and tell how often each block is in the pit",
-        "gather": "write probabilities, tables and pictures of a folder of scenarios that others have solved",
+        "scenarios": "solve simulated models at several prices, and tell how often each block is in the pit, or schedule their blocks",
+        "gather": "write probabilities or schedules, tables and pictures of a folder of scenarios that others have solved",
         "scenario": "solve one scenario of a folder: ends with 0, the solver's status 1 to 4, 5 where pitplan "
         "refuses, or 75 where the program was killed and another try may help",
     }
     every, some, one = (subs.add_parser(name, help=text, description=text) for name, text in words.items())
     every.add_argument("project", type=Path, help="project.toml, with [scenarios]")
-    every.add_argument("--out", type=Path, help="the folder (default: scenarios in the project's output folder)")
+    every.add_argument("--out", type=Path, help="the folder (default: scenarios, or block_scenarios, in the project's output folder)")
+    text = "find the pits of each (pit, the default), or schedule blocks: of each scenario by itself, and one schedule for all (block)"
+    every.add_argument("--by", choices=(PIT, BLOCK), default=PIT, help=text)
     where = "local (processes, by Dask), tcp://host:port (a Dask scheduler), slurm or parallel (lists of jobs to start)"
     every.add_argument("--on", default="local", type=where_of, metavar="WHERE", help=where)
     every.add_argument("--workers", type=positive, help="processes of local (default: one for each processor)")
@@ -261,7 +264,7 @@ def run_scenarios(options: argparse.Namespace, progress: Progress) -> None:
         request = simulation.Request(factor=options.factor, partial=options.partial, verifies=not options.no_verify)
         result = commands.gather(options.folder, request, progress)
     else:
-        request = simulation.Request(options.on, options.workers, options.factor, options.partial, not options.no_verify)
+        request = simulation.Request(options.on, options.workers, options.factor, options.partial, not options.no_verify, options.by)
         result = commands.scenarios(project_of(options), options.out, request, progress)
     tell_notes(list(result.notes))
     print(result.start or result.folder)

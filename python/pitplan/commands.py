@@ -22,6 +22,7 @@ from .progress import Progress, silent
 from .project import REFERENCE_FACTOR, Project, load
 from .run import Solution
 from .simulation import Request, ScenarioResult
+from .simulation.folder import BLOCK
 from .simulation.on_dask import Where
 from .solver import PROGRAM, chosen
 from .stages import FACTOR, Shape
@@ -467,14 +468,15 @@ def scenarios(
 ) -> ScenarioResult:
     """Solves simulated models at several prices, as `pitplan scenarios` does; gives notes, and the tables as frames.
 
-    The folder is by default scenarios in the project's own. A script calls it below `if __name__ == "__main__":`, since the processes that
-    solve read the script too.
+    The folder is by default scenarios in the project's own, and where the request is by block block_scenarios. A script calls it below
+    `if __name__ == "__main__":`, since the processes that solve read the script too.
 
     Raises PlanError where the project has no `[scenarios]`, a model is not usable, a scenario ends without an answer, or what is gathered
-    is not right, and MissingPackage without Dask where it is asked for.
+    is not right, and MissingPackage without Dask where it is asked for, or by block without the library.
     """
     project = read(project)
-    return simulation.solve(project, project.folder / "scenarios" if folder is None else Path(folder), request, progress)
+    name = "block_scenarios" if request.by == BLOCK else "scenarios"
+    return simulation.solve(project, project.folder / name if folder is None else Path(folder), request, progress)
 
 
 def gather(folder: Place, request: Request = Request(), progress: Progress = silent) -> ScenarioResult:

@@ -19,6 +19,14 @@ def load(module: str, package: str, purpose: str) -> ModuleType:
         raise MissingPackage(f"{purpose} needs the Debian package {package}: apt-get install {package}") from error
 
 
+def by_library(module: str) -> ModuleType:
+    """A module of this package that schedules blocks. Raises MissingPackage where the library of pits is not there, which it needs."""
+    try:
+        return importlib.import_module(f"{__package__}.{module}")
+    except ImportError as error:
+        raise MissingPackage(f"a schedule by block needs the library of pits: {error}") from error
+
+
 def three_scripts(folder: Path = THREE) -> list[str]:
     """The texts of three.js and of its orbit controls. Raises MissingPackage where they are not installed."""
     paths = [folder / "three.min.js", folder / "examples" / "js" / "controls" / "OrbitControls.js"]

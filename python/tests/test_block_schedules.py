@@ -2,6 +2,7 @@
 
 import os
 import signal
+from dataclasses import replace
 from threading import Timer
 
 import numpy as np
@@ -13,7 +14,9 @@ from pitplan.block_schedule import solve
 from pitplan.block_schedule.destinations import with_best_shares
 from pitplan.block_schedule.filling import Filling, paying, preferences, schedule_of
 from pitplan.block_schedule.moving import moved
+from pitplan.block_schedule.relaxation import relaxed
 from pitplan.block_schedule.schedule import BlockSchedule, nothing
+from pitplan.block_schedule.solving import reduced
 from pitplan.block_schedule.topological import ranks_of
 from pitplan.block_schedule.toposort import Sequence, in_order, sequences
 from pitplan.block_schedule.windows import window_of
@@ -47,6 +50,37 @@ def test_small_schedules_are_the_best_that_there_are(batch):
         slack = 1e-6 * max(1.0, abs(best))
         assert demand_sound(problem, found.schedule) == pytest.approx(found.value, abs=slack)
         assert best - slack <= found.value <= found.bound + slack and (problem.destinations > 1 or found.value <= best + slack), seed
+
+
+def test_ore_waits_for_room_in_the_mill_where_it_could_be_dug_as_waste():
+    """Two blocks, of which the mill takes one a year, and shovels both: as waste each costs 400, in the mill it earns 2600. A third of 900
+    would be milled in no year, and is left."""
+    earned = np.array([[-400, 2600], [-400, 2600], [-400, 900]])
+    takes, discounts = np.array([[0, 100], [0, 100], [0, 100]]), 1.1 ** -np.arange(1.0, 3.0)
+    problem = problem_of(earned[:, :, None] * discounts, [], (takes, [100, 100]), (np.full((3, 2), 100), [300, 300]))
+    found = solve(problem)
+    assert found.value == pytest.approx(2600 / 1.1 + 2600 / 1.21) == found.bound
+    assert sorted(found.schedule.year.tolist()) == [0, 1, 2] and demand_sound(problem, found.schedule) == pytest.approx(found.value)
+
+
+def test_what_was_filled_in_either_way_is_moved():
+    """Of thirty problems each way, moved, is the better one of some."""
+    gained = [0, 0]
+    for seed in range(3100, 3130):
+        problem = random_problem(seed, most=40)
+        found, part = solve(problem).value, reduced(problem)
+        if part.problem.destinations == 1 or not part.problem.blocks:
+            continue
+        relaxation, values = relaxed(part.nodes, Effort(1e-4)), []
+        soon = Filling(part.problem, preferences(part.problem, relaxation.prices))
+        for filling in (soon, replace(soon, waits=True)):
+            filled = [filling.without_loss(sequence) for sequence in sequences(part.problem, part.ranks, relaxation.cumulative)]
+            best = moved(soon, part.ranks, max(filled, key=lambda it: it.value(part.problem)))
+            values.append(with_best_shares(part.problem, best).value(part.problem))
+        assert found >= max(values) - 1e-9
+        for number in (0, 1):
+            gained[number] += values[number] > values[1 - number] + 1e-9
+    assert min(gained) > 0
 
 
 @pytest.mark.parametrize("batch", range(4))

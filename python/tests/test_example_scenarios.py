@@ -1,14 +1,18 @@
 """The example of simulated models: each scenario against the tests' own maximum flow over the whole cone of each block."""
 
 import csv
+import json
 import math
 import subprocess
 import sys
 from decimal import Decimal
 
+import numpy as np
 import pandas as pd
 import pytest
 from conftest import ROOT
+from scipy.optimize import linprog
+from scipy.sparse import csr_matrix
 from test_oracle import least_best_pit, whole
 
 EXAMPLE = ROOT / "examples" / "scenarios"
@@ -110,3 +114,93 @@ def test_quantiles_by_hand_from_the_oracle(folder, pits):
         assert (row["blocks_least"], row["blocks_greatest"], row["blocks_mean"]) == (counts[0], counts[3], sum(counts) / 4)
         assert row["blocks_quantile_0.5"] == (counts[1] + counts[2]) / 2
         assert row["blocks_quantile_0.1"] == pytest.approx(counts[0] + 0.3 * (counts[1] - counts[0]))
+
+
+@pytest.fixture(scope="module")
+def scheduled(tmp_path_factory):
+    """What the command line writes by block."""
+    place = tmp_path_factory.mktemp("schedules")
+    words = [ROOT / "tools" / "pitplan", "scenarios", EXAMPLE / "project.toml", "--by", "block", "--out", place, "--workers", "2", "--quiet"]
+    subprocess.run([sys.executable, *words], check=True)
+    return place
+
+
+ORE, YEARS, MINING = 200_000, 4, Decimal("2.4")
+# Cash flows evenly through a year, at 8 % a year.
+DISCOUNTS = [(1.08 ** (1 - year) - 1.08**-year) / math.log(1.08) for year in range(1, YEARS + 1)]
+
+
+def worths(path, price):
+    """By id what a block costs as waste, what it earns besides in the mill, and the tonnes that it takes there."""
+    found = {}
+    for row, grades in zip(rows_of(EXAMPLE / "blocks.csv"), rows_of(path)):
+        assert row["id"] == grades["id"]
+        mining = whole(Decimal(row["tonnes"]) * MINING)
+        gain = value_at(row, grades, price, 1000) // 1000 + mining
+        found[row["id"]] = mining, gain, float(row["tonnes"]) if gain > 0 else 0.0
+    return found
+
+
+def bound_of(worth, leads):
+    """The optimum of the whole linear programme of a scenario: shares of blocks by year, as waste and in the mill."""
+    by_place = {place_of(row): worth[row["id"]] for row in rows_of(EXAMPLE / "blocks.csv")}
+    paying = [place for place, (mining, gain, _) in by_place.items() if gain > mining]
+    blocks = sorted({it for place in paying for it in [place, *reached(place, leads)]} & set(by_place))
+    at = {place: number for number, place in enumerate(blocks)}
+    mining, gain, ore = (np.array([by_place[place][part] for place in blocks], dtype=float) for part in range(3))
+    count, discounts = len(blocks), np.array(DISCOUNTS)
+    # Unknowns by block, destination and year.
+    earned = np.stack([-mining[:, None] * discounts, (gain - mining)[:, None] * discounts], axis=1)
+    place = np.arange(earned.size).reshape(earned.shape)
+    rows, right = [], []
+    for one, other, year in ((one, other, year) for one in blocks for other in leads[one] if other in at for year in range(YEARS)):
+        users, needed = (place[at[it], :, : year + 1].ravel() for it in (one, other))
+        rows.append({**dict.fromkeys(users, 1.0), **dict.fromkeys(needed, -1.0)})
+        right.append(0.0)
+    rows += [dict.fromkeys(place[block].ravel(), 1.0) for block in range(count)]
+    rows += [dict(zip(place[:, 1, year], ore)) for year in range(YEARS)]
+    right += [1.0] * count + [float(ORE)] * YEARS
+    where = [(number, column, value) for number, row in enumerate(rows) for column, value in row.items()]
+    row, column, value = zip(*where)
+    matrix = csr_matrix((value, (row, column)), shape=(len(rows), earned.size))
+    return -linprog(-earned.ravel(), A_ub=matrix, b_ub=right, bounds=(0, 1), method="highs").fun if count else 0.0
+
+
+def reached(place, leads):
+    """All that a block needs, directly or through others."""
+    found, open_ = set(), [place]
+    while open_:
+        more = [it for it in leads[open_.pop()] if it not in found]
+        found.update(more)
+        open_ += more
+    return found
+
+
+def milled(worth, year):
+    """What a schedule earns in a scenario by milling the ore of each year that earns most a tonne."""
+    total = 0.0
+    for number, discount in enumerate(DISCOUNTS, 1):
+        blocks, room = [worth[name] for name, its in year.items() if its == number], float(ORE)
+        cash = -float(sum(mining for mining, _, _ in blocks))
+        for _, gain, ore in sorted((it for it in blocks if it[1] > 0), key=lambda it: -it[1] / it[2]):
+            share = min(1.0, room / ore)
+            cash, room = cash + share * gain, room - share * ore
+        total += cash * discount
+    return total
+
+
+def test_bounds_and_what_the_one_schedule_earns_are_those_of_programmes_of_the_tests_own(scheduled):
+    """Eight scenarios: each bound is the optimum of the whole linear programme within 1e-4, and no value is above that."""
+    table, leads = pd.read_csv(scheduled / "schedules.csv"), needs()
+    year = pd.read_csv(scheduled / "one_schedule.csv").set_index("planner_id")["year"].to_dict()
+    bounds = []
+    for row in table.to_dict("records"):
+        worth = worths(EXAMPLE / "models" / f"{row['model']}.csv", int(row["price_copper"]))
+        bounds.append(bound_of(worth, leads))
+        assert bounds[-1] * (1 - 1e-9) <= row["bound"] + 0.01 <= bounds[-1] * (1 + 1e-4) + 0.02
+        assert row["one_value"] == pytest.approx(milled(worth, year), abs=0.01)
+        assert max(row["value"], row["one_value"]) <= bounds[-1] + 0.01
+    told = json.loads((scheduled / "one_schedule.json").read_text())
+    known = sum(bounds) / 8 - table["one_value"].mean()
+    assert told["years"] == YEARS and known <= told["perfect_information"] + 0.01 <= known * (1 + 1e-2)
+    assert max(year.values()) == 2 and told["one_value"]["mean"] > 0

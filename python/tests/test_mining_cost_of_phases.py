@@ -110,7 +110,7 @@ def test_what_is_refused(plan_folder, words, said):
 
 def test_blocks_one_by_one_have_no_phases(plan_folder):
     path = plan_folder(pillars(), with_phases(ADDED))
-    with pytest.raises(PlanError, match=r"\[pushbacks\] mining_cost_added is by phase, and a schedule by block has none: leave it out"):
+    with pytest.raises(PlanError, match=r"\[pushbacks\] mining_cost_added: is by phase, and blocks are in none: leave it out"):
         block_commands.write_block_schedule(path)
 
 

@@ -4,6 +4,7 @@ from __future__ import annotations
 
 from dataclasses import dataclass
 from functools import cached_property
+from itertools import chain
 
 import numpy as np
 import pitshell
@@ -14,8 +15,8 @@ from .schedule import HAIR, BlockSchedule, nothing
 from .toposort import Sequence
 from .whole_values import upward
 
-# A gain of a smaller share is none.
-SLIGHT = 1e-9
+# A gain of a smaller share is none, and worths that differ by a smaller share at prices, which HiGHS finds to 1e-7, are the same.
+SLIGHT, TIED = 1e-9, 1e-6
 
 
 class Room:
@@ -55,10 +56,12 @@ class Filling:
 
     problem     what is scheduled
     preference  by block and year its destinations, the one to be tried first before the others: shape (blocks, years, destinations)
+    waits       whether a block waits for a year in which its first destination has room, before it goes to another in an earlier one
     """
 
     problem: BlockProblem
     preference: NDArray[np.int64]
+    waits: bool = False
 
     @cached_property
     def needed(self) -> list[list[int]]:
@@ -85,7 +88,9 @@ class Filling:
 
     def place(self, block: int, years: range, room: Room) -> tuple[int, int] | None:
         """The first year with room for the block, and the destination."""
-        tried = ((year, destination) for year in years for destination in self.preferred[block][year])
+        preferred = self.preferred[block]
+        first = ((year, preferred[year][0]) for year in years if self.waits)
+        tried = chain(first, ((year, destination) for year in years for destination in preferred[year]))
         return next(((year, destination) for year, destination in tried if room.fits(block, destination, year)), None)
 
     def without_loss(self, sequence: Sequence) -> BlockSchedule:
@@ -123,7 +128,8 @@ def preferences(problem: BlockProblem, prices: NDArray[np.float64]) -> NDArray[n
 
     prices  of a unit of each limit in each year: shape (limits, years)
     """
-    worth = problem.values.copy()
+    # At the price of a limit that is reached some blocks are worth the same in two destinations, and go first to that where they earn more.
+    worth = problem.values * (1 + TIED)
     for limit, by_year in zip(problem.limits, prices):
         worth -= limit.amounts[:, :, None] * by_year
     return np.argsort(-worth, axis=1, kind="stable").transpose(0, 2, 1)

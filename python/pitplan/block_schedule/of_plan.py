@@ -55,14 +55,10 @@ def of_plan(plan: Plan) -> PlannedBlocks:
     demand_of_blocks(project, rules)
     flows, limits, money = flows_of(plan), limits_of_blocks(project, rules), of_project(project)
     best = cash_of(flows, money, 1 + max((len(more) for more in money.premiums.values()), default=0)).max(axis=(1, 2))
-    cells = cells_of(plan, (best > 0) | owing(plan, flows, limits))
-    needs = needs_of(plan, cells)
-    is_under_rock = greatest_needed(needs, ranks_of(needs), (plan.values.tonnes[cells] > 0).astype(float)) > 0
-    cells, needs = cells[is_under_rock], needs.within(is_under_rock)
+    cells, needs = diggable(plan, (best > 0) | owing(plan, flows, limits))
     pays, forced = pays_of(plan)[cells], np.isin(cells, plan.fixed.forced)
     flows = {name: amounts[cells] for name, amounts in flows.items()}
-    fixed = np.where(forced, pitshell.FORCED, pitshell.FREE).astype(np.uint8)
-    pit = pitshell.solve(upward(best[cells]).amounts, (needs.starts, needs.needed), fixed, millionths=True).in_pit
+    pit = pit_of(best[cells], needs, forced)
     years = rules.years or years_of({name: amounts[pit].max(axis=1).sum() for name, amounts in flows.items()}, limits, project)
     above = [Limit(name, flows[name], most) for name, most in zip(limits.most, limits.of_years(years).T)]
     # What yields nothing there is not sent to a process for the sake of a least amount.
@@ -70,15 +66,33 @@ def of_plan(plan: Plan) -> PlannedBlocks:
         Limit(name, np.where(pays | (flows[name][:, :1] > 0), flows[name], 0.0), np.full(years, np.inf), least)
         for name, least in limits.least_of_years(years).items()
     ]
-    of_forced = np.repeat(forced[:, None], pays.shape[1], axis=1).astype(float)
-    due = Due(f"{forced.sum():,} blocks that must be dug", of_forced, float(forced.sum()))
     problem = BlockProblem(
         values=cash_of(flows, money, years) * year_discounts(project.schedule, years),
         needs=needs,
         limits=(*above, *below),
-        dues=(due,) if forced.any() else (),
+        dues=dues_of(forced, pays.shape[1]),
     )
     return PlannedBlocks(plan, cells, destinations_of(project), limits, flows, problem)
+
+
+def diggable(plan: Plan, wanted: NDArray[np.bool_]) -> tuple[NDArray[np.int64], Needs]:
+    """The cells that are wanted, or must be dug, with all that they need but for air that no rock lies over; and their needs."""
+    cells = cells_of(plan, wanted)
+    needs = needs_of(plan, cells)
+    is_under_rock = greatest_needed(needs, ranks_of(needs), (plan.values.tonnes[cells] > 0).astype(float)) > 0
+    return cells[is_under_rock], needs.within(is_under_rock)
+
+
+def pit_of(cash: NDArray[np.float64], needs: Needs, forced: NDArray[np.bool_]) -> NDArray[np.bool_]:
+    """The blocks of the pit of greatest worth that holds what is forced."""
+    fixed = np.where(forced, pitshell.FORCED, pitshell.FREE).astype(np.uint8)
+    return pitshell.solve(upward(cash).amounts, (needs.starts, needs.needed), fixed, millionths=True).in_pit
+
+
+def dues_of(forced: NDArray[np.bool_], destinations: int) -> tuple[Due, ...]:
+    """That the forced blocks are dug in some year; nothing where there are none."""
+    of_each = np.repeat(forced[:, None], destinations, axis=1).astype(float)
+    return (Due(f"{forced.sum():,} blocks that must be dug", of_each, float(forced.sum())),) if forced.any() else ()
 
 
 def limits_of_blocks(project: Project, rules: ScheduleRules) -> Limits:
@@ -124,6 +138,7 @@ def demand_of_blocks(project: Project, rules: ScheduleRules) -> None:
         "[schedule] sinking_rate: is of the benches of a phase": rules.sinking_rate is not None,
         "[schedule] bins: are of benches, and a block is ore or waste as a whole": rules.bins is not None,
         "[money] fixed_cost_per_year, capital: what years cost is no part of a schedule by block": costs_years,
+        "[pushbacks] mining_cost_added: is by phase, and blocks are in none": bool(project.phases and project.phases.mining_cost_added),
     }
     for why, is_asked in asked.items():
         if is_asked:

@@ -3,7 +3,7 @@
 from __future__ import annotations
 
 import time
-from dataclasses import dataclass, field
+from dataclasses import dataclass, field, replace
 from functools import cached_property
 from typing import Optional
 
@@ -143,6 +143,7 @@ class Search:
     relaxation: Relaxation
     progress: Progress
     best: BlockSchedule = field(init=False)
+    filled: list[BlockSchedule] = field(default_factory=list)
     tried: set[tuple[tuple[int, int], bytes, bytes]] = field(default_factory=set)
 
     def __post_init__(self) -> None:
@@ -153,8 +154,11 @@ class Search:
         return self.part.problem
 
     @cached_property
-    def filling(self) -> Filling:
-        return Filling(self.problem, preferences(self.problem, self.relaxation.prices))
+    def fillings(self) -> list[Filling]:
+        """How years are filled: each block as soon as there is room for it, and of several destinations also as soon as there is where it is
+        worth most."""
+        soon = Filling(self.problem, preferences(self.problem, self.relaxation.prices))
+        return [soon, *([replace(soon, waits=True)] if self.problem.destinations > 1 else [])]
 
     def offer(self, schedule: BlockSchedule) -> None:
         """Takes a schedule that is better."""
@@ -162,18 +166,28 @@ class Search:
             self.best = schedule
 
     def fill(self) -> None:
-        """Fills years in the orders that the relaxation gives."""
+        """Fills years in the orders that the relaxation gives, and keeps the best of each way to fill them."""
+        self.filled = [nothing(self.problem) for _ in self.fillings]
         with self.progress.step("filling years in the order of the relaxation"):
             for sequence in sequences(self.problem, self.part.ranks, self.relaxation.cumulative):
-                self.offer(self.filling.without_loss(sequence))
+                for number, filling in enumerate(self.fillings):
+                    self.offer_filled(number, filling.without_loss(sequence))
                 if self.problem.owes:
-                    self.offer(self.filling.fill(sequence))
+                    self.offer_filled(0, self.fillings[0].fill(sequence))
+
+    def offer_filled(self, number: int, schedule: BlockSchedule) -> None:
+        """Takes a schedule that is better, also than those that were filled in the same way."""
+        if schedule.is_better(self.filled[number], self.problem):
+            self.filled[number] = schedule
+        self.offer(schedule)
 
     def move(self) -> None:
-        """Moves blocks of the best schedule, and chooses where they go."""
+        """Moves blocks of what was filled, and chooses where they go."""
         with self.progress.step("moving blocks to years in which they earn more"):
-            self.offer(moved(self.filling, self.part.ranks, self.best))
-            self.offer(with_best_shares(self.problem, self.best))
+            for schedule in self.filled:
+                better = moved(self.fillings[0], self.part.ranks, schedule)
+                self.offer(better)
+                self.offer(with_best_shares(self.problem, better))
 
     def keep_dues(self, began: float) -> None:
         """Solves windows anew while something lacks of what must be held at least, and less does."""

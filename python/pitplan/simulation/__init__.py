@@ -1,4 +1,4 @@
-"""Many scenarios: simulated models of the grades, each solved at each set of prices, on one machine or on many.
+"""Many scenarios: simulated models of the grades, each solved at each set of prices, or its blocks scheduled, on one machine or on many.
 
 All models are read before anything is solved, so that a mistake in the last one stops nothing half-way. Answers are files and no
 messages: a scheduler can lose only a number. Lists for Slurm and GNU parallel are text that a person can change; nothing here submits them.
@@ -14,19 +14,20 @@ import numpy as np
 
 from .. import files
 from ..errors import MissingPackage, PlanError
+from ..packages import by_library
 from ..picture_rules import PictureRules
 from ..pictures import also_as
 from ..progress import Progress
 from ..project import REFERENCE_FACTOR, Project
-from ..verification import demand
-from ..verification.scenarios import verify
+from ..verification import demand, verify_scenarios
 from ..vtk_files import write_image as write_vti
-from . import answers, folder as folders, job_lists, on_dask, pictures, prepare, work
+from . import answers, folder as folders, job_lists, on_dask, pictures, prepare, value_pictures, work
 from .folder import Shared
 from .result import IMAGE, PROBABILITY, QUANTILES, TABLE, ScenarioResult
 
 GATHERED = "gathered.json"
 PICTURES = {"plans": "probability_plans.png", "sections": "probability_sections.png", "spread": "spread.png"}
+PICTURE_OF_VALUES = "schedule_values.png"
 
 
 @dataclass(frozen=True)
@@ -38,6 +39,7 @@ class Request:
     factor   the factor whose probabilities are drawn; None: the project's chosen one, else 1000
     partial  gather although scenarios have no answer
     verifies look a second time at what is gathered
+    by       `pit`, or `block`: blocks are scheduled, each scenario's by themselves and one schedule for all
     """
 
     where: str = "local"
@@ -45,15 +47,19 @@ class Request:
     factor: Optional[int] = None
     partial: bool = False
     verifies: bool = True
+    by: str = folders.PIT
 
 
 def solve(project: Project, folder: Path, request: Request, progress: Progress) -> ScenarioResult:
     """Solves the scenarios that have no answer yet, and gathers all; or writes the lists of jobs that do so. Raises PlanError."""
-    shared = prepare.prepare(project, folder, progress)
+    if request.by == folders.BLOCK:
+        demand_no_factor(request)
+    shared = prepare.prepare(project, folder, progress, request.by)
     # Asked before hours of solving, not behind them.
-    shown_factor(shared, request)
-    missing, count = shared.missing(), len(shared.scenarios)
-    notes = [*shared.record["notes"], f"{count - len(missing):,} of {count:,} scenarios have their answer already"]
+    if not shared.is_by_block:
+        shown_factor(shared, request)
+    missing, count = shared.missing(), len(shared.jobs)
+    notes = [*shared.record["notes"], f"{count - len(missing):,} of {count:,} {shared.called} have their answer already"]
     if request.where in ("slurm", "parallel"):
         if missing:
             return ScenarioResult(folder, tuple(notes), job_lists.write(request.where, folder, missing, shared.solver))
@@ -91,23 +97,46 @@ def gather(folder: Path, request: Request, progress: Progress) -> ScenarioResult
     Raises PlanError where an answer is missing, and where what is written is not right, unless it is not verified.
     """
     shared = folders.read_shared(folder)
+    if shared.is_by_block:
+        return gather_schedules(shared, request, progress)
     factor = shown_factor(shared, request)
     with files.staged(folder) as stage:
         with progress.step("gathering the answers"):
             gathered = answers.gather(shared, request.partial)
             write_tables(shared, gathered, stage)
-        notes = note_verified(shared, gathered, request, stage, progress)
+        notes = note_verified(shared, gathered.missing, request, stage, progress)
         with progress.step("drawing"):
             notes += write_image(shared, gathered, stage)
             draw(shared, gathered, factor, stage)
-    if gathered.missing:
-        notes.append(f"WARNING: {len(gathered.missing):,} scenarios have no answer and are left out of everything")
-    return ScenarioResult(folder, tuple(notes))
+    return ScenarioResult(folder, (*notes, *notes_of_missing(gathered.missing)))
 
 
-def note_verified(
-    shared: Shared, gathered: answers.Gathered, request: Request, stage: Path, progress: Progress
-) -> list[str]:
+def gather_schedules(shared: Shared, request: Request, progress: Progress) -> ScenarioResult:
+    """Writes tables and the picture of the schedules of all scenarios and of the one for all, as `gather` does. Raises PlanError likewise,
+    and MissingPackage without the library."""
+    demand_no_factor(request)
+    block_answers = by_library("simulation.block_answers")
+    with files.staged(shared.folder) as stage:
+        with progress.step(f"digging the one schedule in {len(shared.scenarios):,} scenarios"):
+            schedules = block_answers.gather(shared, request.partial)
+            block_answers.write(schedules, shared, stage)
+        notes = block_answers.notes(schedules, shared) + note_verified(shared, schedules.missing, request, stage, progress)
+        rules = shared.project.pictures or PictureRules()
+        with progress.step("drawing"), also_as(rules.formats):
+            value_pictures.write(schedules.answered, shared.project.money.currency, stage / PICTURE_OF_VALUES)
+    return ScenarioResult(shared.folder, (*notes, *notes_of_missing(schedules.missing)))
+
+
+def demand_no_factor(request: Request) -> None:
+    if request.factor is not None:
+        raise PlanError("--factor: schedules by block are made at the price as given: leave it out")
+
+
+def notes_of_missing(missing: dict[int, str]) -> list[str]:
+    return [f"WARNING: {len(missing):,} scenarios have no answer and are left out of everything"] if missing else []
+
+
+def note_verified(shared: Shared, missing: dict[int, str], request: Request, stage: Path, progress: Progress) -> list[str]:
     """Looks a second time at the answers and their tables, and writes down what was looked at; gives a note where it was left out.
 
     Raises PlanError where something is not right.
@@ -115,10 +144,10 @@ def note_verified(
     verified: list[str] = []
     if request.verifies:
         with progress.step("verifying"):
-            rules = verify(shared.folder, stage)
+            rules = verify_scenarios(shared.folder, stage)
         demand(rules)
         verified = [f"{rule.name}: {rule.holds}" for rule in rules]
-    answered = [scenario.number for scenario in shared.scenarios if scenario.number not in gathered.missing]
+    answered = [scenario.number for scenario in shared.scenarios if scenario.number not in missing]
     files.write_json(stage / GATHERED, {"answers": answered, "verified": verified})
     return [] if request.verifies else [f"the second look was left out: pitplan verify {shared.folder} makes up for it"]
 

@@ -31,15 +31,8 @@ class Gathered:
 
 
 def gather(shared: Shared, partial: bool = False) -> Gathered:
-    """Raises PlanError where a scenario has no answer, unless `partial`, or where none has."""
-    scenarios = shared.scenarios
-    missing = {scenario.number: folders.read_failure(shared, scenario) for scenario in shared.missing()}
-    if missing and (not partial or len(missing) == len(scenarios)):
-        first, why = next(iter(missing.items()))
-        raise PlanError(
-            f"{len(missing):,} of {len(scenarios):,} scenarios have no answer, first {scenarios[first - 1].label}: {why}: "
-            "run them again, or gather the others by --partial"
-        )
+    """Raises PlanError as `missing_of` does, or where an answer cannot be read."""
+    scenarios, missing = shared.scenarios, missing_of(shared, partial)
     factors = list(shared.record["factors"])
     counts = np.zeros((len(shared.frame), len(factors) + 1), dtype=np.int64)
     rows, tables = np.arange(len(shared.frame)), []
@@ -53,6 +46,18 @@ def gather(shared: Shared, partial: bool = False) -> Gathered:
     return Gathered(factors, share, pd.concat(tables, ignore_index=True), missing)
 
 
+def missing_of(shared: Shared, partial: bool) -> dict[int, str]:
+    """What has no answer, by number, each with why. Raises PlanError where there is any, unless `partial`, or where no scenario has one."""
+    missing = {job.number: folders.read_failure(shared, job) for job in shared.missing()}
+    if missing and (not partial or all(scenario.number in missing for scenario in shared.scenarios)):
+        first, why = next(iter(missing.items()))
+        raise PlanError(
+            f"{len(missing):,} of {len(shared.jobs):,} {shared.called} have no answer, first {shared.jobs[first - 1].label}: {why}: "
+            "run them again, or gather the others by --partial"
+        )
+    return missing
+
+
 def read_answer(shared: Shared, scenario: Scenario) -> tuple[np.ndarray, pd.DataFrame]:
     """The place of each block's least factor (0: in no pit), and the scenario's rows of the table."""
     path = shared.answer(scenario)
@@ -64,9 +69,7 @@ def read_answer(shared: Shared, scenario: Scenario) -> tuple[np.ndarray, pd.Data
             raise ValueError("it tells of other blocks or factors")
     except (OSError, ValueError, KeyError, EOFError) as error:
         raise PlanError(f"{path}: is no answer: remove it, and run pitplan scenarios again: {error}") from error
-    heads: dict[str, object] = {"scenario": scenario.number, "model": scenario.model}
-    heads |= {f"price_{metal}": float(price) for metal, price in scenario.prices.items()}
-    heads["factor"] = shared.record["factors"]
+    heads = heads_of(scenario) | {"factor": shared.record["factors"]}
     for place, (name, values) in enumerate(heads.items()):
         table.insert(place, name, values)
     table["blocks"] = table["blocks"].astype(np.int64)
@@ -74,15 +77,27 @@ def read_answer(shared: Shared, scenario: Scenario) -> tuple[np.ndarray, pd.Data
     return places, table
 
 
-def quantiles(table: pd.DataFrame) -> pd.DataFrame:
-    """One row a set of prices and factor, over the models: mean, least, greatest and quantiles of each amount.
+def heads_of(scenario: Scenario) -> dict[str, object]:
+    """With what a scenario's rows of a table begin: scenario, model, and price_NAME of each metal that some set of prices names."""
+    prices = {f"price_{metal}": float(price) for metal, price in scenario.prices.items()}
+    return {"scenario": scenario.number, "model": scenario.model, **prices}
 
-    Quantile 0.1 is the amount that a tenth of the models do not reach (linear between two).
-    """
+
+def quantiles(table: pd.DataFrame) -> pd.DataFrame:
+    """One row a set of prices and factor, over the models: mean, least, greatest and quantiles of each amount."""
     by = [name for name in table.columns if name.startswith("price_")] + ["factor"]
     amounts = [name for name in ("blocks", "tonnes", "ore_tonnes", "waste_tonnes") if name in table.columns]
     amounts += [name for name in table.columns if name.startswith("metal_")] + ["worth", "worth_at_factor"]
-    groups = table.assign(worth_at_factor=table["worth_at_factor"].astype(float)).groupby(by, dropna=False)
+    return spread_of(table.assign(worth_at_factor=table["worth_at_factor"].astype(float)), by, amounts)
+
+
+def spread_of(table: pd.DataFrame, by: list[str], amounts: list[str]) -> pd.DataFrame:
+    """One row a group of rows that have the same in these columns, or of all rows where none are named: how many models there are, and
+    mean, least, greatest and quantiles of each amount.
+
+    Quantile 0.1 is the amount that a tenth of the models do not reach (linear between two).
+    """
+    groups = table.groupby(by or np.zeros(len(table)), dropna=False)
     result = groups.size().to_frame("models")
     for name in amounts:
         group = groups[name]
@@ -90,16 +105,19 @@ def quantiles(table: pd.DataFrame) -> pd.DataFrame:
         parts |= {f"quantile_{q:g}": group.quantile(q) for q in QUANTILES}
         parts["greatest"] = group.max()
         result = result.join(pd.DataFrame({f"{name}_{what}": values for what, values in parts.items()}))
-    return result.reset_index()
+    return result.reset_index(drop=not by)
 
 
 def by_block(shared: Shared, gathered: Gathered, blocks: pd.DataFrame) -> pd.DataFrame:
     """The rows of blocks.csv, by the program's id, with `probability_F` for each factor F; numbers as they are written."""
     order = np.argsort(shared.grid.rows)
     columns = {f"probability_{factor}": gathered.share[order, k] for k, factor in enumerate(gathered.factors)}
-    # A coordinate has seven digits before the point, and more behind.
-    written = {name: blocks[name].map("{:.15g}".format) for name in blocks.select_dtypes("float").columns}
-    return pd.concat([blocks.assign(**written), pd.DataFrame(columns)], axis=1)
+    return pd.concat([written(blocks), pd.DataFrame(columns)], axis=1)
+
+
+def written(blocks: pd.DataFrame) -> pd.DataFrame:
+    """The rows of blocks.csv with numbers as they are written: a coordinate has seven digits before the point, and more behind."""
+    return blocks.assign(**{name: blocks[name].map("{:.15g}".format) for name in blocks.select_dtypes("float").columns})
 
 
 def read_blocks(folder: Path, codes: list[str]) -> pd.DataFrame:

@@ -6,6 +6,8 @@
     starts.npy,         the needs as rows for the library, once for all scenarios; with fixed blocks those of the rest
     needs.npy
     mine.prec           or the same for the program, where that solves
+    diggable.npz        or, where blocks are scheduled, the blocks that may be dug, with their needs,
+    mean.npz            and what these hold and earn on the mean of all scenarios
     models/HASH.npy     the grades of a model, a row a block and a column a metal
     done/KEY.npz        the answer of a scenario; its key names all that the answer depends on
     failed/KEY.json     why a scenario has no answer
@@ -24,6 +26,7 @@ from typing import Any, Optional
 
 import numpy as np
 import pandas as pd
+import scipy
 
 from .. import files
 from ..errors import PlanError
@@ -32,11 +35,17 @@ from ..fixed import Settled
 from ..grid import Grid
 from ..project import Project, load
 from ..rows import Rows
+from ..schedule_rules import ScheduleRules
 from ..solver import Solver
 
 RECORD, PROJECT, BASE = "scenarios.json", "project.toml", "base.npz"
 STARTS, NEEDS = "starts.npy", "needs.npy"
+DIGGABLE, MEAN = "diggable.npz", "mean.npz"
 MODELS, DONE, FAILED = "models", "done", "failed"
+# The sources of what searches for schedules.
+SEARCH = Path(__file__).parents[1] / "block_schedule"
+# What is found of each scenario: its pits, or a schedule of its blocks.
+PIT, BLOCK = "pit", "block"
 
 
 @dataclass(frozen=True)
@@ -48,6 +57,11 @@ class Scenario:
     grades: str
     prices: dict[str, str]
     key: str
+
+    @property
+    def is_mean(self) -> bool:
+        """Whether it is no model, but the mean of all scenarios."""
+        return not self.grades
 
     @property
     def label(self) -> str:
@@ -85,8 +99,24 @@ class Shared:
         return Rows(starts, needs)
 
     @property
+    def is_by_block(self) -> bool:
+        """Whether blocks are scheduled, and no pits found."""
+        return self.record.get("by", PIT) == BLOCK
+
+    @property
+    def called(self) -> str:
+        """What its answers are of."""
+        return "schedules" if self.is_by_block else "scenarios"
+
+    @property
     def scenarios(self) -> list[Scenario]:
         return [Scenario(**entry) for entry in self.record["scenarios"]]
+
+    @property
+    def jobs(self) -> list[Scenario]:
+        """What has an answer each: the scenarios, and behind them, where blocks are scheduled, the mean of all, of which the one schedule
+        for all is made."""
+        return [*self.scenarios, *([Scenario(**self.record["mean"])] if self.is_by_block else [])]
 
     def answer(self, scenario: Scenario) -> Path:
         return self.folder / DONE / f"{scenario.key}.npz"
@@ -95,11 +125,21 @@ class Shared:
         return self.folder / FAILED / f"{scenario.key}.json"
 
     def missing(self) -> list[Scenario]:
-        """The scenarios that have no answer yet."""
-        return [scenario for scenario in self.scenarios if not self.answer(scenario).is_file()]
+        """What has no answer yet."""
+        return [job for job in self.jobs if not self.answer(job).is_file()]
 
     def grades(self, scenario: Scenario) -> np.ndarray:
         return np.load(self.folder / MODELS / f"{scenario.grades}.npy", allow_pickle=False)
+
+
+def demand_same_kind(folder: Path, by: str) -> None:
+    """Raises PlanError where the folder has answers of another kind, whose tables would stand beside the new ones."""
+    try:
+        begun = json.loads((folder / RECORD).read_text(encoding="utf-8")).get("by", PIT)
+    except (OSError, ValueError, AttributeError):
+        return
+    if begun != by:
+        raise PlanError(f"{folder}: holds scenarios --by {begun}: give another folder by --out for those --by {by}")
 
 
 def read_shared(folder: Path) -> Shared:
@@ -136,12 +176,19 @@ def referred(project: Project, reference: float) -> Project:
 
 
 def meaning(project: Project, reference: float) -> dict[str, Any]:
-    """What of a project changes a scenario's answer; prices stand beside it, and the table has a hash of its own."""
+    """What of a project changes what blocks earn and need; prices stand beside it, and the table has a hash of its own."""
     project = referred(project, reference)
     without_prices = [asdict(replace(metal, price=Decimal(0))) for metal in project.metals]
     parts = {"money": asdict(project.money), "metals": without_prices, "slopes": asdict(project.slopes)}
-    parts |= {"haulage": asdict(project.haulage)} if project.haulage else {}
-    return {**parts, "factors": list(project.schedule.factors)}
+    return parts | ({"haulage": asdict(project.haulage)} if project.haulage else {})
+
+
+def meaning_of_years(project: Project, years: int) -> dict[str, Any]:
+    """What besides changes a schedule of so many years: limits, discounting, and how schedules are searched for, which no proof settles."""
+    shells, rules = project.schedule, project.schedule_rules or ScheduleRules()
+    limits = {"ore": shells.ore_per_year, "rock": shells.rock_per_year, "rules": asdict(rules)}
+    search = {"highs": f"scipy {scipy.__version__}", "sources": [files.hash_of(path) for path in sorted(SEARCH.glob("*.py"))]}
+    return {**limits, **search, "rate": shells.rate, "discounting": shells.discounting, "years": years}
 
 
 def hash_of_arrays(arrays: dict[str, np.ndarray]) -> str:

@@ -4,7 +4,7 @@ from __future__ import annotations
 
 import os
 import shutil
-from dataclasses import dataclass
+from dataclasses import dataclass, replace
 from pathlib import Path
 from typing import Any
 
@@ -13,6 +13,7 @@ import numpy as np
 from .. import csv_file, files, pictures, summary as summaries
 from ..mine import counted_rows
 from ..money_rules import ByRegion
+from ..packages import by_library
 from ..plan import Plan
 from ..progress import Progress
 from ..project import Project
@@ -34,9 +35,14 @@ class Models:
     means: np.ndarray
 
 
-def prepare(project: Project, folder: Path, progress: Progress) -> folders.Shared:
-    """Reads and checks every model, and writes what solving needs. Raises PlanError with nothing to solve written."""
-    solver = chosen(project.solver)
+def prepare(project: Project, folder: Path, progress: Progress, by: str = folders.PIT) -> folders.Shared:
+    """Reads and checks every model, and writes what solving needs. Raises PlanError with nothing to solve written, and MissingPackage where
+    blocks are to be scheduled without the library."""
+    of_blocks = by_library("simulation.block_prepare") if by == folders.BLOCK else None
+    folders.demand_same_kind(folder, by)
+    if of_blocks:
+        of_blocks.demand_apt(project)
+    solver = chosen(LIBRARY if of_blocks else project.solver)
     with progress.step(f"reading {project.table.file}"):
         base = read_base(project)
     pictures.demand_within(project, base.grid)
@@ -45,12 +51,26 @@ def prepare(project: Project, folder: Path, progress: Progress) -> folders.Share
         read = write_models(base, folder)
     progress.lines(summaries.of_grades(grades_of(base, read)))
     with progress.step("laying the needs that all scenarios share"):
-        plan = envelope(base, read.greatest)
-        with files.staged(folder, folders.RECORD) as stage:
-            written = write_shared(base, plan, solver, stage)
-            scenarios = list_of(base, plan, read, solver)
-            write_record(plan, scenarios, solver, written, stage)
+        laid = Laid(base, envelope(base, read.greatest), list_of(base, read), solver)
+    if of_blocks:
+        of_blocks.write(laid, folder, progress)
+    else:
+        with progress.step("writing blocks and needs"), files.staged(folder, folders.RECORD) as stage:
+            written = [*write_shared(laid, stage), *write_needs(laid.plan, solver, stage)]
+            parts = common_parts(laid)
+            parts["project"] |= {"factors": list(project.schedule.factors)}
+            write_record(laid, keyed(laid.scenarios, project, parts), written, stage)
     return folders.read_shared(folder)
+
+
+@dataclass(frozen=True)
+class Laid:
+    """What scenarios are made of: their base, a plan whose needs serve all, the list of them, and what finds the answers."""
+
+    base: Base
+    plan: Plan
+    scenarios: list[Scenario]
+    solver: Solver
 
 
 def write_models(base: Base, folder: Path) -> Models:
@@ -93,16 +113,16 @@ def arrays_of_settled(plan: Plan) -> dict[str, np.ndarray]:
     return {} if plan.settled is None else {"dug": plan.settled.dug, "left": plan.settled.left}
 
 
-def write_shared(base: Base, plan: Plan, solver: Solver, stage: Path) -> list[str]:
-    """Base, needs, the project, and the planner's rows, for which probabilities are told; gives the names of the files."""
+def write_shared(laid: Laid, stage: Path) -> list[str]:
+    """Base, the project, and the planner's rows, of which blocks are told; gives the names of the files."""
+    base, plan = laid.base, laid.plan
     np.savez_compressed(stage / folders.BASE, ore=plan.values.processed, **arrays_of(base), **arrays_of_settled(plan))
-    needs = write_needs(plan, solver, stage)
     shutil.copyfile(base.project.path, stage / folders.PROJECT)
     frame = plan.blocks
     grades = [metal.column for metal in base.project.metals]
     costs = ["mining_cost", "revenue", "processing_cost", *(["haulage_cost", "ore_haulage_cost"] if base.project.haulage else [])]
     csv_file.write(stage / BLOCKS, frame.drop(columns=[*grades, *costs]))
-    return [folders.BASE, *needs, folders.PROJECT, BLOCKS]
+    return [folders.BASE, folders.PROJECT, BLOCKS]
 
 
 def write_needs(plan: Plan, solver: Solver, stage: Path) -> list[str]:
@@ -116,29 +136,41 @@ def write_needs(plan: Plan, solver: Solver, stage: Path) -> list[str]:
     return [folders.STARTS, folders.NEEDS]
 
 
-def list_of(base: Base, plan: Plan, read: Models, solver: Solver) -> list[Scenario]:
-    """Every model at every set of prices, in this order, with the keys of their answers."""
-    project, settled = base.project, arrays_of_settled(plan)
-    walls = {"code": base.walls.code, **{str(k): p.cone for k, p in enumerate(base.walls.patterns)}}
-    common = {
-        "project": folders.meaning(project, plan.reference),
-        "grid": plan.grid.as_json(),
-        "blocks": folders.hash_of_arrays({**arrays_of(base), **walls, **settled}),
-        "solver": solver.sha256,
-    }
-    sets = scenarios_of(project).prices
-    named = [metal for metal in project.metals if any(metal.name in prices for prices in sets)]
-    given = {metal.name: str(metal.price) for metal in project.metals}
+def list_of(base: Base, read: Models) -> list[Scenario]:
+    """Every model at every set of prices, in this order, whose answers have no names yet."""
+    sets = scenarios_of(base.project).prices
+    named = [metal for metal in base.project.metals if any(metal.name in prices for prices in sets)]
     scenarios: list[Scenario] = []
     for name, grades in read.names:
         for prices in sets:
             asked = {metal.name: str(prices.get(metal.name, metal.price)) for metal in named}
-            key = folders.key_of({**common, "grades": grades, "prices": {**given, **asked}})
-            scenarios.append(Scenario(len(scenarios) + 1, name, grades, asked, key))
+            scenarios.append(Scenario(len(scenarios) + 1, name, grades, asked, ""))
     return scenarios
 
 
-def write_record(plan: Plan, scenarios: list[Scenario], solver: Solver, written: list[str], stage: Path) -> None:
+def common_parts(laid: Laid) -> dict[str, Any]:
+    """What the answers of all scenarios depend on."""
+    base, plan = laid.base, laid.plan
+    walls = {"code": base.walls.code, **{str(k): p.cone for k, p in enumerate(base.walls.patterns)}}
+    return {
+        "project": folders.meaning(base.project, plan.reference),
+        "grid": plan.grid.as_json(),
+        "blocks": folders.hash_of_arrays({**arrays_of(base), **walls, **arrays_of_settled(plan)}),
+        "solver": laid.solver.sha256,
+    }
+
+
+def keyed(scenarios: list[Scenario], project: Project, common: dict[str, Any]) -> list[Scenario]:
+    """Scenarios with the keys of their answers, told by their grades and prices, and by what is common to all."""
+    given = {metal.name: str(metal.price) for metal in project.metals}
+    return [
+        replace(it, key=folders.key_of({**common, "grades": it.grades, "prices": {**given, **it.prices}})) for it in scenarios
+    ]
+
+
+def write_record(laid: Laid, scenarios: list[Scenario], written: list[str], stage: Path, **more: Any) -> None:
+    """Writes scenarios.json, with what more a kind of scenarios has."""
+    plan, solver = laid.plan, laid.solver
     record: dict[str, Any] = {
         "title": plan.project.title,
         "project": os.path.relpath(plan.project.path, stage.parent),
@@ -151,4 +183,4 @@ def write_record(plan: Plan, scenarios: list[Scenario], solver: Solver, written:
         "files": files.hashes(stage, written),
         "scenarios": [vars(scenario) for scenario in scenarios],
     }
-    files.write_json(stage / folders.RECORD, record)
+    files.write_json(stage / folders.RECORD, record | more)

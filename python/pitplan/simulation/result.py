@@ -19,6 +19,8 @@ from . import folder as folders
 from .pictures import Likely
 
 PROBABILITY, IMAGE, TABLE, QUANTILES = "probability.csv", "probability.vti", "scenarios.csv", "quantiles.csv"
+# Of schedules by block those of all scenarios, and the one for all by block and by year.
+SCHEDULES, ONE, ONE_YEARS, ONE_RECORD = "schedules.csv", "one_schedule.csv", "one_schedule_years.csv", "one_schedule.json"
 
 
 @dataclass(frozen=True)
@@ -48,8 +50,15 @@ class ScenarioResult:
 
     @property
     def quantiles(self) -> pd.DataFrame:
-        """One row a set of prices and factor, over the models: mean, least, greatest and quantiles of tonnes, metal and worth."""
+        """One row a set of prices and factor, over the models: mean, least, greatest and quantiles of tonnes, metal and worth; of schedules
+        one row a set of prices, of values and bounds."""
         return self.frame(QUANTILES)
+
+    @property
+    def schedules(self) -> pd.DataFrame:
+        """Of schedules by block one row a scenario: model, prices, value and bound of its own schedule, and behind `one_` what the one
+        schedule for all earns in it."""
+        return self.frame(SCHEDULES, dtype={"model": str}, keep_default_na=False, na_values=[""])
 
     def likely(self, factor: int = REFERENCE_FACTOR) -> Likely:
         """What the pictures of probability show of a factor, in per mille. Raises PlanError where it is none of the factors."""

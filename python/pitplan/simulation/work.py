@@ -1,5 +1,5 @@
-"""One scenario, solved by one call of the library or one run of the program; whoever asks for it, in whatever process, on whatever
-machine."""
+"""One scenario, solved by one call of the library or one run of the program, or its blocks scheduled; whoever asks for it, in whatever
+process, on whatever machine."""
 
 from __future__ import annotations
 
@@ -14,6 +14,7 @@ import numpy as np
 from .. import absent, analyse, files, library, mine, money, run, solver
 from ..errors import PlanError, ProgramError
 from ..files import staged_file
+from ..packages import by_library
 from ..plan import Plan
 from ..run import Solution
 from ..walls import Walls
@@ -56,7 +57,7 @@ def solve(folder: str, number: int) -> Outcome:
     began = time.perf_counter()
     try:
         shared = shared_of(folder, files.hash_of(Path(folder) / folders.RECORD))
-        scenario = shared.scenarios[number - 1]
+        scenario = shared.jobs[number - 1]
     except OSError as error:
         return Outcome(number, REFUSED, f"{error.filename}: cannot be read: run pitplan scenarios first", 0.0)
     except PlanError as error:
@@ -66,7 +67,10 @@ def solve(folder: str, number: int) -> Outcome:
     if shared.answer(scenario).is_file():
         return Outcome(number, 0, "", 0.0)
     try:
-        write_answer(shared, scenario)
+        if shared.is_by_block:
+            by_library("simulation.block_work").write_answer(shared, scenario)
+        else:
+            write_answer(shared, scenario)
     except PlanError as error:
         status = status_of(error)
         folders.save_failure(shared, scenario, getattr(error, "status", None), str(error))

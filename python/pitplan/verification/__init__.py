@@ -22,7 +22,8 @@ whether the answer does:
 - a table that was written back has the planner's own rows and fields, and of each block what blocks.csv says;
 - phases are closed under the whole cones, hold what must be dug in phase 1 and what may not be in none, add up, and are as wide as
   asked, which is counted anew by sums over squares;
-- in a schedule by block no block comes before its whole cone, no year is above a limit, and the value is not above the bound.
+- in a schedule by block no block comes before its whole cone, no year is above a limit, and the value is not above the bound; of
+  scenarios this holds for the schedule of each and for the one for all, whose years mill in each what earns most there.
 """
 
 from __future__ import annotations
@@ -35,8 +36,8 @@ import pandas as pd
 
 from ..errors import PlanError
 from ..project import Project
-from . import absent, answer as answers, block_schedule, fixed, haulage, money, phases, planned_table, reach, reblocked, scenarios, schedule
-from . import sensitivity, sums, topography, walls, years
+from . import absent, answer as answers, block_scenarios, block_schedule, fixed, haulage, money, phases, planned_table, reach, reblocked, scenarios
+from . import schedule, sensitivity, sums, topography, walls, years
 from .answer import TOLD, Answer, Rule, rule
 
 OF_PITS = (walls.verify, sums.verify, sums.verify_worth, years.verify)
@@ -88,7 +89,13 @@ def verify_folder(folder: Path) -> list[Rule]:
     """What was looked at in a folder of scenarios, of a sensitivity, or else of a plan. Raises PlanError as `verify` of either does."""
     if (folder / "sensitivity.json").is_file():
         return verify_sensitivity(folder, folder)
-    return scenarios.verify(folder) if (folder / "scenarios.json").is_file() else verify(folder)
+    return verify_scenarios(folder) if (folder / "scenarios.json").is_file() else verify(folder)
+
+
+def verify_scenarios(folder: Path, written: Optional[Path] = None) -> list[Rule]:
+    """What was looked at of scenarios, of pits or of schedules by block, whose tables may stand in another folder, `written`. Raises PlanError
+    as `verify` does."""
+    return (block_scenarios if block_scenarios.is_by_block(folder) else scenarios).verify(folder, written)
 
 
 def demand(rules: list[Rule]) -> None:

@@ -6,11 +6,12 @@ Each answer is added up and counted; of a sample of scenarios every pit is looke
 from __future__ import annotations
 
 import math
+from contextlib import contextmanager
 from dataclasses import dataclass, replace
 from decimal import Decimal
 from functools import cached_property
 from pathlib import Path
-from typing import Any, Optional
+from typing import Any, Iterator, Optional
 
 import numpy as np
 import pandas as pd
@@ -41,8 +42,15 @@ def verify(folder: Path, written: Optional[Path] = None) -> list[Rule]:
 
     Raises PlanError where the folder has no answers or no tables of them, or the table or a model has changed since.
     """
-    try:
+    with named(folder):
         return Verification(read(folder, written or folder)).rules()
+
+
+@contextmanager
+def named(folder: Path) -> Iterator[None]:
+    """What a folder of scenarios lacks is told by its name. Raises PlanError."""
+    try:
+        yield
     except OSError as error:
         raise PlanError(f"{error.filename}: cannot be read: {error.strerror}") from error
     except KeyError as error:
@@ -63,7 +71,7 @@ class Verification:
     def ground(self) -> Answer:
         """The blocks as if a plan had told of them in which none is dug."""
         folder = self.folder
-        said = pd.DataFrame({"id": folder.likely["id"].to_numpy(), "factor": 0})
+        said = pd.DataFrame({"id": folder.told["id"].to_numpy(), "factor": 0})
         rows, known = folder.rows, len(folder.table)
         return Answer(folder.folder, folder.project, rows, known, said, pd.DataFrame(), None, folder.record, folder.factors)
 
@@ -106,8 +114,12 @@ class Verification:
         folder, told = self.folder, self.folder.answer(scenario)
         factors = np.array([0, *folder.factors])
         said = self.ground.said.assign(factor=factors[np.clip(told.places, 0, len(folder.factors))])
-        rows = self.with_grades(folder.grades(scenario.model))
-        return replace(self.ground, project=self.priced(scenario.prices), rows=rows, said=said, shells=told.table)
+        return replace(self.in_scenario(scenario), said=said, shells=told.table)
+
+    def in_scenario(self, scenario: Scenario) -> Answer:
+        """The blocks with a scenario's grades, at its prices; none is dug."""
+        rows = self.with_grades(self.folder.grades(scenario.model))
+        return replace(self.ground, project=self.priced(scenario.prices), rows=rows)
 
     def priced(self, prices: dict[str, Decimal]) -> Project:
         """The project at a set of prices, and with the elevation from which on mining costs more in every scenario."""
@@ -170,7 +182,7 @@ class Verification:
         """Where probability.csv does not say these shares, to its six digits: the first ten of each factor, and how many there are."""
         differences, count = [], 0
         for number, factor in enumerate(self.folder.factors):
-            said = self.folder.likely[f"probability_{factor}"].to_numpy()
+            said = self.folder.told[f"probability_{factor}"].to_numpy()
             off = np.flatnonzero(~(np.abs(said - expected[:, number]) <= 1e-6))
             for row in off[:TOLD]:
                 differences.append(f"{self.ground.called(row)}: probability_{factor} {said[row]:g} for {expected[row, number]:.6g}")

@@ -21,6 +21,8 @@ from ..table_format import format_of
 from .answer import beside, nearest_cells, read_blocks
 
 PROBABILITY, SCENARIOS, QUANTILES = "probability.csv", "scenarios.csv", "quantiles.csv"
+# In place of probability.csv, where blocks are scheduled.
+ONE = "one_schedule.csv"
 
 
 @dataclass(frozen=True)
@@ -64,11 +66,11 @@ class Told:
 class Simulated:
     """A folder as it is read.
 
-    tables  where probability.csv, scenarios.csv and quantiles.csv are
+    tables  where the tables of all scenarios are
     record  scenarios.json
     table   the table as it is now, with the columns of the models, where they are columns
     rows    one row a block without grades: those of the table, and behind them those of cells that it has no row of
-    likely  the same rows of probability.csv
+    told    the same rows of probability.csv, or of schedules of one_schedule.csv
     """
 
     folder: Path
@@ -77,7 +79,7 @@ class Simulated:
     record: dict[str, Any]
     table: pd.DataFrame
     rows: pd.DataFrame
-    likely: pd.DataFrame
+    told: pd.DataFrame
 
     @property
     def factors(self) -> tuple[int, ...]:
@@ -159,14 +161,15 @@ def read(folder: Path, written: Path) -> Simulated:
     try:
         record = json.loads((folder / "scenarios.json").read_text(encoding="utf-8"))
         project = load(folder / "project.toml", folder / record["project"])
-        told = read_blocks(written / PROBABILITY, project)
+        source = ONE if record.get("by") == "block" else PROBABILITY
+        told = read_blocks(written / source, project)
     except OSError as error:
         raise PlanError(f"{error.filename}: cannot be read: run pitplan scenarios or gather first") from error
     except ValueError as error:
         raise PlanError(f"{folder}: is no folder that pitplan scenarios has written: {error}") from error
     table = read_table(project)
     named = [name for name in (*tables.names_of(replace(project, metals=())), project.table.tonnes) if name in table]
-    rows, _, order = beside(table[list(dict.fromkeys(named))], told, project, record["grid"], PROBABILITY)
+    rows, _, order = beside(table[list(dict.fromkeys(named))], told, project, record["grid"], source)
     return Simulated(folder, written, project, record, table, rows, told.iloc[order].reset_index(drop=True))
 
 

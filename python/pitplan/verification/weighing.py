@@ -2,7 +2,8 @@
 
 from __future__ import annotations
 
-from dataclasses import replace
+from dataclasses import dataclass, replace
+from decimal import Decimal
 
 import numpy as np
 import pandas as pd
@@ -35,6 +36,35 @@ def with_best(told: pd.DataFrame, answer: Answer) -> pd.DataFrame:
     at = np.arange(len(told)), best
     name = np.where(gain[at] > 0, np.array([process.name for process in processes], dtype=object)[best], "")
     return told.assign(revenue=revenue[at], processing_cost=cost[at], **{PROCESS: name})
+
+
+@dataclass(frozen=True)
+class AtPrice:
+    """What blocks hold and earn at the price as given, one number a row: what it costs to dig each, and where processing it pays what it
+    earns besides, the tonnes that come to the mill, and what is recovered of each metal; else 0."""
+
+    mining: np.ndarray
+    gain: np.ndarray
+    ore: np.ndarray
+    metals: dict[str, np.ndarray]
+
+
+def at_price(answer: Answer) -> AtPrice:
+    """The blocks of an answer with one process, their amounts of money rounded as the project asks: by floats, and exactly where these are
+    next to the middle of two."""
+    unit = 10.0**-answer.project.money.decimals
+    amounts = np.stack(money.by_floats(answer)) / unit
+    rounded = np.rint(amounts)
+    close = np.abs(np.abs(amounts - np.floor(amounts)) - 0.5) < 1e-9 + 1e-14 * np.abs(amounts)
+    rows = np.flatnonzero(close.any(axis=0)).tolist()
+    exactly = money.Exactly.of(answer) if rows else None
+    for row in rows:
+        assert exactly is not None
+        rounded[:, row] = [float(amount / Decimal(1).scaleb(-answer.project.money.decimals)) for amount in exactly.amounts(row)]
+    mining, revenue, processing = rounded * unit
+    pays = revenue > np.where(revenue > 0, processing, 0.0)
+    metals = {name: np.where(pays, quantity, 0.0) for name, quantity in answer.quantities.items()}
+    return AtPrice(mining, np.where(pays, revenue - processing, 0.0), np.where(pays, answer.feed, 0.0), metals)
 
 
 def gains(answer: Answer) -> pd.DataFrame:

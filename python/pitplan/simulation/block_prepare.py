@@ -1,0 +1,81 @@
+"""What scenarios by block share: the blocks that any of them may dig, in how many years, and the mean of what these hold and earn."""
+
+from __future__ import annotations
+
+from pathlib import Path
+
+import numpy as np
+import pandas as pd
+
+from .. import files
+from ..block_schedule.of_plan import demand_of_blocks, diggable, pit_of
+from ..errors import PlanError
+from ..phase_benches import CASH
+from ..progress import Progress
+from ..project import REFERENCE_FACTOR, Project
+from ..schedule_rules import ScheduleRules
+from ..solver import PROGRAM
+from . import folder as folders, prepare
+from .block_problem import Diggable, Weights, demand_of_scenarios, limits_of_scenarios, weights_of, years_asked
+from .folder import Scenario, Shared
+from .prepare import Laid
+from .work import plan_of
+
+ONE = "one schedule for all"
+
+
+def demand_apt(project: Project) -> None:
+    """Raises PlanError where the project asks for what is not done of scenarios by block."""
+    demand_of_blocks(project, project.schedule_rules or ScheduleRules())
+    demand_of_scenarios(project)
+    if project.solver == PROGRAM:
+        raise PlanError("--solver program: finds pits alone, and schedules by block are made with the library: leave it out")
+
+
+def write(laid: Laid, folder: Path, progress: Progress) -> None:
+    """Writes what schedules are made of, and scenarios.json. Raises PlanError where a scenario cannot be weighed, or its pit would take too
+    many years."""
+    with files.staged(folder, folders.RECORD) as stage:
+        blocks, mean = spread(laid, folder, progress)
+        written = [*prepare.write_shared(laid, stage), folders.DIGGABLE, folders.MEAN]
+        np.savez_compressed(stage / folders.DIGGABLE, **blocks.arrays())
+        np.savez_compressed(stage / folders.MEAN, **mean.arrays())
+        project = laid.base.project
+        parts = prepare.common_parts(laid) | {"schedule": folders.meaning_of_years(project, blocks.years)}
+        scenarios = prepare.keyed(laid.scenarios, project, parts)
+        one = Scenario(len(scenarios) + 1, ONE, "", {}, folders.key_of({"mean": [it.key for it in scenarios]}))
+        limits = limits_of_scenarios(project)
+        more = {"by": folders.BLOCK, "years": blocks.years, "limits": limits.most, "ramp_up": list(limits.ramp_up), "mean": vars(one)}
+        prepare.write_record(laid, scenarios, written, stage, **more)
+
+
+def spread(laid: Laid, folder: Path, progress: Progress) -> tuple[Diggable, Weights]:
+    """The blocks that may be dug, and what these hold and earn on the mean of all scenarios, each of which counts once. Years are those of
+    the project, or else as many as the longest of all pits, that of the mean among them, and a fifth more."""
+    plan, project, count = laid.plan, laid.base.project, len(laid.scenarios)
+    with progress.step("gathering the blocks that may be dug"):
+        # What pays in a scenario pays at the greatest grades and prices and without selling cost, since no recovery falls with the grade.
+        cells, needs = diggable(plan, np.array(plan.values.greatest_value(REFERENCE_FACTOR) > 0, dtype=bool))
+        forced = np.isin(cells, plan.fixed.forced)
+    rules = project.schedule_rules or ScheduleRules()
+
+    def years(weights: Weights) -> int:
+        return rules.years or years_asked(weights, pit_of(weights.flows[CASH], needs, forced), project)
+
+    shared, longest, total = shared_of(laid, folder), 0, None
+    with progress.step(f"weighing the blocks of {count:,} scenarios"):
+        for scenario in laid.scenarios:
+            weights = weights_of(plan_of(shared, scenario), cells)
+            longest, total = max(longest, years(weights)), weights if total is None else total.plus(weights)
+    assert total is not None
+    mean = total.over(count)
+    return Diggable(cells, needs, forced, max(longest, years(mean))), mean
+
+
+def shared_of(laid: Laid, folder: Path) -> Shared:
+    """What weighing a scenario needs, before it is written."""
+    base, plan = laid.base, laid.plan
+    arrays = prepare.arrays_of(base)
+    grid = files.grid_of(plan.grid.as_json(), arrays.pop("cells"))
+    project = folders.referred(base.project, plan.reference)
+    return Shared(folder, project, pd.DataFrame(arrays), grid, plan.values.processed, {}, laid.solver, plan.settled)

@@ -1,0 +1,136 @@
+"""One schedule of a set of scenarios, that of a scenario or the one for all, made and kept as a file."""
+
+from __future__ import annotations
+
+import time
+from dataclasses import dataclass
+from functools import cached_property
+from typing import Any
+
+import numpy as np
+from numpy.typing import NDArray
+
+from .. import absent, solver
+from ..block_schedule import Scheduled, solve
+from ..errors import PlanError
+from ..files import staged_file
+from ..phase_benches import ORE, ROCK
+from ..project import REFERENCE_FACTOR
+from . import folder as folders
+from .block_problem import MILL, Diggable, Weights, problem_of, weights_of
+from .folder import Scenario, Shared
+from .work import plan_of
+
+WHOLE = ("years", "blocks")
+
+
+@dataclass(frozen=True)
+class Kept:
+    """A schedule as it is kept.
+
+    year   in which each row of the table is dug, from 1; 0: in none
+    share  of each that goes to the mill
+    row    value and bound, discounted, in money; below_bound, by which share of the bound the value is less; years, the last in which
+           anything is dug; blocks of rock that are dug; tonnes, ore_tonnes and metal_NAME; and the seconds that it took
+    """
+
+    year: NDArray[np.int64]
+    share: NDArray[np.float64]
+    row: dict[str, Any]
+
+
+def write_answer(shared: Shared, job: Scenario) -> None:
+    """Makes the schedule of a scenario, or of the mean of all, and keeps it.
+
+    Raises PlanError where no schedule keeps what the project asks for, or it reaches ground that is not known, and KeyboardInterrupt where
+    it is interrupted.
+    """
+    solver.demand_same(shared.solver)
+    began = time.perf_counter()
+    made = Made.of(shared, job)
+    absent.demand_known(made.entry, shared.grid, shared.project, shared.project.table.file.name)
+    row = made.row | {"seconds": time.perf_counter() - began}
+    year, share = made.by_row
+    with staged_file(shared.answer(job)) as path, open(path, "wb") as file:
+        np.savez_compressed(file, year=year, share=share, names=list(row), amounts=list(row.values()))
+
+
+@dataclass(frozen=True)
+class Made:
+    """A schedule of some of a folder's blocks, and what they hold and earn."""
+
+    shared: Shared
+    diggable: Diggable
+    weights: Weights
+    found: Scheduled
+
+    @staticmethod
+    def of(shared: Shared, job: Scenario) -> Made:
+        diggable = diggable_of(shared)
+        weights = mean_of(shared) if job.is_mean else weights_of(plan_of(shared, job), diggable.cells)
+        found = solve(problem_of(diggable, weights, shared.project))
+        if found.interrupted:
+            raise KeyboardInterrupt
+        return Made(shared, diggable, weights, found)
+
+    @cached_property
+    def is_dug(self) -> NDArray[np.bool_]:
+        return self.found.schedule.year < self.diggable.years
+
+    @property
+    def entry(self) -> NDArray[np.int64]:
+        """For each cell the price as given where it is dug, and else 0."""
+        entry = np.zeros(self.shared.grid.count, dtype=np.int64)
+        entry[self.diggable.cells] = np.where(self.is_dug, REFERENCE_FACTOR, 0)
+        return entry
+
+    @property
+    def by_row(self) -> tuple[NDArray[np.int16], NDArray[np.float64]]:
+        """Year and share of the mill by row of the table."""
+        schedule, grid = self.found.schedule, self.shared.grid
+        year, share = np.zeros(grid.count, dtype=np.int16), np.zeros(grid.count)
+        year[self.diggable.cells] = np.where(self.is_dug, schedule.year + 1, 0)
+        share[self.diggable.cells] = schedule.share[:, MILL]
+        return year[grid.rows], share[grid.rows]
+
+    @property
+    def row(self) -> dict[str, float]:
+        """What the answer tells besides."""
+        found, flows, milled = self.found, self.weights.flows, self.found.schedule.share[:, MILL]
+        year = found.schedule.year[self.is_dug]
+        return {
+            "value": found.value,
+            "bound": found.bound,
+            "below_bound": found.gap,
+            "years": int(year.max(initial=-1)) + 1,
+            "blocks": int((self.is_dug & (flows[ROCK] > 0)).sum()),
+            "tonnes": float(flows[ROCK][self.is_dug].sum()),
+            ORE: float((flows[ORE] * milled).sum()),
+            **{name: float((amounts * milled).sum()) for name, amounts in flows.items() if name.startswith("metal_")},
+        }
+
+
+def diggable_of(shared: Shared) -> Diggable:
+    with np.load(shared.folder / folders.DIGGABLE, allow_pickle=False) as arrays:
+        return Diggable.of_arrays({name: arrays[name] for name in arrays.files}, shared.record["years"])
+
+
+def mean_of(shared: Shared) -> Weights:
+    """What the blocks that may be dug hold and earn on the mean of all scenarios."""
+    with np.load(shared.folder / folders.MEAN, allow_pickle=False) as arrays:
+        return Weights.of_arrays({name: arrays[name] for name in arrays.files})
+
+
+def read_answer(shared: Shared, job: Scenario) -> Kept:
+    """Raises PlanError where the answer cannot be read, or is of other blocks."""
+    path = shared.answer(job)
+    try:
+        with np.load(path, allow_pickle=False) as kept:
+            row = dict(zip(kept["names"].tolist(), kept["amounts"].tolist()))
+            year, share = kept["year"].astype(np.int64), kept["share"]
+        if year.shape != (len(shared.frame),) or share.shape != year.shape or year.max(initial=0) > shared.record["years"]:
+            raise ValueError("it tells of other blocks or years")
+        row |= {name: int(row[name]) for name in WHOLE}
+    except (OSError, ValueError, KeyError, EOFError) as error:
+        raise PlanError(f"{path}: is no answer: remove it, and run pitplan scenarios again: {error}") from error
+    return Kept(year, share, row)

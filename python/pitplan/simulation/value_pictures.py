@@ -1,0 +1,75 @@
+"""The picture of schedules over scenarios: what the one for all earns in each, beside a schedule of each one's own and its bound."""
+
+from __future__ import annotations
+
+from pathlib import Path
+from typing import Any
+
+import matplotlib
+import numpy as np
+import pandas as pd
+from matplotlib.axes import Axes
+from matplotlib.figure import Figure
+
+from ..pictures import STYLE, finish, list_of, scaled
+from .answers import QUANTILES
+
+# By the name of an amount what it is called, and its colour.
+LOOKS = {
+    "one_value": ("the one schedule\nfor all", "#d55e00"),
+    "value": ("a schedule each,\nthe ground known", "#0072b2"),
+    "bound": ("the bound of each", "#555555"),
+}
+# So many scenarios have marks that can be told apart.
+MANY = 60
+
+
+def write(table: pd.DataFrame, currency: str, path: Path) -> None:
+    with matplotlib.rc_context(STYLE):
+        figure = Figure(figsize=(11.5, 5), constrained_layout=True)
+        plot(table, currency, figure.subplots(1, 2, sharey=True, width_ratios=(3, 2)))
+        finish(figure, path)
+
+
+def plot(table: pd.DataFrame, currency: str, axes: Any) -> list[Axes]:
+    """The value of the one schedule in each scenario, of the scenario's own, and its bound, by rising bounds; and how each of these three
+    is spread; on two axes, which it gives. The table has the columns of schedules.csv, of the scenarios that have a schedule."""
+    each, spread = found = list_of(axes, 2)
+    size, sign = scaled(float(table[list(LOOKS)].abs().max().max()))
+    rising = table.sort_values("bound", kind="stable")[list(LOOKS)] / size
+    unit = f"{sign} {currency}".strip()
+    plot_each(rising, each)
+    plot_spread(rising, unit, spread)
+    each.set_ylabel(f"discounted value, {unit}")
+    each.yaxis.set_major_formatter(lambda value, _: f"{value:,.6g}")
+    each.figure.suptitle(f"{len(table):,} scenarios", x=0.01, ha="left")
+    return found
+
+
+def plot_each(rising: pd.DataFrame, ax: Axes) -> None:
+    place, marks = np.arange(1, len(rising) + 1), 5.0 if len(rising) <= MANY else 2.5
+    ax.vlines(place, rising["one_value"], rising["bound"], color="#bbbbbb", linewidth=0.8)
+    for name, mark in (("bound", "_"), ("value", "o"), ("one_value", "D")):
+        label, colour = LOOKS[name]
+        size = {"markersize": 2.5 * marks, "markeredgewidth": 1.5} if mark == "_" else {"markersize": marks}
+        ax.plot(place, rising[name], mark, color=colour, label=label.replace("\n", " "), **size)
+    ax.xaxis.get_major_locator().set_params(integer=True)
+    ax.set_xlabel("scenarios, by rising bounds")
+    ax.legend(loc="upper left", facecolor="white", edgecolor="none", framealpha=0.9)
+
+
+def plot_spread(rising: pd.DataFrame, unit: str, ax: Axes) -> None:
+    """From least to greatest, between the quantiles, the median, and the mean in words."""
+    low, middle, high = QUANTILES
+    for place, (name, (_, colour)) in enumerate(LOOKS.items()):
+        values, mean = rising[name], float(rising[name].mean())
+        ax.vlines(place, values.min(), values.max(), color=colour, linewidth=1.2)
+        ax.vlines(place, values.quantile(low), values.quantile(high), color=colour, linewidth=9, alpha=0.45)
+        ax.hlines(values.quantile(middle), place - 0.12, place + 0.12, color=colour, linewidth=2)
+        ax.plot(place, mean, "D", color="black", markersize=4)
+        ax.annotate(f"mean {mean:,.4g}", (place, mean), xytext=(14, 0), textcoords="offset points", va="center")
+    ax.set_xticks(range(len(LOOKS)), [label for label, _ in LOOKS.values()])
+    ax.set_xlim(-0.4, len(LOOKS) - 0.2)
+    known = float((rising["bound"] - rising["one_value"]).mean())
+    ax.set_title(f"to know the ground is worth at most {known:,.4g} {unit} on the mean", loc="left", fontsize=9)
+    ax.set_xlabel(f"least, {100 * low:.0f} %, median, {100 * high:.0f} %, greatest")

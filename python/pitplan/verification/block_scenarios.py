@@ -1,0 +1,317 @@
+"""Schedules by block over scenarios anew: that of each scenario, and the one for all as each scenario digs it.
+
+From the project, its table, its models and the years of blocks alone. What a block is worth is weighed for every scenario; cones are looked
+at in the one schedule and in those of a sample.
+"""
+
+from __future__ import annotations
+
+import json
+import math
+from collections.abc import Iterator
+from dataclasses import dataclass, replace
+from functools import cached_property
+from pathlib import Path
+from typing import Any, Optional
+
+import numpy as np
+import pandas as pd
+
+from . import absent, fixed, walls
+from .answer import TOLD, Answer, Rule, rule
+from .best_ore import most_earned
+from .block_schedule import limits_of
+from .scenarios import SHARES, Verification, between, named
+from .schedule import CENT, discount
+from .simulated import ONE, Scenario, read
+from .weighing import at_price
+
+RECORD, TABLE, YEARS, QUANTILES = "one_schedule.json", "schedules.csv", "one_schedule_years.csv", "quantiles.csv"
+VALUES = ("value", "bound", "one_value")
+ROCK, ORE, LEFT, PLANNED = "rock_tonnes", "ore_tonnes", "ore_left_tonnes", "planned_ore_tonnes"
+SLIGHT = 1e-6
+
+
+def is_by_block(folder: Path) -> bool:
+    """Whether the scenarios of a folder are of schedules."""
+    try:
+        return json.loads((folder / "scenarios.json").read_text(encoding="utf-8")).get("by") == "block"
+    except (OSError, ValueError, AttributeError):
+        return False
+
+
+def verify(folder: Path, written: Optional[Path] = None) -> list[Rule]:
+    """What was looked at, one rule after the other. Raises PlanError as `scenarios.verify` does."""
+    with named(folder):
+        return Schedules(Verification(read(folder, written or folder))).rules()
+
+
+@dataclass(frozen=True)
+class Kept:
+    """A schedule as it is kept: year of each row, from 1, 0: in none; the share of each that is milled; and amounts by name."""
+
+    year: np.ndarray
+    share: np.ndarray
+    row: dict[str, float]
+
+    @staticmethod
+    def of(file: Path) -> Kept:
+        with np.load(file, allow_pickle=False) as said:
+            row = dict(zip(said["names"].tolist(), said["amounts"].tolist()))
+            return Kept(said["year"].astype(np.int64), said["share"], row)
+
+
+@dataclass(frozen=True)
+class Schedules:
+    """A folder of schedules that is verified."""
+
+    whole: Verification
+
+    @property
+    def ground(self) -> Answer:
+        return self.whole.ground
+
+    @cached_property
+    def one(self) -> Kept:
+        folder = self.whole.folder
+        return Kept.of(folder.folder / "done" / f"{folder.record['mean']['key']}.npz")
+
+    @cached_property
+    def limits(self) -> list[tuple[str, tuple[float, ...], float]]:
+        """Name of an amount, the shares of its limit in the first years, and the limit."""
+        return list(limits_of(self.ground))
+
+    def rules(self) -> list[Rule]:
+        of_ground = [check(self.ground) for check in (fixed.verify_places, absent.verify, walls.verify_steepness)]
+        return [*of_ground, self.whole.listed(), self.order(), *self.values()]
+
+    def order(self) -> Rule:
+        """Cones, what is fixed, and years and shares, of the one schedule and of those of a sample."""
+        sample = [(scenario.label, Kept.of(scenario.file)) for scenario in self.whole.sample]
+        differences = [f"{name}: {said}" for name, kept in [("the one schedule", self.one), *sample] for said in self.out_of_order(kept)]
+        count = f"{len(sample):,} of {len(self.whole.folder.answered):,} others"
+        holds = f"in the one schedule and {count} no block is dug before its whole cone is"
+        return rule("block order", f"{holds}, what must be dug is in some year, and what may not be in none", differences)
+
+    def out_of_order(self, kept: Kept) -> list[str]:
+        answer = replace(self.ground, said=self.ground.said.assign(factor=kept.year))
+        found = [difference.replace("dug at", "dug in year", 1) for difference in walls.verify(answer).differences]
+        wrong = (kept.year < 0) | (kept.year > self.whole.folder.record["years"])
+        wrong |= (kept.share < -SLIGHT) | (kept.share > (kept.year > 0) + SLIGHT)
+        if answer.project.fixed is not None:
+            must, never = fixed.demanded(answer, answer.project.fixed)
+            wrong |= (must & (kept.year == 0)) | (never & (kept.year > 0))
+        rows = np.flatnonzero(wrong)[:TOLD]
+        return found + [f"{answer.called(row)}: year {kept.year[row]}, of which {kept.share[row]:.6g} is milled" for row in rows]
+
+    def values(self) -> list[Rule]:
+        """What every schedule holds and earns, by the amounts of its scenario, and the tables that tell it."""
+        folder, own, dug = self.whole.folder, [], []
+        total = pd.DataFrame()
+        for scenario in folder.scenarios:
+            kept = Kept.of(scenario.file) if scenario.file.is_file() else None
+            held = self.held(scenario, (self.one.year > 0) | (kept is not None and kept.year > 0))
+            total = held if total.empty else total + held
+            own += [] if kept is None else [f"{scenario.label}: {said}" for said in self.unlike(held, kept)]
+            dug.append(self.dug(held))
+        mean = total / len(dug)
+        own += [f"the one schedule, as planned: {said}" for said in self.unlike(mean, self.one)]
+        tables = Tables(self, dug, by_year(mean[ORE] * self.one.share, self.one.year))
+        words = f"{len(folder.answered):,} schedules and the one for all, by the mean of what its blocks are worth, keep limits, "
+        of_one = "in each scenario its years mill what earns most there, and it earns no more than the bound"
+        return [
+            rule("block value", f"{words}add up, and earn no more than their bounds", own),
+            rule("one schedule", of_one, tables.of_one()),
+            rule("tables", "every row follows from the schedules", tables.of_all()),
+        ]
+
+    def held(self, scenario: Scenario, is_dug: np.ndarray) -> pd.DataFrame:
+        """What each block holds in a scenario: rock_tonnes, ore_tonnes and metals where it pays, what digging it costs and what milling
+        it earns besides, in money; 0 where it is not dug."""
+        whole = self.whole.in_scenario(scenario)
+        part = replace(whole, rows=whole.rows[is_dug].reset_index(drop=True), said=whole.said[is_dug].reset_index(drop=True))
+        found = at_price(part)
+        columns = {ROCK: part.tonnes, ORE: found.ore, **{f"metal_{name}": it for name, it in found.metals.items()}}
+        frame = pd.DataFrame(columns | {"mining": found.mining, "gain": found.gain})
+        return frame.set_index(np.flatnonzero(is_dug)).reindex(range(len(is_dug)), fill_value=0.0)
+
+    def unlike(self, held: pd.DataFrame, kept: Kept) -> Iterator[str]:
+        """Where a schedule is above a limit or its bound, or does not tell what it holds and earns."""
+        milled = held.drop(columns=[ROCK, "mining"]).mul(kept.share, axis=0).assign(**{ROCK: held[ROCK]})
+        sums = milled.groupby(kept.year).sum().drop(index=0, errors="ignore")
+        for name, ramps, most in self.limits:
+            for year, amount in sums[name].items():
+                if amount > (allowed := most * ramps[min(int(year), len(ramps)) - 1]) * (1 + 1e-8) + CENT:
+                    yield f"year {year}: {name} {amount:.10g} above {allowed:.10g}"
+        cash = sums["gain"] - held["mining"].groupby(kept.year).sum().drop(index=0, errors="ignore")
+        value, bound = float(sum(amount * discount(self.ground, int(year)) for year, amount in cash.items())), kept.row["bound"]
+        is_dug = kept.year > 0
+        expected = {"value": value, "years": int(kept.year.max()), "blocks": int((is_dug & (held[ROCK] > 0)).sum())}
+        expected |= {"tonnes": held[ROCK][is_dug].sum(), "below_bound": (bound - value) / abs(bound) if bound else 0.0}
+        expected |= {name: sums[name].sum() for name in sums if name == ORE or name.startswith("metal_")}
+        for name, amount in expected.items():
+            if abs(kept.row[name] - amount) > (SLIGHT if name == "below_bound" else CENT) + 1e-9 * abs(amount):
+                yield f"{name} {kept.row[name]:.12g} for {amount:.12g}"
+        if value > bound + CENT + 1e-9 * abs(bound):
+            yield f"value {value:.12g} is above bound {bound:.12g}"
+
+    def dug(self, held: pd.DataFrame) -> pd.DataFrame:
+        """A row a year of the one schedule, as a scenario digs it; ore that is milled is no number where several limits choose it."""
+        rows = []
+        of_mill = [(name, ramps, most) for name, ramps, most in self.limits if name != ROCK]
+        for year in range(1, int(self.one.year.max()) + 1):
+            blocks = held[self.one.year == year]
+            takes = np.stack([blocks[name].to_numpy() for name, _, _ in of_mill])
+            most = np.array([most * ramps[min(year, len(ramps)) - 1] for _, ramps, most in of_mill])
+            ore = float(blocks[ORE].sum())
+            milled = min(ore, most[0]) if len(of_mill) == 1 else ore if (takes.sum(axis=1) <= most).all() else math.nan
+            cash = most_earned(blocks["gain"].to_numpy(), takes, most) - blocks["mining"].sum()
+            rows.append({"year": year, ROCK: blocks[ROCK].sum(), ORE: milled, LEFT: ore - milled, "total": ore, "cash": cash})
+        frame = pd.DataFrame(rows, columns=["year", ROCK, ORE, LEFT, "total", "cash"]).set_index("year")
+        return frame.assign(discounted=frame["cash"] * [discount(self.ground, year) for year in frame.index])
+
+
+def by_year(amounts: pd.Series, year: np.ndarray) -> np.ndarray:
+    """Sums by year, from the first."""
+    return np.bincount(year, amounts, minlength=1)[1:]
+
+
+@dataclass(frozen=True)
+class Tables:
+    """The tables of schedules, laid beside what follows from these.
+
+    dug      a row a year for each scenario, as it digs the one schedule
+    planned  tonnes of ore of each year that the one schedule has on the mean
+    """
+
+    schedules: Schedules
+    dug: list[pd.DataFrame]
+    planned: np.ndarray
+
+    @property
+    def scenarios(self) -> list[Scenario]:
+        return self.schedules.whole.folder.scenarios
+
+    def read(self, name: str) -> pd.DataFrame:
+        path, codes = self.schedules.whole.folder.tables / name, {"model": str, "status": str}
+        return pd.read_csv(path, dtype=codes, keep_default_na=False, na_values=[""])
+
+    @cached_property
+    def rows(self) -> pd.DataFrame:
+        return self.read(TABLE)
+
+    @cached_property
+    def years(self) -> pd.DataFrame:
+        return self.read(YEARS)
+
+    def of_one(self) -> list[str]:
+        """Where the years of the one schedule are not what a scenario makes of them, or it earns more than the scenario's bound."""
+        found: list[str] = []
+        for scenario, dug in zip(self.scenarios, self.dug):
+            said = self.years[self.years["scenario"] == scenario.number].set_index("year")
+            if said.index.tolist() != dug.index.tolist():
+                found.append(f"{scenario.label}: years {said.index.tolist()} for 1 to {len(dug)}")
+                continue
+            found += [f"{scenario.label}, {difference}" for difference in self.unlike_years(said, dug)]
+            bound = Kept.of(scenario.file).row["bound"] if scenario.file.is_file() else math.inf
+            value = dug["discounted"].sum()
+            if value > bound + CENT + 1e-7 * abs(bound):
+                found.append(f"{scenario.label}: the one schedule earns {value:.12g}, above the bound {bound:.12g}")
+        return found
+
+    def unlike_years(self, said: pd.DataFrame, dug: pd.DataFrame) -> Iterator[str]:
+        expected = dug.assign(**{PLANNED: self.planned[: len(dug)]})
+        # Of several limits what is milled and left may be any that earns as much.
+        expected[ORE], expected[LEFT] = (expected[name].fillna(said[name]) for name in (ORE, LEFT))
+        for name in (ROCK, ORE, LEFT, PLANNED, "cash", "discounted"):
+            slack = CENT + (1e-7 if name in ("cash", "discounted") else 1e-9) * expected[name].abs()
+            for year in said.index[~((said[name] - expected[name]).abs() <= slack)]:
+                yield f"year {year}: {name} {said[name][year]:.12g} for {expected[name][year]:.12g}"
+        for year in said.index[(said[ORE] + said[LEFT] - dug["total"]).abs() > CENT + 1e-9 * dug["total"]]:
+            yield f"year {year}: {said[ORE][year]:.12g} and {said[LEFT][year]:.12g} t of ore for {dug['total'][year]:.12g}"
+
+    def of_all(self) -> list[str]:
+        """Where schedules.csv, the blocks, the quantiles or the record differ."""
+        if self.rows["scenario"].tolist() != [scenario.number for scenario in self.scenarios]:
+            return [f"{TABLE}: has rows of scenarios {self.rows['scenario'].tolist()[:TOLD]} and so on"]
+        rows = self.rows.set_index("scenario")
+        found = [f"{TABLE}: {it.label}: {said}" for it in self.scenarios for said in self.unlike_row(rows.loc[it.number], it)]
+        for scenario in self.scenarios:
+            years = self.years[self.years["scenario"] == scenario.number]
+            heads = {"model": scenario.model.name, **{f"price_{metal}": float(price) for metal, price in scenario.prices.items()}}
+            found += [f"{YEARS}: {scenario.label}: {name}" for name, value in heads.items() if not (years[name] == value).all()]
+        return [*found, *self.unlike_blocks(), *self.unlike_quantiles(), *self.unlike_record()]
+
+    def unlike_row(self, row: Any, scenario: Scenario) -> Iterator[str]:
+        """Where a row of schedules.csv differs."""
+        years = self.years[self.years["scenario"] == scenario.number]
+        expected: dict[str, float] = {f"price_{metal}": float(price) for metal, price in scenario.prices.items()}
+        expected |= {"one_value": years["discounted"].sum(), "one_ore_tonnes": years[ORE].sum(), "one_ore_left_tonnes": years[LEFT].sum()}
+        expected["one_years_short"] = int((years[ORE] < years[PLANNED] * (1 - 1e-9)).sum())
+        own = Kept.of(scenario.file).row if scenario.file.is_file() else {}
+        expected |= own or dict.fromkeys(("value", "bound", "below_bound"), math.nan)
+        if (row["status"] == "solved") != bool(own) or row["model"] != scenario.model.name:
+            yield f"status {row['status']!r} of model {row['model']}"
+        for name, amount in expected.items():
+            if not np.isclose(row[name], amount, rtol=1e-9, atol=1e-9 if name == "below_bound" else CENT, equal_nan=True):
+                yield f"{name} {row[name]:.12g} for {amount:.12g}"
+
+    def unlike_blocks(self) -> list[str]:
+        """Where the blocks of the one schedule have another year or share than it."""
+        told, one, ground = self.schedules.whole.folder.told, self.schedules.one, self.schedules.ground
+        off = (told["year"].to_numpy() != one.year) | ~(np.abs(told["share_mill"].to_numpy() - one.share) <= SLIGHT)
+        rows = np.flatnonzero(off)[:TOLD]
+        return [f"{ONE}: {ground.called(row)}: year {told['year'][row]} for {one.year[row]}, or its share of the mill" for row in rows]
+
+    def unlike_quantiles(self) -> list[str]:
+        """Where quantiles.csv does not follow from the rows, of each set of prices."""
+        written, solved = self.read(QUANTILES), self.rows[self.rows["status"] == "solved"]
+        names = [name for name in solved if name.startswith("price_")]
+        sets = [dict(zip(names, values)) for values in (solved[names].drop_duplicates().to_numpy().tolist() if names else [()])]
+        found = [] if len(written) == len(sets) else [f"{QUANTILES}: has {len(written):,} rows for {len(sets):,}"]
+        for prices in sets:
+            rows, mine = at_prices(solved, prices), at_prices(written, prices)
+            if len(mine) != 1 or mine["models"].iloc[0] != len(rows):
+                found.append(f"{QUANTILES}: {prices}: {len(mine)} rows, of which the first has not {len(rows)} models")
+                continue
+            said = {name: {word: float(mine[f"{name}_{word}"].iloc[0]) for word in spread(rows[name])} for name in VALUES}
+            found += [f"{QUANTILES}: {prices}: {difference}" for difference in unlike_spreads(said, rows)]
+        return found
+
+    def unlike_record(self) -> Iterator[str]:
+        """Where one_schedule.json differs."""
+        told = json.loads((self.schedules.whole.folder.tables / RECORD).read_text(encoding="utf-8"))
+        solved, one = self.rows[self.rows["status"] == "solved"], self.schedules.one.row
+        ramps = next(ramps for name, ramps, _ in self.schedules.limits if name == ORE)
+        expected = {"scenarios": len(self.rows), "answered": len(solved), "years": self.schedules.whole.folder.record["years"]}
+        expected |= {"limits": {name: most for name, _, most in self.schedules.limits}, "ramp_up": list(ramps)}
+        yield from (f"{RECORD}: {name} {told[name]} for {value}" for name, value in expected.items() if told[name] != value)
+        known = float(solved["bound"].mean() - solved["one_value"].mean())
+        amounts = {"value_as_planned": one["value"], "bound_as_planned": one["bound"], "perfect_information": known}
+        for name, amount in amounts.items():
+            if not abs(told[name] - amount) <= CENT + 1e-8 * abs(one["bound"]):
+                yield f"{RECORD}: {name} {told[name]:.12g} for {amount:.12g}"
+        yield from (f"{RECORD}: {difference}" for difference in unlike_spreads(told, solved))
+
+
+def at_prices(rows: pd.DataFrame, prices: dict[str, float]) -> pd.DataFrame:
+    """The rows of a set of prices, by the names of columns."""
+    mine = np.ones(len(rows), dtype=bool)
+    for name, price in prices.items():
+        mine &= (rows[name] == price).to_numpy()
+    return rows[mine]
+
+
+def spread(values: pd.Series) -> dict[str, float]:
+    """Mean, least, greatest and quantiles."""
+    rising = sorted(values.tolist())
+    found = {"mean": math.fsum(rising) / len(rising), "least": rising[0], "greatest": rising[-1]}
+    return found | {name: between(rising, share) for name, share in SHARES.items()}
+
+
+def unlike_spreads(said: dict[str, Any], rows: pd.DataFrame) -> Iterator[str]:
+    """Where the spread of values, of bounds or of what the one schedule earns is told as another."""
+    for name in VALUES:
+        for word, amount in spread(rows[name]).items():
+            if not abs(said[name][word] - amount) <= CENT + 1e-9 * abs(amount):
+                yield f"{name}_{word} {said[name][word]:.12g} for {amount:.12g}"

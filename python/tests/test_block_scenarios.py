@@ -1,0 +1,501 @@
+"""`pitplan scenarios --by block`: small mines by hand and by trying all schedules, the ways to solve them, and what is refused."""
+
+import io
+import json
+import os
+import shutil
+import subprocess
+import sys
+from contextlib import redirect_stderr, redirect_stdout
+from fractions import Fraction
+from itertools import product
+
+import numpy as np
+import pandas as pd
+import pytest
+from conftest import ROOT, rows
+from hypothesis import given, settings
+from hypothesis import strategies as st
+from scipy.optimize import linprog
+from test_pushbacks import UPRIGHT
+from test_scenarios import hill, write_models
+
+from pitplan import MissingPackage, PlanError, Request, block_commands, commands, gather, load, scenarios, simulation
+from pitplan.cli import main
+from pitplan.progress import silent
+from pitplan.simulation import folder as folders, prepare, value_pictures, work
+from pitplan.simulation.one_schedule import best_shares
+
+# The mill takes the ore of one block a year, and the shovels two pillars of two blocks.
+YEARLY = UPRIGHT.replace("ore_per_year = 100", 'ore_per_year = 100\nrock_per_year = 400\ndiscounting = "end_of_year"')
+COLUMNS = '[scenarios]\ncolumns = { copper = "sim_*" }\n'
+TWO_YEARS = YEARLY + "[schedule]\nyears = 2\n" + COLUMNS
+BY_BLOCK = Request(by="block")
+# The same with the process by its name.
+MILL = '[[processes]]\nname = "mill"\ncost = 10\nrecovery = { copper = 0.5 }\nper_year = 100\n'
+IN_MILL = [("recovery = 0.5\n", ""), ("ore_per_year = 100\n", "")]
+FILES = ["schedules.csv", "one_schedule.csv", "one_schedule_years.csv", "quantiles.csv", "one_schedule.json"]
+
+
+@pytest.fixture(scope="module", autouse=True)
+def blank_picture():
+    """The picture is an empty file, but in the test that draws it."""
+    with pytest.MonkeyPatch.context() as patch:
+        patch.setattr(simulation.value_pictures, "write", lambda table, currency, path: path.touch())
+        yield
+
+
+def pillars(*models):
+    """As many pillars as a model has grades, of waste over ore of these. A block of grade g yields 4000 g in the mill, less 1000; to dig
+    one costs 200."""
+    table = rows(len(models[0]), 1, 2).drop(columns="cu")
+    return table.assign(**{f"sim_{number}": [*grades, *[0] * len(grades)] for number, grades in enumerate(models, 1)})
+
+
+def prepared(path):
+    project = load(path)
+    return prepare.prepare(project, project.folder / "block_scenarios", silent, "block")
+
+
+def solved_in_turn(shared):
+    outcomes = [work.solve(str(shared.folder), job.number) for job in shared.missing()]
+    assert [outcome.why for outcome in outcomes] == [""] * len(outcomes)
+    simulation.gather(shared.folder, Request(), silent)
+    return shared.folder
+
+
+def answered(plan_folder, table, text=TWO_YEARS):
+    """The folder of the scenarios of a mine, solved one after the other and verified."""
+    return solved_in_turn(prepared(plan_folder(table, text)))
+
+
+def table_of(folder):
+    return pd.read_csv(folder / "schedules.csv").set_index("model")
+
+
+def years_of(folder, model):
+    years = pd.read_csv(folder / "one_schedule_years.csv")
+    return years[years["model"] == model].set_index("year")
+
+
+def record_of(folder):
+    return json.loads((folder / "one_schedule.json").read_text())
+
+
+EACH = 2600 / 1.1 + 600 / 1.21
+
+
+def test_two_models_by_hand(plan_folder):
+    """Gains of 3000, 1000 and nothing, and the other way round. Each model alone digs its rich pillar first, then the middle one. On the
+    mean both outer pillars are worth 1500 and half a mill, so that both go first, though at the mean grade each would be worth 1000 and
+    a whole mill."""
+    folder = answered(plan_folder, pillars([1, 0.5, 0], [0, 0.5, 1]))
+    table, told = table_of(folder), record_of(folder)
+    assert table["value"].tolist() == pytest.approx([EACH] * 2) == table["bound"].tolist()
+    assert table[["status", "years", "blocks", "tonnes", "ore_tonnes"]].to_numpy().tolist() == [["solved", 2, 4, 400, 200]] * 2
+    planned = (3000 - 800) / 1.1 + 600 / 1.21
+    assert table["one_value"].tolist() == pytest.approx([planned] * 2) and told["value_as_planned"] == pytest.approx(planned, abs=1e-3)
+    assert told["perfect_information"] == pytest.approx(400 / 1.1, abs=1e-3)
+    assert told["bound_as_planned"] == pytest.approx(planned, abs=1e-3)
+    assert table[["one_ore_tonnes", "one_ore_left_tonnes", "one_years_short"]].to_numpy().tolist() == [[200, 0, 0]] * 2
+    blocks = pd.read_csv(folder / "one_schedule.csv").set_index("name")
+    assert blocks["year"].to_dict() == {f"b{i}-0-{k}": 2 if i == 1 else 1 for i in range(3) for k in range(2)}
+    assert "cu" not in blocks and blocks["share_mill"][["b0-0-0", "b1-0-0", "b2-0-0"]].tolist() == [1, 1, 1]
+
+
+def test_ore_above_the_mill_stays_waste_and_is_told(plan_folder):
+    """Both outer pillars are rich in one model, of which the mill takes one, and waste in the other, which is short of ore in the first
+    year. Known before, the one model would dig one in each year, and the other the middle pillar alone."""
+    folder = answered(plan_folder, pillars([1, 0.5, 1], [0, 0.5, 0]))
+    table, told = table_of(folder), record_of(folder)
+    rich, poor = (3000 - 800) / 1.1 + 600 / 1.21, -800 / 1.1 + 600 / 1.21
+    assert table["one_value"].tolist() == pytest.approx([rich, poor])
+    assert told["value_as_planned"] == pytest.approx(rich, abs=1e-3)
+    assert table["bound"].tolist() == pytest.approx([2600 / 1.1 + 2600 / 1.21, 600 / 1.1])
+    assert table[["one_ore_tonnes", "one_ore_left_tonnes", "one_years_short"]].to_numpy().tolist() == [[200, 100, 0], [100, 0, 1]]
+    first = years_of(folder, "sim_1").loc[1]
+    assert first[["rock_tonnes", "ore_tonnes", "ore_left_tonnes", "planned_ore_tonnes", "cash"]].tolist() == [400, 100, 100, 100, 2200]
+    assert years_of(folder, "sim_2")["cash"].tolist() == [-800, 600]
+    mean = (sum(table["bound"]) - sum(table["one_value"])) / 2
+    assert told["perfect_information"] == pytest.approx(mean, abs=1e-3) == pytest.approx(2528.926 - 1132.231, abs=2e-3)
+
+
+def test_quantiles_by_hand(plan_folder):
+    """Of two sets of prices: at 12,000 a block of grade g yields 6000 g."""
+    sets = "[[scenarios.prices]]\ncopper = 8000\n[[scenarios.prices]]\ncopper = 12_000\n"
+    folder = answered(plan_folder, pillars([1, 0.5, 0], [0.75, 0.5, 0]), TWO_YEARS + sets)
+    table = pd.read_csv(folder / "quantiles.csv").set_index("price_copper")
+    values = [2600 / 1.1 + 600 / 1.21, 1600 / 1.1 + 600 / 1.21]
+    assert table.index.tolist() == [8000, 12000] and table["models"].tolist() == [2, 2]
+    told = table.loc[8000, ["value_least", "value_greatest", "value_mean"]].tolist()
+    assert told == pytest.approx([values[1], values[0], sum(values) / 2])
+    assert table.loc[8000, "bound_quantile_0.1"] == pytest.approx(values[1] + 0.1 * (values[0] - values[1]))
+    # The one schedule digs the first pillar and then the second, as each scenario's own does.
+    assert table.loc[12000, "one_value_greatest"] == pytest.approx(4600 / 1.1 + 1600 / 1.21)
+    assert pd.read_csv(folder / "schedules.csv")["price_copper"].tolist() == [8000, 12000] * 2
+    assert record_of(folder)["perfect_information"] == pytest.approx(0, abs=0.01)
+
+
+def test_of_one_scenario_the_one_schedule_is_its_own(plan_folder):
+    folder = answered(plan_folder, pillars([1, 0.5, 0.9, 0.3]))
+    (row,) = table_of(folder).to_dict("records")
+    assert row["one_value"] == pytest.approx(row["value"])
+    assert record_of(folder)["value_as_planned"] == pytest.approx(row["value"], abs=1e-3)
+    shared = folders.read_shared(folder)
+    own, one = (np.load(shared.answer(job)) for job in shared.jobs)
+    assert own["year"].tolist() == one["year"].tolist() and own["share"].tolist() == one["share"].tolist()
+
+
+def needs_of(table):
+    """For each block the one above it."""
+    places = {tuple(place): row for row, place in enumerate(table[["x", "y", "z"]].to_numpy().tolist())}
+    return [places.get((x, y, z + 10)) for x, y, z in places]
+
+
+def every_schedule(table, years, rock):
+    """Each way to dig, as the year of each block, one more than there are where it is not dug, by trying all: with what it needs, and no
+    more rock in a year."""
+    needs = needs_of(table)
+    for year in product(range(1, years + 2), repeat=len(table)):
+        ordered = all(above is None or year[above] <= year[block] for block, above in enumerate(needs))
+        if ordered and all(100 * year.count(one) <= rock for one in range(1, years + 1)):
+            yield year
+
+
+def earned(year, grades, years, ore):
+    """What a schedule earns by milling the richest ore of each year, in exact fractions."""
+    gains, total = [max(Fraction(str(grade)) * 4000 - 1000, Fraction(0)) for grade in grades], Fraction(0)
+    for one in range(1, years + 1):
+        blocks, room = [block for block in range(len(year)) if year[block] == one], Fraction(ore)
+        cash = Fraction(-200 * len(blocks))
+        for gain in sorted((gains[block] for block in blocks), reverse=True):
+            share = min(room / 100, Fraction(1)) if gain else Fraction(0)
+            cash, room = cash + gain * share, room - 100 * share
+        total += cash / Fraction(11, 10) ** one
+    return total
+
+
+grades_of = st.lists(st.sampled_from([0, 0, 0.3, 0.5, 0.8, 1.5]), min_size=6, max_size=6)
+
+
+@settings(max_examples=12)
+@given(grades_of, grades_of, st.sampled_from([100, 150]), st.sampled_from([300, 400]))
+def test_no_schedule_of_all_earns_more_than_a_scenario_s_bound(tmp_path_factory, one, other, ore, rock):
+    """Of six blocks in two years every schedule is tried, each milling its best ore: the bounds hold for all of them, and so the mean of
+    bounds for any one schedule in both."""
+    place = tmp_path_factory.mktemp("all")
+    text = TWO_YEARS.replace("ore_per_year = 100", f"ore_per_year = {ore}").replace("rock_per_year = 400", f"rock_per_year = {rock}")
+    (place / "project.toml").write_text(text)
+    table = rows(3, 1, 2).drop(columns="cu").assign(sim_1=one, sim_2=other)
+    table.to_csv(place / "blocks.csv", index=False)
+    folder = solved_in_turn(prepared(place / "project.toml"))
+    found, every = table_of(folder), list(every_schedule(table, 2, rock))
+    best = [[earned(year, grades, 2, ore) for year in every] for grades in (one, other)]
+    for name, grades, of_all in zip(found.index, (one, other), best):
+        row = found.loc[name]
+        assert float(max(of_all)) <= row["bound"] + 1e-6 and row["value"] <= float(max(of_all)) + 1e-6
+        year = [it or 3 for it in pd.read_csv(folder / "one_schedule.csv").set_index("name")["year"][table["name"]]]
+        assert tuple(year) in every and row["one_value"] == pytest.approx(float(earned(year, grades, 2, ore)), abs=1e-6)
+    most = float(max(sum(pair) for pair in zip(*best))) / 2
+    told = record_of(folder)
+    assert told["one_value"]["mean"] <= most + 1e-3 <= told["bound"]["mean"] + 2e-3
+    # What knowing the ground is worth, had the best one schedule been found.
+    assert sum(float(max(of_all)) for of_all in best) / 2 - most <= told["perfect_information"] + 2e-3
+
+
+cases = st.integers(1, 6).flatmap(
+    lambda count: st.tuples(
+        st.lists(st.sampled_from([0, 1, 2.5, 7]), min_size=count, max_size=count),
+        st.lists(st.lists(st.sampled_from([0, 1, 3, 4]), min_size=count, max_size=count), min_size=1, max_size=3),
+        st.lists(st.sampled_from([0, 2, 5, 9.5]), min_size=3, max_size=3),
+    )
+)
+
+
+@settings(max_examples=200)
+@given(cases)
+def test_the_best_ore_is_that_of_a_linear_programme_of_all_limits(case):
+    gain, takes, most = (np.array(part, dtype=float) for part in case)
+    most = most[: len(takes)]
+    shares = best_shares(gain, takes, most)
+    assert (shares >= 0).all() and (shares <= 1).all() and (takes @ shares <= most * (1 + 1e-9) + 1e-12).all()
+    best = linprog(-gain, A_ub=takes, b_ub=most, bounds=(0, 1), method="highs-ipm")
+    assert gain @ shares == pytest.approx(-best.fun, abs=1e-5)
+
+
+def test_a_limit_of_metal_holds_in_each_scenario(plan_folder):
+    """Half a tonne of metal a block of grade 1, and three quarters a year: of two blocks of grade 1 the second goes by half to
+    the mill where both are dug. That scenario's own schedule digs one alone, since years are filled with whole blocks."""
+    text = TWO_YEARS.replace("ore_per_year = 100", "ore_per_year = 300")
+    text = text.replace("years = 2", "years = 1\nmetal_per_year = { copper = 0.75 }")
+    folder = answered(plan_folder, pillars([1, 0, 1], [0.5, 0, 0.5]), text)
+    table = table_of(folder)
+    assert table["one_value"]["sim_1"] == pytest.approx((3000 + 1500 - 800) / 1.1)
+    assert table["metal_copper"].tolist() == pytest.approx([0.5, 0.5])
+    assert table["one_ore_left_tonnes"].tolist() == pytest.approx([50, 0])
+
+
+def test_a_schedule_each_is_that_of_the_model_with_the_process_by_name(plan_folder, tmp_path):
+    """Where a project names its only process ore may be left as waste, as in scenarios."""
+    rng = np.random.default_rng(5)
+    table = rows(6, 5, 3)
+    table["cu"] = np.where(rng.random(len(table)) < 0.25, rng.random(len(table)).round(3) * 2, 0.0)
+    text = TWO_YEARS.replace("years = 2", "years = 5").replace("rock_per_year = 400", "rock_per_year = 1200")
+    folder = answered(plan_folder, table.rename(columns={"cu": "sim_1"}), text)
+    alone = text.partition("[scenarios]")[0]
+    for old, new in [("processing_cost = 10\n", ""), *IN_MILL, ("[slopes]\n", MILL + "[slopes]\n")]:
+        assert alone.count(old) == 1
+        alone = alone.replace(old, new)
+    (tmp_path / "other").mkdir()
+    table.to_csv(tmp_path / "other" / "blocks.csv", index=False)
+    (tmp_path / "other" / "project.toml").write_text(alone)
+    with pytest.MonkeyPatch.context() as patch:
+        patch.setattr(commands, "draw", lambda *given: {})
+        patch.setattr(commands, "draw_phases", lambda *given: {})
+        patch.setattr(commands.yearly, "write_years", lambda *given: None)
+        patch.setattr(commands, "PICTURES", {"years": "years.png"})
+        patch.setattr(commands.pictures, "files_of", lambda *given: [])
+        patch.setattr(commands.report_page, "write", lambda *given: None)
+        other = block_commands.write_block_schedule(tmp_path / "other" / "project.toml").iloc[0]
+    (row,) = table_of(folder).to_dict("records")
+    assert row["bound"] == pytest.approx(other["bound"], rel=1e-4) and row["value"] > 0
+    assert row["value"] == pytest.approx(other["value"]) and row["years"] == other["years"] > 2
+
+
+def test_years_are_those_of_the_longest_pit_and_a_fifth_more(plan_folder):
+    """Three pillars that pay take three years, and so four; with one that pays two."""
+    text = TWO_YEARS.replace("[schedule]\nyears = 2\n", "")
+    assert prepared(plan_folder(pillars([1, 1, 1], [1, 0, 0]), text)).record["years"] == 4
+    assert prepared(plan_folder(pillars([1, 0, 0], [1, 0, 0]), text)).record["years"] == 2
+
+
+def test_it_goes_on_where_it_stopped(plan_folder):
+    """A model more is solved alone, with the one schedule for all; another rate makes all anew."""
+    table, model = hill()
+    text = YEARLY + '[schedule]\nyears = 2\n[scenarios]\nmodels = "models"\n'
+    path = plan_folder(table, text)
+    write_models(path, first=model, second=model.assign(cu=model["cu"] * 2))
+    folder = solved_in_turn(prepared(path))
+    written = {file: file.stat().st_mtime_ns for file in (folder / "done").iterdir()}
+    assert len(written) == 3 and not prepared(path).missing()
+    write_models(path, third=model.assign(cu=0.7))
+    shared = prepared(path)
+    assert [job.label for job in shared.missing()] == ["third", "one schedule for all"]
+    solved_in_turn(shared)
+    assert {file: file.stat().st_mtime_ns for file in written} == written
+    path.write_text(text.replace("rate = 0.1", "rate = 0.09"))
+    assert len(prepared(path).missing()) == 4
+
+
+@pytest.mark.parametrize(
+    ("old", "new"),
+    [
+        ("discounting = \"end_of_year\"", "discounting = \"mid_year\""),
+        ("years = 2", "years = 3"),
+        ("years = 2", "years = 2\nramp_up = [0.5, 1.0]"),
+        ("years = 2", "years = 2\nmetal_per_year = { copper = 1 }"),
+        ("rock_per_year = 400", "rock_per_year = 500"),
+        ("ore_per_year = 100", "ore_per_year = 101"),
+        ("mining_cost = 2", "mining_cost = 2.1"),
+    ],
+)
+def test_whatever_changes_a_schedule_changes_its_name(plan_folder, old, new):
+    table = pillars([1, 0.5, 0])
+    before = prepared(plan_folder(table, TWO_YEARS))
+    keys = [job.key for job in before.jobs]
+    after = [job.key for job in prepared(plan_folder(table, TWO_YEARS, (old, new))).jobs]
+    assert not set(keys) & set(after)
+
+
+def test_a_schedule_that_is_searched_for_by_other_code_has_another_name(plan_folder, monkeypatch, tmp_path):
+    path = plan_folder(pillars([1, 0.5, 0]), TWO_YEARS)
+    keys = [job.key for job in prepared(path).jobs]
+    shutil.copytree(folders.SEARCH, tmp_path / "search")
+    monkeypatch.setattr(folders, "SEARCH", tmp_path / "search")
+    assert [job.key for job in prepared(path).jobs] == keys
+    with open(tmp_path / "search" / "filling.py", "a") as file:
+        file.write("# other\n")
+    assert not set(keys) & {job.key for job in prepared(path).jobs}
+
+
+def test_factors_are_no_part_of_a_schedule(plan_folder):
+    table = pillars([1, 0.5, 0])
+    keys = [job.key for job in prepared(plan_folder(table, TWO_YEARS)).jobs]
+    assert keys == [job.key for job in prepared(plan_folder(table, TWO_YEARS, ("[500, 1000, 1500]", "[700, 1000]"))).jobs]
+
+
+@pytest.mark.parametrize(
+    ("words", "said"),
+    [
+        ("milp = { seconds = 5 }", "[schedule] milp: its seconds would let answers hang on the machine"),
+        ("lag = 1", "[schedule] lag: is of phases"),
+        ("sinking_rate = 2", "[schedule] sinking_rate: is of the benches of a phase"),
+        ("bins = 2", "[schedule] bins: are of benches"),
+        ("bins = 2\nstockpile = { rehandling_cost = 1 }", "[schedule] bins: are of benches"),
+        ("least = { ore = 10 }", "[schedule] least: a schedule for all scenarios cannot keep it in each"),
+        ('[[schedule.sums]]\ncolumn = "tonnes"\nmost = 5', "[[schedule.sums]]: are of a table's columns"),
+    ],
+)
+def test_what_is_refused(plan_folder, words, said):
+    path = plan_folder(pillars([1, 0.5, 0]), TWO_YEARS, ("years = 2", f"years = 2\n{words}"))
+    with pytest.raises(PlanError) as error:
+        scenarios(path, request=BY_BLOCK)
+    assert said in str(error.value) and "project.toml" in str(error.value)
+    assert not (path.parent / "plan").exists()
+
+
+@pytest.mark.parametrize(
+    ("changes", "said"),
+    [
+        ([("mining_cost = 2\n", "mining_cost = 2\nfixed_cost_per_year = 5\n")], "fixed_cost_per_year, capital: what years cost"),
+        ([("price = 8000", "price = 8000\nprices = [8000, 9000]")], "[[metals]] prices: of years"),
+        ([(COLUMNS, "")], "[scenarios] is missing: it names the models"),
+        ([("years = 2\n", "years = 2\n" + MILL), ("processing_cost = 10\n", ""), *IN_MILL], "[scenarios] are solved with one process"),
+    ],
+)
+def test_what_else_is_refused(plan_folder, changes, said):
+    with pytest.raises(PlanError) as error:
+        scenarios(plan_folder(pillars([1, 0.5, 0]), TWO_YEARS, *changes), request=BY_BLOCK)
+    assert said in str(error.value)
+
+
+def test_limits_under_which_a_pit_would_take_too_long_are_refused(plan_folder):
+    text = TWO_YEARS.replace("[schedule]\nyears = 2\n", "").replace("ore_per_year = 100", "ore_per_year = 1")
+    path = plan_folder(pillars([1, 1, 1]), text)
+    with pytest.raises(PlanError, match="the pit would take more than 200 years: are the limits in tonnes a year?"):
+        scenarios(path, request=BY_BLOCK)
+    assert not (path.parent / "plan" / "block_scenarios" / "scenarios.json").exists()
+
+
+def test_a_factor_another_kind_of_folder_and_the_program_are_refused(plan_folder, capsys):
+    path = plan_folder(pillars([1, 0.5, 0]), TWO_YEARS)
+    words = ["scenarios", str(path), "--by", "block", "--quiet"]
+    assert main([*words, "--factor", "1000"]) == 1
+    assert "pitplan: --factor: schedules by block are made at the price as given: leave it out" in capsys.readouterr().err
+    assert main([*words, "--solver", "program"]) == 1
+    assert "pitplan: --solver program: finds pits alone" in capsys.readouterr().err
+    folder = prepared(path).folder
+    with pytest.raises(PlanError, match="holds scenarios --by block: give another folder by --out for those --by pit"):
+        scenarios(path, folder)
+    with pytest.raises(PlanError, match="2 of 2 schedules have no answer, first sim_1: was not solved"):
+        gather(folder)
+    with pytest.raises(PlanError, match="--factor: schedules by block"):
+        gather(folder, Request(factor=500))
+
+
+def test_without_the_library_it_is_told_what_is_missing(plan_folder):
+    path = plan_folder(pillars([1, 0.5, 0]), TWO_YEARS)
+    words = [sys.executable, str(ROOT / "tools" / "pitplan"), "scenarios", str(path), "--by", "block"]
+    ran = subprocess.run(words, capture_output=True, text=True, env=os.environ | {"PITSHELL_LIBRARY": "/nowhere.so"})
+    why = "a schedule by block needs the library of pits: no libpitshell.so at /nowhere.so: make library builds it"
+    assert ran.returncode == 1 and ran.stderr == f"pitplan: {why}\n" and MissingPackage.__name__ not in ran.stderr
+
+
+def without_seconds(folder):
+    """The bytes of all tables, but for the seconds that schedules took."""
+    found = {name: (folder / name).read_bytes() for name in FILES}
+    return found | {"schedules.csv": pd.read_csv(folder / "schedules.csv", dtype=str).drop(columns="seconds").to_csv()}
+
+
+@pytest.mark.filterwarnings("ignore:make_current is deprecated:DeprecationWarning")
+def test_processes_of_dask_write_the_same_as_one_after_the_other(plan_folder, tmp_path):
+    pytest.importorskip("distributed", reason="needs the Debian package python3-distributed")
+    rng = np.random.default_rng(3)
+    table = rows(5, 4, 3).drop(columns="cu")
+    for name in ("sim_1", "sim_2", "sim_3"):
+        table[name] = np.where(rng.random(len(table)) < 0.3, rng.random(len(table)).round(3) * 2, 0.0)
+    path = plan_folder(table, TWO_YEARS.replace("years = 2", "years = 4"))
+    here = solved_in_turn(prepared(path))
+    result = scenarios(path, tmp_path / "dask", Request("local", 2, by="block"))
+    assert without_seconds(here) == without_seconds(tmp_path / "dask")
+    assert any(note.startswith("4 solved (status 0)") for note in result.notes) and len(result.schedules) == 3
+    assert "0 of 4 schedules have their answer already" in result.notes
+
+
+def test_jobs_of_slurm_solve_their_lines(plan_folder):
+    """The third line is the one schedule for all."""
+    path = plan_folder(pillars([1, 0.5, 0], [0, 0.5, 1]), TWO_YEARS)
+    result = scenarios(path, request=Request("slurm", by="block"))
+    folder = result.folder
+    assert result.start == folder / "start.sh" and (folder / "jobs.txt").read_text() == "1\n2\n3\n"
+    subprocess.run(["sh", str(folder / "array.sbatch")], check=True, env={**os.environ, "SLURM_ARRAY_TASK_ID": "3"})
+    assert [job.number for job in folders.read_shared(folder).missing()] == [1, 2]
+    with pytest.raises(PlanError, match="2 of 3 schedules have no answer, first sim_1: was not solved"):
+        gather(folder)
+
+
+def test_some_schedules_are_gathered_on_request_alone(plan_folder):
+    """The second model and the one schedule have answers; the first still digs it, and has no bound beside."""
+    shared = prepared(plan_folder(pillars([1, 0.5, 0], [0, 0.5, 1]), TWO_YEARS))
+    assert work.solve(str(shared.folder), 2).status == 0
+    with pytest.raises(PlanError, match="the one schedule for all was not made: was not solved: run pitplan scenarios again"):
+        gather(shared.folder, Request(partial=True))
+    assert work.solve(str(shared.folder), 3).status == 0
+    notes = gather(shared.folder, Request(partial=True)).notes
+    assert "WARNING: 1 scenarios have no answer and are left out of everything" in notes
+    table = table_of(shared.folder)
+    assert table.columns[:4].tolist() == ["scenario", "status", "value", "bound"]
+    assert table["status"].tolist() == ["was not solved", "solved"] and np.isnan(table["bound"]["sim_1"])
+    assert table["one_value"].tolist() == pytest.approx([(3000 - 800) / 1.1 + 600 / 1.21] * 2)
+    assert record_of(shared.folder)["answered"] == 1 and record_of(shared.folder)["bound"]["mean"] == pytest.approx(EACH, abs=1e-3)
+
+
+def test_fixed_blocks_hold_in_every_schedule(plan_folder):
+    """The pillar that must be dug is waste in both models; the rich one may not be dug."""
+    table = pillars([1, 0.5, 0], [0.8, 0.5, 0]).assign(must=[0, 0, 1, 0, 0, 0], never=[0, 0, 0, 1, 0, 0])
+    text = TWO_YEARS + '[fixed]\nforced = "must"\nbarred = "never"\n'
+    folder = answered(plan_folder, table, text)
+    # To dig the waste in the second year costs less.
+    assert table_of(folder)["value"].tolist() == pytest.approx([600 / 1.1 - 400 / 1.21] * 2)
+    blocks = pd.read_csv(folder / "one_schedule.csv").set_index("name")["year"]
+    assert blocks[["b0-0-0", "b0-0-1"]].tolist() == [0, 0] and blocks["b2-0-0"] == 2 and blocks["b1-0-0"] == 1
+
+
+def test_a_schedule_that_reaches_ground_that_is_not_known_is_refused(plan_folder):
+    """Nothing is known of the block over the ore of the first pillar, between two rows."""
+    table = rows(1, 1, 3).drop(columns="cu").assign(sim_1=[1.5, 0, 0])
+    shared = prepared(plan_folder(table[table["z"] != 15], TWO_YEARS))
+    outcome = work.solve(str(shared.folder), 1)
+    assert outcome.status == 5 and "sim_1: blocks.csv: the shells reach 1 cells that have no row" in outcome.why
+
+
+def test_nothing_that_pays_is_a_schedule_of_nothing(plan_folder):
+    folder = answered(plan_folder, pillars([0, 0.2, 0], [0.1, 0, 0]))
+    assert table_of(folder)[["value", "bound", "years", "one_value"]].to_numpy().tolist() == [[0, 0, 0, 0]] * 2
+    assert pd.read_csv(folder / "one_schedule_years.csv").empty
+
+
+def test_the_command_line_tells_what_a_planner_should_know(plan_folder):
+    path = plan_folder(pillars([1, 0.5, 1], [0, 0.5, 0]), TWO_YEARS)
+    solved_in_turn(prepared(path))
+    with redirect_stdout(io.StringIO()) as out, redirect_stderr(io.StringIO()) as err:
+        assert main(["scenarios", str(path), "--by", "block"]) == 0
+    folder = path.parent / "plan" / "block_scenarios"
+    assert out.getvalue() == f"{folder}\n"
+    said = err.getvalue()
+    assert "3 of 3 schedules have their answer already" in said
+    assert "the one schedule for all earns 1,132 on the mean of 2 scenarios, from -231 to 2,496; 2,496 as it was planned" in said
+    assert "of its ore 50 t are left as waste on the mean, since the mill is full, and in 0.5 of its years less is milled" in said
+    assert "earns 2,529 on the mean, and at most 2,529: so to know the ground would be worth at most 1,397, 55.23 %" in said
+
+
+def test_an_interrupted_schedule_is_no_answer(plan_folder, monkeypatch):
+    def interrupt(*given):
+        raise KeyboardInterrupt
+
+    shared = prepared(plan_folder(pillars([1, 0.5, 0]), TWO_YEARS))
+    monkeypatch.setattr("pitplan.block_schedule.solving.moved", interrupt)
+    with pytest.raises(KeyboardInterrupt):
+        work.solve(str(shared.folder), 1)
+    assert len(shared.missing()) == 2
+
+
+def test_the_picture_has_each_scenario_and_the_spread():
+    figure = value_pictures.Figure()
+    table = pd.DataFrame({"one_value": [1e7, 3e7], "value": [2e7, 4e7], "bound": [2.5e7, 4.1e7]})
+    each, spread = value_pictures.plot(table, "USD", figure.subplots(1, 2, sharey=True))
+    points = {line.get_label(): line.get_ydata().tolist() for line in each.lines}
+    assert points["the one schedule for all"] == [10, 30] and points["the bound of each"] == [25, 41]
+    assert spread.get_title(loc="left") == "to know the ground is worth at most 13 M USD on the mean"
+    assert [text.get_text() for text in spread.texts] == ["mean 20", "mean 30", "mean 33"]
+    assert each.get_ylabel() == "discounted value, M USD"

@@ -1,0 +1,298 @@
+"""The second look at schedules over scenarios: what is right passes, and each wrong answer, number and mistake in the code is found."""
+
+import json
+import re
+import shutil
+
+import numpy as np
+import pandas as pd
+import pytest
+from conftest import PROJECT
+from test_block_scenarios import TWO_YEARS, pillars, prepared, solved_in_turn
+from test_features_together import pick, project_of, table_of
+from test_verify import TEXT
+from test_verify_scenarios import SETS, answer_of, bend, simulated
+
+from pitplan import PlanError, gather, load, simulation
+from pitplan.cli import main
+from pitplan.simulation import block_problem, block_work, folder as folders, one_schedule, work
+from pitplan.verification import verify_folder
+from pitplan.verification.best_ore import most_earned
+
+LIMITS = ("ore_per_year = 150\nrock_per_year = 1000", "ore_per_year = 300\nrock_per_year = 9000")
+YEARLY = TEXT.replace("rate = 0.1", 'rate = 0.1\ndiscounting = "mid_year"').replace(*LIMITS)
+RULES = ["blocks", "absent", "levels", "scenarios", "block order", "block value", "one schedule", "tables"]
+
+
+@pytest.fixture(scope="module", autouse=True)
+def blank_picture():
+    with pytest.MonkeyPatch.context() as patch:
+        patch.setattr(simulation.value_pictures, "write", lambda table, currency, path: path.touch())
+        yield
+
+
+@pytest.fixture(scope="module")
+def gathered(tmp_path_factory):
+    """Three models of a hill at two sets of prices, with fixed blocks, two metals, a ramp-up and a limit of metal."""
+    place = tmp_path_factory.mktemp("scheduled")
+    simulated().to_csv(place / "blocks.csv", index=False)
+    text = YEARLY + "[schedule]\nramp_up = [0.5, 1.0]\nyears = 4\nmetal_per_year = { gold = 60 }\n"
+    (place / "project.toml").write_text(text + '[scenarios]\ncolumns = { copper = "cu_*" }\n' + SETS)
+    solved_in_turn(prepared(place / "project.toml"))
+    return place
+
+
+@pytest.fixture
+def copied(gathered, tmp_path):
+    return shutil.copytree(gathered, tmp_path / "mine") / "plan" / "block_scenarios"
+
+
+def wrong(folder):
+    return {rule.name for rule in verify_folder(folder) if rule.differences}
+
+
+def one_of(folder):
+    return folder / "done" / f"{json.loads((folder / 'scenarios.json').read_text())['mean']['key']}.npz"
+
+
+def test_what_is_right_is_told_rule_by_rule(copied, capsys):
+    assert main(["verify", str(copied)]) == 0
+    lines = capsys.readouterr().out.splitlines()
+    assert [line.split(":")[0] for line in lines] == RULES
+    said = json.loads((copied / "gathered.json").read_text())
+    assert said["answers"] == [1, 2, 3, 4, 5, 6] and said["verified"] == lines
+    table = pd.read_csv(copied / "schedules.csv")
+    assert (table["one_ore_left_tonnes"] > 0).all() and (table["value"] > 0).sum() == 4
+    assert "in the one schedule and 6 of 6 others no block is dug before its whole cone is" in lines[4]
+
+
+def top_last(year):
+    """A block of the highest level that is dug in the first year is dug in the last, behind those that need it."""
+    bent = year.copy()
+    bent[np.flatnonzero(year == 1)[-1]] = 4
+    return bent
+
+
+def first_amount(by):
+    """The value, which stands first."""
+    return lambda amounts: amounts + by * (np.arange(len(amounts)) == 0)
+
+
+@pytest.mark.parametrize(
+    ("number", "changed", "found"),
+    [
+        (1, {"year": top_last}, {"block order", "block value"}),
+        (2, {"share": lambda it: it * 0.9}, {"block value"}),
+        (4, {"share": lambda it: it + 0.5 * (it > 0)}, {"block order", "block value"}),
+        (4, {"year": lambda it: it + 9 * (it == it.max())}, {"block order", "block value"}),
+        (4, {"amounts": first_amount(1.0)}, {"block value", "tables"}),
+    ],
+)
+def test_each_wrong_answer_is_found_and_not_gathered(copied, capsys, number, changed, found):
+    bend(answer_of(copied, number), **changed)
+    assert found <= wrong(copied)
+    before = (copied / "schedules.csv").read_bytes()
+    assert main(["gather", str(copied), "--quiet"]) == 1
+    assert "pitplan: " in capsys.readouterr().err and (copied / "schedules.csv").read_bytes() == before
+
+
+def test_a_bound_below_what_is_earned_is_found(copied):
+    """That of the first scenario is half of what it was."""
+
+    def half(amounts):
+        return np.where(np.arange(len(amounts)) == 1, amounts / 2, amounts)
+
+    bend(answer_of(copied, 1), amounts=half)
+    found = {rule.name: rule.differences for rule in verify_folder(copied)}
+    assert any("is above bound" in said for said in found["block value"])
+    assert any("the one schedule earns" in said and "above the bound" in said for said in found["one schedule"])
+
+
+@pytest.mark.parametrize("changed", [{"year": top_last}, {"share": lambda it: it * 0.9}, {"amounts": first_amount(1.0)}])
+def test_a_wrong_schedule_for_all_is_found(copied, changed):
+    bend(one_of(copied), **changed)
+    assert {"block value", "tables"} <= wrong(copied)
+
+
+@pytest.mark.parametrize(("old", "new"), [("rock_per_year = 9000", "rock_per_year = 3000"), ("gold = 60", "gold = 20")])
+def test_a_year_above_a_limit_is_found(copied, old, new):
+    """By a project whose limit is less than that by which schedules were made."""
+    path = copied / "project.toml"
+    text = path.read_text()
+    assert text.count(old) == 1
+    path.write_text(text.replace(old, new))
+    (rule,) = [rule for rule in verify_folder(copied) if rule.name == "block value"]
+    name = "rock_tonnes" if "rock" in old else "metal_gold"
+    assert any(f": {name} " in said and f"above {new.split()[-1]}" in said for said in rule.differences)
+
+
+def test_the_schedule_of_another_scenario_is_found(copied):
+    """That of the same model at other prices."""
+    shutil.copyfile(answer_of(copied, 2), answer_of(copied, 1))
+    assert "block value" in wrong(copied)
+
+
+@pytest.mark.parametrize(
+    ("file", "column", "rule"),
+    [
+        ("one_schedule.csv", "id", "blocks"),
+        ("one_schedule.csv", "year", "tables"),
+        ("one_schedule.csv", "share_mill", "tables"),
+        *(("schedules.csv", name, "tables") for name in ("price_gold", "value", "bound", "below_bound", "years", "blocks", "tonnes")),
+        *(("schedules.csv", name, "tables") for name in ("ore_tonnes", "metal_gold", "one_value", "one_ore_tonnes", "one_years_short")),
+        ("schedules.csv", "one_ore_left_tonnes", "tables"),
+        *(("one_schedule_years.csv", name, "one schedule") for name in ("rock_tonnes", "ore_tonnes", "planned_ore_tonnes", "cash")),
+        ("one_schedule_years.csv", "discounted", "one schedule"),
+        ("one_schedule_years.csv", "price_copper", "tables"),
+        *(("quantiles.csv", name, "tables") for name in ("models", "value_mean", "bound_least", "one_value_greatest")),
+        *(("quantiles.csv", f"one_value_quantile_{share}", "tables") for share in (0.1, 0.5, 0.9)),
+    ],
+)
+def test_each_number_that_is_bent_is_found(copied, file, column, rule):
+    """A little more in the last row that has the number."""
+    table = pd.read_csv(copied / file)
+    at = table.index[table[column] > 0][-1]
+    bent = table.loc[at, column] + (1 if column in ("blocks", "id", "models", "years", "year", "one_years_short") else 0.05)
+    table[column] = table[column].where(table.index != at, bent)
+    table.to_csv(copied / file, index=False)
+    assert rule in wrong(copied)
+
+
+def test_a_status_and_a_model_that_are_not_so_are_found(copied):
+    table = pd.read_csv(copied / "schedules.csv", dtype=str)
+    for column in ("status", "model"):
+        table.assign(**{column: table[column].where(table.index != 2, "other")}).to_csv(copied / "schedules.csv", index=False)
+        assert "tables" in wrong(copied)
+
+
+@pytest.mark.parametrize(
+    ("name", "change"),
+    [
+        ("perfect_information", lambda it: it + 1),
+        ("value_as_planned", lambda it: it + 1),
+        ("bound_as_planned", lambda it: it + 1),
+        ("years", lambda it: it + 1),
+        ("answered", lambda it: it - 1),
+        ("ramp_up", lambda it: [1.0]),
+        ("limits", lambda it: it | {"ore_tonnes": 5.0}),
+        *((name, lambda it: it | {"mean": it["mean"] + 1}) for name in ("value", "bound", "one_value")),
+    ],
+)
+def test_each_number_of_the_record_that_is_bent_is_found(copied, name, change):
+    told = json.loads((copied / "one_schedule.json").read_text())
+    (copied / "one_schedule.json").write_text(json.dumps(told | {name: change(told[name])}))
+    assert wrong(copied) == {"tables"}
+
+
+def test_a_table_that_has_changed_is_found(copied):
+    path = copied.parent.parent / "blocks.csv"
+    table = pd.read_csv(path)
+    ore = table["cu_a"].idxmax()
+    table.assign(cu_a=table["cu_a"].where(table.index != ore, 1.0)).to_csv(path, index=False)
+    assert {"block value", "one schedule"} <= wrong(copied)
+
+
+def solved(plan_folder, table, text=TWO_YEARS):
+    shared = prepared(plan_folder(table, text))
+    for job in shared.missing():
+        assert work.solve(str(shared.folder), job.number).status == 0
+    return shared.folder
+
+
+RICH, POOR = [1, 0.5, 1], [0, 0.5, 0]
+
+
+def at_mean_grades(weights, count):
+    """What blocks would be worth at the mean of grades: here a block of 4000 g less 1000 where that pays."""
+    found = weights.over(count)
+    flows = found.flows | {"cash": found.flows["cash"] * 0.9}
+    return block_problem.Weights(flows, found.mining)
+
+
+def test_a_mean_of_something_else_is_found(plan_folder, monkeypatch):
+    monkeypatch.setattr(block_work, "mean_of", lambda shared: at_mean_grades(block_work_mean(shared), 1))
+    folder = solved(plan_folder, pillars(RICH, POOR))
+    with pytest.raises(PlanError, match="block value: the one schedule, as planned: value "):
+        gather(folder)
+    assert not (folder / "schedules.csv").exists()
+
+
+block_work_mean = block_work.mean_of
+
+
+def test_milling_more_than_the_mill_takes_is_found(plan_folder, monkeypatch):
+    monkeypatch.setattr(one_schedule, "best_shares", lambda gain, takes, most: (gain > 0).astype(float))
+    folder = solved(plan_folder, pillars(RICH, POOR))
+    with pytest.raises(PlanError, match="one schedule: sim_1|one schedule: scenario 1, sim_1"):
+        gather(folder)
+
+
+def test_milling_less_than_the_best_is_found(plan_folder, monkeypatch):
+    best = one_schedule.best_shares
+    monkeypatch.setattr(one_schedule, "best_shares", lambda gain, takes, most: best(gain, takes, most) * 0.99)
+    folder = solved(plan_folder, pillars(RICH, POOR))
+    with pytest.raises(PlanError, match="one schedule: scenario 1, sim_1, year 1: ore_tonnes 99 for 100"):
+        gather(folder)
+
+
+def test_prices_that_are_passed_over_are_found(plan_folder, monkeypatch):
+    monkeypatch.setattr(work, "priced", lambda project, prices: project)
+    sets = "[[scenarios.prices]]\ncopper = 8000\n[[scenarios.prices]]\ncopper = 12_000\n"
+    folder = solved(plan_folder, pillars(RICH, POOR), TWO_YEARS + sets)
+    with pytest.raises(PlanError, match="block value: scenario 2, sim_1 at copper 12000: value "):
+        gather(folder)
+
+
+def test_amounts_in_the_middle_of_two_are_rounded_as_they_are_written(plan_folder):
+    """Mining costs 2.135 a tonne and 213.5 a block, in whole money the even 214; by floats 100 x 2.135 is less than 213.5."""
+    assert 100 * 2.135 < 213.5
+    folder = solved(plan_folder, pillars(RICH, POOR), TWO_YEARS.replace("mining_cost = 2\n", "mining_cost = 2.135\ndecimals = 0\n"))
+    gather(folder)
+    years = pd.read_csv(folder / "one_schedule_years.csv")
+    assert years[years["model"] == "sim_2"]["cash"].tolist() == [-4 * 214, 1000 - 2 * 214]
+
+
+def test_ground_is_looked_at_too(copied):
+    """A record that says that the grid lies elsewhere."""
+    record = json.loads((copied / "scenarios.json").read_text())
+    record["scenarios"][1]["prices"]["copper"] = "9000"
+    (copied / "scenarios.json").write_text(json.dumps(record))
+    assert wrong(copied) == {"scenarios"}
+
+
+@pytest.mark.parametrize("seed", range(30))
+def test_the_dual_of_milling_is_worth_what_the_best_choice_is(seed):
+    """By numbers at random, of one limit and of two; the best choice of two blocks by hand."""
+    assert most_earned(np.array([3.0, 2.0]), np.array([[1.0, 1.0]]), np.array([1.5])) == pytest.approx(4.0)
+    rng = np.random.default_rng(seed)
+    gain, takes = rng.uniform(0, 10, 8), rng.uniform(0, 3, (rng.integers(1, 3), 8))
+    most = rng.uniform(1, 12, len(takes))
+    shares = one_schedule.best_shares(gain, takes, most)
+    assert gain @ shares == pytest.approx(most_earned(gain, takes, most), rel=1e-6)
+
+
+HAULAGE = "[haulage]\nexit = [400, 60, 60]\ngradient = 0.1\ncost = { ore = 1.4, waste = 1.1 }\nbeyond = 300\n"
+REFUSED = re.compile(r"^(fixed_cost_per_year|capital|prices|reblock) = .*\n", re.MULTILINE)
+
+
+@pytest.mark.parametrize("seed", range(6))
+def test_schedules_of_random_projects_are_right(plan_folder, seed):
+    """With many keys at once, but for those that are refused; gathering looks a second time by itself."""
+    rng = np.random.default_rng(seed)
+    changes, is_one = project_of(rng)
+    while not is_one:
+        changes, is_one = project_of(rng)
+    text = PROJECT
+    for old, new in changes:
+        assert text.count(old) == 1
+        text = text.replace(old, REFUSED.sub("", new))
+    table = table_of(rng)
+    for name in ("cu_1", "cu_2", "cu_3"):
+        table[name] = (table["cu"] * rng.lognormal(0, 0.7, len(table))).round(2)
+    limits = "[schedule]\nyears = 5\nramp_up = [0.6, 1]\n" + pick(rng, "", "metal_per_year = { copper = 15, gold = 300 }\n")
+    text += limits + pick(rng, "", HAULAGE) + pick(rng, "", '[fixed]\nforced = "must"\nbarred = "never"\n')
+    sets = pick(rng, "", "[[scenarios.prices]]\ncopper = 6500\n[[scenarios.prices]]\ngold = 75\n")
+    text += '[scenarios]\ncolumns = { copper = "cu_*" }\n' + sets
+    folder = solved_in_turn(prepared(plan_folder(table.drop(columns="cu"), text)))
+    rows = pd.read_csv(folder / "schedules.csv")
+    assert (rows["one_value"] <= rows["bound"] + 0.01).all() and rows["blocks"].max() > 0
