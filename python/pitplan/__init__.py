@@ -20,7 +20,7 @@ Functions write what the subcommands do, by default into the project's own folde
     ways = pitplan.write_schedule("project.toml")          # one row a way: rule and lp
     cases = pitplan.sensitivity("project.toml")            # one row a case: a number more or less by a share
     found = pitplan.scenarios("project.toml")              # found.probability, found.table, found.quantiles; found.notes
-    found = pitplan.scenarios("project.toml", request=Request(by="block"))     # found.schedules, found.quantiles
+    each = pitplan.scenarios("project.toml", request=pitplan.Request(by="block"))     # each.schedules
 
 `write_block_schedule("project.toml")`, where no blocks are fixed, gives one row: value, bound, below_bound, years, blocks and tonnes.
 `Request` says where and how scenarios are solved, and `Where` on which Dask cases are; `gather(folder)` gathers what others have solved.

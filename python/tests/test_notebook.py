@@ -162,4 +162,5 @@ def test_the_lines_of_the_help_run(plan_folder, monkeypatch):
     assert names["table"]["factor"].tolist() == [500, 800, 1000] and all(rule.count == 0 for rule in names["rules"])
     assert (path.parent / "out" / "audit-800" / "check.sh").exists()
     assert names["found"].quantiles["factor"].tolist() == [500, 800, 1000]
+    assert names["each"].schedules["model"].tolist() == ["sim_1", "sim_2"]
     assert names["phases"]["factor"].tolist() == [500, 1000]

@@ -126,6 +126,15 @@ def test_a_year_above_a_limit_is_found(copied, old, new):
     assert any(f": {name} " in said and f"above {new.split()[-1]}" in said for said in rule.differences)
 
 
+@pytest.mark.parametrize(("column", "year"), [("must", 0), ("never", 1)])
+def test_a_fixed_block_that_is_not_kept_is_found(copied, column, year):
+    """One of the highest level, over which no block stands, in the one schedule."""
+    row = np.flatnonzero(simulated()[column] == 1)[-1]
+    bend(one_of(copied), year=lambda it: np.where(np.arange(len(it)) == row, year, it).astype(it.dtype))
+    (rule,) = [rule for rule in verify_folder(copied) if rule.name == "block order"]
+    assert rule.differences == (f"the one schedule: block {simulated()['name'].iloc[row]}: year {year}, of which 0 is milled",)
+
+
 def test_the_schedule_of_another_scenario_is_found(copied):
     """That of the same model at other prices."""
     shutil.copyfile(answer_of(copied, 2), answer_of(copied, 1))

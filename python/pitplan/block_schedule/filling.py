@@ -15,8 +15,8 @@ from .schedule import HAIR, BlockSchedule, nothing
 from .toposort import Sequence
 from .whole_values import upward
 
-# A gain of a smaller share is none, and worths that differ by a smaller share at prices, which HiGHS finds to 1e-7, are the same.
-SLIGHT, TIED = 1e-9, 1e-6
+# A gain of a smaller share is none.
+SLIGHT = 1e-9
 
 
 class Room:
@@ -128,8 +128,7 @@ def preferences(problem: BlockProblem, prices: NDArray[np.float64]) -> NDArray[n
 
     prices  of a unit of each limit in each year: shape (limits, years)
     """
-    # At the price of a limit that is reached some blocks are worth the same in two destinations, and go first to that where they earn more.
-    worth = problem.values * (1 + TIED)
+    worth = problem.values.copy()
     for limit, by_year in zip(problem.limits, prices):
         worth -= limit.amounts[:, :, None] * by_year
     return np.argsort(-worth, axis=1, kind="stable").transpose(0, 2, 1)

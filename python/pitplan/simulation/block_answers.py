@@ -121,7 +121,7 @@ def notes(schedules: Schedules, shared: Shared) -> list[str]:
     one, bound, value = (told[name]["mean"] for name in ("one_value", "bound", "value"))
     left, short = schedules.answered["one_ore_left_tonnes"].mean(), schedules.answered["one_years_short"].mean()
     spread = f"{told['one_value']['least']:,.0f} to {told['one_value']['greatest']:,.0f}"
-    share = f", {100 * told['perfect_information'] / bound:.2f} %" if bound else ""
+    share = f", {100 * told['perfect_information'] / bound:.2f} %" if bound > 0 else ""
     return [
         f"the one schedule for all earns {one:,.0f} on the mean of {count:,} scenarios, from {spread}; {told['value_as_planned']:,.0f} as "
         "it was planned by the mean of what blocks are worth",

@@ -11,6 +11,7 @@ import math
 from collections.abc import Iterator
 from dataclasses import dataclass, replace
 from functools import cached_property
+from itertools import product
 from pathlib import Path
 from typing import Any, Optional
 
@@ -139,10 +140,7 @@ class Schedules:
         """Where a schedule is above a limit or its bound, or does not tell what it holds and earns."""
         milled = held.drop(columns=[ROCK, "mining"]).mul(kept.share, axis=0).assign(**{ROCK: held[ROCK]})
         sums = milled.groupby(kept.year).sum().drop(index=0, errors="ignore")
-        for name, ramps, most in self.limits:
-            for year, amount in sums[name].items():
-                if amount > (allowed := most * ramps[min(int(year), len(ramps)) - 1]) * (1 + 1e-8) + CENT:
-                    yield f"year {year}: {name} {amount:.10g} above {allowed:.10g}"
+        yield from self.above_limits(sums)
         cash = sums["gain"] - held["mining"].groupby(kept.year).sum().drop(index=0, errors="ignore")
         value, bound = float(sum(amount * discount(self.ground, int(year)) for year, amount in cash.items())), kept.row["bound"]
         is_dug = kept.year > 0
@@ -154,6 +152,13 @@ class Schedules:
                 yield f"{name} {kept.row[name]:.12g} for {amount:.12g}"
         if value > bound + CENT + 1e-9 * abs(bound):
             yield f"value {value:.12g} is above bound {bound:.12g}"
+
+    def above_limits(self, sums: pd.DataFrame) -> Iterator[str]:
+        """Where a year of a schedule, of sums by year, is above a limit."""
+        for (name, ramps, most), year in product(self.limits, sums.index):
+            amount, allowed = sums[name][year], most * ramps[min(int(year), len(ramps)) - 1]
+            if amount > allowed * (1 + 1e-8) + CENT:
+                yield f"year {year}: {name} {amount:.10g} above {allowed:.10g}"
 
     def dug(self, held: pd.DataFrame) -> pd.DataFrame:
         """A row a year of the one schedule, as a scenario digs it; ore that is milled is no number where several limits choose it."""
@@ -227,8 +232,9 @@ class Tables:
             slack = CENT + (1e-7 if name in ("cash", "discounted") else 1e-9) * expected[name].abs()
             for year in said.index[~((said[name] - expected[name]).abs() <= slack)]:
                 yield f"year {year}: {name} {said[name][year]:.12g} for {expected[name][year]:.12g}"
-        for year in said.index[(said[ORE] + said[LEFT] - dug["total"]).abs() > CENT + 1e-9 * dug["total"]]:
-            yield f"year {year}: {said[ORE][year]:.12g} and {said[LEFT][year]:.12g} t of ore for {dug['total'][year]:.12g}"
+        whole = dug["total"]
+        off = said.index[(said[ORE] + said[LEFT] - whole).abs() > CENT + 1e-9 * whole]
+        yield from (f"year {year}: {said[ORE][year]:.12g} and {said[LEFT][year]:.12g} t of ore for {whole[year]:.12g}" for year in off)
 
     def of_all(self) -> list[str]:
         """Where schedules.csv, the blocks, the quantiles or the record differ."""
