@@ -7,6 +7,7 @@ pub mod SameSet
 pub mod Checked
 pub mod Carrying
 pub mod ArcOf
+pub mod Sending
 pub mod Steps
 pub mod LinesRead
 pub mod HeadRead

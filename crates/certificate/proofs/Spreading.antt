@@ -1,17 +1,15 @@
 -- The marked blocks are exactly those that are reached, once the whole queue was handled.
-use Rattle.std.proofs.Common.{◌≡◌, ℕ, zero, suc, ◌+◌, ◌<◌, ◌≤◌, Bool, true, false, eqb, refl, sym, ap, ◌∙◌, arith, subst, inl, inr, ⊎_elim, List, get_or, length}
+use Rattle.std.proofs.Common.{◌≡◌, ℕ, zero, suc, ◌+◌, ◌<◌, ◌≤◌, Bool, true, false, refl, sym, ap, ◌∙◌, arith, subst, inl, inr, ⊎_elim, List, get_or, length}
 use Rattle.std.specs.Prelude.{◌↔◌, ℤ, pos, int_lt, ◌<ℤ◌, IsTrue}
 use Rattle.std.proofs.lemmas.Int.{ints}
-use Rattle.std.proofs.lemmas.Bool.{cases_eq, false≢true, eq-eqb, eqb-true}
-use Rattle.pit_model.specs.Mine.{Instance, arcs, source, target, members}
+use Rattle.std.proofs.lemmas.Bool.{cases_eq, false≢true}
+use Rattle.pit_model.specs.Mine.{Instance, arcs, source, target}
 use Rattle.pit_model.specs.Flow.{HasResidual, excess}
 use Rattle.pit_model.specs.Certificate.{IsReached}
-use Rattle.pit_model.proofs.Members.{members_each}
 use Rattle.certificate.specs.Check.{has, amount, AreExcesses}
-use Rattle.certificate.specs.Reaching.{IsSpread, IsVisited}
+use Rattle.certificate.specs.Reaching.{IsSpread, IsVisited, Sends}
 use Rattle.mine_graph.specs.Flood.{TakesIn, is_in, queued}
 use Rattle.mine_graph.specs.declared.flood.Flood.{Flood}
-use Rattle.certificate.proofs.Found.{members_found}
 
 pub lt_from : (x y : ℤ) → int_lt x y ≡ true → x <ℤ y
 lt_from x y h = grind (arith, ints)
@@ -40,27 +38,19 @@ module _ (mine : Instance) (inside : List Bool) (flow : List ℤ) where
     closed = λ i b h. absurd (omega arith);
   }
 
-  module _ (begin end : ℕ) (users : List ℕ)
+  module _ (begin end : ℕ)
       (before : Flood) (head a : ℕ) (ahead : head < before.tail) (is : queued before head ≡ a)
       (within_row : end ≤ arcs mine)
       (own : (k : ℕ) → k < arcs mine → (source mine k ≡ a) ↔ ((begin ≤ k) × (k < end)))
-      (used : users ≡ members (arcs mine) (λ k. eqb (target mine k) a))
       (was : IsSpread mine inside flow before head)
       (mid after : Flood)
       (one : TakesIn (IsVisited inside (λ x. true) (λ x. target mine x) begin end) before mid)
-      (two : TakesIn (IsVisited inside (λ x. int_lt (pos 0) (amount flow (get_or users x 0))) (λ x. source mine (get_or users x 0)) 0 (length users)) mid after) where
+      (two : TakesIn (λ u. Sends mine.pairs flow u a × (has inside u ≡ true)) mid after) where
     below : a < mine.blocks
     below = let m = (was.trail.marked head ahead).0 in let s = was.size in omega arith
 
     reached_a : (steps : ℕ) × IsReached mine (has inside) (amount flow) a steps
     reached_a = was.sound a (ap (is_in before) (sym is) ∙ (was.trail.marked head ahead).1)
-
-    -- each of the users is an arc to a
-    user_at : (x : ℕ) → x < length users → (get_or users x 0 < arcs mine) × (target mine (get_or users x 0) ≡ a)
-    user_at x l =
-        let each = members_each (arcs mine) (λ k. eqb (target mine k) a) x (subst (λ us. x < length us) used l) in
-        let at : get_or users x 0 ≡ get_or (members (arcs mine) (λ k. eqb (target mine k) a)) x 0 = ap (λ us. get_or us x 0) used in
-        (subst (λ k. k < arcs mine) (sym at) each.0, ap (target mine) at ∙ eqb-true _ _ each.1)
 
     sound_one : (u : ℕ) → is_in mid u ≡ true → (steps : ℕ) × IsReached mine (has inside) (amount flow) u steps
     sound_one u e = ⊎_elim (λ (h : is_in before u ≡ true). was.sound u h)
@@ -71,9 +61,7 @@ module _ (mine : Instance) (inside : List Bool) (flow : List ℤ) where
 
     sound_two : (u : ℕ) → is_in after u ≡ true → (steps : ℕ) × IsReached mine (has inside) (amount flow) u steps
     sound_two u e = ⊎_elim (λ (h : is_in mid u ≡ true). sound_one u h)
-        (λ (w : IsVisited inside (λ x. int_lt (pos 0) (amount flow (get_or users x 0))) (λ x. source mine (get_or users x 0)) 0 (length users) u).
-        let at = user_at w.0 w.2 in
-        reach_more a u below reached_a (get_or users w.0 0, at.0, inr (w.4, at.1, lt_from (pos 0) (amount flow (get_or users w.0 0)) w.3)) w.5)
+        (λ (w : Sends mine.pairs flow u a × (has inside u ≡ true)). reach_more a u below reached_a (w.0.0, w.0.1, inr (w.0.2, w.0.3, w.0.4)) w.1)
         (two.only u e)
 
     next : (b : ℕ) → HasResidual mine (amount flow) a b → has inside b ≡ true → is_in after b ≡ true
@@ -81,11 +69,7 @@ module _ (mine : Instance) (inside : List Bool) (flow : List ℤ) where
         (λ (s : (source mine step.0 ≡ a) × (target mine step.0 ≡ b)).
         let f = (own step.0 step.1).0 s.0 in
         two.grows b (one.all b (step.0, f.0, f.1, refl, s.1, within)))
-        (λ (s : (source mine step.0 ≡ b) × (target mine step.0 ≡ a) × (pos 0 <ℤ amount flow step.0)).
-        let f = members_found (arcs mine) (λ k. eqb (target mine k) a) step.0 step.1 (eq-eqb (target mine step.0) a s.1) in
-        let room : f.0 < length users = subst (λ us. f.0 < length us) (sym used) f.1 in
-        let at : get_or users f.0 0 ≡ step.0 = ap (λ us. get_or us f.0 0) used ∙ f.2 in
-        two.all b (f.0, omega arith, room, ap (λ k. int_lt (pos 0) (amount flow k)) at ∙ lt_to (pos 0) (amount flow step.0) s.2, ap (source mine) at ∙ s.0, within))
+        (λ (s : (source mine step.0 ≡ b) × (target mine step.0 ≡ a) × (pos 0 <ℤ amount flow step.0)). two.all b ((step.0, step.1, s.0, s.1, s.2), within))
         step.2
 
     pub spread_more : IsSpread mine inside flow after (head + 1)

@@ -1,13 +1,12 @@
 //! The blocks that are reached inside a set by steps of positive residual from its blocks of positive excess: a queue takes in
 //! block after block, each once, so that time is linear in blocks and pairs.
-ghost use Rattle.std.specs.Prelude.{◌≡◌, ◌<◌, ◌≤◌, ℕ, pos, int_lt, true, false, length, get_or, IfOk};
-ghost use Rattle.std.specs.List.{All};
-ghost use Rattle.pit_model.specs.Graph.{first_of, second_of};
+ghost use Rattle.std.specs.Prelude.{◌≡◌, ◌<◌, ◌≤◌, ◌↔◌, ℕ, pos, int_lt, true, false, IsTrue, length, get_or, IfOk};
+ghost use Rattle.pit_model.specs.Graph.{second_of};
 ghost use Rattle.pit_model.specs.Mine.{arcs};
 ghost use Rattle.pit_model.specs.Size.{most_blocks};
 ghost use Rattle.mine_graph.specs.Flood.{IsTrail, TakesIn, is_in};
-ghost use Rattle.certificate.specs.Check.{amount, AreExcesses, AreReached};
-ghost use Rattle.certificate.specs.Reaching.{IsVisited};
+ghost use Rattle.certificate.specs.Check.{amount, has, AreExcesses, AreReached};
+ghost use Rattle.certificate.specs.Reaching.{IsVisited, Sends};
 
 use mine_graph::{Flood, Graph, Instance};
 use std::alloc::{AllocError, Global};
@@ -51,24 +50,45 @@ fn visit_needed(flood: &mut Flood, inside: &[bool], graph: &Graph, row: Range<u3
 {
     graph.law();
     for k in row.start..row.end {
-        visit(flood, inside, graph.arc(k).1);
+        visit(flood, inside, graph.needed(k));
     }
 }
 
-/// Visits the blocks whose flow comes to a block, by the numbers of the pairs by which it is needed.
-fn visit_users(flood: &mut Flood, inside: &[bool], graph: &Graph, users: &[u32], flow: &[i128])
-    requires below { All (λ k. k < length graph.now.pairs) users.now }
+/// Whether an arc has flow.
+fn has_flow(flow: &[i128], arc: u32) -> bool
+    requires { arc < length flow.now }
+    ensures { result ≡ int_lt (pos 0) (amount flow.now arc) }
+{
+    flow[arc as usize] > 0
+}
+
+/// Whether flow comes from a block to another over their pair.
+fn sends(graph: &Graph, flow: &[i128], from: u32, to: u32) -> bool
+    requires from { from < graph.now.blocks }
+    requires counted { length flow.now ≡ length graph.now.pairs }
+    ensures { IsTrue result ↔ Sends graph.now.pairs flow.now from to }
+{
+    graph.law();
+    match graph.arc_of(from, to) {
+        Some(arc) => has_flow(flow, arc),
+        None => false,
+    }
+}
+
+/// Visits the blocks from which flow comes to a block.
+fn visit_users(flood: &mut Flood, inside: &[bool], graph: &Graph, flow: &[i128], block: u32)
+    requires block { block < graph.now.blocks }
     requires counted { length flow.now ≡ length graph.now.pairs }
     requires blocks { length flood.old.marks.items ≡ graph.now.blocks }
     requires same { length inside.now ≡ length flood.old.marks.items }
     requires trail { IsTrail flood.old }
-    ensures { TakesIn (IsVisited inside.now (λ x. int_lt (pos 0) (amount flow.now (get_or users.now x 0))) (λ x. first_of graph.now.pairs (get_or users.now x 0)) 0 (length users.now)) flood.old flood.new }
+    ensures { TakesIn (λ u. Sends graph.now.pairs flow.now u block × (has inside.now u ≡ true)) flood.old flood.new }
 {
     graph.law();
+    let users = graph.users(block);
     for i in 0..users.len() {
-        let arc = users[i];
-        if flow[arc as usize] > 0 {
-            visit(flood, inside, graph.arc(arc).0);
+        if sends(graph, flow, users[i], block) {
+            visit(flood, inside, users[i]);
         }
     }
 }
@@ -98,7 +118,7 @@ pub fn reached_of(
         }
         let block = flood.queue[head];
         visit_needed(&mut flood, inside, graph, graph.arcs_of(block));
-        visit_users(&mut flood, inside, graph, graph.users(block), flow);
+        visit_users(&mut flood, inside, graph, flow, block);
     }
     Ok(flood.marks)
 }

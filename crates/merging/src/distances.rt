@@ -21,7 +21,7 @@ fn nearest(graph: &Graph, distances: &[u32], row: Range<u32>, most: u32) -> u32
     graph.law();
     let mut least = most;
     for arc in row.start..row.end {
-        let distance = distances[graph.arc(arc).1 as usize];
+        let distance = distances[graph.needed(arc) as usize];
         if distance == 0 {
             return 0;
         }

@@ -71,7 +71,7 @@ fn first_to(graph: &Graph, labels: &[u32], arcs: Range<u32>, label: u32) -> Opti
 {
     graph.law();
     for arc in arcs.start..arcs.end {
-        let needed = graph.arc(arc).1;
+        let needed = graph.needed(arc);
         if labels[needed as usize] == label {
             return Some(arc);
         }

@@ -7,7 +7,8 @@ use Rattle.pit_model.specs.Graph.{first_of, second_of}
 use Rattle.pit_model.specs.Fixed.{turned}
 use Rattle.pit_model.specs.Part.{AreConnected, AreNeighbours}
 use Rattle.pit_model.proofs.Fixed.{turned_at, turned_count}
-use Rattle.mine_graph.specs.Flood.{HasNeighbours, IsJoined, IsJoinedWith, IsTrail, LeadsTo, TakesIn, is_in, queued}
+use Rattle.mine_graph.specs.Flood.{HasNeighbours, IsJoined, IsJoinedWith, IsTrail, TakesIn, is_in, queued}
+use Rattle.mine_graph.specs.Users.{LeadsTo}
 use Rattle.mine_graph.specs.declared.flood.Flood.{Flood}
 use Rattle.mine_graph.proofs.Spreading.{takes_both}
 

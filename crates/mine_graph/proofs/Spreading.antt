@@ -4,12 +4,11 @@ use Rattle.std.specs.Prelude.{◌⊎◌}
 use Rattle.std.proofs.lemmas.Bool.{cases_eq, cases_lt, eq-eqb, eqb-true, false≢true}
 use Rattle.std.proofs.lemmas.List.{get_or-replicate, get_or_past, get_or-set_same, get_or-set_other, length-replicate, length-set}
 use Rattle.pit_model.specs.Graph.{first_of, second_of}
-use Rattle.pit_model.specs.Mine.{members}
 use Rattle.pit_model.specs.Fixed.{IsClosure, turned}
 use Rattle.pit_model.proofs.Fixed.{turned_at, turned_count}
-use Rattle.pit_model.proofs.Members.{members_each, members_place}
 use Rattle.mine_graph.specs.FixedBlocks.{mark_of}
-use Rattle.mine_graph.specs.Flood.{IsAt, IsSpread, IsTrail, LeadsTo, TakesIn, is_in, queued}
+use Rattle.mine_graph.specs.Flood.{IsAt, IsSpread, IsTrail, TakesIn, is_in, queued}
+use Rattle.mine_graph.specs.Users.{AreUsers, LeadsTo}
 use Rattle.mine_graph.specs.declared.flood.Flood.{Flood}
 use Rattle.mine_graph.proofs.Counts.{pigeon_more}
 
@@ -167,35 +166,22 @@ module _ (pairs : List (ℕ × ℕ)) (seeds : ℕ → Bool) where
     least = was.least;
   }
 
-module _ (pairs : List (ℕ × ℕ)) (a : ℕ) (users : List ℕ) (used : users ≡ members (length pairs) (λ k. eqb (second_of pairs k) a)) where
-  user_leads : (u : ℕ) → IsAt (λ x. first_of pairs (get_or users x 0)) 0 (length users) u → LeadsTo (turned pairs) a u
+module _ (pairs : List (ℕ × ℕ)) (a : ℕ) (users : List ℕ) (used : AreUsers pairs a users) where
+  user_leads : (u : ℕ) → IsAt (λ x. get_or users x 0) 0 (length users) u → LeadsTo (turned pairs) a u
   user_leads u at =
-      let test : ℕ → Bool = λ k. eqb (second_of pairs k) a in
-      let each = members_each (length pairs) test at.0 (subst (λ us. at.0 < length us) used at.2) in
-      let k : ℕ = get_or (members (length pairs) test) at.0 0 in
-      let is : get_or users at.0 0 ≡ k = ap (λ us. get_or us at.0 0) used in
-      let size = turned_count pairs in
-      let way = turned_at pairs k each.0 in (
-        k,
-        omega (arith, each.0),
-        ap (λ (q : ℕ × ℕ). q.0) way ∙ eqb-true (second_of pairs k) a each.1,
-        ap (λ (q : ℕ × ℕ). q.1) way ∙ ap (first_of pairs) (sym is) ∙ at.3,
-      )
+      let needs = used.each at.0 at.2 in
+      let count = turned_count pairs in
+      let here = turned_at pairs needs.0 needs.1 in
+      (needs.0, omega (arith, needs.1), ap (λ (q : ℕ × ℕ). q.0) here ∙ needs.3, ap (λ (q : ℕ × ℕ). q.1) here ∙ needs.2 ∙ at.3)
 
-  user_is : (u : ℕ) → LeadsTo (turned pairs) a u → IsAt (λ x. first_of pairs (get_or users x 0)) 0 (length users) u
+  user_is : (u : ℕ) → LeadsTo (turned pairs) a u → IsAt (λ x. get_or users x 0) 0 (length users) u
   user_is u leads =
-      let size = turned_count pairs in
-      let k : ℕ = leads.0 in
-      let l : k < length pairs = omega (arith, leads.1) in
-      let way = turned_at pairs k l in
-      let needs : second_of pairs k ≡ a = sym (ap (λ (q : ℕ × ℕ). q.0) way) ∙ leads.2 in
-      let f = members_place (length pairs) (λ k. eqb (second_of pairs k) a) k l (eq-eqb (second_of pairs k) a needs) in (
-        f.0,
-        omega arith,
-        subst (λ us. f.0 < length us) (sym used) f.1,
-        ap (first_of pairs) (ap (λ us. get_or us f.0 0) used ∙ f.2) ∙ sym (ap (λ (q : ℕ × ℕ). q.1) way) ∙ leads.3,
-      )
+      let count = turned_count pairs in
+      let inside : leads.0 < length pairs = omega (arith, leads.1) in
+      let here = turned_at pairs leads.0 inside in
+      let f = used.all u (leads.0, inside, sym (ap (λ (q : ℕ × ℕ). q.1) here) ∙ leads.3, sym (ap (λ (q : ℕ × ℕ). q.0) here) ∙ leads.2) in
+      (f.0, omega arith, f.1, f.2)
 
-  -- the blocks of the pairs by which a block is needed are those that the turned pairs lead to
-  pub takes_users : (before after : Flood) → TakesIn (IsAt (λ x. first_of pairs (get_or users x 0)) 0 (length users)) before after → TakesIn (LeadsTo (turned pairs) a) before after
-  takes_users before after = takes_as (IsAt (λ x. first_of pairs (get_or users x 0)) 0 (length users)) (LeadsTo (turned pairs) a) before after user_leads user_is
+  -- the blocks that need a block are those that the turned pairs lead to
+  pub takes_users : (before after : Flood) → TakesIn (IsAt (λ x. get_or users x 0) 0 (length users)) before after → TakesIn (LeadsTo (turned pairs) a) before after
+  takes_users before after = takes_as (IsAt (λ x. get_or users x 0) 0 (length users)) (LeadsTo (turned pairs) a) before after user_leads user_is

@@ -4,6 +4,7 @@ use Rattle.pit_model.specs.Graph.{first_of, second_of}
 use Rattle.pit_model.specs.Fixed.{IsClosedAlong, turned}
 use Rattle.pit_model.specs.Part.{AreConnected, AreNeighbours}
 use Rattle.mine_graph.specs.FixedBlocks.{mark_of}
+use Rattle.mine_graph.specs.Users.{LeadsTo}
 use Rattle.mine_graph.specs.declared.flood.Flood.{Flood}
 use Rattle.mine_graph.specs.declared.flood.Way.{Way}
 use Rattle.mine_graph.specs.declared.flood.Way.TheVariants.{ToNeeds, ToUsers}
@@ -12,10 +13,6 @@ use Rattle.mine_graph.specs.declared.flood.Way.TheVariants.{ToNeeds, ToUsers}
 abbrev pub pairs_along : Way → List (ℕ × ℕ) → List (ℕ × ℕ)
 pairs_along ToNeeds pairs = pairs
 pairs_along ToUsers pairs = turned pairs
-
--- a pair leads from a to u
-abbrev pub LeadsTo : List (ℕ × ℕ) → ℕ → ℕ → Type 0
-LeadsTo pairs a u = (k : ℕ) × (k < length pairs) × (first_of pairs k ≡ a) × (second_of pairs k ≡ u)
 
 -- u is the block of one of the places from `begin` up to `end`
 abbrev pub IsAt : (ℕ → ℕ) → ℕ → ℕ → ℕ → Type 0

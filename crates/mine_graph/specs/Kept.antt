@@ -2,16 +2,16 @@
 use Rattle.std.specs.Prelude.{◌≡◌, ℕ, ◌^◌, ◌<◌, ◌≤◌, ℤ, pos, neg_ℤ, ◌≤ℤ◌, List, length, get_or}
 use Rattle.pit_model.specs.Size.{most_blocks, most_pairs}
 use Rattle.pit_model.specs.Graph.{IsGraph}
-use Rattle.mine_graph.specs.Rows.{AreStarts}
-use Rattle.mine_graph.specs.Users.{AreUsers}
+use Rattle.mine_graph.specs.Rows.{AreLandmarks, AreStarts, Spell, by_second, pairs_of}
 
--- the pairs of a graph within the limits, and for each block the pairs that it needs by and is needed by
-pub record IsKept (blocks : ℕ) (starts : List ℕ) (pairs : List (ℕ × ℕ)) (user_starts users : List ℕ) : Type 0 where
+-- rows of what each block needs, which spell the pairs of a graph within the limits, and of what needs it
+pub record IsKept (blocks : ℕ) (starts needs user_starts users landmarks : List ℕ) : Type 0 where
   pub few_blocks : blocks ≤ most_blocks
-  pub few_arcs : length pairs ≤ most_pairs
-  pub graph : IsGraph blocks pairs
-  pub rows : AreStarts pairs starts blocks
-  pub way_back : AreUsers pairs users user_starts blocks
+  pub few_arcs : length needs ≤ most_pairs
+  pub graph : IsGraph blocks (pairs_of starts needs)
+  pub rows : AreStarts (pairs_of starts needs) starts blocks
+  pub way_back : Spell (by_second (pairs_of starts needs) blocks) user_starts users blocks
+  pub marked : AreLandmarks (pairs_of starts needs) landmarks
 
 -- a value for each block, each within 10^23 of 0
 pub record AreWithinLimits (blocks : ℕ) (values : List ℤ) : Type 0 where

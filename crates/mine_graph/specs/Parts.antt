@@ -1,5 +1,6 @@
 -- The parts of a graph, as a list in memory.
 use Rattle.std.specs.Prelude.{◌≡◌, ℕ, ◌<◌, ◌≤◌, ◌+◌, ◌-◌, ◌==◌, List, length, get_or, map, take, drop}
+use Rattle.std.specs.List.{range_with_len}
 use Rattle.pit_model.specs.Graph.{Graph}
 use Rattle.pit_model.specs.Mine.{members}
 use Rattle.pit_model.specs.Part.{IsPart, IsClass, StandsAt}
@@ -18,9 +19,9 @@ pub record AreParts (whole : Graph) (parts : List Part) : Type 0 where
   pub classes : (i : ℕ) (part : Part) → StandsAt parts i part → IsClass whole (λ u. label u == i) (least_block part)
   pub in_order : (i j : ℕ) (p q : Part) → i < j → StandsAt parts i p → StandsAt parts j q → least_block p < least_block q
 
--- the label of each block, as both blocks of a pair
+-- each block beside its label
 abbrev pub labelled : List ℕ → List (ℕ × ℕ)
-labelled labels = map (λ (x : ℕ). (x, x)) labels
+labelled labels = map (λ (u : ℕ). (u, get_or labels u 0)) (range_with_len 0 (length labels))
 
 -- the blocks with each label, rising, stand one row behind the other
 pub record AreRows (labels order starts : List ℕ) : Type 0 where

@@ -5,7 +5,8 @@ ghost use Rattle.std.specs.List.{All};
 ghost use Rattle.pit_model.specs.Graph.{first_of, second_of};
 ghost use Rattle.pit_model.specs.Fixed.{IsClosure, is_among};
 ghost use Rattle.mine_graph.specs.FixedBlocks.{mark_of};
-ghost use Rattle.mine_graph.specs.Flood.{HasNeighbours, IsAt, IsJoinedWith, IsTrail, LeadsTo, TakesIn, is_in, pairs_along};
+ghost use Rattle.mine_graph.specs.Users.{LeadsTo};
+ghost use Rattle.mine_graph.specs.Flood.{HasNeighbours, IsAt, IsJoinedWith, IsTrail, TakesIn, is_in, pairs_along};
 
 use crate::graph::Graph;
 use std::alloc::{AllocError, Global};
@@ -77,20 +78,7 @@ impl Flood {
     {
         graph.law();
         for k in row.start..row.end {
-            self.take_in(graph.arc(k).1);
-        }
-    }
-
-    /// Takes in the blocks that need others, by the numbers of their pairs.
-    fn take_users(&mut self, graph: &Graph, users: &[u32])
-        requires size { length self.old.marks.items ≡ graph.now.blocks }
-        requires inside { All (λ k. k < length graph.now.pairs) users.now }
-        requires trail { IsTrail self.old }
-        ensures { TakesIn (IsAt (λ x. first_of graph.now.pairs (get_or users.now x 0)) 0 (length users.now)) self.old self.new }
-    {
-        graph.law();
-        for i in 0..users.len() {
-            self.take_in(graph.arc(users[i]).0);
+            self.take_in(graph.needed(k));
         }
     }
 
@@ -101,9 +89,10 @@ impl Flood {
         requires trail { IsTrail self.old }
         ensures { TakesIn (LeadsTo (pairs_along way graph.now.pairs) block) self.old self.new }
     {
+        graph.law();
         match way {
             Way::ToNeeds => self.take_needs(graph, graph.arcs_of(block)),
-            Way::ToUsers => self.take_users(graph, graph.users(block)),
+            Way::ToUsers => self.take_all(graph.users(block)),
         }
     }
 

@@ -1,16 +1,19 @@
 //! The graph of the pairs "u needs p". Making one puts the pairs into their order (rising.rt) and refuses by a cycle where they
 //! have one (no_cycle.rt); so its type carries that it has none.
-ghost use Rattle.std.specs.Prelude.{◌≡◌, ◌<◌, ◌≤◌, ◌↔◌, ◌==◌, ℕ, length, get_or, IfOk, IfErr, IfSome, IfNone};
+ghost use Rattle.std.specs.Prelude.{◌≡◌, ◌<◌, ◌≤◌, ◌↔◌, ℕ, length, get_or, IfOk, IfErr, IfSome, IfNone};
 ghost use Rattle.pit_model.specs.Size.{most_blocks, most_pairs};
 ghost use Rattle.faults.specs.Refused.{no_memory};
 ghost use Rattle.pit_model.specs.Direction.{IsReversed};
 ghost use Rattle.pit_model.specs.Graph.{first_of, second_of, AreApart, AreInRange, AreSamePairs, IsAcyclic, IsGraph};
-ghost use Rattle.pit_model.specs.Mine.{members};
 ghost use Rattle.mine_graph.specs.Faults.{IsGraphFault};
+ghost use Rattle.mine_graph.specs.Rows.{pairs_of, AreStarts};
+ghost use Rattle.mine_graph.specs.Users.{AreUsers};
 
+use crate::landmarks::{STEP, landmarks_of, next_landmark, row_between};
 use crate::no_cycle::check_acyclic;
 use crate::rising::{in_order, row_starts};
-use crate::sort::{number_by_second, turn_in_order};
+use crate::sort::seconds_of;
+use crate::way_back::{Rows, turned_rows};
 use faults::Fault;
 use std::alloc::{AllocError, Global};
 use std::marker::Model;
@@ -20,21 +23,26 @@ use std::ops::Range;
 #[derive(Drop)]
 pub struct Graph {
     blocks: u32,
+    /// The blocks that each block needs, in rows.
     starts: Vec<u32>,
-    pairs: Vec<(u32, u32)>,
+    needs: Vec<u32>,
+    /// The blocks that need each block, in rows.
     user_starts: Vec<u32>,
     users: Vec<u32>,
+    /// The block of every 64th pair.
+    landmarks: Vec<u32>,
 }
 
 impl Model for Graph {
     ghost use Rattle.pit_model.specs.Graph.{Graph};
     ghost use Rattle.mine_graph.specs.Kept.{IsKept};
+    ghost use Rattle.mine_graph.specs.Rows.{pairs_of};
 
     ghost Value = { Graph };
 
-    ghost view = { λ g. record { blocks = g.blocks; pairs = g.pairs.items } };
+    ghost view = { λ g. record { blocks = g.blocks; pairs = pairs_of g.starts.items g.needs.items } };
 
-    ghost invariant = { λ g. IsKept g.blocks g.starts.items g.pairs.items g.user_starts.items g.users.items };
+    ghost invariant = { λ g. IsKept g.blocks g.starts.items g.needs.items g.user_starts.items g.users.items g.landmarks.items };
 }
 
 impl Graph {
@@ -52,13 +60,38 @@ impl Graph {
     {
         let (starts, pairs) = in_order(alloc, n, pairs)?;
         check_acyclic(alloc, n, &pairs, &starts)?;
-        let (user_starts, users) = number_by_second(alloc, n, &pairs)?;
+        let needs = seconds_of(alloc, &pairs)?;
+        drop(pairs);
+        Ok(Graph::of_rows(alloc, n, starts, needs)?)
+    }
+
+    /// The graph of the pairs that rows spell. It takes no time to look for a cycle.
+    fn of_rows(
+        alloc: Global,
+        n: u32,
+        starts: Vec<u32>,
+        needs: Vec<u32>,
+    ) -> Result<Graph, AllocError>
+        requires few_blocks { n ≤ most_blocks }
+        requires few_pairs { length needs.items ≤ most_pairs }
+        requires graph { IsGraph n (pairs_of starts.items needs.items) }
+        requires rows { AreStarts (pairs_of starts.items needs.items) starts.items n }
+        ensures blocks { IfOk result (λ g. g.blocks ≡ n) }
+        ensures pairs { IfOk result (λ g. g.pairs ≡ pairs_of starts.items needs.items) }
+    {
+        let rows = Rows {
+            starts: &starts,
+            seconds: &needs,
+        };
+        let (user_starts, users) = turned_rows(alloc, n, rows)?;
+        let landmarks = landmarks_of(alloc, n, rows)?;
         Ok(Graph {
             blocks: n,
             starts,
-            pairs,
+            needs,
             user_starts,
             users,
+            landmarks,
         })
     }
 
@@ -75,14 +108,9 @@ impl Graph {
         ensures pairs { IfOk result (λ g. g.pairs ≡ pairs.items) }
     {
         let starts = row_starts(alloc, n, &pairs)?;
-        let (user_starts, users) = number_by_second(alloc, n, &pairs)?;
-        Ok(Graph {
-            blocks: n,
-            starts,
-            pairs,
-            user_starts,
-            users,
-        })
+        let needs = seconds_of(alloc, &pairs)?;
+        drop(pairs);
+        Graph::of_rows(alloc, n, starts, needs)
     }
 
     /// What is true of each graph.
@@ -91,19 +119,12 @@ impl Graph {
         ensures few_blocks { self.now.blocks ≤ most_blocks }
         ensures few_arcs { length self.now.pairs ≤ most_pairs }
     {
-        let _ = &self.pairs;
-    }
-
-    /// All pairs, in their order.
-    pub(crate) fn pairs(&self) -> &[(u32, u32)]
-        ensures { result.now ≡ self.now.pairs }
-    {
-        &self.pairs
+        let _ = &self.needs;
     }
 
     /// Where the graph takes its memory from.
     pub(crate) fn alloc(&self) -> Global {
-        *self.pairs.allocator()
+        *self.needs.allocator()
     }
 
     /// How many blocks there are.
@@ -117,7 +138,18 @@ impl Graph {
     pub fn arcs(&self) -> u32
         ensures { result ≡ length self.now.pairs }
     {
-        self.pairs.len() as u32
+        self.needs.len() as u32
+    }
+
+    /// The block that needs another by the pair with that number, by halving between landmarks.
+    fn first(&self, k: u32) -> u32
+        requires { k < length self.now.pairs }
+        ensures { result ≡ first_of self.now.pairs k }
+    {
+        let mark = k as usize / STEP;
+        let least = self.landmarks[mark];
+        let most = next_landmark(&self.landmarks, mark, self.blocks - 1);
+        row_between(&self.starts, least, most, k)
     }
 
     /// The pair with that number: a block, and one that it needs.
@@ -125,7 +157,15 @@ impl Graph {
         requires { k < length self.now.pairs }
         ensures { result ≡ get_or self.now.pairs k (0, 0) }
     {
-        self.pairs[k as usize]
+        (self.first(k), self.needed(k))
+    }
+
+    /// The block that is needed by the pair with that number.
+    pub fn needed(&self, k: u32) -> u32
+        requires { k < length self.now.pairs }
+        ensures { result ≡ second_of self.now.pairs k }
+    {
+        self.needs[k as usize]
     }
 
     /// The numbers of the pairs of a block, which follow one another.
@@ -138,32 +178,26 @@ impl Graph {
         self.starts[u as usize]..self.starts[u as usize + 1]
     }
 
-    /// The numbers of the pairs by which a block is needed, rising.
+    /// The blocks that need a block, rising.
     pub fn users(&self, p: u32) -> &[u32]
         requires { p < self.now.blocks }
-        ensures { result.now ≡ members (length self.now.pairs) (λ k. second_of self.now.pairs k == p) }
+        ensures { AreUsers self.now.pairs p result.now }
     {
         let begin = self.user_starts[p as usize] as usize;
         let end = self.user_starts[p as usize + 1] as usize;
         &self.users[begin..end]
     }
 
-    /// The graph with each pair turned round, by one pass: the pairs by which a block is needed there are those that it needs here.
-    /// Refused for want of memory alone. Time is linear in blocks and pairs.
+    /// The graph with each pair turned round: the blocks that need a block there are those that it needs here. Refused for want of
+    /// memory alone. Time is linear in blocks and pairs.
     pub fn reversed(&self) -> Result<Graph, Fault>
         ensures reversed { IfOk result (λ g. IsReversed self.now g) }
         ensures no_memory { IfErr result (λ e. e ≡ no_memory) }
     {
         let alloc = self.alloc();
-        let (starts, pairs, users) = turn_in_order(alloc, self.blocks, &self.pairs)?;
-        let user_starts = Vec::from_slice(alloc, &self.starts)?;
-        Ok(Graph {
-            blocks: self.blocks,
-            starts,
-            pairs,
-            user_starts,
-            users,
-        })
+        let starts = Vec::from_slice(alloc, &self.user_starts)?;
+        let needs = Vec::from_slice(alloc, &self.users)?;
+        Ok(Graph::of_rows(alloc, self.blocks, starts, needs)?)
     }
 
     /// The number of a pair, by halving the row of its block.
@@ -175,8 +209,8 @@ impl Graph {
         let row = self.arcs_of(u);
         let begin = row.start as usize;
         let end = row.end as usize;
-        let place = begin + first_at_least(&self.pairs[begin..end], p);
-        if place < end && self.pairs[place].1 == p {
+        let place = begin + first_at_least(&self.needs[begin..end], p);
+        if place < end && self.needs[place] == p {
             Some(place as u32)
         } else {
             None
@@ -184,12 +218,12 @@ impl Graph {
     }
 }
 
-/// The place of the first pair whose second is `p` or more, in pairs that rise by their second.
-fn first_at_least(pairs: &[(u32, u32)], p: u32) -> usize
-    requires { (i j : ℕ) → i ≤ j → j < length pairs.now → second_of pairs.now i ≤ second_of pairs.now j }
-    ensures within { result ≤ length pairs.now }
-    ensures before { (i : ℕ) → i < result → second_of pairs.now i < p }
-    ensures after { (i : ℕ) → result ≤ i → i < length pairs.now → p ≤ second_of pairs.now i }
+/// The place of the first number that is `p` or more, among numbers that do not fall.
+fn first_at_least(numbers: &[u32], p: u32) -> usize
+    requires { (i j : ℕ) → i ≤ j → j < length numbers.now → get_or numbers.now i 0 ≤ get_or numbers.now j 0 }
+    ensures within { result ≤ length numbers.now }
+    ensures before { (i : ℕ) → i < result → get_or numbers.now i 0 < p }
+    ensures after { (i : ℕ) → result ≤ i → i < length numbers.now → p ≤ get_or numbers.now i 0 }
 {
-    pairs.partition_point(|pair| pair.1 < p)
+    numbers.partition_point(|&number| number < p)
 }

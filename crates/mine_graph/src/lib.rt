@@ -8,6 +8,7 @@ mod fixed;
 mod flood;
 mod graph;
 mod instance;
+mod landmarks;
 mod no_cycle;
 mod numbers;
 mod part;
@@ -15,6 +16,7 @@ mod parts;
 mod rising;
 mod sort;
 mod values;
+mod way_back;
 
 pub use classes::Classes;
 pub use cycle::acyclic_has_no_needy;

@@ -44,7 +44,7 @@ fn add_row(
     graph.law();
     let arcs = graph.arcs_of(block);
     for k in arcs.start..arcs.end {
-        let needed = graph.arc(k).1;
+        let needed = graph.needed(k);
         if chosen.labels[needed as usize] == chosen.label {
             pairs.push((
                 chosen.places[block as usize],

@@ -44,7 +44,7 @@ fn mark_users(graph: &Graph, strong: &[bool], block: u32, marks: &mut Marks)
     graph.law();
     let users = graph.users(block);
     for place in 0..users.len() {
-        let user = graph.arc(users[place]).0;
+        let user = users[place];
         if strong[user as usize] {
             marks.mark(user);
         }
@@ -63,7 +63,7 @@ fn first_weak_need(graph: &Graph, strong: &[bool], block: u32) -> Option<u32>
     graph.law();
     let arcs = graph.arcs_of(block);
     for k in arcs.start..arcs.end {
-        let needed = graph.arc(k).1;
+        let needed = graph.needed(k);
         if !strong[needed as usize] {
             return Some(k);
         }

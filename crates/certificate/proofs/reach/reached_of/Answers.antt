@@ -1,23 +1,14 @@
 -- One block of the queue more: all that it reaches in one step is in. At the end of the queue no block is left.
-use Rattle.std.proofs.Common.{◌≡◌, ℕ, ◌<◌, ◌≤◌, eqb, arith, length, get_or, ap, subst, sym, ◌∙◌, true, List}
-use Rattle.std.specs.Prelude.{◌↔◌, pos, int_lt}
-use Rattle.std.specs.List.{All}
+use Rattle.std.proofs.Common.{◌≡◌, ℕ, ◌<◌, ◌≤◌, arith, length, get_or, ap, subst, sym, ◌∙◌, true, List}
+use Rattle.std.specs.Prelude.{◌↔◌}
 use Rattle.std.proofs.lemmas.List.{get_or_default}
-use Rattle.pit_model.specs.Mine.{members}
 use Rattle.pit_model.specs.Graph.{Graph, first_of, second_of}
-use Rattle.pit_model.proofs.Members.{members_below}
 use Rattle.mine_graph.specs.Flood.{TakesIn, queued}
-use Rattle.certificate.specs.Check.{amount}
-use Rattle.certificate.specs.Reaching.{IsSpread, IsVisited}
+use Rattle.certificate.specs.Check.{has}
+use Rattle.certificate.specs.Reaching.{IsSpread, IsVisited, Sends}
 use Rattle.certificate.proofs.Spreading.{spread_more, exactly}
 use Rattle.certificate.proofs.reach.reached_of.Goals as goal
 use Rattle.certificate.proofs.reach.reached_of.Goals.{else-loop-head-test, then-loop-head-test+then-head-flood}
-
-pub visit_users-requires-clause-below : goal.visit_users-requires-clause-below
-visit_users-requires-clause-below c =
-    let pairs = c.deref-graph.result.now.pairs in
-    subst (All (λ k. k < length c.deref-graph.result.now.pairs)) (sym c.users.ensures)
-    (members_below (length c.deref-graph.result.now.pairs) (λ k. eqb (second_of c.deref-graph.result.now.pairs k) c.index-block.result.now))
 
 pub loop-head-preserved : goal.loop-head-preserved
 loop-head-preserved c =
@@ -25,20 +16,18 @@ loop-head-preserved c =
     let same : c.deref-graph.result.now.pairs ≡ c.args.mine.now.pairs = ap (λ (g : Graph). g.pairs) c.deref-graph.ensures ∙ c.graph.ensures.pairs in
     let ahead : c.loop-head.head < c.loop-head.flood.tail = omega (arith, c.loop-head.invariant.ahead) in
     let inside = c.args.inside.now in
-    let users : List ℕ = c.users.result.now in
     let flow = c.args.flow.now in
     let row = c.arcs_of.result in
     let before = c.loop-head.flood in
     let mid = c.visit_needed.new.flood in
     let after = c.visit_users.new.flood in
     let one = subst (λ ps. TakesIn (IsVisited inside (λ x. true) (second_of ps) row.start row.end) before mid) same c.visit_needed.ensures in
-    let two = subst (λ ps. TakesIn (IsVisited inside (λ x. int_lt (pos 0) (amount flow (get_or users x 0))) (λ x. first_of ps (get_or users x 0)) 0 (length users)) mid after) same c.visit_users.ensures in
+    let two = subst (λ ps. TakesIn (λ u. Sends ps flow u a × (has inside u ≡ true)) mid after) same c.visit_users.ensures in
     let queued_is : queued before c.loop-head.head ≡ a = sym (c.index-block.ensures ∙ get_or_default before.queue.items c.loop-head.head c.index-block.result.now 0 (omega (arith, c.loop-head.invariant.state.trail.room))) in
     record {
-      state = spread_more c.args.mine.now inside flow row.start row.end users before c.loop-head.head a ahead queued_is
+      state = spread_more c.args.mine.now inside flow row.start row.end before c.loop-head.head a ahead queued_is
           (subst (λ ps. row.end ≤ length ps) same c.arcs_of.ensures.inside)
           (subst (λ ps. (k : ℕ) → k < length ps → (first_of ps k ≡ a) ↔ ((row.start ≤ k) × (k < row.end))) same c.arcs_of.ensures.own)
-          (subst (λ ps. users ≡ members (length ps) (λ k. eqb (second_of ps k) a)) same c.users.ensures)
           c.loop-head.invariant.state mid after one two;
       ahead = omega (arith, c.visit_needed.ensures.more, c.visit_users.ensures.more);
     }

@@ -1,23 +1,30 @@
--- One of the users more, by whose pair flow comes or not.
-use Rattle.std.proofs.Common.{ℕ, Bool, true, ap, arith, get_or, rules, subst}
-use Rattle.std.specs.Prelude.{pos, int_lt}
-use Rattle.pit_model.specs.Graph.{first_of}
+-- One of the users more, from which flow comes or not.
+use Rattle.std.proofs.Common.{◌≡◌, ℕ, length, arith, subst, sym, ◌∙◌}
+use Rattle.std.proofs.lemmas.Bool.{false≢true}
 use Rattle.mine_graph.specs.Flood.{TakesIn}
-use Rattle.certificate.specs.Check.{amount}
-use Rattle.certificate.specs.Reaching.{IsVisited}
-use Rattle.certificate.proofs.Visiting.{visited_more, visited_skip}
+use Rattle.certificate.proofs.Sending.{SentBefore, sent_none, sent_skip, sent_more, sent_all}
 use Rattle.certificate.proofs.reach.visit_users.Goals as goal
-use Rattle.certificate.proofs.reach.visit_users.Goals.{then-flow-arc-gt0, else-flow-arc-gt0}
+use Rattle.certificate.proofs.reach.visit_users.Goals.{then-sends, else-sends}
+
+pub loop-i-init : goal.loop-i-init
+loop-i-init c = sent_none c.args.graph.now.pairs c.args.flow.now c.args.inside.now c.users-users.result.now c.args.block c.args.flood.now c.requires.trail
 
 pub loop-i-preserved : goal.loop-i-preserved
 loop-i-preserved c =
+    let pairs = c.args.graph.now.pairs in
+    let flow = c.args.flow.now in
     let inside = c.args.inside.now in
-    let users = c.args.users.now in
-    let test : ℕ → Bool = λ x. int_lt (pos 0) (amount c.args.flow.now (get_or users x 0)) in
-    let block : ℕ → ℕ = λ x. first_of c.args.graph.now.pairs (get_or users x 0) in
-    let was = c.loop-i.invariant in
-    elim c.if-flow-arc-gt0.branch [
-      | then-flow-arc-gt0 w ↦ rw w.flood-is (visited_more inside test block 0 c.loop-i.i (omega arith) c.args.flood.now c.loop-i.flood was w.visit.new.flood (search rules)
-          (subst (λ (b : ℕ). TakesIn (IsVisited inside (λ x. true) (λ x. b) 0 1) c.loop-i.flood w.visit.new.flood) (ap (λ q. q.0) w.arc.ensures) w.visit.ensures))
-      | else-flow-arc-gt0 w ↦ rw w.flood-is (visited_skip inside test block 0 c.loop-i.i (omega arith) c.args.flood.now c.loop-i.flood was (search rules))
+    let users = c.users-users.result.now in
+    let i = c.loop-i.i in
+    elim c.if-sends.branch [
+      | then-sends w ↦ rw w.flood-is (sent_more pairs flow inside users c.args.block i c.args.flood.now c.loop-i.flood c.loop-i.invariant w.visit.new.flood (c.sends.ensures.0 w.if-sends.true) w.visit.ensures)
+      | else-sends w ↦ rw w.flood-is (sent_skip pairs flow inside users c.args.block i c.args.flood.now c.loop-i.flood c.loop-i.invariant (λ sends. false≢true (sym w.if-sends.false ∙ c.sends.ensures.1 sends)))
     ]
+
+pub returns : goal.returns
+returns c =
+    let pairs = c.args.graph.now.pairs in
+    let users = c.users-users.result.now in
+    let end : c.loop-i.i ≡ length users = omega arith in
+    sent_all pairs c.args.flow.now c.args.inside.now users c.args.block c.args.flood.now c.loop-i.flood c.users-users.ensures
+    (subst (λ i. TakesIn (SentBefore pairs c.args.flow.now c.args.inside.now users c.args.block i) c.args.flood.now c.loop-i.flood) end c.loop-i.invariant)

@@ -1,4 +1,4 @@
--- Where the seconds rise, the test "less than p" parts the pairs at the place that the binary search answers.
+-- Where numbers do not fall, the test "less than p" parts them at the place that the binary search answers.
 use Rattle.std.proofs.Common.{ℕ, ltb, get_or, arith, rules}
 use Rattle.std.proofs.lemmas.Bool.{ltb-true, ltb-false}
 use Rattle.std.proofs.lemmas.List.Sorted.{IsNonDecreasingBy-from_default, IsPartitionPoint-from_clause, IsPartitionedBy-ltb}
@@ -6,14 +6,14 @@ use Rattle.mine_graph.proofs.graph.first_at_least.Goals as goal
 
 pub returns-clause-before : goal.returns-clause-before
 returns-clause-before c i l =
-    let rising = IsNonDecreasingBy-from_default (λ (x : ℕ × ℕ). x.1) c.args.pairs.now (0, 0) c.requires in
-    let parted = IsPartitionedBy-ltb (λ (x : ℕ × ℕ). x.1) c.args.pairs.now c.args.p rising in
-    let point = IsPartitionPoint-from_clause (λ (x : ℕ × ℕ). ltb x.1 c.args.p) _ _ c.partition_point.ensures.partitioned parted (λ a r q k. search rules) in
-    ltb-true (get_or c.args.pairs.now i (0, 0)).1 c.args.p (point.0 i (0, 0) (omega arith) l)
+    let rising = IsNonDecreasingBy-from_default (λ (x : ℕ). x) c.args.numbers.now 0 c.requires in
+    let parted = IsPartitionedBy-ltb (λ (x : ℕ). x) c.args.numbers.now c.args.p rising in
+    let point = IsPartitionPoint-from_clause (λ (x : ℕ). ltb x c.args.p) _ _ c.partition_point.ensures.partitioned parted (λ a r q k. search rules) in
+    ltb-true (get_or c.args.numbers.now i 0) c.args.p (point.0 i 0 (omega arith) l)
 
 pub returns-clause-after : goal.returns-clause-after
 returns-clause-after c i l m =
-    let rising = IsNonDecreasingBy-from_default (λ (x : ℕ × ℕ). x.1) c.args.pairs.now (0, 0) c.requires in
-    let parted = IsPartitionedBy-ltb (λ (x : ℕ × ℕ). x.1) c.args.pairs.now c.args.p rising in
-    let point = IsPartitionPoint-from_clause (λ (x : ℕ × ℕ). ltb x.1 c.args.p) _ _ c.partition_point.ensures.partitioned parted (λ a r q k. search rules) in
-    ltb-false (get_or c.args.pairs.now i (0, 0)).1 c.args.p (point.1 i (0, 0) l m)
+    let rising = IsNonDecreasingBy-from_default (λ (x : ℕ). x) c.args.numbers.now 0 c.requires in
+    let parted = IsPartitionedBy-ltb (λ (x : ℕ). x) c.args.numbers.now c.args.p rising in
+    let point = IsPartitionPoint-from_clause (λ (x : ℕ). ltb x c.args.p) _ _ c.partition_point.ensures.partitioned parted (λ a r q k. search rules) in
+    ltb-false (get_or c.args.numbers.now i 0) c.args.p (point.1 i 0 l m)

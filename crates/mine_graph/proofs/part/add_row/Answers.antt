@@ -23,16 +23,16 @@ loop-k-preserved c =
     let k = c.loop-k.k in
     let inside : k < length ps = omega (arith, c.loop-k-test.true, c.arcs_of-arcs.ensures.inside) in
     let own : first_of ps k ≡ c.args.block = (c.arcs_of-arcs.ensures.own k inside).1 (c.loop-k.auto.k, c.loop-k-test.true) in
-    let to : c.arc-needed.result.1 ≡ second_of ps k = ap (λ q. q.1) c.arc-needed.ensures in
+    let to : c.needed-needed.result ≡ second_of ps k = c.needed-needed.ensures in
     let left : has_label labels c.args.chosen.label (first_of ps k) ≡ true = eq-eqb (get_or labels (first_of ps k) 0) c.args.chosen.label (ap (λ u. get_or labels u 0) own ∙ c.requires.own) in
     let both : is_inside ps labels c.args.chosen.label k ≡ has_label labels c.args.chosen.label (second_of ps k) = ap (λ b. b && has_label labels c.args.chosen.label (second_of ps k)) left in
     elim c.if-chosen-needed.branch [
       | then-chosen-needed+in_ok-push w ↦
           let is : is_inside ps labels c.args.chosen.label k ≡ true = both ∙ eq-eqb (get_or labels (second_of ps k) 0) c.args.chosen.label (ap (λ u. get_or labels u 0) (sym to) ∙ w.if-chosen-needed.true) in
           let grown = row_adds ps labels c.args.chosen.label c.args.block k c.law.ensures.graph.rising inside own is in
-          let row : placed_pair ps places k ≡ (get_or places c.args.block 0, get_or places c.arc-needed.result.1 0) =
+          let row : placed_pair ps places k ≡ (get_or places c.args.block 0, get_or places c.needed-needed.result 0) =
           ap (λ u. (get_or places u 0, get_or places (second_of ps k) 0)) own ∙ ap (λ u. (get_or places c.args.block 0, get_or places u 0)) (sym to) in
-          ap (λ (v : Vec (ℕ × ℕ) Global). v.items) w.pairs-is ∙ w.in_ok-push.ensures.items ∙ ap (λ xs. xs ++ (get_or places c.args.block 0, get_or places c.arc-needed.result.1 0) ∷ []) c.loop-k.invariant
+          ap (λ (v : Vec (ℕ × ℕ) Global). v.items) w.pairs-is ∙ w.in_ok-push.ensures.items ∙ ap (λ xs. xs ++ (get_or places c.args.block 0, get_or places c.needed-needed.result 0) ∷ []) c.loop-k.invariant
           ∙ ap (λ q. map (placed_pair ps places) (members (length ps) (inside_so_far ps labels c.args.chosen.label c.args.block k)) ++ q ∷ []) (sym row)
           ∙ sym (ap (map (placed_pair ps places)) grown ∙ map-append (placed_pair ps places) (members (length ps) (inside_so_far ps labels c.args.chosen.label c.args.block k)) (k ∷ []))
       | else-chosen-needed w ↦

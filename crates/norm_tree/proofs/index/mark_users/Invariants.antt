@@ -1,7 +1,5 @@
 -- The strong users at the places so far are marked, and no mark is gone.
-use Rattle.std.proofs.Common.{◌≡◌, ◌==◌, ℕ, ◌<◌, true, false, length, get_or}
-use Rattle.pit_model.specs.Graph.{first_of, second_of}
-use Rattle.pit_model.specs.Mine.{members}
+use Rattle.std.proofs.Common.{◌≡◌, ℕ, ◌<◌, true, false, length, get_or}
 use Rattle.norm_tree.specs.Labelled.{label}
 use Rattle.norm_tree.proofs.index.mark_users.Given as goal
 
@@ -9,5 +7,5 @@ abbrev pub invariant-loop-place : goal.invariant-loop-place
 invariant-loop-place l = record {
   room : length l.marks ≡ length l.initial.marks;
   kept : (u : ℕ) → get_or l.initial.marks u false ≡ true → get_or l.marks u false ≡ true;
-  done : (i : ℕ) → i < l.place → label l.strong (first_of l.graph.pairs (get_or l.users i 0)) ≡ true → get_or l.marks (first_of l.graph.pairs (get_or l.users i 0)) false ≡ true;
+  done : (i : ℕ) → i < l.place → label l.strong (get_or l.users i 0) ≡ true → get_or l.marks (get_or l.users i 0) false ≡ true;
 }

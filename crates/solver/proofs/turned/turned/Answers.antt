@@ -13,3 +13,13 @@ watched-requires-clause-high c u l =
     let inside : u < c.args.mine.now.blocks = omega arith in
     let low = c.law.ensures.limits.low u inside in
     rw (c.in_ok-values.ensures.each u inside) (omega (arith, ints))
+
+pub watched-requires-clause-low : goal.watched-requires-clause-low
+watched-requires-clause-low c u l =
+    let held = ap (λ (g : Graph). g.blocks) c.in_ok-new.ensures.ok in
+    let same = c.in_ok-reversed.ensures.reversed.same_blocks in
+    let count = ap (λ (g : Graph). g.blocks) c.deref-graph.ensures in
+    let size = c.graph.ensures.blocks in
+    let inside : u < c.args.mine.now.blocks = omega arith in
+    let high = c.law.ensures.limits.high u inside in
+    rw (c.in_ok-values.ensures.each u inside) (omega (arith, ints))

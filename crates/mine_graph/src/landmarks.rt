@@ -1,0 +1,51 @@
+//! The row that a place lies in, by halving between landmarks: the rows of every 64th place, which take a 64th of the places' memory.
+ghost use Rattle.std.specs.Prelude.{◌≡◌, ℕ, ◌+◌, ◌^◌, ◌<◌, ◌≤◌, length, get_or, IfOk};
+ghost use Rattle.pit_model.specs.Graph.{AreInRange};
+ghost use Rattle.mine_graph.specs.Rows.{pairs_of, AreLandmarks, AreStarts};
+
+use crate::way_back::Rows;
+use std::alloc::{AllocError, Global};
+
+/// How many places lie from a landmark to the next.
+pub const STEP: usize = 64;
+
+/// The row from `least` to `most` that a place lies in.
+pub fn row_between(starts: &[u32], least: u32, most: u32, place: u32) -> u32
+    requires order { least ≤ most }
+    requires inside { most + 1 < length starts.now }
+    requires few { length starts.now ≤ 2 ^ 31 }
+    requires rise { (v w : ℕ) → v ≤ w → w < length starts.now → get_or starts.now v 0 ≤ get_or starts.now w 0 }
+    ensures { (v : ℕ) → least ≤ v → v ≤ most → get_or starts.now v 0 ≤ place → place < get_or starts.now (v + 1) 0 → result ≡ v }
+{
+    let ends = &starts[least as usize + 1..most as usize + 1];
+    least + ends.partition_point(|&end| end <= place) as u32
+}
+
+/// The landmark behind one, and the last row behind the last one.
+pub fn next_landmark(landmarks: &[u32], mark: usize, last: u32) -> u32
+    requires { mark < length landmarks.now }
+    ensures before { mark + 1 < length landmarks.now → result ≡ get_or landmarks.now (mark + 1) 0 }
+    ensures behind { length landmarks.now ≤ mark + 1 → result ≡ last }
+{
+    if mark + 1 < landmarks.len() {
+        landmarks[mark + 1]
+    } else {
+        last
+    }
+}
+
+/// The rows of every 64th place.
+pub fn landmarks_of(alloc: Global, n: u32, rows: Rows<'_>) -> Result<Vec<u32>, AllocError>
+    requires few { length rows.seconds.now < 2 ^ 31 }
+    requires few_blocks { n < 2 ^ 31 }
+    requires range { AreInRange (pairs_of rows.starts.now rows.seconds.now) n }
+    requires starts { AreStarts (pairs_of rows.starts.now rows.seconds.now) rows.starts.now n }
+    ensures { IfOk result (λ v. AreLandmarks (pairs_of rows.entry.starts.now rows.entry.seconds.now) v.items) }
+{
+    let mut landmarks = Vec::with_capacity(alloc, rows.seconds.len() / STEP + 1)?;
+    let last = n.saturating_sub(1);
+    for i in 0..rows.seconds.len().div_ceil(STEP) {
+        landmarks.push(row_between(rows.starts, 0, last, (i * STEP) as u32))?;
+    }
+    Ok(landmarks)
+}
