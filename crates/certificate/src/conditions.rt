@@ -10,7 +10,7 @@ ghost use Rattle.pit_model.specs.Direction.{ListsPit};
 ghost use Rattle.pit_model.specs.Fixed.{IsFixedCertificate, IsNothingFixed, fixed_of, graph_of_mine};
 ghost use Rattle.pit_model.specs.declared.direction.Direction.TheVariants.{Least};
 ghost use Rattle.mine_graph.specs.FixedBlocks.{IsFixedOf};
-ghost use Rattle.certificate.specs.Check.{has, open_in, AreRising, BlockAllows, BlocksAllow, IsCandidate, PairAllows, PairsAllow};
+ghost use Rattle.certificate.specs.Check.{amount, has, open_in, AreRising, BlockAllows, BlocksAllow, IsCandidate, PairAllows, PairsAllow, RowAllows};
 
 use crate::excess::excesses_of;
 use crate::pit_with_flow::Certificate;
@@ -40,6 +40,45 @@ fn pair_allows(from: bool, to: bool, are_open: bool, amount: i128) -> bool
     (to || !from) && (amount == 0 || (are_open && from == to))
 }
 
+/// The same of a pair by its number, with the amount on it.
+fn arc_allows(from: bool, to: bool, are_open: bool, flow: &[i128], k: u32) -> bool
+    requires { k < length flow.now }
+    ensures { IsTrue result ↔ PairAllows from to are_open (amount flow.now k) }
+{
+    pair_allows(from, to, are_open, flow[k as usize])
+}
+
+/// Whether two blocks are open.
+fn are_open(fixed: &Fixed, u: u32, p: u32) -> bool
+    ensures { result ≡ (open_in fixed.now u && open_in fixed.now p) }
+{
+    fixed.is_open(u) && fixed.is_open(p)
+}
+
+/// Whether no pair of a block leads out of the set, no flow comes in over it, and it has none where not both its blocks are open.
+fn row_allows(graph: &Graph, fixed: &Fixed, flow: &[i128], inside: &[bool], u: u32) -> bool
+    requires block { u < graph.now.blocks }
+    requires counted { length flow.now ≡ length graph.now.pairs }
+    requires blocks { length inside.now ≡ graph.now.blocks }
+    ensures { IsTrue result ↔ RowAllows graph.now.pairs (open_in fixed.now) flow.now inside.now u (length graph.now.pairs) }
+{
+    graph.law();
+    let arcs = graph.arcs_of(u);
+    for k in arcs.start..arcs.end {
+        let p = graph.needed(k);
+        if !arc_allows(
+            inside[u as usize],
+            inside[p as usize],
+            are_open(fixed, u, p),
+            flow,
+            k,
+        ) {
+            return false;
+        }
+    }
+    true
+}
+
 /// Whether the set is closed, no flow comes into it from outside, and none is where not both blocks are open.
 fn pairs_allow(graph: &Graph, fixed: &Fixed, flow: &[i128], inside: &[bool]) -> bool
     requires counted { length flow.now ≡ length graph.now.pairs }
@@ -47,15 +86,8 @@ fn pairs_allow(graph: &Graph, fixed: &Fixed, flow: &[i128], inside: &[bool]) -> 
     ensures { IsTrue result ↔ PairsAllow graph.now.pairs (open_in fixed.now) flow.now inside.now (length graph.now.pairs) }
 {
     graph.law();
-    for k in 0..graph.arcs() {
-        let (u, p) = graph.arc(k);
-        let are_open = fixed.is_open(u) && fixed.is_open(p);
-        if !pair_allows(
-            inside[u as usize],
-            inside[p as usize],
-            are_open,
-            flow[k as usize],
-        ) {
+    for u in 0..graph.n() {
+        if !row_allows(graph, fixed, flow, inside, u) {
             return false;
         }
     }
