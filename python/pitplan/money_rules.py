@@ -189,23 +189,10 @@ def read_metal(section: Section, has_processes: bool = False) -> Metal:
         selling_cost=section.number("selling_cost", Decimal(0), least=0),
         recovery=Decimal(0) if has_processes else read_recovery(section, "recovery"),
         fixed_tail=section.by_rock("fixed_tail") if section.has("fixed_tail") else Decimal(0),
-        prices=read_prices(section),
+        prices=section.amounts("prices", "of prices, one a year, such as [8000, 8200]; the last one stays"),
     )
     section.finish()
     return metal
-
-
-def read_prices(section: Section) -> tuple[Decimal, ...]:
-    """A price for each year from the first."""
-    if not section.has("prices"):
-        return ()
-    value = section.get("prices")
-    if not isinstance(value, list) or not value:
-        raise section.wrong("prices", "must be a list of prices, one a year, such as [8000, 8200]; the last one stays")
-    prices = tuple(section.as_number("prices", item) for item in value)
-    if min(prices) < 0:
-        raise section.wrong("prices", "may not be negative")
-    return prices
 
 
 def read_process(section: Section) -> Process:

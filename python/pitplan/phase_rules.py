@@ -48,24 +48,12 @@ def read_phases(section: Section, most_factor: int) -> PhaseRules:
         last=section.whole("last", 1000, 1, most_factor) if section.has("last") else None,
         width=read_metres(section, "width"),
         bottom=read_metres(section, "bottom"),
-        mining_cost_added=read_added(section),
+        mining_cost_added=section.amounts("mining_cost_added", "with what a tonne costs more in each phase, such as [0, 0.15]"),
     )
     section.finish()
     if rules.tonnes is not None and rules.tonnes <= 0:
         raise section.wrong("tonnes", "a phase has more than 0 tonnes")
     return rules
-
-
-def read_added(section: Section) -> tuple[Decimal, ...]:
-    if not section.has("mining_cost_added"):
-        return ()
-    value = section.data["mining_cost_added"]
-    if not isinstance(value, list) or not value:
-        raise section.wrong("mining_cost_added", "must be a list with what a tonne costs more in each phase, such as [0, 0.15]")
-    amounts = tuple(section.as_number("mining_cost_added", item) for item in value)
-    if min(amounts) < 0:
-        raise section.wrong("mining_cost_added", "may not be negative")
-    return amounts
 
 
 def read_metres(section: Section, key: str) -> Optional[float]:

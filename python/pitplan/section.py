@@ -101,6 +101,18 @@ class Section:
             raise self.wrong(key, f"must be a list of {count} numbers")
         return [float(self.as_number(key, item)) for item in value]
 
+    def amounts(self, key: str, of: str) -> tuple[Decimal, ...]:
+        """A list of numbers from 0 on, none where the key is left out; `of` says what it has, with an example."""
+        if not self.has(key):
+            return ()
+        value = self.data[key]
+        if not isinstance(value, list) or not value:
+            raise self.wrong(key, f"must be a list {of}")
+        found = tuple(self.as_number(key, item) for item in value)
+        if min(found) < 0:
+            raise self.wrong(key, "may not be negative")
+        return found
+
     def pairs(self, key: str, of: str) -> tuple[tuple[Decimal, Decimal], ...]:
         """A list of pairs of numbers; `of` names the two."""
         return self.as_pairs(key, self.get(key), of)

@@ -1,7 +1,8 @@
 """A topography as triangles over the columns of a grid: its height at their middles, and how much of each block lies below it.
 
 The share of a block is exact for these triangles. Each is cut to the columns that it comes over, and over what is left of it, where its
-height goes linearly, the volume above an elevation has a closed form; a block has what lies above its floor without what lies above its top.
+height goes linearly, the volume above an elevation has a closed form; a block has what lies above its floor without what lies above its
+top.
 """
 
 from __future__ import annotations

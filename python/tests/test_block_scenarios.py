@@ -14,8 +14,7 @@ import numpy as np
 import pandas as pd
 import pytest
 from conftest import ROOT, rows
-from hypothesis import given, settings
-from hypothesis import strategies as st
+from hypothesis import given, settings, strategies as st
 from scipy.optimize import linprog
 from test_pushbacks import UPRIGHT
 from test_scenarios import hill, write_models

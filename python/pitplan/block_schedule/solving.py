@@ -155,8 +155,8 @@ class Search:
 
     @cached_property
     def fillings(self) -> list[Filling]:
-        """How years are filled: each block as soon as there is room for it, and of several destinations also as soon as there is where it is
-        worth most."""
+        """How years are filled: each block as soon as there is room for it, and of several destinations also as soon as there is where
+        it is worth most."""
         soon = Filling(self.problem, preferences(self.problem, self.relaxation.prices))
         return [soon, *([replace(soon, waits=True)] if self.problem.destinations > 1 else [])]
 

@@ -36,8 +36,8 @@ import pandas as pd
 
 from ..errors import PlanError
 from ..project import Project
-from . import absent, answer as answers, block_scenarios, block_schedule, fixed, haulage, money, phases, planned_table, reach, reblocked, scenarios
-from . import schedule, sensitivity, sums, topography, walls, years
+from . import absent, answer as answers, block_scenarios, block_schedule, fixed, haulage, money, phases, planned_table, reach, reblocked
+from . import scenarios, schedule, sensitivity, sums, topography, walls, years
 from .answer import TOLD, Answer, Rule, rule
 
 OF_PITS = (walls.verify, sums.verify, sums.verify_worth, years.verify)
@@ -93,8 +93,8 @@ def verify_folder(folder: Path) -> list[Rule]:
 
 
 def verify_scenarios(folder: Path, written: Optional[Path] = None) -> list[Rule]:
-    """What was looked at of scenarios, of pits or of schedules by block, whose tables may stand in another folder, `written`. Raises PlanError
-    as `verify` does."""
+    """What was looked at of scenarios, of pits or of schedules by block, whose tables may stand in another folder, `written`. Raises
+    PlanError as `verify` does."""
     return (block_scenarios if block_scenarios.is_by_block(folder) else scenarios).verify(folder, written)
 
 

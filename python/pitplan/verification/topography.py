@@ -46,8 +46,8 @@ class Ground:
         return Ground(steps[faces], answer.shape)
 
     def quickly(self, places: np.ndarray) -> np.ndarray:
-        """For columns, a row of the row and the column each, the share of each level from the floor that lies below, by heights at places in
-        them; not a number where the triangles do not cover all of these."""
+        """For columns, a row of the row and the column each, the share of each level from the floor that lies below, by heights at places
+        in them; not a number where the triangles do not cover all of these."""
         within = (np.arange(ACROSS) + 0.5) / ACROSS - 0.5
         spots = np.stack(np.meshgrid(within, within), axis=-1).reshape(-1, 2)
         found = highest((places[:, None, ::-1] + spots).reshape(-1, 2), self.corners).reshape(len(places), -1)
