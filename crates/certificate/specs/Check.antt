@@ -66,7 +66,7 @@ abbrev pub PairsAllow : List (ℕ × ℕ) → (ℕ → Bool) → List ℤ → Li
 PairsAllow pairs open_block flow inside m =
     (k : ℕ) → k < m → PairAllows (has inside (first_of pairs k)) (has inside (second_of pairs k)) (open_block (first_of pairs k) && open_block (second_of pairs k)) (amount flow k)
 
--- the same of those of the first pairs that are of block u
+-- the same of the pairs of block u, among the first m pairs
 abbrev pub RowAllows : List (ℕ × ℕ) → (ℕ → Bool) → List ℤ → List Bool → ℕ → ℕ → Type 0
 RowAllows pairs open_block flow inside u m =
     (k : ℕ) → k < m → first_of pairs k ≡ u → PairAllows (has inside u) (has inside (second_of pairs k)) (open_block u && open_block (second_of pairs k)) (amount flow k)

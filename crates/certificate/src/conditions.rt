@@ -146,7 +146,8 @@ fn open_inside(alloc: Global, fixed: &Fixed, inside: &[bool]) -> Result<Vec<bool
 
 /// Whether the blocks and the flow meet the conditions of a certificate of the instance with these blocks fixed: then, and then
 /// alone, the flow shows that the blocks are the smallest closed set of greatest worth among those that hold each block forced
-/// in and none that is barred. Refused for want of memory alone. Time and memory are linear in blocks and pairs. (Picard 1976)
+/// in and none that is barred. Refused for want of memory alone. Memory is linear in blocks and pairs, and time is too, but for halving
+/// rows where a pair's block or flow is looked for. (Picard 1976)
 pub fn check(
     alloc: Global,
     mine: &Instance,

@@ -1,5 +1,5 @@
 //! The blocks that are reached inside a set by steps of positive residual from its blocks of positive excess: a queue takes in
-//! block after block, each once, so that time is linear in blocks and pairs.
+//! block after block, each once, so that time is linear in blocks and pairs, but for halving a row to find the flow that comes over it.
 ghost use Rattle.std.specs.Prelude.{◌≡◌, ◌<◌, ◌≤◌, ◌↔◌, ℕ, pos, int_lt, true, false, IsTrue, length, get_or, IfOk};
 ghost use Rattle.pit_model.specs.Graph.{second_of};
 ghost use Rattle.pit_model.specs.Mine.{arcs};
