@@ -64,15 +64,22 @@ fn first_arcs(alloc: Global, graph: &Graph) -> Result<Vec<u32>, AllocError>
     )
 }
 
+/// A label, among the labels of all blocks.
+#[derive(Clone, Copy)]
+struct Level<'a> {
+    labels: &'a [u32],
+    label: u32,
+}
+
 /// The first pair in a range of numbers that leads to a block with this label.
-fn first_to(graph: &Graph, labels: &[u32], arcs: Range<u32>, label: u32) -> Option<u32>
-    requires labels { length labels.now ≡ graph.now.blocks }
+fn first_to(graph: &Graph, arcs: Range<u32>, level: Level<'_>) -> Option<u32>
+    requires labels { length level.labels.now ≡ graph.now.blocks }
     requires arcs { arcs.end ≤ length graph.now.pairs }
 {
     graph.law();
     for arc in arcs.start..arcs.end {
         let needed = graph.needed(arc);
-        if labels[needed as usize] == label {
+        if level.labels[needed as usize] == level.label {
             return Some(arc);
         }
     }
@@ -84,13 +91,12 @@ fn first_to(graph: &Graph, labels: &[u32], arcs: Range<u32>, label: u32) -> Opti
 fn add_children(
     forest: &Forest,
     block: u32,
-    labels: &[u32],
-    label: u32,
+    level: Level<'_>,
     branch: &mut [u32],
     found: usize,
 ) -> usize
     requires block { block < size forest.now }
-    requires labels { length labels.now ≡ size forest.now }
+    requires labels { length level.labels.now ≡ size forest.now }
     requires room { length branch.old ≡ size forest.now }
     requires found { found ≤ size forest.now }
     requires branch { AreBelow branch.old (size forest.now) }
@@ -103,7 +109,7 @@ fn add_children(
     for _child in 0..forest.blocks() {
         match next {
             Some(child) if found < branch.len() => {
-                if labels[child as usize] == label {
+                if level.labels[child as usize] == level.label {
                     branch[found] = child;
                     found += 1;
                 }
@@ -196,7 +202,11 @@ impl LowestLabel {
     {
         let end = graph.arcs_of(block).end;
         let from = self.arcs[block as usize];
-        let arc = first_to(graph, &self.labels, from..end, label);
+        let level = Level {
+            labels: &self.labels,
+            label,
+        };
+        let arc = first_to(graph, from..end, level);
         self.arcs[block as usize] = arc.unwrap_or(end);
         arc
     }
@@ -227,14 +237,11 @@ impl LowestLabel {
         requires block { block < self.old }
         ensures { self.new ≡ self.old }
     {
-        self.found = add_children(
-            forest,
-            block,
-            &self.labels,
+        let level = Level {
+            labels: &self.labels,
             label,
-            &mut self.branch,
-            self.found,
-        );
+        };
+        self.found = add_children(forest, block, level, &mut self.branch, self.found);
     }
 
     /// Looks through the branch of a root, along the blocks with its label, for a pair to a block one label lower.
