@@ -7,7 +7,7 @@ ghost use Rattle.faults.specs.Refused.{no_memory, IsNoRoom};
 use crate::board_id::BoardId;
 use crate::knows::Knows;
 use crate::seats::{HolderSeat, WorkerSeat};
-use crate::steps::{Asks, Deal};
+use crate::steps::{Asks, DealWorkerSeat};
 use atomic_table::{Seat, Table};
 use faults::Fault;
 use std::alloc::Global;
@@ -95,7 +95,7 @@ impl<B: BoardId> Board<B> {
         let mut seats = Vec::new(alloc);
         let mut cell = 0;
         while cell < workers {
-            let theirs = cells.shared.split_seat::<Deal>(&mut seat);
+            let theirs = cells.shared.split_seat::<DealWorkerSeat>(&mut seat);
             seats.push(WorkerSeat {
                 cell,
                 ask: None,

@@ -23,18 +23,18 @@ impl Play<(), DrawLedger> for Draw {
 }
 
 /// A seat that stands for none comes in, to gather the others.
-pub(crate) struct Sit;
+pub(crate) struct SitAtCounter;
 
-impl Play<(), DrawLedger> for Sit {
+impl Play<(), DrawLedger> for SitAtCounter {
     ghost use Rattle.proposals.specs.Drawn.{sat};
 
     ghost then = { sat };
 }
 
 /// The first seat gives one seat away.
-pub(crate) struct Deal;
+pub(crate) struct DealDrawSeat;
 
-impl Split<DrawLedger> for Deal {
+impl Split<DrawLedger> for DealDrawSeat {
     ghost use Rattle.proposals.specs.Drawn.{cut, one_seat};
 
     ghost left = { cut };

@@ -6,7 +6,7 @@ ghost use Rattle.proposals.specs.Ledger.{nothing, Meets};
 use crate::board::Board;
 use crate::board_id::BoardId;
 use crate::seats::{HolderSeat, WorkerSeat};
-use crate::steps::{Agree, Meet, Sit};
+use crate::steps::{Agree, Meet, SitAtBoard};
 use std::mem;
 
 impl<B: BoardId> Board<B> {
@@ -19,7 +19,7 @@ impl<B: BoardId> Board<B> {
     {
         let shared = &self.cells.shared;
         let cell = worker.cell as usize;
-        let idle = shared.load_new_seat::<Sit>(0).1;
+        let idle = shared.load_new_seat::<SitAtBoard>(0).1;
         let theirs = mem::replace(&mut holder.seat, idle);
         shared.join_seat::<Meet>(&mut worker.seat, theirs);
         shared.load::<Agree>(&mut worker.seat, cell);

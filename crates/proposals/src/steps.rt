@@ -78,18 +78,18 @@ impl Play<(), Knows> for Agree {
     ghost then = { Agreed };
 }
 
-pub(crate) struct Sit;
+pub(crate) struct SitAtBoard;
 
-impl Play<(), Knows> for Sit {
+impl Play<(), Knows> for SitAtBoard {
     ghost use Rattle.proposals.specs.Ledger.{sat};
 
     ghost then = { sat };
 }
 
 /// The holder's seat gives the next worker its seat.
-pub(crate) struct Deal;
+pub(crate) struct DealWorkerSeat;
 
-impl Split<Knows> for Deal {
+impl Split<Knows> for DealWorkerSeat {
     ghost use Rattle.proposals.specs.Ledger.{dealing, dealt_to};
 
     ghost left = { dealing };
