@@ -1,11 +1,9 @@
 -- One more entry keeps the book's law.
-use Rattle.std.proofs.Common.{◌≡◌, ℕ, ◌+◌, ◌≤◌, true, false, refl, sym, ap, ◌∙◌, subst, arith, ⊎_elim, List, [], ◌∷◌, ◌++◌, length, Option}
-use Rattle.std.specs.List.{fold}
-use Rattle.std.proofs.lemmas.Bool.{cases_Bool}
+use Rattle.std.proofs.Common.{◌≡◌, ℕ, refl, sym, ap, ◌∙◌, subst, List, [], ◌∷◌, ◌++◌, Option}
 use Rattle.pit_model.specs.declared.journal.Entry.{Entry}
 use Rattle.pit_model.specs.Mine.{Instance}
 use Rattle.pit_model.specs.Tree.{opening}
-use Rattle.pit_model.specs.Journal.{is_applied, lawful_verdict, count_after, applied_count, IsLawful, replay}
+use Rattle.pit_model.specs.Journal.{lawful_verdict, count_after, IsLawful, replay}
 use Rattle.pit_model.specs.Version.{version_tree, arcs_after, applied_arcs, IsVersion}
 use Rattle.pit_model.proofs.Journals.{lawful-snoc, applied_count-snoc}
 use Rattle.pit_model.proofs.Versions.{applied_arcs-snoc, journal_gives_version}

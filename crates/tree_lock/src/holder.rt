@@ -67,11 +67,11 @@ impl<S: LockId> Holder<S> {
         }
     }
 
-    /// What is true of each holder, the law of the lock. It is of the instance and the budget that the lock's id names. The journal is lawful, under
-    /// the seats of the workers, of arcs that may be asked for, and of the driver, of arcs of the instance; the tree is its
-    /// replay by one thread, and normalised; the mergers are at most the budget's, and at most P * (n + 1) + n, P the sum of
-    /// the positive values. The entries under each worker's seat are what was answered to it, and nothing is claimed. The published arcs are those
-    /// of the applied entries, and what readers see of them is the tree.
+    /// What is true of each holder, the law of the lock. It is of the instance and the budget that the lock's id names. The
+    /// journal is lawful, under the seats of the workers, of arcs that may be asked for, and of the driver, of arcs of the
+    /// instance; the tree is its replay by one thread, and normalised; the mergers are at most the budget's, and at most
+    /// P * (n + 1) + n, P the sum of the positive values. The entries under each worker's seat are what was answered to it, and
+    /// nothing is claimed. The published arcs are those of the applied entries, and what readers see of them is the tree.
     pub fn law(&self)
         ensures mine { self.now.mine ≡ S.mine }
         ensures budget { self.now.budget ≡ S.budget }
