@@ -1,61 +1,44 @@
 -- In rows that rise the place of a need is the number of its pair; and a certificate of the mine is one of the marks.
-use Rattle.std.proofs.Common.{◌≡◌, inl, inr, ℕ, zero, suc, ◌+◌, ◌-◌, ◌<◌, ◌≤◌, Bool, true, false, List, length, get_or, sym, ap, subst, ◌∙◌, arith, ⊎_elim}
+use Rattle.std.proofs.Common.{◌≡◌, inl, inr, ℕ, zero, suc, ◌+◌, ◌-◌, ◌<◌, ◌≤◌, Bool, true, false, List, length, get_or, refl, sym, ap, subst, ◌∙◌, arith, ⊎_elim}
 use Rattle.std.specs.Prelude.{ℤ, ◌==◌, if◌then◌else◌}
 use Rattle.std.proofs.lemmas.Bool.{cases_Bool, cases_lt, eqb-true, true≢false}
 use Rattle.pit_model.specs.Certificate.{IsCertificate}
-use Rattle.pit_model.specs.Graph.{first_of, AreRising}
+use Rattle.pit_model.specs.Graph.{AreInRange, AreRising, AreSamePairs, IsGraph}
 use Rattle.pit_model.specs.Mine.{Instance, members}
 use Rattle.pit_model.proofs.Members.{members_ext, members_rise}
 use Rattle.pit_model.proofs.OneOrder.{pairs_have_one_order}
 use Rattle.certificate.proofs.SameSet.{members_agree}
 use Rattle.certificate.specs.Check.{AreRising as AreRisingBlocks}
-use Rattle.arrays.specs.Certified.{CertifyMarks, RowRises, RowsRise}
+use Rattle.arrays.specs.Certified.{CertifyMarks}
+use Rattle.need_rows.specs.Rows.{pairs_of, RowsRise}
+use Rattle.need_rows.proofs.Begun.{begun_starts}
+use Rattle.need_rows.proofs.Rising.{rows_rising}
+use Rattle.need_rows.proofs.Spelled.{seconds_of_rows}
 use Rattle.arrays.specs.Solved.{AreMarks}
-use Rattle.arrays.specs.Spelled.{AreRows, IsInRow, IsSpelled, SpellMine, SpellPairs}
-use Rattle.arrays.proofs.OneMine.{arrays_spell_one_mine}
-use Rattle.arrays.proofs.Spelling.{by_rows, row_exists}
-
--- within a row each block is greater than all before it
-rises_in : (needs : List ℕ) (begin end k d : ℕ) → RowRises needs begin end → begin ≤ k → k + suc d < end → get_or needs k 0 < get_or needs (k + suc d) 0
-rises_in needs begin end k zero rise l m =
-    let step = rise (k + 1) (omega arith) (omega arith) in
-    let here : k + 1 - 1 ≡ k = omega arith in
-    let same = ap (λ i. get_or needs i 0) here in
-    omega arith
-rises_in needs begin end k (suc d) rise l m =
-    let before = rises_in needs begin end k d rise l (omega arith) in
-    let step = rise (k + suc (suc d)) (omega arith) m in
-    let here : k + suc (suc d) - 1 ≡ k + suc d = omega arith in
-    let same = ap (λ i. get_or needs i 0) here in
-    omega arith
+use Rattle.arrays.specs.Spelled.{AreRows, IsSpelled, SpellMine, SpellPairs}
+use Rattle.arrays.proofs.OneMine.{arrays_spell_one_mine, pairs_are_one}
+use Rattle.arrays.proofs.Spelling.{begun, spell}
 
 -- the pairs of rows that rise stand in order
-pairs_rise : (n : ℕ) (starts needs : List ℕ) (pairs : List (ℕ × ℕ)) → AreRows n (length needs) starts → RowsRise n starts needs → SpellPairs starts needs pairs → AreRising pairs
-pairs_rise n starts needs pairs rows rise is k l less inside =
-    let size : length pairs ≡ length needs = is.count in
-    let order = by_rows n starts needs pairs rows is k l (omega arith) inside in
-    ⊎_elim
-    (λ (before : first_of pairs k < first_of pairs l). inl before)
-    (λ (back : first_of pairs l ≤ first_of pairs k).
-    let same : first_of pairs k ≡ first_of pairs l = omega arith in
-    let here = is.block k (omega arith) in
-    let there : IsInRow starts (first_of pairs k) l = subst (λ u. IsInRow starts u l) (sym same) (is.block l (omega arith)) in
-    let exists = row_exists n (length needs) starts rows (first_of pairs k) k here in
-    let begin : get_or starts (first_of pairs k) 0 ≤ k = here.0 in
-    let end : l < get_or starts (first_of pairs k + 1) 0 = there.1 in
-    let far : k + suc (l - k - 1) ≡ l = omega arith in
-    let up = rises_in needs (get_or starts (first_of pairs k) 0) (get_or starts (first_of pairs k + 1) 0) k (l - k - 1) (rise (first_of pairs k) exists) begin (omega arith) in
-    let at = ap (λ i. get_or needs i 0) far in
-    let one = is.needed k (omega arith) in
-    let two = is.needed l (omega arith) in
-    inr (same, omega arith))
-    (cases_lt (first_of pairs k) (first_of pairs l))
+pairs_rise : (n : ℕ) (starts needs : List ℕ) (pairs : List (ℕ × ℕ)) → AreRows n (length needs) starts → AreInRange pairs n → RowsRise starts needs → SpellPairs starts needs pairs → AreRising pairs
+pairs_rise n starts needs pairs rows range rise is =
+    let same = pairs_are_one n starts needs pairs (pairs_of starts needs) rows is (spell n starts needs rows) in
+    let within = subst (λ q. AreInRange q n) same range in
+    let size = rows.count in
+    subst AreRising (sym same)
+    (rows_rising (pairs_of starts needs) starts needs n within (begun_starts starts (length needs) (begun n starts needs rows) needs refl n (omega arith) within) (seconds_of_rows starts needs) rise)
+
+same_in_range : (ps qs : List (ℕ × ℕ)) (n : ℕ) → AreSamePairs ps qs → AreInRange qs n → AreInRange ps n
+same_in_range ps qs n same range k l =
+    let f = same.forth k l in
+    let r = range f.0 f.1 in
+    (subst (λ (q : ℕ × ℕ). q.0 < n) f.2 r.0, subst (λ (q : ℕ × ℕ). q.1 < n) f.2 r.1)
 
 -- so they are the mine's, by their places
-pub in_order : (values : List ℤ) (starts needs : List ℕ) (mine : Instance) → AreRising mine.pairs → RowsRise mine.blocks starts needs → IsSpelled values starts needs mine → SpellMine values starts needs mine
-in_order values starts needs mine rising rise is =
+pub in_order : (values : List ℤ) (starts needs : List ℕ) (mine : Instance) → IsGraph mine.blocks mine.pairs → RowsRise starts needs → IsSpelled values starts needs mine → SpellMine values starts needs mine
+in_order values starts needs mine graph rise is =
     let whole = is.spelled in
-    let one = pairs_have_one_order is.pairs mine.pairs is.same (pairs_rise mine.blocks starts needs is.pairs whole.rows rise whole.pairs_are) rising in
+    let one = pairs_have_one_order is.pairs mine.pairs is.same (pairs_rise mine.blocks starts needs is.pairs whole.rows (same_in_range is.pairs mine.pairs mine.blocks is.same graph.in_range) rise whole.pairs_are) graph.rising in
     record {
       blocks = whole.blocks;
       values_are = whole.values_are;

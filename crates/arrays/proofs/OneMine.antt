@@ -5,6 +5,7 @@ use Rattle.std.proofs.lemmas.Bool.{cases_lt}
 use Rattle.std.proofs.lemmas.List.{ext_get_or}
 use Rattle.pit_model.specs.Graph.{first_of}
 use Rattle.pit_model.specs.Mine.{instance_of}
+use Rattle.need_rows.proofs.Spelled.{pair_same}
 use Rattle.arrays.specs.Spelled.{AreRows, ArraysSpellOneMine, IsInRow, SpellPairs}
 use Rattle.arrays.proofs.Spelling.{rises, row_exists}
 
@@ -26,16 +27,11 @@ one_row n m starts rows u v k here there =
     let b = not_later n m starts rows v u k there here in
     omega arith
 
-same_pair : (x y : ℕ × ℕ) → x.0 ≡ y.0 → x.1 ≡ y.1 → x ≡ y
-same_pair x y e d =
-    let first : x ≡ (y.0, x.1) = ap (λ (a : ℕ). (a, x.1)) e in
-    first ∙ ap (λ (b : ℕ). (y.0, b)) d
-
-pairs_are_one : (n : ℕ) (starts needs : List ℕ) (ps qs : List (ℕ × ℕ)) → AreRows n (length needs) starts → SpellPairs starts needs ps → SpellPairs starts needs qs → ps ≡ qs
+pub pairs_are_one : (n : ℕ) (starts needs : List ℕ) (ps qs : List (ℕ × ℕ)) → AreRows n (length needs) starts → SpellPairs starts needs ps → SpellPairs starts needs qs → ps ≡ qs
 pairs_are_one n starts needs ps qs rows p q = ext_get_or (0, 0) ps qs (p.count ∙ sym q.count) (λ k l.
     let size : length ps ≡ length needs = p.count in
     let less : k < length needs = omega arith in
-    same_pair (get_or ps k (0, 0)) (get_or qs k (0, 0))
+    pair_same (get_or ps k (0, 0)) (get_or qs k (0, 0))
     (one_row n (length needs) starts rows (first_of ps k) (first_of qs k) k (p.block k less) (q.block k less))
     (p.needed k less ∙ sym (q.needed k less)))
 

@@ -1,9 +1,11 @@
 -- Rows one behind the other, and the pairs that they spell.
-use Rattle.std.proofs.Common.{◌≡◌, ℕ, zero, suc, ◌+◌, ◌-◌, ◌<◌, ◌≤◌, List, [], ◌∷◌, ◌++◌, length, get_or, sym, ap, subst, ◌∙◌, arith, ⊎_elim, length-append, add-zero}
+use Rattle.std.proofs.Common.{◌≡◌, ℕ, zero, suc, ◌+◌, ◌-◌, ◌<◌, ◌≤◌, List, length, get_or, refl, sym, ap, subst, arith, ⊎_elim, add-zero}
 use Rattle.std.proofs.lemmas.Bool.{cases_eq, cases_lt}
-use Rattle.std.proofs.lemmas.List.{get_or_append_left, get_or_past}
-use Rattle.std.proofs.Math.Seq.{get_or-append_seam}
+use Rattle.std.proofs.lemmas.List.{get_or_past}
 use Rattle.pit_model.specs.Graph.{first_of, second_of, AreInRange}
+use Rattle.need_rows.specs.Rows.{row_at, pairs_of, AreBegun, AreStarts}
+use Rattle.need_rows.proofs.Begun.{begun_rise, begun_starts}
+use Rattle.need_rows.proofs.Spelled.{length-pairs_of, pairs_of-at, row_at-begins, row_at-cut, row_at-ends, second_at}
 use Rattle.arrays.specs.Spelled.{AreRows, IsInRow, SpellPairs}
 
 -- where a row begins no later one begins before
@@ -27,36 +29,6 @@ rises n m starts rows u v l k =
 pub ends_within : (n m : ℕ) (starts : List ℕ) → AreRows n m starts → (u : ℕ) → u ≤ n → get_or starts u 0 ≤ m
 ends_within n m starts rows u l = let r = rises n m starts rows u n l (omega arith) in let e = rows.last in omega arith
 
--- the first `count` pairs
-pub record AreFirst (starts needs : List ℕ) (pairs : List (ℕ × ℕ)) (count : ℕ) : Type 0 where
-  pub size : length pairs ≡ count
-  pub block : (k : ℕ) → k < count → IsInRow starts (first_of pairs k) k
-  pub needed : (k : ℕ) → k < count → second_of pairs k ≡ get_or needs k 0
-
-pub one_more : (starts needs : List ℕ) (pairs : List (ℕ × ℕ)) (count u p : ℕ) → AreFirst starts needs pairs count → IsInRow starts u count → p ≡ get_or needs count 0
-    → AreFirst starts needs (pairs ++ (u, p) ∷ []) (count + 1)
-one_more starts needs pairs count u p is row same =
-    let last : get_or (pairs ++ (u, p) ∷ []) count (0, 0) ≡ (u, p) = ap (λ i. get_or (pairs ++ (u, p) ∷ []) i (0, 0)) (sym is.size) ∙ get_or-append_seam pairs (u, p) [] (0, 0) in
-    let size : length pairs ≡ count = is.size in
-    record {
-      size = length-append pairs ((u, p) ∷ []) ∙ ap (λ n. n + 1) is.size;
-      block = λ k l. ⊎_elim
-          (λ (e : k ≡ count).
-          let at : first_of (pairs ++ (u, p) ∷ []) k ≡ u = ap (λ i. first_of (pairs ++ (u, p) ∷ []) i) e ∙ ap (λ (x : ℕ × ℕ). x.0) last in
-          subst (λ v. IsInRow starts v k) (sym at) (subst (λ i. IsInRow starts u i) (sym e) row))
-          (λ (ne : k ≡ count → ⊥).
-          let less : k < count = omega arith in
-          let at : first_of (pairs ++ (u, p) ∷ []) k ≡ first_of pairs k = ap (λ (x : ℕ × ℕ). x.0) (get_or_append_left pairs ((u, p) ∷ []) (0, 0) k (omega arith)) in
-          subst (λ v. IsInRow starts v k) (sym at) (is.block k less))
-          (cases_eq k count);
-      needed = λ k l. ⊎_elim
-          (λ (e : k ≡ count). ap (λ i. second_of (pairs ++ (u, p) ∷ []) i) e ∙ ap (λ (x : ℕ × ℕ). x.1) last ∙ same ∙ ap (λ i. get_or needs i 0) (sym e))
-          (λ (ne : k ≡ count → ⊥).
-          let less : k < count = omega arith in
-          ap (λ (x : ℕ × ℕ). x.1) (get_or_append_left pairs ((u, p) ∷ []) (0, 0) k (omega arith)) ∙ is.needed k less)
-          (cases_eq k count);
-    }
-
 -- a block in whose row a place lies is one that there is
 pub row_exists : (n m : ℕ) (starts : List ℕ) → AreRows n m starts → (u k : ℕ) → IsInRow starts u k → u < n
 row_exists n m starts rows u k row = ⊎_elim
@@ -68,22 +40,6 @@ row_exists n m starts rows u k row = ⊎_elim
     absurd (omega arith))
     (cases_lt u n)
 
--- rows stand in the order of their blocks
-pub by_rows : (n : ℕ) (starts needs : List ℕ) (pairs : List (ℕ × ℕ)) → AreRows n (length needs) starts → SpellPairs starts needs pairs
-    → (i j : ℕ) → i ≤ j → j < length pairs → first_of pairs i ≤ first_of pairs j
-by_rows n starts needs pairs rows is i j l k = ⊎_elim
-    (λ (less : first_of pairs j < first_of pairs i).
-    let size : length pairs ≡ length needs = is.count in
-    let mine = is.block i (omega arith) in
-    let other = is.block j (omega arith) in
-    let low : get_or starts (first_of pairs i) 0 ≤ i = mine.0 in
-    let high : j < get_or starts (first_of pairs j + 1) 0 = other.1 in
-    let exists : first_of pairs i < n = row_exists n (length needs) starts rows (first_of pairs i) i mine in
-    let between = rises n (length needs) starts rows (first_of pairs j + 1) (first_of pairs i) (omega arith) (omega arith) in
-    absurd (omega arith))
-    (λ (more : first_of pairs i ≤ first_of pairs j). more)
-    (cases_lt (first_of pairs j) (first_of pairs i))
-
 pub in_range : (n : ℕ) (starts needs : List ℕ) (pairs : List (ℕ × ℕ)) → AreRows n (length needs) starts → SpellPairs starts needs pairs
     → ((k : ℕ) → k < length needs → get_or needs k 0 < n) → AreInRange pairs n
 in_range n starts needs pairs rows is below k l =
@@ -91,3 +47,55 @@ in_range n starts needs pairs rows is below k l =
       row_exists n (length needs) starts rows (first_of pairs k) k (is.block k less),
       subst (λ v. v < n) (sym (is.needed k less)) (below k less),
     )
+
+-- the pairs that rows spell
+module _ (n : ℕ) (starts needs : List ℕ) (rows : AreRows n (length needs) starts) where
+  pub begun : AreBegun starts (length needs)
+  begun =
+      let size = rows.count in
+      record {
+        some = omega arith;
+        first = rows.first;
+        rising = λ v h. rows.rising v (omega arith);
+        inside = λ v h. ends_within n (length needs) starts rows v (omega arith);
+      }
+
+  row_below : (k : ℕ) → k < length needs → row_at starts k < n
+  row_below k l =
+      let size = rows.count in
+      let first = rows.first in
+      let cut = row_at-cut starts (begun_rise starts (length needs) begun) k in
+      let begin = row_at-begins starts (begun_rise starts (length needs) begun) k (omega arith) (omega arith) in
+      ⊎_elim
+      (λ (so : row_at starts k < n). so)
+      (λ (past : n ≤ row_at starts k). absurd (⊎_elim
+      (λ (zero_rows : n ≡ 0). let at = ap (λ i. get_or starts i 0) zero_rows in let last = rows.last in omega arith)
+      (λ (some : n ≡ 0 → ⊥).
+      let e : suc (n - 1) ≡ n = omega arith in
+      let low = cut.0 (n - 1) (omega arith) in
+      let at = ap (λ i. get_or starts i 0) e in
+      let last = rows.last in
+      omega arith)
+      (cases_eq n 0)))
+      (cases_lt (row_at starts k) n)
+
+  pub spell : SpellPairs starts needs (pairs_of starts needs)
+  spell =
+      let size = rows.count in
+      let zero_begins = rows.first in
+      record {
+        count = length-pairs_of starts needs;
+        block = λ k l.
+            let first = ap (λ (q : ℕ × ℕ). q.0) (pairs_of-at starts needs k l) in
+            let below = row_below k l in
+            subst (λ u. IsInRow starts u k) (sym first)
+            (row_at-begins starts (begun_rise starts (length needs) begun) k (omega arith) (omega arith), row_at-ends starts (begun_rise starts (length needs) begun) k (omega arith));
+        needed = λ k l. second_at starts needs k l;
+      }
+
+  module _ (below : (k : ℕ) → k < length needs → get_or needs k 0 < n) where
+    pub rows_in_range : AreInRange (pairs_of starts needs) n
+    rows_in_range = in_range n starts needs (pairs_of starts needs) rows spell below
+
+    pub starts_are : AreStarts (pairs_of starts needs) starts n
+    starts_are = let size = rows.count in begun_starts starts (length needs) begun needs refl n (omega arith) rows_in_range

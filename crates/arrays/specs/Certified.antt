@@ -6,18 +6,11 @@ use Rattle.faults.specs.declared.refusal.Refusal.TheVariants.{OverLimit, IdOutOf
 use Rattle.pit_model.specs.Certificate.{Certifies}
 use Rattle.pit_model.specs.Mine.{Instance, IsPit, worth}
 use Rattle.certificate.specs.Check.{most_amount}
+use Rattle.need_rows.specs.Rows.{RowsRise}
 use Rattle.arrays.specs.Parts.{AreParts, RefusesParts}
 use Rattle.arrays.specs.Refused.{RefusesRows}
 use Rattle.arrays.specs.Solved.{AreMarks}
 use Rattle.arrays.specs.Spelled.{SpellMine}
-
--- the blocks of a row rise
-abbrev pub RowRises : List ℕ → ℕ → ℕ → Type 0
-RowRises needs begin end = (k : ℕ) → begin < k → k < end → get_or needs (k - 1) 0 < get_or needs k 0
-
--- those of each row do
-abbrev pub RowsRise : ℕ → List ℕ → List ℕ → Type 0
-RowsRise blocks starts needs = (u : ℕ) → u < blocks → RowRises needs (get_or starts u 0) (get_or starts (u + 1) 0)
 
 -- the amounts are a flow on the pairs that shows that the marked blocks are the pit
 pub record CertifyMarks (values : List ℤ) (starts needs marks : List ℕ) (amounts : List ℤ) : Type 0 where
@@ -38,7 +31,7 @@ pub record MarkCertified (values : List ℤ) (starts needs marks : List ℕ) (am
 pub data RefusesCertified (blocks : ℕ) (starts needs marks : List ℕ) (refusal : Refusal) (place : ℕ) : Type 0 where
   by_marks : refusal ≡ CountsDiffer → (length marks ≡ blocks → ⊥) → RefusesCertified blocks starts needs marks refusal place
   by_rows : RefusesRows blocks starts needs refusal place → RefusesCertified blocks starts needs marks refusal place
-  by_order : refusal ≡ IdOutOfPlace → (RowsRise blocks starts needs → ⊥) → RefusesCertified blocks starts needs marks refusal place
+  by_order : refusal ≡ IdOutOfPlace → (RowsRise starts needs → ⊥) → RefusesCertified blocks starts needs marks refusal place
 
 -- of an amount on a pair: it is negative, or above 10^30
 abbrev pub RefusesFlow : List ℤ → Refusal → ℕ → Type 0

@@ -7,3 +7,4 @@ pub mod Solved
 pub mod Nested
 pub mod Certified
 pub mod Cycles
+pub mod Named

@@ -9,11 +9,11 @@ ghost use Rattle.arrays.specs.Certified.{CertifyMarks, MarkCertified, RefusesCer
 use crate::fixing::{blocks_with, first_above};
 use crate::marks::write_marks;
 use crate::ordered::ordered_mine_of;
-use crate::rows::Rows;
 use crate::unsound::Unsound;
 use certificate::{Certificate, check};
 use faults::{Fault, Refusal};
 use mine_graph::{Fixed, Instance};
+use need_rows::Rows;
 use solver::{Outcome, solve_single};
 use std::alloc::Global;
 
@@ -50,8 +50,8 @@ pub fn mark_certified(
     rows: &Rows<'_>,
     marks: &mut [u8],
 ) -> Result<Certified, Unsound>
-    ensures marked { IfOk result (λ c. MarkCertified values.now rows.now.starts.now rows.now.needs.now marks.new c.flow.items c.worth) }
-    ensures refused { IfErr result (λ e. RefusesCertified (length values.now) rows.now.starts.now rows.now.needs.now marks.old e.refusal e.place) }
+    ensures marked { IfOk result (λ c. MarkCertified values.now rows.now.starts.now rows.now.seconds.now marks.new c.flow.items c.worth) }
+    ensures refused { IfErr result (λ e. RefusesCertified (length values.now) rows.now.starts.now rows.now.seconds.now marks.old e.refusal e.place) }
     ensures kept { IfErr result (λ _. marks.new ≡ marks.old) }
 {
     if marks.len() != values.len() {
@@ -103,10 +103,10 @@ pub fn check_marks(
     marks: &[u8],
     flow: Vec<i128>,
 ) -> Result<bool, Unsound>
-    ensures exact { IfOk result (λ yes. IsTrue yes ↔ CertifyMarks values.now rows.now.starts.now rows.now.needs.now marks.now flow.items) }
-    ensures refused { IfErr result (λ e. RefusesCheck (length values.now) rows.now.starts.now rows.now.needs.now marks.now flow.items e.refusal e.place) }
+    ensures exact { IfOk result (λ yes. IsTrue yes ↔ CertifyMarks values.now rows.now.starts.now rows.now.seconds.now marks.now flow.items) }
+    ensures refused { IfErr result (λ e. RefusesCheck (length values.now) rows.now.starts.now rows.now.seconds.now marks.now flow.items e.refusal e.place) }
 {
-    if marks.len() != values.len() || flow.len() != rows.needs.len() {
+    if marks.len() != values.len() || flow.len() != rows.seconds.len() {
         return Err(Unsound {
             refusal: Refusal::CountsDiffer,
             place: 0,

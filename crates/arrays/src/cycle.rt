@@ -4,9 +4,9 @@ ghost use Rattle.arrays.specs.Cycles.{SpellNoCycle, WritesCycle};
 ghost use Rattle.arrays.specs.Refused.{RefusesRows};
 
 use crate::graph::graph_of;
-use crate::rows::Rows;
 use crate::unsound::Unsound;
 use faults::Refusal;
+use need_rows::Rows;
 use std::alloc::Global;
 
 /// Writes the blocks of a list, as far as there is room.
@@ -26,9 +26,9 @@ pub fn find_cycle(
     rows: &Rows<'_>,
     room: &mut [u32],
 ) -> Result<Option<usize>, Unsound>
-    ensures none { IfOk result (λ found. IfNone found (SpellNoCycle blocks rows.now.starts.now rows.now.needs.now)) }
-    ensures some { IfOk result (λ found. IfSome found (λ count. (0 < count) × WritesCycle blocks rows.now.starts.now rows.now.needs.now room.new count)) }
-    ensures refused { IfErr result (λ e. RefusesRows blocks rows.now.starts.now rows.now.needs.now e.refusal e.place) }
+    ensures none { IfOk result (λ found. IfNone found (SpellNoCycle blocks rows.now.starts.now rows.now.seconds.now)) }
+    ensures some { IfOk result (λ found. IfSome found (λ count. (0 < count) × WritesCycle blocks rows.now.starts.now rows.now.seconds.now room.new count)) }
+    ensures refused { IfErr result (λ e. RefusesRows blocks rows.now.starts.now rows.now.seconds.now e.refusal e.place) }
 {
     match graph_of(alloc, blocks, rows) {
         Ok(graph) => {

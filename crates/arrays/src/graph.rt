@@ -6,10 +6,11 @@ ghost use Rattle.arrays.specs.Spelled.{AreRows, SpellGraph, SpellPairs};
 ghost use Rattle.arrays.specs.Refused.{RefusesRows, RefusesPairs};
 
 use crate::needs::{first_of_itself, first_outside, first_repeated};
-use crate::rows::{Rows, are_rows, pairs_of};
+use crate::rows::are_rows;
 use crate::unsound::Unsound;
 use faults::Refusal;
 use mine_graph::Graph;
+use need_rows::{NeedRows, Rows};
 use std::alloc::Global;
 use std::sync::Arc;
 
@@ -17,54 +18,50 @@ const MOST_BLOCKS: usize = 4_194_304;
 
 const MOST_PAIRS: usize = 67_108_864;
 
-/// The pairs that rows spell, where each is of two blocks that there are and stands once.
-fn sound_pairs(
-    alloc: Global,
-    blocks: u32,
-    starts: &[u32],
-    needs: &[u32],
-) -> Result<Vec<(u32, u32)>, Unsound>
+/// The rows, where each pair is of two blocks that there are and stands once.
+fn sound_rows(alloc: Global, blocks: u32, rows: Rows<'_>) -> Result<NeedRows, Unsound>
     requires few_blocks { blocks ≤ most_blocks }
-    requires few_pairs { length needs.now ≤ most_pairs }
-    requires rows { AreRows blocks (length needs.now) starts.now }
-    ensures spelled { IfOk result (λ v. SpellPairs starts.now needs.now v.items) }
-    ensures in_range { IfOk result (λ v. AreInRange v.items blocks) }
-    ensures apart { IfOk result (λ v. AreApart v.items) }
-    ensures refused { IfErr result (λ e. RefusesRows blocks starts.now needs.now e.refusal e.place) }
+    requires few_pairs { length rows.seconds.now ≤ most_pairs }
+    requires rows { AreRows blocks (length rows.seconds.now) rows.starts.now }
+    ensures rows { IfOk result (λ v. v.blocks ≡ blocks) }
+    ensures spelled { IfOk result (λ v. SpellPairs rows.entry.starts.now rows.entry.seconds.now v.pairs) }
+    ensures in_range { IfOk result (λ v. AreInRange v.pairs blocks) }
+    ensures apart { IfOk result (λ v. AreApart v.pairs) }
+    ensures refused { IfErr result (λ e. RefusesRows blocks rows.entry.starts.now rows.entry.seconds.now e.refusal e.place) }
 {
-    if let Some(place) = first_outside(blocks, needs) {
+    if let Some(place) = first_outside(blocks, rows.seconds) {
         return Err(Unsound {
             refusal: Refusal::PredecessorOutOfRange,
             place,
         });
     }
-    let pairs = pairs_of(alloc, blocks, starts, needs)?;
-    if let Some(place) = first_of_itself(&pairs) {
+    if let Some(place) = first_of_itself(blocks, rows) {
         return Err(Unsound {
             refusal: Refusal::NeedsItself,
             place,
         });
     }
-    if let Some(place) = first_repeated(alloc, blocks, &pairs)? {
+    if let Some(place) = first_repeated(alloc, blocks, rows)? {
         return Err(Unsound {
             refusal: Refusal::PredecessorTwice,
             place,
         });
     }
-    Ok(pairs)
+    Ok(NeedRows::of_rows(alloc, rows)?)
 }
 
-/// The graph of pairs, or the cycle that they have.
-fn graph_of_pairs(alloc: Global, blocks: u32, pairs: Vec<(u32, u32)>) -> Result<Arc<Graph>, Unsound>
+/// The graph of the pairs of rows, or the cycle that they have.
+fn graph_of_rows(alloc: Global, blocks: u32, needs: NeedRows) -> Result<Arc<Graph>, Unsound>
     requires few_blocks { blocks ≤ most_blocks }
-    requires few_pairs { length pairs.items ≤ most_pairs }
-    requires in_range { AreInRange pairs.items blocks }
-    requires apart { AreApart pairs.items }
+    requires few_pairs { length needs.pairs ≤ most_pairs }
+    requires rows { needs.blocks ≡ blocks }
+    requires in_range { AreInRange needs.pairs blocks }
+    requires apart { AreApart needs.pairs }
     ensures blocks { IfOk result (λ g. g.value.blocks ≡ blocks) }
-    ensures same { IfOk result (λ g. AreSamePairs pairs.items g.value.pairs) }
-    ensures refused { IfErr result (λ e. RefusesPairs pairs.items blocks e.refusal) }
+    ensures same { IfOk result (λ g. AreSamePairs needs.pairs g.value.pairs) }
+    ensures refused { IfErr result (λ e. RefusesPairs needs.pairs blocks e.refusal) }
 {
-    match Graph::new(alloc, blocks, pairs) {
+    match Graph::new(alloc, blocks, needs) {
         Ok(graph) => Ok(Arc::new(alloc, graph)?),
         Err(fault) => Err(Unsound {
             refusal: fault.refusal,
@@ -78,23 +75,22 @@ fn graph_of_pairs(alloc: Global, blocks: u32, pairs: Vec<(u32, u32)>) -> Result<
 /// of memory (1). Time is linear in blocks and pairs.
 pub fn graph_of(alloc: Global, blocks: usize, rows: &Rows<'_>) -> Result<Arc<Graph>, Unsound>
     ensures few { IfOk result (λ g. blocks ≤ most_blocks) }
-    ensures spelled { IfOk result (λ g. SpellGraph blocks rows.now.starts.now rows.now.needs.now g.value) }
-    ensures refused { IfErr result (λ e. RefusesRows blocks rows.now.starts.now rows.now.needs.now e.refusal e.place) }
+    ensures spelled { IfOk result (λ g. SpellGraph blocks rows.now.starts.now rows.now.seconds.now g.value) }
+    ensures refused { IfErr result (λ e. RefusesRows blocks rows.now.starts.now rows.now.seconds.now e.refusal e.place) }
 {
-    let Rows { starts, needs } = *rows;
-    if blocks > MOST_BLOCKS || needs.len() > MOST_PAIRS {
+    if blocks > MOST_BLOCKS || rows.seconds.len() > MOST_PAIRS {
         return Err(Unsound {
             refusal: Refusal::OverLimit,
             place: 0,
         });
     }
     let count = blocks as u32;
-    if !are_rows(count, needs.len(), starts) {
+    if !are_rows(count, rows.seconds.len(), rows.starts) {
         return Err(Unsound {
             refusal: Refusal::IdOutOfPlace,
             place: 0,
         });
     }
-    let pairs = sound_pairs(alloc, count, starts, needs)?;
-    graph_of_pairs(alloc, count, pairs)
+    let needs = sound_rows(alloc, count, *rows)?;
+    graph_of_rows(alloc, count, needs)
 }

@@ -4,9 +4,9 @@ ghost use Rattle.arrays.specs.Spelled.{ArraysSpellOneMine, IsSpelled};
 ghost use Rattle.arrays.specs.Refused.{RefusesRows};
 
 use crate::graph::graph_of;
-use crate::rows::Rows;
 use crate::unsound::Unsound;
 use mine_graph::Instance;
+use need_rows::Rows;
 use std::alloc::{AllocError, Global};
 
 /// Arrays spell one mine at most.
@@ -39,8 +39,8 @@ pub fn widened(alloc: Global, values: &[i64]) -> Result<Vec<i128>, AllocError>
 /// The mine that the arrays spell, or why they spell none: as `graph_of` says, and for want of memory (1). Time is linear in blocks and
 /// pairs.
 pub fn mine_of(alloc: Global, values: &[i64], rows: &Rows<'_>) -> Result<Instance, Unsound>
-    ensures spelled { IfOk result (IsSpelled values.now rows.now.starts.now rows.now.needs.now) }
-    ensures refused { IfErr result (λ e. RefusesRows (length values.now) rows.now.starts.now rows.now.needs.now e.refusal e.place) }
+    ensures spelled { IfOk result (IsSpelled values.now rows.now.starts.now rows.now.seconds.now) }
+    ensures refused { IfErr result (λ e. RefusesRows (length values.now) rows.now.starts.now rows.now.seconds.now e.refusal e.place) }
 {
     let graph = graph_of(alloc, values.len(), rows)?;
     let values = widened(alloc, values)?;

@@ -1,10 +1,13 @@
 //! What is tested of the pairs that rows spell: both blocks are there, none needs itself, and none names a block twice.
-ghost use Rattle.std.specs.Prelude.{◌≡◌, ◌<◌, ◌≤◌, ℕ, length, get_or, IfOk, IfSome, IfNone};
+ghost use Rattle.std.specs.Prelude.{◌≡◌, ◌+◌, ◌<◌, ◌≤◌, ℕ, length, get_or, IfOk, IfSome, IfNone};
 ghost use Rattle.pit_model.specs.Size.{most_blocks, most_pairs};
-ghost use Rattle.pit_model.specs.Graph.{first_of, second_of, AreApart, AreInRange};
-ghost use Rattle.arrays.specs.Spelled.{AreRows, SpellPairs};
-ghost use Rattle.arrays.specs.Refused.{IsNamedTwice};
+ghost use Rattle.pit_model.specs.Graph.{AreApart, AreInRange};
+ghost use Rattle.need_rows.specs.Lent.{pairs_in};
+ghost use Rattle.need_rows.specs.Rows.{AreStarts};
+ghost use Rattle.arrays.specs.Named.{AreNamed, IsRepeated};
+ghost use Rattle.arrays.specs.Spelled.{AreRows, IsInRow};
 
+use need_rows::Rows;
 use std::alloc::{AllocError, Global};
 
 /// The first place of a block that there is not.
@@ -21,39 +24,68 @@ pub fn first_outside(blocks: u32, needs: &[u32]) -> Option<u32>
     None
 }
 
-/// The first place of a block that needs itself.
-pub fn first_of_itself(pairs: &[(u32, u32)]) -> Option<u32>
-    requires { length pairs.now ≤ most_pairs }
-    ensures some { IfSome result (λ k. (k < length pairs.now) × (first_of pairs.now k ≡ second_of pairs.now k)) }
+/// The first place of a row at which its own block stands.
+fn own_place(rows: Rows<'_>, block: u32) -> Option<u32>
+    requires inside { get_or rows.starts.now (block + 1) 0 ≤ length rows.seconds.now }
+    requires block { block + 1 < length rows.starts.now }
+    ensures some { IfSome result (λ k. IsInRow rows.entry.starts.now block k × (get_or rows.entry.seconds.now k 0 ≡ block)) }
 {
-    for k in 0..pairs.len() {
-        if pairs[k].0 == pairs[k].1 {
-            return Some(k as u32);
+    for k in rows.starts[block as usize]..rows.starts[block as usize + 1] {
+        if rows.seconds[k as usize] == block {
+            return Some(k);
         }
     }
     None
 }
 
-/// The first place of a pair that stands before, among pairs that stand row by row.
-pub fn first_repeated(
-    alloc: Global,
-    blocks: u32,
-    pairs: &[(u32, u32)],
-) -> Result<Option<u32>, AllocError>
-    requires few { length pairs.now ≤ most_pairs }
-    requires few_blocks { blocks ≤ most_blocks }
-    requires in_range { AreInRange pairs.now blocks }
-    requires by_rows { (i j : ℕ) → i ≤ j → j < length pairs.now → first_of pairs.now i ≤ first_of pairs.now j }
-    ensures some { IfOk result (λ r. IfSome r (λ k. (i : ℕ) × (i < k) × (k < length pairs.now) × (get_or pairs.now i (0, 0) ≡ get_or pairs.now k (0, 0)))) }
-    ensures none { IfOk result (λ r. IfNone r (AreApart pairs.now)) }
+/// The first place of a block that needs itself.
+pub fn first_of_itself(blocks: u32, rows: Rows<'_>) -> Option<u32>
+    requires rows { AreRows blocks (length rows.seconds.now) rows.starts.now }
+    requires few { blocks ≤ most_blocks }
+    ensures some { IfSome result (λ k. IsInRow rows.entry.starts.now (get_or rows.entry.seconds.now k 0) k) }
+{
+    for block in 0..blocks {
+        if let Some(place) = own_place(rows, block) {
+            return Some(place);
+        }
+    }
+    None
+}
+
+/// The first place of a row that names a block that it names before, where each block knows the last row so far that named it.
+fn repeated_place(rows: Rows<'_>, block: u32, named: &mut [u32]) -> Option<u32>
+    requires few { length named.old ≤ most_blocks }
+    requires block { block < length named.old }
+    requires in_range { AreInRange (pairs_in rows) (length named.old) }
+    requires starts { AreStarts (pairs_in rows) rows.starts.now (length named.old) }
+    requires named { AreNamed (pairs_in rows) named.old (get_or rows.starts.now block 0) }
+    ensures some { IfSome result (IsRepeated (pairs_in rows.entry)) }
+    ensures none { IfNone result (AreNamed (pairs_in rows.entry) named.new (get_or rows.entry.starts.now (block + 1) 0)) }
+    ensures size { length named.new ≡ length named.old }
+{
+    for k in rows.starts[block as usize]..rows.starts[block as usize + 1] {
+        let needed = rows.seconds[k as usize] as usize;
+        if named[needed] == block + 1 {
+            return Some(k);
+        }
+        named[needed] = block + 1;
+    }
+    None
+}
+
+/// The first place of a pair that stands before.
+pub fn first_repeated(alloc: Global, blocks: u32, rows: Rows<'_>) -> Result<Option<u32>, AllocError>
+    requires few { blocks ≤ most_blocks }
+    requires rows { AreRows blocks (length rows.seconds.now) rows.starts.now }
+    requires below { (k : ℕ) → k < length rows.seconds.now → get_or rows.seconds.now k 0 < blocks }
+    ensures some { IfOk result (λ r. IfSome r (IsRepeated (pairs_in rows.entry))) }
+    ensures none { IfOk result (λ r. IfNone r (AreApart (pairs_in rows.entry))) }
 {
     let mut named = vec![in alloc; 0u32; blocks as usize]?;
-    for k in 0..pairs.len() {
-        let (u, p) = pairs[k];
-        if named[p as usize] == u + 1 {
-            return Ok(Some(k as u32));
+    for block in 0..blocks {
+        if let Some(place) = repeated_place(rows, block, &mut named) {
+            return Ok(Some(place));
         }
-        named[p as usize] = u + 1;
     }
     Ok(None)
 }

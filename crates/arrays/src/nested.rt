@@ -7,9 +7,9 @@ ghost use Rattle.arrays.specs.Spelled.{priced_rows};
 use crate::columns::columns_of;
 use crate::firsts::write_firsts;
 use crate::graph::graph_of;
-use crate::rows::Rows;
 use crate::unsound::Unsound;
 use faults::Refusal;
+use need_rows::Rows;
 use pit_model::Shell;
 use shells::{Factors, shells_alone};
 use std::alloc::{AllocError, Global};
@@ -59,8 +59,8 @@ pub fn mark_shells(
     factors: &[u32],
     firsts: &mut [u32],
 ) -> Result<Vec<i128>, Unsound>
-    ensures marked { IfOk result (λ worths. MarkShells (priced_rows deposit.now.revenues.now deposit.now.costs.now deposit.now.rows.starts.now deposit.now.rows.needs.now) factors.now firsts.new worths.items) }
-    ensures refused { IfErr result (λ e. RefusesShells (priced_rows deposit.now.revenues.now deposit.now.costs.now deposit.now.rows.starts.now deposit.now.rows.needs.now) factors.now firsts.old e.refusal e.place) }
+    ensures marked { IfOk result (λ worths. MarkShells (priced_rows deposit.now.revenues.now deposit.now.costs.now deposit.now.rows.starts.now deposit.now.rows.seconds.now) factors.now firsts.new worths.items) }
+    ensures refused { IfErr result (λ e. RefusesShells (priced_rows deposit.now.revenues.now deposit.now.costs.now deposit.now.rows.starts.now deposit.now.rows.seconds.now) factors.now firsts.old e.refusal e.place) }
     ensures kept { IfErr result (λ _. firsts.new ≡ firsts.old) }
 {
     let DepositArrays {

@@ -8,10 +8,10 @@ ghost use Rattle.arrays.specs.Solved.{MarkPit};
 use crate::fixing::{first_above, fixed_by, toward};
 use crate::marks::write_marks;
 use crate::mine::mine_of;
-use crate::rows::Rows;
 use crate::unsound::Unsound;
 use faults::Refusal;
 use mine_graph::Instance;
+use need_rows::Rows;
 use solver::{FoundPit, find_pit_alone};
 use std::alloc::Global;
 
@@ -55,8 +55,8 @@ pub fn mark_pit(
     greatest: bool,
     marks: &mut [u8],
 ) -> Result<i128, Unsound>
-    ensures marked { IfOk result (MarkPit arrays.now.values.now arrays.now.rows.starts.now arrays.now.rows.needs.now arrays.now.numbers.now greatest marks.new) }
-    ensures refused { IfErr result (λ e. RefusesSolve (length arrays.now.values.now) arrays.now.rows.starts.now arrays.now.rows.needs.now arrays.now.numbers.now marks.old e.refusal e.place) }
+    ensures marked { IfOk result (MarkPit arrays.now.values.now arrays.now.rows.starts.now arrays.now.rows.seconds.now arrays.now.numbers.now greatest marks.new) }
+    ensures refused { IfErr result (λ e. RefusesSolve (length arrays.now.values.now) arrays.now.rows.starts.now arrays.now.rows.seconds.now arrays.now.numbers.now marks.old e.refusal e.place) }
     ensures kept { IfErr result (λ _. marks.new ≡ marks.old) }
 {
     let MineArrays {

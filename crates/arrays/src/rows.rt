@@ -1,15 +1,6 @@
-//! Which blocks each block needs, in compressed rows: rows of places, one behind the other, and the pairs that they spell.
-ghost use Rattle.std.specs.Prelude.{◌≡◌, ◌↔◌, ◌<◌, ◌≤◌, ◌^◌, ◌+◌, ℕ, IsTrue, length, IfOk};
-ghost use Rattle.arrays.specs.Spelled.{AreRows, SpellPairs};
-
-use std::alloc::{AllocError, Global};
-
-/// Block u needs `needs[k]` for k from `starts[u]` up to, and without, `starts[u + 1]`.
-#[derive(Clone, Copy)]
-pub struct Rows<'a> {
-    pub starts: &'a [u32],
-    pub needs: &'a [u32],
-}
+//! Which blocks each block needs, in compressed rows: rows of places, one behind the other.
+ghost use Rattle.std.specs.Prelude.{◌↔◌, IsTrue};
+ghost use Rattle.arrays.specs.Spelled.{AreRows};
 
 /// Whether the array says where rows of so many blocks begin and end, over so many places.
 pub fn are_rows(blocks: u32, places: usize, starts: &[u32]) -> bool
@@ -25,25 +16,4 @@ pub fn are_rows(blocks: u32, places: usize, starts: &[u32]) -> bool
         }
     }
     true
-}
-
-/// The pairs that rows spell, row by row.
-pub fn pairs_of(
-    alloc: Global,
-    blocks: u32,
-    starts: &[u32],
-    needs: &[u32],
-) -> Result<Vec<(u32, u32)>, AllocError>
-    requires { AreRows blocks (length needs.now) starts.now }
-    ensures { IfOk result (λ v. SpellPairs starts.now needs.now v.items) }
-{
-    let mut pairs = Vec::with_capacity(alloc, needs.len())?;
-    for u in 0..blocks {
-        let begin = starts[u as usize] as usize;
-        let end = starts[u as usize + 1] as usize;
-        for k in begin..end {
-            pairs.push((u, needs[k]))?;
-        }
-    }
-    Ok(pairs)
 }

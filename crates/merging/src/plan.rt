@@ -11,6 +11,7 @@ ghost use Rattle.pit_model.specs.Mine.{arcs};
 use crate::lowest_label::{merge_by_lowest_label, mergers_by_lowest_label};
 use faults::Fault;
 use mine_graph::{Graph, Instance, acyclic_has_no_needy, marked_numbers};
+use need_rows::NeedRows;
 use norm_tree::BareTree;
 use std::alloc::{AllocError, Global};
 use std::sync::Arc;
@@ -56,17 +57,24 @@ fn link_marks(alloc: Global, tree: &BareTree) -> Result<Vec<bool>, AllocError>
         .collect(alloc)
 }
 
-/// The pairs with these numbers.
-fn pairs_at(alloc: Global, graph: &Graph, arcs: &[u32]) -> Result<Vec<(u32, u32)>, AllocError>
-    requires { (i : ℕ) → i < length arcs.now → get_or arcs.now i 0 < length graph.now.pairs }
-    ensures count { IfOk result (λ v. length v.items ≡ length arcs.now) }
-    ensures each { IfOk result (λ v. (i : ℕ) → i < length arcs.now → get_or v.items i (0, 0) ≡ get_or graph.now.pairs (get_or arcs.now i 0) (0, 0)) }
+/// The pairs with these numbers, by rows.
+fn pairs_at(alloc: Global, graph: &Graph, arcs: &[u32]) -> Result<NeedRows, AllocError>
+    requires below { (i : ℕ) → i < length arcs.now → get_or arcs.now i 0 < length graph.now.pairs }
+    requires rising { (i j : ℕ) → i < j → j < length arcs.now → get_or arcs.now i 0 < get_or arcs.now j 0 }
+    requires few { length arcs.now ≤ length graph.now.pairs }
+    ensures rows { IfOk result (λ v. v.blocks ≡ graph.now.blocks) }
+    ensures count { IfOk result (λ v. length v.pairs ≡ length arcs.now) }
+    ensures each { IfOk result (λ v. (i : ℕ) → i < length arcs.now → get_or v.pairs i (0, 0) ≡ get_or graph.now.pairs (get_or arcs.now i 0) (0, 0)) }
 {
-    let mut pairs = Vec::with_capacity(alloc, arcs.len())?;
+    graph.law();
+    let mut needs = NeedRows::new(alloc)?;
     for i in 0..arcs.len() {
-        pairs.push(graph.arc(arcs[i]))?;
+        let (block, needed) = graph.arc(arcs[i]);
+        needs.open_row(block)?;
+        needs.push(needed)?;
     }
-    Ok(pairs)
+    needs.open_row(graph.n())?;
+    Ok(needs)
 }
 
 /// The graph of the same blocks with the pairs of these numbers alone.
@@ -79,8 +87,8 @@ fn graph_of_arcs(alloc: Global, graph: &Graph, arcs: &[u32]) -> Result<Graph, Fa
 {
     graph.law();
     acyclic_has_no_needy();
-    let pairs = pairs_at(alloc, graph, arcs)?;
-    let links = Graph::new(alloc, graph.n(), pairs)?;
+    let needs = pairs_at(alloc, graph, arcs)?;
+    let links = Graph::new(alloc, graph.n(), needs)?;
     Ok(links)
 }
 

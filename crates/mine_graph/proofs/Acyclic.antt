@@ -9,7 +9,7 @@ use Rattle.pit_model.specs.Graph.{first_of, second_of, AreInRange, IsAcyclic}
 use Rattle.pit_model.specs.Cycle.{IsNeedy, IsLargestNeedy, AcyclicHasNoNeedy}
 use Rattle.mine_graph.specs.Queue.{is_open, IsSettled}
 use Rattle.mine_graph.specs.Left.{left_over}
-use Rattle.mine_graph.proofs.Counts.{count-some}
+use Rattle.need_rows.proofs.Count.{count-some}
 
 -- both lists have the same pairs, turned round
 pub record AreTurned (pairs arcs : List (ℕ × ℕ)) : Type 0 where

@@ -6,10 +6,12 @@ use Rattle.faults.specs.declared.fault.Fault.{Fault}
 use Rattle.faults.specs.declared.refusal.Refusal.{Refusal}
 use Rattle.faults.specs.declared.refusal.Refusal.TheVariants.{NoMemory, Cycle}
 use Rattle.mine_graph.specs.Faults.{RefusesPairs, IsGraphFault}
+use Rattle.need_rows.specs.Rows.{pairs_of, AreStarts, Spell}
+use Rattle.need_rows.proofs.Spelled.{spelled}
 use Rattle.mine_graph.specs.Rows.{by_second}
 use Rattle.mine_graph.specs.Queue.{IsCountedDown}
 use Rattle.mine_graph.specs.Left.{left_over}
-use Rattle.mine_graph.proofs.Order.{by_second-from, by_second-to, twice, twice-same}
+use Rattle.mine_graph.proofs.Order.{by_second-from, by_second-range, by_second-to, twice, twice-same}
 use Rattle.mine_graph.proofs.Acyclic.{AreTurned, acyclic, over-largest, acyclic_along}
 
 pub turned_pairs : (qs : List (ℕ × ℕ)) (n : ℕ) → AreInRange qs n → AreTurned qs (by_second qs n)
@@ -36,15 +38,29 @@ largest-back ps qs n set same l = record {
   largest = λ other needy. l.largest other (needy-forth ps qs n other same needy);
 }
 
-pub same_pairs : (pairs half sorted : List (ℕ × ℕ)) (n : ℕ) → AreInRange pairs n → half ≡ by_second pairs n → sorted ≡ by_second half n → AreSamePairs pairs sorted
-same_pairs pairs half sorted n range h s =
-    let is : sorted ≡ by_second (by_second pairs n) n = s ∙ ap (λ q. by_second q n) h in
-    subst (AreSamePairs pairs) (sym is) (twice-same pairs n range)
+-- the rows of one pass spell the pairs in the order of their seconds
+pub turned_once : (pairs : List (ℕ × ℕ)) (starts seconds : List ℕ) (n : ℕ) → AreInRange pairs n → Spell (by_second pairs n) starts seconds n → pairs_of starts seconds ≡ by_second pairs n
+turned_once pairs starts seconds n range by = spelled (by_second pairs n) starts n by.begin seconds (by_second-range pairs n range) by.hold
 
-pub rising_pairs : (pairs half sorted : List (ℕ × ℕ)) (n : ℕ) → AreApart pairs → half ≡ by_second pairs n → sorted ≡ by_second half n → AreRising sorted
-rising_pairs pairs half sorted n apart h s =
-    let is : sorted ≡ by_second (by_second pairs n) n = s ∙ ap (λ q. by_second q n) h in
-    subst AreRising (sym is) (twice pairs n apart)
+-- the rows of two passes spell the same pairs in their order
+module _ (pairs half : List (ℕ × ℕ)) (starts seconds : List ℕ) (n : ℕ) (range : AreInRange pairs n) (once : half ≡ by_second pairs n) (by : Spell (by_second half n) starts seconds n) where
+  half_range : AreInRange half n
+  half_range = subst (λ q. AreInRange q n) (sym once) (by_second-range pairs n range)
+
+  again : pairs_of starts seconds ≡ by_second (by_second pairs n) n
+  again = turned_once half starts seconds n half_range by ∙ ap (λ q. by_second q n) once
+
+  pub twice_same : AreSamePairs pairs (pairs_of starts seconds)
+  twice_same = subst (AreSamePairs pairs) (sym again) (twice-same pairs n range)
+
+  pub twice_range : AreInRange (pairs_of starts seconds) n
+  twice_range = subst (λ q. AreInRange q n) (sym (turned_once half starts seconds n half_range by)) (by_second-range half n half_range)
+
+  pub twice_rising : AreApart pairs → AreRising (pairs_of starts seconds)
+  twice_rising apart = subst AreRising (sym again) (twice pairs n apart)
+
+  pub twice_starts : AreStarts (pairs_of starts seconds) starts n
+  twice_starts = subst (λ q. AreStarts q starts n) (sym (turned_once half starts seconds n half_range by)) by.begin
 
 module _ (pairs turned : List (ℕ × ℕ)) (left : List ℕ) (n : ℕ) (range : AreInRange pairs n) (is : turned ≡ by_second pairs n) (size : length left ≡ n)
     (end : IsCountedDown turned left) where

@@ -1,8 +1,8 @@
 -- The block of a pair lies between those of the landmarks round it.
-use Rattle.std.proofs.Common.{◌≡◌, ℕ, ◌+◌, ◌*◌, ◌/◌, ◌<◌, ◌≤◌, arith, List, get_or, length}
+use Rattle.std.proofs.Common.{ℕ, ◌+◌, ◌*◌, ◌/◌, ◌<◌, ◌≤◌, arith, List, get_or, length}
 use Rattle.pit_model.specs.Graph.{first_of, AreRising}
 use Rattle.mine_graph.specs.Rows.{AreLandmarks}
-use Rattle.mine_graph.proofs.Cutting.{firsts_rise}
+use Rattle.need_rows.proofs.Rising.{firsts_rise}
 
 module _ (pairs : List (ℕ × ℕ)) (landmarks : List ℕ) (marks : AreLandmarks pairs landmarks) (rising : AreRising pairs) (k : ℕ) (inside : k < length pairs) where
   pub mark_below : k / 64 < length landmarks

@@ -5,9 +5,11 @@ use Rattle.std.specs.Prelude.{◌&&◌, ◌||◌}
 use Rattle.std.proofs.lemmas.Bool.{cases_eq, cases_Bool, false≢true, eq-eqb, ne_eqb, and_from, and_left, and_right, or_left, or_right, or_cases, or_from, eqb-true}
 use Rattle.std.proofs.lemmas.List.{get_or-set_same, get_or-set_other, length-set}
 use Rattle.pit_model.specs.Graph.{first_of, second_of}
-use Rattle.mine_graph.specs.Rows.{AreStarts}
-use Rattle.mine_graph.specs.Queue.{count, leads_to, is_open, IsQueue, IsCounted, IsSettled}
-use Rattle.mine_graph.proofs.Counts.{count-same, count-fewer, count-none, count-yes, count-no, pigeon_more}
+use Rattle.need_rows.specs.Rows.{AreStarts}
+use Rattle.need_rows.specs.Count.{count}
+use Rattle.mine_graph.specs.Queue.{leads_to, is_open, IsQueue, IsCounted, IsSettled}
+use Rattle.need_rows.proofs.Count.{count-same, count-fewer, count-none, count-yes, count-no}
+use Rattle.mine_graph.proofs.Pigeon.{pigeon_more}
 
 -- settled up to `head`, and the arcs from `begin` up to `k` of the block at `head` are handled too
 pub record IsSettling (arcs : List (ℕ × ℕ)) (left order : List ℕ) (tail head begin k end : ℕ) : Type 0 where

@@ -4,7 +4,7 @@ use Rattle.std.specs.Prelude.{◌⊎◌, ◌↔◌}
 use Rattle.std.proofs.lemmas.Bool.{cases_eq, cases_order}
 use Rattle.std.proofs.lemmas.List.{get_or-drop, get_or-take, length-drop, length-take-le}
 use Rattle.pit_model.specs.Graph.{first_of, second_of, AreRising}
-use Rattle.mine_graph.specs.Rows.{AreSeconds}
+use Rattle.need_rows.specs.Rows.{AreSeconds}
 
 -- the seconds from `begin` up to `end`, as a part of all
 module _ (pairs : List (ℕ × ℕ)) (seconds row : List ℕ) (begin end : ℕ) (are : AreSeconds pairs seconds) (order : begin ≤ end) (inside : end ≤ length pairs)

@@ -1,7 +1,7 @@
 -- The steps of taking in: nothing, a block, one lot after another; and that at the end of the queue the blocks are a closure.
-use Rattle.std.proofs.Common.{◌≡◌, ℕ, ◌+◌, ◌<◌, ◌≤◌, Bool, true, false, eqb, refl, sym, ap, ◌∙◌, arith, subst, inl, inr, ⊎_elim, List, replicate, set, get_or, length}
+use Rattle.std.proofs.Common.{◌≡◌, ℕ, ◌+◌, ◌<◌, ◌≤◌, Bool, true, false, refl, sym, ap, ◌∙◌, arith, inl, inr, ⊎_elim, List, replicate, set, get_or, length}
 use Rattle.std.specs.Prelude.{◌⊎◌}
-use Rattle.std.proofs.lemmas.Bool.{cases_eq, cases_lt, eq-eqb, eqb-true, false≢true}
+use Rattle.std.proofs.lemmas.Bool.{cases_eq, cases_lt, false≢true}
 use Rattle.std.proofs.lemmas.List.{get_or-replicate, get_or_past, get_or-set_same, get_or-set_other, length-replicate, length-set}
 use Rattle.pit_model.specs.Graph.{first_of, second_of}
 use Rattle.pit_model.specs.Fixed.{IsClosure, turned}
@@ -10,7 +10,7 @@ use Rattle.mine_graph.specs.FixedBlocks.{mark_of}
 use Rattle.mine_graph.specs.Flood.{IsAt, IsSpread, IsTrail, TakesIn, is_in, queued}
 use Rattle.mine_graph.specs.Users.{AreUsers, LeadsTo}
 use Rattle.mine_graph.specs.declared.flood.Flood.{Flood}
-use Rattle.mine_graph.proofs.Counts.{pigeon_more}
+use Rattle.mine_graph.proofs.Pigeon.{pigeon_more}
 
 -- a block more
 module _ (flood : Flood) (block : ℕ) (below : block < length flood.marks.items) (fresh : is_in flood block ≡ false) (was : IsTrail flood) where

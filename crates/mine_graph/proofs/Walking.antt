@@ -6,9 +6,9 @@ use Rattle.std.proofs.lemmas.Bool.{cases_eq, cases_lt, cases_order, lt-ltb, ltb-
 use Rattle.std.proofs.lemmas.List.{get_or-set_same, get_or-set_other, get_or_past, get_or-take, length-take-le, drop-take}
 use Rattle.pit_model.specs.Graph.{first_of, second_of, AreRising}
 use Rattle.pit_model.specs.Cycle.{IsLargestNeedy, IsLeast, IsLeastNeeded, IsWalk, IsCycleList}
-use Rattle.mine_graph.specs.Rows.{AreStarts}
+use Rattle.need_rows.specs.Rows.{AreStarts}
 use Rattle.mine_graph.specs.Left.{left_over}
-use Rattle.mine_graph.proofs.Counts.{pigeon_more}
+use Rattle.mine_graph.proofs.Pigeon.{pigeon_more}
 
 -- where the blocks of a walk stand, each place plus 1
 pub record ArePlaces (path : List ℕ) (count : ℕ) (places : List ℕ) : Type 0 where

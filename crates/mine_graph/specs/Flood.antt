@@ -1,6 +1,5 @@
 -- Taking in blocks, one after another, and after each those that its pairs lead to.
 use Rattle.std.specs.Prelude.{◌≡◌, ◌⊎◌, ℕ, ◌<◌, ◌≤◌, Bool, true, List, length, get_or}
-use Rattle.pit_model.specs.Graph.{first_of, second_of}
 use Rattle.pit_model.specs.Fixed.{IsClosedAlong, turned}
 use Rattle.pit_model.specs.Part.{AreConnected, AreNeighbours}
 use Rattle.mine_graph.specs.FixedBlocks.{mark_of}

@@ -2,7 +2,8 @@
 use Rattle.std.specs.Prelude.{◌≡◌, ℕ, ◌^◌, ◌<◌, ◌≤◌, ℤ, pos, neg_ℤ, ◌≤ℤ◌, List, length, get_or}
 use Rattle.pit_model.specs.Size.{most_blocks, most_pairs}
 use Rattle.pit_model.specs.Graph.{IsGraph}
-use Rattle.mine_graph.specs.Rows.{AreLandmarks, AreStarts, Spell, by_second, pairs_of}
+use Rattle.need_rows.specs.Rows.{AreStarts, Spell, pairs_of}
+use Rattle.mine_graph.specs.Rows.{AreLandmarks, by_second}
 
 -- rows of what each block needs, which spell the pairs of a graph within the limits, and of what needs it
 pub record IsKept (blocks : ℕ) (starts needs user_starts users landmarks : List ℕ) : Type 0 where

@@ -7,7 +7,6 @@ pub mod Kept
 pub mod Faults
 pub mod Renumbered
 pub mod Classes
-pub mod Order
 pub mod Parts
 pub mod Flood
 pub mod Raised

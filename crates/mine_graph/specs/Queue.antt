@@ -1,12 +1,8 @@
 -- Counting down needs: blocks in an order in which each comes after all that it needs.
 -- The arcs here lead from a block to one that needs it.
-use Rattle.std.specs.Prelude.{◌≡◌, ℕ, zero, suc, ◌+◌, ◌<◌, ◌≤◌, ◌==◌, Bool, true, not, ◌&&◌, List, length, get_or, if◌then◌else◌}
+use Rattle.std.specs.Prelude.{◌≡◌, ℕ, ◌<◌, ◌≤◌, ◌==◌, Bool, true, not, ◌&&◌, List, length, get_or}
 use Rattle.pit_model.specs.Graph.{first_of, second_of}
-
--- how many numbers below the bound pass the test
-unfoldable pub count : ℕ → (ℕ → Bool) → ℕ
-count zero test = 0
-count (suc k) test = count k test + (if test k then 1 else 0)
+use Rattle.need_rows.specs.Count.{count}
 
 -- the arcs that lead to u
 abbrev pub leads_to : List (ℕ × ℕ) → ℕ → ℕ → Bool

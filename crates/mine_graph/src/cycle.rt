@@ -4,9 +4,11 @@
 ghost use Rattle.std.specs.Prelude.{◌≡◌, ℕ, ◌-◌, ◌^◌, ◌<◌, ◌≤◌, length, get_or, IfOk, IsTrue};
 ghost use Rattle.pit_model.specs.Graph.{first_of, second_of, AreInRange, AreRising};
 ghost use Rattle.pit_model.specs.Cycle.{AcyclicHasNoNeedy, IsCycleList, IsLargestNeedy, IsLeast, IsLeastNeeded, IsNeedy, IsWalk};
-ghost use Rattle.mine_graph.specs.Rows.{AreStarts};
+ghost use Rattle.need_rows.specs.Lent.{pairs_in};
+ghost use Rattle.need_rows.specs.Rows.{AreStarts};
 ghost use Rattle.mine_graph.specs.Left.{left_over};
 
+use need_rows::Rows;
 use std::alloc::{AllocError, Global};
 
 /// Pairs without a cycle have no needy set but the empty one: so a cycle is named only where there is one.
@@ -15,17 +17,17 @@ pub fn acyclic_has_no_needy()
 {}
 
 /// The least block that the block needs of those of which something is left.
-fn least_needed(pairs: &[(u32, u32)], starts: &[u32], left: &[u32], block: u32) -> u32
-    requires rising { AreRising pairs.now }
-    requires range { AreInRange pairs.now (length left.now) }
-    requires starts { AreStarts pairs.now starts.now (length left.now) }
+fn least_needed(rows: Rows<'_>, left: &[u32], block: u32) -> u32
+    requires rising { AreRising (pairs_in rows) }
+    requires range { AreInRange (pairs_in rows) (length left.now) }
+    requires starts { AreStarts (pairs_in rows) rows.starts.now (length left.now) }
     requires below { block < length left.now }
-    requires needy { (k : ℕ) × (k < length pairs.now) × (first_of pairs.now k ≡ block) × IsTrue (left_over left.now (second_of pairs.now k)) }
-    ensures { IsLeastNeeded pairs.now (left_over left.now) block result }
+    requires needy { (k : ℕ) × (k < length (pairs_in rows)) × (first_of (pairs_in rows) k ≡ block) × IsTrue (left_over left.now (second_of (pairs_in rows) k)) }
+    ensures { IsLeastNeeded (pairs_in rows.entry) (left_over left.now) block result }
 {
     let at = block as usize;
-    for k in starts[at] as usize..starts[at + 1] as usize {
-        let needed = pairs[k].1;
+    for k in rows.starts[at] as usize..rows.starts[at + 1] as usize {
+        let needed = rows.seconds[k];
         if left[needed as usize] != 0 {
             return needed;
         }
@@ -36,31 +38,30 @@ fn least_needed(pairs: &[(u32, u32)], starts: &[u32], left: &[u32], block: u32) 
 /// Walks from a block, each time to the least needed block of which something is left. It answers the place of the first
 /// repeated block, and how long the walk is then.
 fn walk_round(
-    pairs: &[(u32, u32)],
-    starts: &[u32],
+    rows: Rows<'_>,
     left: &[u32],
     first: u32,
     path: &mut [u32],
     places: &mut [u32],
 ) -> (usize, usize)
-    requires rising { AreRising pairs.now }
+    requires rising { AreRising (pairs_in rows) }
     requires few { length left.now < 2 ^ 31 }
-    requires range { AreInRange pairs.now (length left.now) }
-    requires starts { AreStarts pairs.now starts.now (length left.now) }
-    requires needy { IsNeedy pairs.now (length left.now) (left_over left.now) }
+    requires range { AreInRange (pairs_in rows) (length left.now) }
+    requires starts { AreStarts (pairs_in rows) rows.starts.now (length left.now) }
+    requires needy { IsNeedy (pairs_in rows) (length left.now) (left_over left.now) }
     requires first { IsLeast (left_over left.now) first }
     requires path { length path.old ≡ length left.now }
     requires places { length places.old ≡ length left.now }
     requires none { (u : ℕ) → get_or places.old u 0 ≡ 0 }
-    ensures walk { IsWalk pairs.now (left_over left.now) path.new result.1 }
+    ensures walk { IsWalk (pairs_in rows.entry) (left_over left.now) path.new result.1 }
     ensures visit { result.0 < result.1 }
     ensures room { result.1 ≤ length path.new }
-    ensures repeats { IsLeastNeeded pairs.now (left_over left.now) (get_or path.new (result.1 - 1) 0) (get_or path.new result.0 0) }
+    ensures repeats { IsLeastNeeded (pairs_in rows.entry) (left_over left.now) (get_or path.new (result.1 - 1) 0) (get_or path.new result.0 0) }
 {
     path[0] = first;
     places[first as usize] = 1;
     for count in 1..left.len() + 1 {
-        let next = least_needed(pairs, starts, left, path[count - 1]);
+        let next = least_needed(rows, left, path[count - 1]);
         if places[next as usize] != 0 {
             return (places[next as usize] as usize - 1, count);
         }
@@ -73,21 +74,20 @@ fn walk_round(
 /// The list of the cycle that the walk from the first block left over comes to.
 pub fn cycle_of(
     alloc: Global,
-    pairs: &[(u32, u32)],
-    starts: &[u32],
+    rows: Rows<'_>,
     left: &[u32],
     first: u32,
 ) -> Result<Vec<u32>, AllocError>
-    requires rising { AreRising pairs.now }
+    requires rising { AreRising (pairs_in rows) }
     requires few { length left.now < 2 ^ 31 }
-    requires range { AreInRange pairs.now (length left.now) }
-    requires starts { AreStarts pairs.now starts.now (length left.now) }
-    requires largest { IsLargestNeedy pairs.now (length left.now) (left_over left.now) }
+    requires range { AreInRange (pairs_in rows) (length left.now) }
+    requires starts { AreStarts (pairs_in rows) rows.starts.now (length left.now) }
+    requires largest { IsLargestNeedy (pairs_in rows) (length left.now) (left_over left.now) }
     requires first { IsLeast (left_over left.now) first }
-    ensures { IfOk result (λ cycle. IsCycleList pairs.now (length left.now) cycle.items) }
+    ensures { IfOk result (λ cycle. IsCycleList (pairs_in rows.entry) (length left.now) cycle.items) }
 {
     let mut path = vec![in alloc; 0; left.len()]?;
     let mut places = vec![in alloc; 0; left.len()]?;
-    let (visit, count) = walk_round(pairs, starts, left, first, &mut path, &mut places);
+    let (visit, count) = walk_round(rows, left, first, &mut path, &mut places);
     Vec::from_slice(alloc, &path[visit..count])
 }

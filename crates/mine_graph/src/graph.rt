@@ -6,15 +6,15 @@ ghost use Rattle.faults.specs.Refused.{no_memory};
 ghost use Rattle.pit_model.specs.Direction.{IsReversed};
 ghost use Rattle.pit_model.specs.Graph.{first_of, second_of, AreApart, AreInRange, AreSamePairs, IsAcyclic, IsGraph};
 ghost use Rattle.mine_graph.specs.Faults.{IsGraphFault};
-ghost use Rattle.mine_graph.specs.Rows.{pairs_of, AreStarts};
+ghost use Rattle.need_rows.specs.Rows.{pairs_of, AreStarts};
 ghost use Rattle.mine_graph.specs.Users.{AreUsers};
 
 use crate::landmarks::{STEP, landmarks_of, next_landmark, row_between};
 use crate::no_cycle::check_acyclic;
-use crate::rising::{in_order, row_starts};
-use crate::sort::seconds_of;
-use crate::way_back::{Rows, turned_rows};
+use crate::rising::in_order;
+use crate::way_back::turned_rows;
 use faults::Fault;
+use need_rows::{NeedRows, Rows};
 use std::alloc::{AllocError, Global};
 use std::marker::Model;
 use std::ops::Range;
@@ -36,7 +36,7 @@ pub struct Graph {
 impl Model for Graph {
     ghost use Rattle.pit_model.specs.Graph.{Graph};
     ghost use Rattle.mine_graph.specs.Kept.{IsKept};
-    ghost use Rattle.mine_graph.specs.Rows.{pairs_of};
+    ghost use Rattle.need_rows.specs.Rows.{pairs_of};
 
     ghost Value = { Graph };
 
@@ -48,20 +48,24 @@ impl Model for Graph {
 impl Graph {
     /// The graph of exactly these pairs, in the order of (u, p). Refused for want of memory, and by the cycle of the
     /// pairs where they have one. Time is linear in blocks and pairs.
-    pub fn new(alloc: Global, n: u32, pairs: Vec<(u32, u32)>) -> Result<Graph, Fault>
+    pub fn new(alloc: Global, n: u32, needs: NeedRows) -> Result<Graph, Fault>
         requires few_blocks { n ≤ most_blocks }
-        requires few_pairs { length pairs.items ≤ most_pairs }
-        requires in_range { AreInRange pairs.items n }
-        requires apart { AreApart pairs.items }
+        requires few_pairs { length needs.pairs ≤ most_pairs }
+        requires rows { needs.blocks ≡ n }
+        requires in_range { AreInRange needs.pairs n }
+        requires apart { AreApart needs.pairs }
         ensures blocks { IfOk result (λ g. g.blocks ≡ n) }
-        ensures same { IfOk result (λ g. AreSamePairs pairs.items g.pairs) }
-        ensures acyclic { IfOk result (λ _. IsAcyclic pairs.items) }
-        ensures refused { IfErr result (IsGraphFault pairs.items n) }
+        ensures same { IfOk result (λ g. AreSamePairs needs.pairs g.pairs) }
+        ensures acyclic { IfOk result (λ _. IsAcyclic needs.pairs) }
+        ensures refused { IfErr result (IsGraphFault needs.pairs n) }
     {
-        let (starts, pairs) = in_order(alloc, n, pairs)?;
-        check_acyclic(alloc, n, &pairs, &starts)?;
-        let needs = seconds_of(alloc, &pairs)?;
-        drop(pairs);
+        let (starts, needs) = needs.into_rows();
+        let (starts, needs) = in_order(alloc, n, starts, needs)?;
+        let rows = Rows {
+            starts: &starts,
+            seconds: &needs,
+        };
+        check_acyclic(alloc, n, rows)?;
         Ok(Graph::of_rows(alloc, n, starts, needs)?)
     }
 
@@ -96,20 +100,15 @@ impl Graph {
     }
 
     /// The graph of pairs in their order that are known to have no cycle. It takes no time to look for one.
-    pub(crate) fn of_ordered(
-        alloc: Global,
-        n: u32,
-        pairs: Vec<(u32, u32)>,
-    ) -> Result<Graph, AllocError>
+    pub(crate) fn of_ordered(alloc: Global, n: u32, needs: NeedRows) -> Result<Graph, AllocError>
         requires few_blocks { n ≤ most_blocks }
-        requires few_pairs { length pairs.items ≤ most_pairs }
-        requires graph { IsGraph n pairs.items }
+        requires few_pairs { length needs.pairs ≤ most_pairs }
+        requires rows { needs.blocks ≡ n }
+        requires graph { IsGraph n needs.pairs }
         ensures blocks { IfOk result (λ g. g.blocks ≡ n) }
-        ensures pairs { IfOk result (λ g. g.pairs ≡ pairs.items) }
+        ensures pairs { IfOk result (λ g. g.pairs ≡ needs.pairs) }
     {
-        let starts = row_starts(alloc, n, &pairs)?;
-        let needs = seconds_of(alloc, &pairs)?;
-        drop(pairs);
+        let (starts, needs) = needs.into_rows();
         Graph::of_rows(alloc, n, starts, needs)
     }
 

@@ -1,9 +1,11 @@
 //! The row that a place lies in, by halving between landmarks: the rows of every 64th place, which take a 64th of the places' memory.
 ghost use Rattle.std.specs.Prelude.{◌≡◌, ℕ, ◌+◌, ◌^◌, ◌<◌, ◌≤◌, length, get_or, IfOk};
 ghost use Rattle.pit_model.specs.Graph.{AreInRange};
-ghost use Rattle.mine_graph.specs.Rows.{pairs_of, AreLandmarks, AreStarts};
+ghost use Rattle.need_rows.specs.Lent.{pairs_in};
+ghost use Rattle.need_rows.specs.Rows.{AreStarts};
+ghost use Rattle.mine_graph.specs.Rows.{AreLandmarks};
 
-use crate::way_back::Rows;
+use need_rows::Rows;
 use std::alloc::{AllocError, Global};
 
 /// How many places lie from a landmark to the next.
@@ -38,9 +40,9 @@ pub fn next_landmark(landmarks: &[u32], mark: usize, last: u32) -> u32
 pub fn landmarks_of(alloc: Global, n: u32, rows: Rows<'_>) -> Result<Vec<u32>, AllocError>
     requires few { length rows.seconds.now < 2 ^ 31 }
     requires few_blocks { n < 2 ^ 31 }
-    requires range { AreInRange (pairs_of rows.starts.now rows.seconds.now) n }
-    requires starts { AreStarts (pairs_of rows.starts.now rows.seconds.now) rows.starts.now n }
-    ensures { IfOk result (λ v. AreLandmarks (pairs_of rows.entry.starts.now rows.entry.seconds.now) v.items) }
+    requires range { AreInRange (pairs_in rows) n }
+    requires starts { AreStarts (pairs_in rows) rows.starts.now n }
+    ensures { IfOk result (λ v. AreLandmarks (pairs_in rows.entry) v.items) }
 {
     let mut landmarks = Vec::with_capacity(alloc, rows.seconds.len() / STEP + 1)?;
     let last = n.saturating_sub(1);

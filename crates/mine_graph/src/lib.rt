@@ -14,7 +14,6 @@ mod numbers;
 mod part;
 mod parts;
 mod rising;
-mod sort;
 mod values;
 mod way_back;
 

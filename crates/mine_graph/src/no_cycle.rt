@@ -3,31 +3,37 @@
 ghost use Rattle.std.specs.Prelude.{◌≡◌, ℕ, ◌^◌, ◌<◌, ◌≤◌, length, get_or, IfOk, IfErr};
 ghost use Rattle.pit_model.specs.Graph.{AreInRange, AreRising, IsAcyclic};
 ghost use Rattle.mine_graph.specs.Faults.{IsGraphFault};
-ghost use Rattle.mine_graph.specs.Rows.{AreStarts};
+ghost use Rattle.need_rows.specs.Lent.{pairs_in};
+ghost use Rattle.need_rows.specs.Rows.{AreStarts};
 
 use crate::count_down::{arcs_left, first_left};
 use crate::cycle::cycle_of;
-use crate::sort::sort_by_second;
+use crate::way_back::turned_rows;
 use faults::{Fault, Refusal, Source};
+use need_rows::Rows;
 use std::alloc::Global;
 
 /// Refused by the cycle that the pairs have, where they have one, and for want of memory.
-fn refuse_cycle(alloc: Global, n: u32, pairs: &[(u32, u32)], starts: &[u32]) -> Result<(), Fault>
+fn refuse_cycle(alloc: Global, n: u32, rows: Rows<'_>) -> Result<(), Fault>
     requires few_blocks { n < 2 ^ 31 }
-    requires few { length pairs.now < 2 ^ 32 }
-    requires range { AreInRange pairs.now n }
-    requires rising { AreRising pairs.now }
-    requires starts { AreStarts pairs.now starts.now n }
-    ensures acyclic { IfOk result (λ _. IsAcyclic pairs.now) }
-    ensures refused { IfErr result (IsGraphFault pairs.now n) }
+    requires few { length (pairs_in rows) < 2 ^ 32 }
+    requires range { AreInRange (pairs_in rows) n }
+    requires rising { AreRising (pairs_in rows) }
+    requires starts { AreStarts (pairs_in rows) rows.starts.now n }
+    ensures acyclic { IfOk result (λ _. IsAcyclic (pairs_in rows.entry)) }
+    ensures refused { IfErr result (IsGraphFault (pairs_in rows.entry) n) }
 {
-    let (turned_starts, turned) = sort_by_second(alloc, n, pairs)?;
-    let left = arcs_left(alloc, n, &turned, &turned_starts)?;
+    let (starts, seconds) = turned_rows(alloc, n, rows)?;
+    let turned = Rows {
+        starts: &starts,
+        seconds: &seconds,
+    };
+    let left = arcs_left(alloc, n, turned)?;
     match first_left(&left) {
         None => Ok(()),
         Some(first) => Err(Fault::at_line(
             Source::Precedence,
-            Refusal::Cycle(cycle_of(alloc, pairs, starts, &left, first)?),
+            Refusal::Cycle(cycle_of(alloc, rows, &left, first)?),
             0,
         )),
     }
@@ -35,23 +41,18 @@ fn refuse_cycle(alloc: Global, n: u32, pairs: &[(u32, u32)], starts: &[u32]) -> 
 
 /// Refused by the cycle that the pairs have, where they have one, and for want of memory. Without a cycle it takes memory for
 /// the blocks alone.
-pub fn check_acyclic(
-    alloc: Global,
-    n: u32,
-    pairs: &[(u32, u32)],
-    starts: &[u32],
-) -> Result<(), Fault>
+pub fn check_acyclic(alloc: Global, n: u32, rows: Rows<'_>) -> Result<(), Fault>
     requires few_blocks { n < 2 ^ 31 }
-    requires few { length pairs.now < 2 ^ 32 }
-    requires range { AreInRange pairs.now n }
-    requires rising { AreRising pairs.now }
-    requires starts { AreStarts pairs.now starts.now n }
-    ensures acyclic { IfOk result (λ _. IsAcyclic pairs.now) }
-    ensures refused { IfErr result (IsGraphFault pairs.now n) }
+    requires few { length (pairs_in rows) < 2 ^ 32 }
+    requires range { AreInRange (pairs_in rows) n }
+    requires rising { AreRising (pairs_in rows) }
+    requires starts { AreStarts (pairs_in rows) rows.starts.now n }
+    ensures acyclic { IfOk result (λ _. IsAcyclic (pairs_in rows.entry)) }
+    ensures refused { IfErr result (IsGraphFault (pairs_in rows.entry) n) }
 {
-    let left = arcs_left(alloc, n, pairs, starts)?;
+    let left = arcs_left(alloc, n, rows)?;
     match first_left(&left) {
         None => Ok(()),
-        Some(_) => refuse_cycle(alloc, n, pairs, starts),
+        Some(_) => refuse_cycle(alloc, n, rows),
     }
 }

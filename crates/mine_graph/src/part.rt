@@ -10,6 +10,7 @@ ghost use Rattle.mine_graph.specs.Renumbered.{has_label, placed_pair, is_inside,
 
 use crate::graph::Graph;
 use faults::Fault;
+use need_rows::NeedRows;
 use std::alloc::{AllocError, Global};
 
 /// Some blocks of a graph, rising, and the graph of the pairs among them, in which block i is `blocks[i]`.
@@ -27,51 +28,50 @@ pub(crate) struct Chosen<'a> {
     pub places: &'a [u32],
 }
 
-/// Adds the pairs by which a block needs chosen blocks, renumbered.
+/// Adds the pairs by which a block needs chosen blocks, renumbered. The row of its place is open.
 fn add_row(
     graph: &Graph,
     block: u32,
     chosen: Chosen<'_>,
-    pairs: &mut Vec<(u32, u32)>,
+    needs: &mut NeedRows,
 ) -> Result<(), AllocError>
     requires inside { block < graph.now.blocks }
     requires labelled { length chosen.labels.now ≡ graph.now.blocks }
     requires placed { length chosen.places.now ≡ graph.now.blocks }
     requires own { get_or chosen.labels.now block 0 ≡ chosen.label }
-    requires before { pairs.old.items ≡ map (placed_pair graph.now.pairs chosen.places.now) (members (length graph.now.pairs) (is_inside_before graph.now.pairs chosen.labels.now chosen.label block)) }
-    ensures after { IfOk result (λ _. pairs.new.items ≡ map (placed_pair graph.now.pairs chosen.entry.places.now) (members (length graph.now.pairs) (is_inside_before graph.now.pairs chosen.entry.labels.now chosen.entry.label (block + 1)))) }
+    requires row { needs.old.blocks ≡ get_or chosen.places.now block 0 }
+    requires before { needs.old.pairs ≡ map (placed_pair graph.now.pairs chosen.places.now) (members (length graph.now.pairs) (is_inside_before graph.now.pairs chosen.labels.now chosen.label block)) }
+    ensures after { IfOk result (λ _. needs.new.pairs ≡ map (placed_pair graph.now.pairs chosen.entry.places.now) (members (length graph.now.pairs) (is_inside_before graph.now.pairs chosen.entry.labels.now chosen.entry.label (block + 1)))) }
+    ensures row { needs.new.blocks ≡ needs.old.blocks }
 {
     graph.law();
     let arcs = graph.arcs_of(block);
     for k in arcs.start..arcs.end {
         let needed = graph.needed(k);
         if chosen.labels[needed as usize] == chosen.label {
-            pairs.push((
-                chosen.places[block as usize],
-                chosen.places[needed as usize],
-            ))?;
+            needs.push(chosen.places[needed as usize])?;
         }
     }
     Ok(())
 }
 
 /// The pairs among the chosen blocks, renumbered.
-fn pairs_within(
-    graph: &Graph,
-    blocks: &[u32],
-    chosen: Chosen<'_>,
-) -> Result<Vec<(u32, u32)>, AllocError>
+fn pairs_within(graph: &Graph, blocks: &[u32], chosen: Chosen<'_>) -> Result<NeedRows, AllocError>
     requires labelled { length chosen.labels.now ≡ graph.now.blocks }
     requires placed { length chosen.places.now ≡ graph.now.blocks }
     requires blocks { blocks.now ≡ members graph.now.blocks (has_label chosen.labels.now chosen.label) }
-    ensures { IfOk result (λ v. v.items ≡ map (placed_pair graph.now.pairs chosen.entry.places.now) (members (length graph.now.pairs) (is_inside graph.now.pairs chosen.entry.labels.now chosen.entry.label))) }
+    requires places { IsPlaced blocks.now (length blocks.now) chosen.places.now }
+    ensures rows { IfOk result (λ v. v.blocks ≡ length blocks.now) }
+    ensures pairs { IfOk result (λ v. v.pairs ≡ map (placed_pair graph.now.pairs chosen.entry.places.now) (members (length graph.now.pairs) (is_inside graph.now.pairs chosen.entry.labels.now chosen.entry.label))) }
 {
     graph.law();
-    let mut pairs = Vec::new(graph.alloc());
+    let mut needs = NeedRows::new(graph.alloc())?;
     for i in 0..blocks.len() {
-        add_row(graph, blocks[i], chosen, &mut pairs)?;
+        needs.open_row(i as u32)?;
+        add_row(graph, blocks[i], chosen, &mut needs)?;
     }
-    Ok(pairs)
+    needs.open_row(blocks.len() as u32)?;
+    Ok(needs)
 }
 
 /// The part of the chosen blocks, where each of them knows its place.
@@ -84,8 +84,8 @@ pub(crate) fn part_of(graph: &Graph, blocks: Vec<u32>, chosen: Chosen<'_>) -> Re
     ensures no_memory { IfErr result (λ e. e ≡ no_memory) }
 {
     graph.law();
-    let pairs = pairs_within(graph, &blocks, chosen)?;
-    let graph = Graph::of_ordered(graph.alloc(), blocks.len() as u32, pairs)?;
+    let needs = pairs_within(graph, &blocks, chosen)?;
+    let graph = Graph::of_ordered(graph.alloc(), blocks.len() as u32, needs)?;
     Ok(Part { blocks, graph })
 }
 

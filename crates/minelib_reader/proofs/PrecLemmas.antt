@@ -1,10 +1,10 @@
 -- Reading the predecessors of a block one after the other, with marks for those that were seen.
-use Rattle.std.proofs.Common.{◌≡◌, ◌≢◌, ℕ, ◌+◌, ◌-◌, ◌<◌, drop, map, take, Bool, true, false, eqb, ◌||◌, List, [], ◌∷◌, ◌++◌, length, get_or, set, Result, Ok, Err, refl, sym, ap, ◌∙◌, append_assoc, arith, tests, rules, Some, ltb, ◌≤◌, get_or-set_same, get_or-set_other, eq-eqb}
-use Rattle.std.proofs.lemmas.List.{append-nil, map-append, take_rest}
+use Rattle.std.proofs.Common.{◌≡◌, ◌≢◌, ℕ, ◌+◌, ◌<◌, drop, map, Bool, true, false, eqb, ◌||◌, List, [], ◌∷◌, ◌++◌, length, get_or, set, Result, Ok, Err, refl, sym, ap, ◌∙◌, append_assoc, arith, tests, rules, Some, ltb, ◌≤◌, get_or-set_same, get_or-set_other, eq-eqb}
+use Rattle.std.proofs.lemmas.List.{append-nil, map-append}
 use Rattle.std.proofs.Math.Seq.{drop-append_seam}
 use Rattle.std.proofs.lemmas.Bool.{eqb-true, eqb-false, ne_eqb}
 use Rattle.std.proofs.lemmas.List.Folds.{list_any-append, list_any_none}
-use Rattle.std.proofs.lemmas.List.Elements.{All-map, All-push, All-weaker}
+use Rattle.std.proofs.lemmas.List.Elements.{All-push, All-weaker}
 use Rattle.std.specs.List.{All}
 use Rattle.faults.specs.declared.fault.Fault.{Fault}
 use Rattle.minelib_reader.specs.Checks.{◌>>=◌}
@@ -147,13 +147,13 @@ rises_none n id all old = record {
   under = λ k d l. absurd (omega (arith, l));
 }
 
--- the pairs that were added last, and the blocks that they name
-pub added_last : (old more : List (ℕ × ℕ)) (new : List (ℕ × ℕ)) (count : ℕ) → count ≡ length old → new ≡ old ++ more → take (length new - count) (drop count new) ≡ more
-added_last old more new count same is = take_rest new count ∙ ap (λ (k : ℕ). drop k new) same ∙ ap (λ (ps : List (ℕ × ℕ)). drop (length old) ps) is ∙ drop-append_seam old more
-
-pub needs_named : (id : ℕ) (needs : List ℕ) → map (λ pair. pair.1) (pairs_of id needs) ≡ needs
+needs_named : (id : ℕ) (needs : List ℕ) → map (λ pair. pair.1) (pairs_of id needs) ≡ needs
 needs_named id [] = refl
 needs_named id (p ∷ ps) = ap (λ (xs : List ℕ). p ∷ xs) (needs_named id ps)
 
-pub needs_below : (n id : ℕ) (needs : List ℕ) → All (λ p. p < n) needs → All (λ pair. pair.1 < n) (pairs_of id needs)
-needs_below n id needs below = All-map (λ (pair : ℕ × ℕ). pair.1 < n) (λ (p : ℕ). (id, p)) needs below
+-- the blocks that the pairs name which were added last
+pub named_last : (id : ℕ) (old : List (ℕ × ℕ)) (needs : List ℕ) (new : List (ℕ × ℕ)) (count : ℕ) (named : List ℕ) → count ≡ length old → new ≡ old ++ pairs_of id needs
+    → named ≡ map (λ pair. pair.1) (drop count new) → named ≡ needs
+named_last id old needs new count named same is are =
+    are ∙ ap (λ (k : ℕ). map (λ (pair : ℕ × ℕ). pair.1) (drop k new)) same ∙ ap (λ (ps : List (ℕ × ℕ)). map (λ (pair : ℕ × ℕ). pair.1) (drop (length old) ps)) is
+    ∙ ap (map (λ (pair : ℕ × ℕ). pair.1)) (drop-append_seam old (pairs_of id needs)) ∙ needs_named id needs

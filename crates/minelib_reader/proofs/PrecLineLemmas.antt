@@ -1,5 +1,5 @@
 -- Reading the lines of a precedence file one after the other, as a loop does.
-use Rattle.std.proofs.Common.{◌≡◌, ℕ, suc, ◌+◌, List, [], ◌∷◌, ◌++◌, length, Result, Ok, Err, refl, sym, ap, ◌∙◌, append_assoc, ◌-◌, arith, length-append}
+use Rattle.std.proofs.Common.{◌≡◌, ℕ, suc, ◌+◌, List, [], ◌∷◌, ◌++◌, length, Result, Ok, Err, refl, sym, ap, ◌∙◌, append_assoc, arith, length-append}
 use Rattle.std.proofs.lemmas.List.{append-nil, length-map}
 use Rattle.faults.specs.declared.fault.Fault.{Fault}
 use Rattle.minelib_reader.specs.Checks.{◌>>=◌}
@@ -18,7 +18,7 @@ length_needs n id line seen (f ∷ fields) ps h =
     ap length (sym (same_value (a.value ∷ b.value) ps b.behind)) ∙ ap suc (length_needs n id line (seen ++ a.value ∷ []) fields b.value b.here)
 
 -- so many pairs are added as fields name predecessors
-pub named : (n id line : ℕ) (seen : List ℕ) (fields : List (List ℕ)) (ps : List ℕ) (old new : List (ℕ × ℕ)) → needs_from n id line seen fields ≡ Ok ps → new ≡ old ++ pairs_of id ps → length new - length old ≡ length fields
+pub named : (n id line : ℕ) (seen : List ℕ) (fields : List (List ℕ)) (ps : List ℕ) (old new : List (ℕ × ℕ)) → needs_from n id line seen fields ≡ Ok ps → new ≡ old ++ pairs_of id ps → length new ≡ length old + length fields
 named n id line seen fields ps old new h pushed =
     let pair_with : ℕ → ℕ × ℕ = λ p. (id, p) in
     let size : length (pairs_of id ps) ≡ length ps = length-map ps pair_with in

@@ -1,8 +1,9 @@
 -- What the reading of a precedence file keeps: the marks of the blocks seen on a line, and the pairs so far.
-use Rattle.std.specs.Prelude.{◌≡◌, ℕ, ◌+◌, ◌<◌, ◌==◌, ◌++◌, List, [], length, slice_index, Result, Ok}
+use Rattle.std.specs.Prelude.{◌≡◌, ℕ, ◌+◌, ◌<◌, ◌≤◌, ◌==◌, ◌++◌, List, [], length, slice_index, Result, Ok}
 use Rattle.std.specs.List.{All}
 use Rattle.faults.specs.declared.fault.Fault.{Fault}
 use Rattle.pit_model.specs.Fixed.{is_among}
+use Rattle.pit_model.specs.Graph.{Graph}
 use Rattle.minelib_reader.specs.Prec.{needs_from, needs_line, pairs_from, pairs_of}
 use Rattle.minelib_reader.specs.Checks.{◌>>=◌}
 use Rattle.minelib_reader.specs.Text.{Row}
@@ -30,6 +31,12 @@ pub record AddsLine (n from total : ℕ) (r : Row) (old new : List (ℕ × ℕ))
   pub pairs : new ≡ old ++ pairs_of id needs
   pub next : from_after ≡ id + 1
   pub sum : total_after ≡ total + length needs
+
+-- the rows of the lines before: they are of blocks below the least id that the next line may have, and their pairs are so many
+pub record AreRowsSoFar (n from total : ℕ) (needs : Graph) : Type 0 where
+  pub closed : needs.blocks ≤ from
+  pub known : from ≤ n
+  pub count : length needs.pairs ≡ total
 
 -- the pairs read before, and those still read
 abbrev pub with_pairs : List (ℕ × ℕ) → Result (List (ℕ × ℕ)) Fault → Result (List (ℕ × ℕ)) Fault

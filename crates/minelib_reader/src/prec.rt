@@ -11,7 +11,7 @@ ghost use Rattle.faults.specs.declared.refusal.Refusal.TheVariants.{OverLimit, W
 ghost use Rattle.faults.specs.declared.source.Source.TheVariants as sources;
 ghost use Rattle.pit_model.specs.Size.{most_pairs};
 ghost use Rattle.minelib_reader.specs.Answer.{Gives, Answers, AnswersBy, FailsBy, FailsAt};
-ghost use Rattle.minelib_reader.specs.Marks.{AddsFirst, AddsLine, AddsRows, AreMarked, with_pairs};
+ghost use Rattle.minelib_reader.specs.Marks.{AddsFirst, AddsLine, AddsRows, AreMarked, AreRowsSoFar, with_pairs};
 ghost use Rattle.minelib_reader.specs.Number.{whole_of};
 ghost use Rattle.minelib_reader.specs.Prec.{in_precedence, need_of, needs_from, front_of, needs_line, pairs_from, pairs_of, prec_of};
 ghost use Rattle.minelib_reader.specs.PrecFault.{IsFirstPrecFault};
@@ -25,6 +25,7 @@ use crate::lines::{count_fields, has_fields, next_whole, plain_whole};
 use crate::pieces::{read_past, read_piece};
 use crate::rows::{Row, Rows};
 use faults::{Fault, Refusal, Source};
+use need_rows::NeedRows;
 use std::alloc::Global;
 
 /// What the lines before tell a line: how many they are, the least id that it may have, and how many pairs they have.
@@ -90,14 +91,12 @@ fn read_need(block: Block, marks: &[u32], whole: Option<u64>) -> Result<u32, Fau
 
 /// Adds the pairs of a block as long as its predecessors rise, so that none stands twice and no mark is wanted. Answers what is left
 /// of the text, or that memory was refused.
-fn push_rising<'a>(
-    block: Block,
-    text: &'a [u8],
-    pairs: &mut Vec<(u32, u32)>,
-) -> Result<&'a [u8], Fault>
+fn push_rising<'a>(block: Block, text: &'a [u8], needs: &mut NeedRows) -> Result<&'a [u8], Fault>
     requires known { block.id < block.n }
-    ensures ok { IfOk result (λ rest. AddsFirst block.n block.id (fields_of text.now) (fields_of rest.now) pairs.old.items pairs.new.items) }
+    requires row { needs.old.blocks ≡ block.id }
+    ensures ok { IfOk result (λ rest. AddsFirst block.n block.id (fields_of text.now) (fields_of rest.now) needs.old.pairs needs.new.pairs) }
     ensures err { IfErr result (λ e. e ≡ no_memory) }
+    ensures row { needs.new.blocks ≡ block.id }
 {
     let mut least = 0u64;
     let mut rest = text;
@@ -105,25 +104,25 @@ fn push_rising<'a>(
         if p < least || p >= u64::from(block.n) || p == u64::from(block.id) {
             break;
         }
-        pairs.push((block.id, p as u32))?;
+        needs.push(p as u32)?;
         least = p + 1;
         rest = behind;
     }
     Ok(rest)
 }
 
-/// Marks the blocks that pairs of one block name as needed.
-fn mark_needs(block: Block, pairs: &[(u32, u32)], marks: &mut Vec<u32>)
+/// Marks the blocks that a block needs.
+fn mark_needs(block: Block, needs: &[u32], marks: &mut Vec<u32>)
     requires sizes { length marks.old.items ≡ block.n }
     requires known { block.id < block.n }
-    requires below { All (λ pair. pair.1 < block.n) pairs.now }
+    requires below { All (λ p. p < block.n) needs.now }
     requires old_marks { All (λ m. m ≤ block.id) marks.old.items }
-    ensures marked { AreMarked block.n block.id marks.new.items (map (λ pair. pair.1) pairs.now) }
+    ensures marked { AreMarked block.n block.id marks.new.items needs.now }
     ensures sizes { length marks.new.items ≡ block.n }
     ensures new_marks { All (λ m. m ≤ block.id + 1) marks.new.items }
 {
-    for i in 0..pairs.len() {
-        marks[pairs[i].1 as usize] = block.id + 1;
+    for i in 0..needs.len() {
+        marks[needs[i] as usize] = block.id + 1;
     }
 }
 
@@ -133,51 +132,57 @@ fn push_marked(
     block: Block,
     marks: &mut Vec<u32>,
     text: &[u8],
-    pairs: &mut Vec<(u32, u32)>,
+    needs: &mut NeedRows,
 ) -> Result<(), Fault>
     requires sizes { length marks.old.items ≡ block.n }
     requires known { block.id < block.n }
+    requires row { needs.old.blocks ≡ block.id }
     requires old_marks { All (λ m. m ≤ block.id + 1) marks.old.items }
     ensures ok { IfOk result (λ _. (seen : List ℕ) → AreMarked block.n block.id marks.old.items seen
-        → (ps : List ℕ) × (needs_from block.n block.id block.line seen (fields_of text.now) ≡ Ok ps) × (pairs.new.items ≡ pairs.old.items ++ pairs_of block.id ps)) }
+        → (ps : List ℕ) × (needs_from block.n block.id block.line seen (fields_of text.now) ≡ Ok ps) × (needs.new.pairs ≡ needs.old.pairs ++ pairs_of block.id ps)) }
     ensures err { IfErr result (λ e. (seen : List ℕ) → AreMarked block.n block.id marks.old.items seen → FailsBy e.refusal e (needs_from block.n block.id block.line seen (fields_of text.now))) }
     ensures sizes { length marks.new.items ≡ block.n }
     ensures new_marks { All (λ m. m ≤ block.id + 1) marks.new.items }
+    ensures row { needs.new.blocks ≡ block.id }
 {
     let mut rest = text;
     while let Some((whole, behind)) = next_whole(rest) {
         let p = read_need(block, marks, whole)?;
         marks[p as usize] = block.id + 1;
-        pairs.push((block.id, p))?;
+        needs.push(p)?;
         rest = behind;
     }
     Ok(())
 }
 
-/// Adds the pairs of a block, from left to right, and answers how many they are. No mark is wanted as long as predecessors rise; from
+/// Opens the row of a block and adds its pairs, from left to right; answers how many they are. No mark is wanted as long as predecessors rise; from
 /// the first on that does not, those before are marked.
 fn read_needs(
     block: Block,
     marks: &mut Vec<u32>,
     text: &[u8],
-    pairs: &mut Vec<(u32, u32)>,
+    needs: &mut NeedRows,
 ) -> Result<u64, Fault>
     requires sizes { length marks.old.items ≡ block.n }
     requires known { block.id < block.n }
+    requires few { length needs.old.pairs < 2 ^ 32 }
+    requires order { needs.old.blocks ≤ block.id }
     requires old_marks { All (λ m. m ≤ block.id) marks.old.items }
-    ensures ok { IfOk result (λ _. (ps : List ℕ) × (needs_from block.n block.id block.line [] (fields_of text.now) ≡ Ok ps) × (pairs.new.items ≡ pairs.old.items ++ pairs_of block.id ps)) }
+    ensures ok { IfOk result (λ _. (ps : List ℕ) × (needs_from block.n block.id block.line [] (fields_of text.now) ≡ Ok ps) × (needs.new.pairs ≡ needs.old.pairs ++ pairs_of block.id ps)) }
     ensures named { IfOk result (λ named. named ≡ length (fields_of text.now)) }
     ensures err { IfErr result (λ e. FailsBy e.refusal e (needs_from block.n block.id block.line [] (fields_of text.now))) }
     ensures sizes { length marks.new.items ≡ block.n }
     ensures new_marks { All (λ m. m ≤ block.id + 1) marks.new.items }
+    ensures row { IfOk result (λ _. needs.new.blocks ≡ block.id) }
 {
-    let before = pairs.len();
-    let rest = push_rising(block, text, pairs)?;
+    needs.open_row(block.id)?;
+    let before = needs.len();
+    let rest = push_rising(block, text, needs)?;
     if has_fields(rest) {
-        mark_needs(block, &pairs[before..], marks);
-        push_marked(block, marks, rest, pairs)?;
+        mark_needs(block, needs.needs_from(before), marks);
+        push_marked(block, marks, rest, needs)?;
     }
-    Ok((pairs.len() - before) as u64)
+    Ok((needs.len() - before) as u64)
 }
 
 /// The fault of a line with too many predecessors in all, as it says itself.
@@ -230,14 +235,16 @@ fn read_line(
     before: Before,
     marks: &mut Vec<u32>,
     r: Row,
-    pairs: &mut Vec<(u32, u32)>,
+    needs: &mut NeedRows,
 ) -> Result<Before, Fault>
     requires sizes { length marks.old.items ≡ n }
     requires few { before.total ≤ most_pairs }
+    requires so_far { AreRowsSoFar n before.from before.total needs.old }
     requires old_marks { All (λ m. m ≤ before.from) marks.old.items }
-    ensures ok { IfOk result (λ after. AddsLine n before.from before.total (row r.entry.line (fields_of r.entry.text.now)) pairs.old.items pairs.new.items after.from after.total) }
+    ensures ok { IfOk result (λ after. AddsLine n before.from before.total (row r.entry.line (fields_of r.entry.text.now)) needs.old.pairs needs.new.pairs after.from after.total) }
     ensures err { IfErr result (λ e. FailsBy e.refusal e (needs_line n before.from before.total (row r.entry.line (fields_of r.entry.text.now)))) }
     ensures few { IfOk result (λ after. after.total ≤ most_pairs) }
+    ensures so_far { IfOk result (λ after. AreRowsSoFar n after.from after.total needs.new) }
     ensures sizes { length marks.new.items ≡ n }
     ensures new_marks { IfOk result (λ after. All (λ m. m ≤ after.from) marks.new.items) }
 {
@@ -247,7 +254,7 @@ fn read_line(
         id: front.id,
         line: r.line,
     };
-    match read_needs(block, marks, front.rest, pairs) {
+    match read_needs(block, marks, front.rest, needs) {
         Ok(named) => {
             if named != front.count {
                 return Err(in_precedence(Refusal::WrongFieldCount, r.line));
@@ -274,17 +281,19 @@ fn read_lines(
     before: Before,
     marks: &mut Vec<u32>,
     text: &[u8],
-    pairs: &mut Vec<(u32, u32)>,
+    needs: &mut NeedRows,
 ) -> Result<Before, Fault>
     requires countable { before.line + length text.now < 2 ^ 63 }
     requires sizes { length marks.old.items ≡ n }
     requires few { before.total ≤ most_pairs }
+    requires so_far { AreRowsSoFar n before.from before.total needs.old }
     requires old_marks { All (λ m. m ≤ before.from) marks.old.items }
-    ensures ok { IfOk result (λ after. AddsRows n before.from before.total (rows_at before.line text.now) pairs.old.items pairs.new.items after.from after.total) }
-    ensures err { IfErr result (λ e. (behind : List AnyRow) → FailsBy e.refusal e (with_pairs pairs.old.items (pairs_from n before.from before.total (rows_at before.line text.now ++ behind)))) }
+    ensures ok { IfOk result (λ after. AddsRows n before.from before.total (rows_at before.line text.now) needs.old.pairs needs.new.pairs after.from after.total) }
+    ensures err { IfErr result (λ e. (behind : List AnyRow) → FailsBy e.refusal e (with_pairs needs.old.pairs (pairs_from n before.from before.total (rows_at before.line text.now ++ behind)))) }
     ensures counted { IfOk result (λ after. after.line ≡ lines_at before.line text.now) }
     ensures short { IfOk result (λ after. after.line ≤ before.line + length text.now) }
     ensures few { IfOk result (λ after. after.total ≤ most_pairs) }
+    ensures so_far { IfOk result (λ after. AreRowsSoFar n after.from after.total needs.new) }
     ensures sizes { length marks.new.items ≡ n }
     ensures new_marks { IfOk result (λ after. All (λ m. m ≤ after.from) marks.new.items) }
 {
@@ -294,40 +303,43 @@ fn read_lines(
     };
     let mut after = before;
     while let Some(row) = rows.next_row() {
-        after = read_line(n, after, marks, row, pairs)?;
+        after = read_line(n, after, marks, row, needs)?;
     }
     after.line = rows.number;
     Ok(after)
 }
 
 /// The pairs of all lines of a text.
-fn parse_lines(alloc: Global, text: &[u8], n: u32) -> Result<Vec<(u32, u32)>, Fault>
+fn parse_lines(alloc: Global, text: &[u8], n: u32) -> Result<NeedRows, Fault>
     requires { length text.now ≤ 2 ^ 40 }
-    ensures { Gives (λ v. v.items) result (prec_of n text.now) }
+    ensures pairs { Gives (λ v. v.pairs) result (prec_of n text.now) }
+    ensures blocks { IfOk result (λ v. v.blocks ≡ n) }
 {
     let mut marks = vec![in alloc; 0u32; n as usize]?;
-    let mut pairs = Vec::new(alloc);
-    read_lines(n, AT_FIRST, &mut marks, text, &mut pairs)?;
-    Ok(pairs)
+    let mut needs = NeedRows::new(alloc)?;
+    read_lines(n, AT_FIRST, &mut marks, text, &mut needs)?;
+    needs.open_row(n)?;
+    Ok(needs)
 }
 
 /// The pairs of all lines that a reader has left, read piece by piece. Counters are told of the pairs of each piece. A fault in
 /// the text is told when the text is known whole, so the rest of it is read.
-fn read_pieces<R: InBytes>(alloc: Global, reader: &mut R, n: u32) -> Result<Vec<(u32, u32)>, Fault>
+fn read_pieces<R: InBytes>(alloc: Global, reader: &mut R, n: u32) -> Result<NeedRows, Fault>
     requires countable { (R.progress reader.old).failures < 2 ^ 63 }
     requires bounded { (R.progress reader.old).allowance ≤ 2 ^ 40 }
-    ensures exact { Answers (λ v. v.items) (prec_of n) sources.Precedence (R.progress reader.old) (R.progress reader.new) (R.IsAtEnd reader.new) result }
+    ensures exact { Answers (λ v. v.pairs) (prec_of n) sources.Precedence (R.progress reader.old) (R.progress reader.new) (R.IsAtEnd reader.new) result }
+    ensures blocks { IfOk result (λ v. v.blocks ≡ n) }
     ensures known { Keeps (R.known_text reader.old) (R.known_text reader.new) }
 {
     let counters = reader.counters();
     let mut marks = vec![in alloc; 0u32; n as usize]?;
-    let mut pairs = Vec::new(alloc);
+    let mut needs = NeedRows::new(alloc)?;
     let mut piece = Vec::new(alloc);
     let mut kept = Vec::new(alloc);
     let mut before = AT_FIRST;
     loop {
         let ended = read_piece(reader, Source::Precedence, &mut piece, &mut kept)?;
-        match read_lines(n, before, &mut marks, &piece, &mut pairs) {
+        match read_lines(n, before, &mut marks, &piece, &mut needs) {
             Ok(after) => before = after,
             Err(fault) => {
                 if !ended && !matches!(fault.refusal, Refusal::NoMemory) {
@@ -338,7 +350,8 @@ fn read_pieces<R: InBytes>(alloc: Global, reader: &mut R, n: u32) -> Result<Vec<
         }
         counters.pairs_read(before.total);
         if ended {
-            return Ok(pairs);
+            needs.open_row(n)?;
+            return Ok(needs);
         }
     }
 }
@@ -349,37 +362,35 @@ pub fn prec_law()
     ensures faulty { (n : ℕ) (text : List ℕ) (fault : AnyFault) → (prec_of n text ≡ Err fault) ↔ IsFirstPrecFault n text fault }
 {}
 
-/// The pairs (u, p) of "u needs p" that a text spells for n blocks, in order of line and place, else the first fault of
+/// The pairs (u, p) of "u needs p" that a text spells for n blocks, by rows, in order of line and place, else the first fault of
 /// the text, or `NoMemory`.
-pub fn parse_prec(alloc: Global, text: &[u8], n: u32) -> Result<Vec<(u32, u32)>, Fault>
+pub fn parse_prec(alloc: Global, text: &[u8], n: u32) -> Result<NeedRows, Fault>
     requires { length text.now ≤ 2 ^ 40 }
     // Which pairs or which fault it is.
-    ensures exact { Gives (λ v. v.items) result (prec_of n text.now) }
+    ensures exact { Gives (λ v. v.pairs) result (prec_of n text.now) }
     // What is read is spelled so, and what is spelled so is read, unless memory runs out.
-    ensures spelled { IfOk result (λ v. SpellsPrec n text.now v.items) }
-    ensures read { (pairs : List (ℕ × ℕ)) → SpellsPrec n text.now pairs → Gives (λ v. v.items) result (Ok pairs) }
+    ensures spelled { IfOk result (λ v. SpellsPrec n text.now v.pairs) }
+    ensures read { (pairs : List (ℕ × ℕ)) → SpellsPrec n text.now pairs → Gives (λ v. v.pairs) result (Ok pairs) }
     ensures first_fault { IfErr result (λ e. FailsAt e.refusal e (IsFirstPrecFault n text.now)) }
-    ensures lawful { IfOk result (λ v. ArePrecedences n v.items) }
+    ensures blocks { IfOk result (λ v. v.blocks ≡ n) }
+    ensures lawful { IfOk result (λ v. ArePrecedences n v.pairs) }
 {
     parse_lines(alloc, text, n)
 }
 
-/// The pairs (u, p) of "u needs p" for n blocks, in order of line and place, that all spells which the reader has left,
+/// The pairs (u, p) of "u needs p" for n blocks, by rows, in order of line and place, that all spells which the reader has left,
 /// else the first fault of that text. Refused by `ReadFailed` exactly where the reader counted a failure in this call, and
 /// by `NoMemory`.
-pub fn read_prec<R: InBytes>(
-    alloc: Global,
-    reader: &mut R,
-    n: u32,
-) -> Result<Vec<(u32, u32)>, Fault>
+pub fn read_prec<R: InBytes>(alloc: Global, reader: &mut R, n: u32) -> Result<NeedRows, Fault>
     requires countable { (R.progress reader.old).failures < 2 ^ 63 }
     requires bounded { (R.progress reader.old).allowance ≤ 2 ^ 40 }
-    ensures answers { AnswersBy (λ v. v.items) (SpellsPrec n) (IsFirstPrecFault n) sources.Precedence (R.progress reader.old) (R.progress reader.new) (R.IsAtEnd reader.new) result }
-    ensures lawful { IfOk result (λ v. ArePrecedences n v.items) }
+    ensures answers { AnswersBy (λ v. v.pairs) (SpellsPrec n) (IsFirstPrecFault n) sources.Precedence (R.progress reader.old) (R.progress reader.new) (R.IsAtEnd reader.new) result }
+    ensures blocks { IfOk result (λ v. v.blocks ≡ n) }
+    ensures lawful { IfOk result (λ v. ArePrecedences n v.pairs) }
     ensures known { Keeps (R.known_text reader.old) (R.known_text reader.new) }
 
     // The same by what is read of a text.
-    ensures exact { Answers (λ v. v.items) (prec_of n) sources.Precedence (R.progress reader.old) (R.progress reader.new) (R.IsAtEnd reader.new) result }
+    ensures exact { Answers (λ v. v.pairs) (prec_of n) sources.Precedence (R.progress reader.old) (R.progress reader.new) (R.IsAtEnd reader.new) result }
 {
     read_pieces(alloc, reader, n)
 }

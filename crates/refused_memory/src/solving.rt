@@ -3,6 +3,7 @@
 use crew::{OpenGate, solve_shared};
 use faults::Fault;
 use mine_graph::{Graph, Instance};
+use need_rows::NeedRows;
 use std::alloc::AllocGlobal;
 use std::sync::{Arc, Wait};
 use std::thread::Threads;
@@ -12,8 +13,8 @@ use tree_lock::Entry;
 /// which is also the driver's first. Refused for want of memory, and where a thread or a seat was.
 pub fn solved<R: AllocGlobal + Threads + Wait + Sync>(rt: &R) -> Result<Vec<Entry>, Fault> {
     let alloc = rt.alloc();
-    let pairs = vec![in alloc; (0, 3), (1, 2)]?;
-    let graph = Arc::new(alloc, Graph::new(alloc, 4, pairs)?)?;
+    let needs = NeedRows::of_pairs(alloc, 4, &[(0, 3), (1, 2)])?;
+    let graph = Arc::new(alloc, Graph::new(alloc, 4, needs)?)?;
     let values = vec![in alloc; 5, 5, -3, -3]?;
     let mine = Instance::new(graph, values);
     let (_, journal) = solve_shared(rt, alloc, &mine, 1, None, 1, &OpenGate)?;

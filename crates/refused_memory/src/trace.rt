@@ -4,13 +4,14 @@ ghost use Rattle.std.specs.Prelude.{◌≡◌, IfOk};
 
 use faults::Fault;
 use mine_graph::{Graph, Instance};
+use need_rows::NeedRows;
 use norm_tree::NormTree;
 use std::alloc::Global;
 use std::sync::Arc;
 
 /// An arc that is merged over, and the parent of each block after it.
 #[derive(Drop)]
-struct Merger {
+struct TracedMerger {
     arc: u32,
     parents: [Option<u32>; 4],
 }
@@ -19,7 +20,7 @@ struct Merger {
 #[derive(Drop)]
 pub struct Trace {
     tree: NormTree,
-    mergers: [Merger; 3],
+    mergers: [TracedMerger; 3],
     strong: [bool; 4],
 }
 
@@ -27,12 +28,12 @@ pub struct Trace {
 fn pairs(alloc: Global) -> Result<Arc<Graph>, Fault>
     ensures { IfOk result (λ graph. graph.value.blocks ≡ 4) }
 {
-    let pairs = vec![in alloc; (0, 1), (0, 3), (2, 1)]?;
-    Ok(Arc::new(alloc, Graph::new(alloc, 4, pairs)?)?)
+    let needs = NeedRows::of_pairs(alloc, 4, &[(0, 1), (0, 3), (2, 1)])?;
+    Ok(Arc::new(alloc, Graph::new(alloc, 4, needs)?)?)
 }
 
-fn over(arc: u32, parents: [Option<u32>; 4]) -> Merger {
-    Merger { arc, parents }
+fn over(arc: u32, parents: [Option<u32>; 4]) -> TracedMerger {
+    TracedMerger { arc, parents }
 }
 
 impl Trace {

@@ -48,8 +48,8 @@ pub fn read_deposit<B: InBytes, P: InBytes>(
     blocks.counters().enter(Phase::Reading);
     let table = read_blocks(alloc, blocks)?;
     let n = table.len();
-    let pairs = read_prec(alloc, prec, n)?;
-    let graph = Graph::new(alloc, n, pairs)?;
+    let needs = read_prec(alloc, prec, n)?;
+    let graph = Graph::new(alloc, n, needs)?;
     let counters = blocks.counters();
     counters.enter(Phase::Solving);
     let columns = Columns::watched(alloc, &table, revenue, cost, counters)?;

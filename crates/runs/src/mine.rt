@@ -62,9 +62,9 @@ pub fn read_mine<M: InBytes, P: InBytes, F: InBytes>(
 {
     files.model.counters().enter(Phase::Reading);
     let model = read_upit(alloc, &mut files.model)?;
-    let pairs = read_prec(alloc, &mut files.prec, model.n)?;
+    let needs = read_prec(alloc, &mut files.prec, model.n)?;
     let (forced, barred) = read_lists(alloc, &mut files.fixed, model.n)?;
-    let graph = Graph::new(alloc, model.n, pairs)?;
+    let graph = Graph::new(alloc, model.n, needs)?;
     let counters = files.model.counters();
     counters.enter(Phase::Solving);
     let mine = Instance::watched(Arc::new(alloc, graph)?, model.values, counters);

@@ -7,14 +7,14 @@ use Rattle.merging.proofs.plan.graph_of_arcs.Goals as goal
 
 pub new-requires-clause-in_range : goal.new-requires-clause-in_range
 new-requires-clause-in_range c =
-    subst (AreInRange c.in_ok-pairs.pairs.items) (sym c.n.ensures)
-    (named_in_range c.args.graph.now.blocks c.args.graph.now.pairs c.args.arcs.now c.in_ok-pairs.pairs.items c.law.ensures.graph c.in_ok-pairs.ensures.count c.in_ok-pairs.ensures.each c.requires.below)
+    subst (AreInRange c.in_ok-needs.needs.pairs) (sym c.n.ensures)
+    (named_in_range c.args.graph.now.blocks c.args.graph.now.pairs c.args.arcs.now c.in_ok-needs.needs.pairs c.law.ensures.graph c.in_ok-needs.ensures.count c.in_ok-needs.ensures.each c.requires.below)
 
 pub new-requires-clause-apart : goal.new-requires-clause-apart
 new-requires-clause-apart c =
-    named_apart c.args.graph.now.blocks c.args.graph.now.pairs c.args.arcs.now c.in_ok-pairs.pairs.items c.law.ensures.graph c.in_ok-pairs.ensures.count c.in_ok-pairs.ensures.each c.requires.below c.requires.rising
+    named_apart c.args.graph.now.blocks c.args.graph.now.pairs c.args.arcs.now c.in_ok-needs.needs.pairs c.law.ensures.graph c.in_ok-needs.ensures.count c.in_ok-needs.ensures.each c.requires.below c.requires.rising
 
 pub returns-in_err-links-clause-refused : goal.returns-in_err-links-clause-refused
 returns-in_err-links-clause-refused c =
     let p = err_from_is_err_and c.from_residual-in_err-links.result c.from_residual-in_err-links.ensures.1 in
-    rw (p.1, p.2) (only_memory c.acyclic_has_no_needy.ensures c.in_ok-pairs.pairs.items c.n.result c.in_err-links.field-0.0.refusal c.in_err-links.field-0.0 (named_acyclic c.args.graph.now.blocks c.args.graph.now.pairs c.args.arcs.now c.in_ok-pairs.pairs.items c.law.ensures.graph c.in_ok-pairs.ensures.count c.in_ok-pairs.ensures.each c.requires.below) c.in_err-links.ensures.refused)
+    rw (p.1, p.2) (only_memory c.acyclic_has_no_needy.ensures c.in_ok-needs.needs.pairs c.n.result c.in_err-links.field-0.0.refusal c.in_err-links.field-0.0 (named_acyclic c.args.graph.now.blocks c.args.graph.now.pairs c.args.arcs.now c.in_ok-needs.needs.pairs c.law.ensures.graph c.in_ok-needs.ensures.count c.in_ok-needs.ensures.each c.requires.below) c.in_err-links.ensures.refused)

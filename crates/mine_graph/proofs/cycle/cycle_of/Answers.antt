@@ -2,6 +2,7 @@
 use Rattle.std.proofs.Common.{◌≡◌, ℕ, arith, length, drop, ◌∙◌}
 use Rattle.std.proofs.lemmas.List.{take_at}
 use Rattle.std.proofs.lemmas.Result.{IfOk-weaker}
+use Rattle.need_rows.specs.Lent.{pairs_in}
 use Rattle.mine_graph.proofs.Walking.{cycle_is, cut_walk}
 use Rattle.mine_graph.proofs.cycle.cycle_of.Goals as goal
 
@@ -14,6 +15,6 @@ returns c =
     let count : ℕ = c.walk_round-visit.result.1 in
     let l = c.walk_round-visit.ensures.visit in
     IfOk-weaker c.from_slice.result _ _
-    (λ v e. cycle_is c.args.pairs.now c.args.left.now c.walk_round-visit.new.path visit count c.requires.largest c.walk_round-visit.ensures.walk l c.walk_round-visit.ensures.room
+    (λ v e. cycle_is (pairs_in c.args.rows) c.args.left.now c.walk_round-visit.new.path visit count c.requires.largest c.walk_round-visit.ensures.walk l c.walk_round-visit.ensures.room
     c.walk_round-visit.ensures.repeats v.items (e ∙ cut_walk c.walk_round-visit.new.path c.deref.result.now visit count (omega arith) back))
     c.from_slice.ensures.items

@@ -1,11 +1,11 @@
 -- Each place lies in the row of its pair.
-use Rattle.std.proofs.Common.{◌≡◌, ℕ, ◌+◌, ◌-◌, ◌*◌, ◌<◌, ◌≤◌, List, [], ◌∷◌, ◌++◌, length, get_or, ap, arith, refl, sym, ◌∙◌, ⊎_elim}
+use Rattle.std.proofs.Common.{◌≡◌, ℕ, ◌+◌, ◌*◌, ◌<◌, List, [], ◌∷◌, ◌++◌, length, get_or, ap, arith, refl, sym, ◌∙◌, ⊎_elim}
 use Rattle.std.proofs.lemmas.Bool.{cases_eq}
 use Rattle.std.proofs.lemmas.Grind.{div_ceil_times}
 use Rattle.std.proofs.lemmas.List.{get_or_append_left, get_or_at, length_push}
 use Rattle.pit_model.specs.Graph.{first_of}
-use Rattle.mine_graph.specs.Rows.{pairs_of}
-use Rattle.mine_graph.proofs.Spelled.{length-pairs_of, starts_rise}
+use Rattle.need_rows.specs.Rows.{pairs_of}
+use Rattle.need_rows.proofs.Spelled.{length-pairs_of, starts_rise}
 use Rattle.mine_graph.proofs.landmarks.landmarks_of.Goals as goal
 
 pub row_between-requires-clause-inside : goal.row_between-requires-clause-inside

@@ -1,7 +1,7 @@
 -- The landmarks so far.
 use Rattle.std.proofs.Common.{◌≡◌, ℕ, ◌*◌, ◌<◌, length, get_or}
 use Rattle.pit_model.specs.Graph.{first_of}
-use Rattle.mine_graph.specs.Rows.{pairs_of}
+use Rattle.need_rows.specs.Rows.{pairs_of}
 use Rattle.mine_graph.proofs.landmarks.landmarks_of.Given as goal
 
 abbrev pub invariant-loop-i : goal.invariant-loop-i

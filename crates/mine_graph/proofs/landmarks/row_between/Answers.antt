@@ -1,5 +1,5 @@
 -- Rows that end at the place or before are before its own, and all others are not.
-use Rattle.std.proofs.Common.{◌≡◌, ℕ, ◌+◌, ◌-◌, ◌<◌, ◌≤◌, leb, List, drop, take, length, get_or, ap, ◌∙◌, arith, rules, ⊎_elim}
+use Rattle.std.proofs.Common.{◌≡◌, ℕ, ◌+◌, ◌-◌, ◌<◌, leb, List, drop, take, length, get_or, ap, ◌∙◌, arith, rules, ⊎_elim}
 use Rattle.std.specs.Prelude.{◌⊎◌}
 use Rattle.std.proofs.lemmas.Bool.{cases_order, leb-true, leb-false}
 use Rattle.std.proofs.lemmas.List.{get_or-drop, get_or-take, length-drop, length-take-le}

@@ -22,15 +22,15 @@ of_ordered-requires-clause-few_blocks c =
 pub of_ordered-requires-clause-few_pairs : goal.of_ordered-requires-clause-few_pairs
 of_ordered-requires-clause-few_pairs c =
     let few = renumbered_few c.args.graph.now.blocks c.args.graph.now.pairs c.args.chosen.labels.now c.args.blocks.items c.args.chosen.places.now c.args.chosen.label c.law.ensures.graph c.requires.blocks c.requires.places in
-    let same = ap (λ (xs : List (ℕ × ℕ)). length xs) c.in_ok-pairs.ensures in
+    let same = ap (λ (xs : List (ℕ × ℕ)). length xs) c.in_ok-needs.ensures.pairs in
     omega (arith, c.law.ensures.few_arcs)
 
 pub of_ordered-requires-clause-graph : goal.of_ordered-requires-clause-graph
 of_ordered-requires-clause-graph c =
     let size : c.len.result ≡ length c.args.blocks.items = c.len.ensures ∙ c.args.blocks.ok.0 in
-    rw (size, c.in_ok-pairs.ensures) (renumbered_graph c.args.graph.now.blocks c.args.graph.now.pairs c.args.chosen.labels.now c.args.blocks.items c.args.chosen.places.now c.args.chosen.label c.law.ensures.graph c.requires.blocks c.requires.places)
+    rw (size, c.in_ok-needs.ensures.pairs) (renumbered_graph c.args.graph.now.blocks c.args.graph.now.pairs c.args.chosen.labels.now c.args.blocks.items c.args.chosen.places.now c.args.chosen.label c.law.ensures.graph c.requires.blocks c.requires.places)
 
 pub returns-clause-part : goal.returns-clause-part
 returns-clause-part c =
     let size : c.len.result ≡ length c.args.blocks.items = c.len.ensures ∙ c.args.blocks.ok.0 in
-    part_is c.args.graph.now.blocks c.args.graph.now.pairs c.args.chosen.labels.now c.args.blocks.items c.args.chosen.places.now c.args.chosen.label c.law.ensures.graph c.requires.blocks c.requires.places c.in_ok-graph.graph (c.in_ok-graph.ensures.blocks ∙ size) (c.in_ok-graph.ensures.pairs ∙ c.in_ok-pairs.ensures)
+    part_is c.args.graph.now.blocks c.args.graph.now.pairs c.args.chosen.labels.now c.args.blocks.items c.args.chosen.places.now c.args.chosen.label c.law.ensures.graph c.requires.blocks c.requires.places c.in_ok-graph.graph (c.in_ok-graph.ensures.blocks ∙ size) (c.in_ok-graph.ensures.pairs ∙ c.in_ok-needs.ensures.pairs)

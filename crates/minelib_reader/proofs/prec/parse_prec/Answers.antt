@@ -15,17 +15,17 @@ use Rattle.minelib_reader.proofs.prec.parse_prec.Goals as goal
 pub returns-clause-spelled : goal.returns-clause-spelled
 returns-clause-spelled c =
     let text = c.args.text.now in
-    value_told (λ v. v.items) c.parse_lines.result (prec_of c.args.n text) (SpellsPrec c.args.n text) (spelled c.args.n 0 0 (rows_of text)) c.parse_lines.ensures
+    value_told (λ v. v.pairs) c.parse_lines.result (prec_of c.args.n text) (SpellsPrec c.args.n text) (spelled c.args.n 0 0 (rows_of text)) c.parse_lines.ensures.pairs
 
 pub returns-clause-read : goal.returns-clause-read
-returns-clause-read c = λ pairs s. subst (λ f. Gives (λ v. v.items) c.parse_lines.result f) (reads c.args.n 0 0 (rows_of c.args.text.now) pairs s) c.parse_lines.ensures
+returns-clause-read c = λ pairs s. subst (λ f. Gives (λ v. v.pairs) c.parse_lines.result f) (reads c.args.n 0 0 (rows_of c.args.text.now) pairs s) c.parse_lines.ensures.pairs
 
 pub returns-clause-first_fault : goal.returns-clause-first_fault
 returns-clause-first_fault c =
     let text = c.args.text.now in
-    fault_told (λ v. v.items) c.parse_lines.result (prec_of c.args.n text) (IsFirstPrecFault c.args.n text) (fails_first c.args.n 0 0 (rows_of text)) c.parse_lines.ensures
+    fault_told (λ v. v.pairs) c.parse_lines.result (prec_of c.args.n text) (IsFirstPrecFault c.args.n text) (fails_first c.args.n 0 0 (rows_of text)) c.parse_lines.ensures.pairs
 
 pub returns-clause-lawful : goal.returns-clause-lawful
 returns-clause-lawful c =
     let text = c.args.text.now in
-    value_told (λ v. v.items) c.parse_lines.result (prec_of c.args.n text) (ArePrecedences c.args.n) (λ pairs e. lawful c.args.n (rows_of text) pairs (spelled c.args.n 0 0 (rows_of text) pairs e)) c.parse_lines.ensures
+    value_told (λ v. v.pairs) c.parse_lines.result (prec_of c.args.n text) (ArePrecedences c.args.n) (λ pairs e. lawful c.args.n (rows_of text) pairs (spelled c.args.n 0 0 (rows_of text) pairs e)) c.parse_lines.ensures.pairs

@@ -10,7 +10,8 @@ use Rattle.minelib_reader.proofs.prec.push_marked.Given as goal
 abbrev pub invariant-loop-whole : goal.invariant-loop-whole
 invariant-loop-whole l = record {
   so_far : (first : List ℕ) → AreMarked l.block.n l.block.id l.initial.marks.items first
-      → SoFar l.block.n l.block.id l.block.line first l.marks.items (fields_of l.rest) (needs_from l.block.n l.block.id l.block.line first (fields_of l.fn.text)) l.initial.pairs.items l.pairs.items;
+      → SoFar l.block.n l.block.id l.block.line first l.marks.items (fields_of l.rest) (needs_from l.block.n l.block.id l.block.line first (fields_of l.fn.text)) l.initial.needs.pairs l.needs.pairs;
+  row : l.needs.blocks ≡ l.block.id;
   sizes : length l.marks.items ≡ l.block.n;
   marks : All (λ m. m ≤ l.block.id + 1) l.marks.items;
 }

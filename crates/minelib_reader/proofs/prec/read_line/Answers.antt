@@ -4,7 +4,7 @@ use Rattle.std.proofs.lemmas.Result.{err_from_is_err_and}
 use Rattle.minelib_reader.specs.Text.{row, fields_of}
 use Rattle.minelib_reader.specs.Prec.{needs_from, front_of, needs_line}
 use Rattle.minelib_reader.proofs.AnswerLemmas.{fails_map}
-use Rattle.minelib_reader.proofs.PrecLineLemmas.{front_stops, needs_stop, line_added}
+use Rattle.minelib_reader.proofs.PrecLineLemmas.{front_stops, needs_stop, line_added, named}
 use Rattle.minelib_reader.proofs.prec.read_line.Goals as goal
 
 pub returns-in_err-front-clause-err : goal.returns-in_err-front-clause-err
@@ -44,3 +44,16 @@ returns-else-named-front-clause-ok c =
     let done = c.in-Ok.ensures.ok in
     let same : length (fields_of f.rest.now) ≡ f.count = omega (arith, c.in-Ok.ensures.named, c.if-named-front.false) in
     line_added c.args.n b.from b.total (row c.args.r.line (fields_of c.args.r.text.now)) (f.id, f.count, fields_of f.rest.now) done.0 _ _ (c.in_ok-front.ensures.counted same) done.1 (sym same) done.2
+
+pub returns-else-named-front-clause-so_far : goal.returns-else-named-front-clause-so_far
+returns-else-named-front-clause-so_far c =
+    let f = c.in_ok-front.front in
+    let done = c.in-Ok.ensures.ok in
+    let so_far = c.requires.so_far in
+    let same : length (fields_of f.rest.now) ≡ f.count = omega (arith, c.in-Ok.ensures.named, c.if-named-front.false) in
+    let long = named c.args.n f.id c.args.r.line [] (fields_of f.rest.now) done.0 c.args.needs.now.pairs c.read_needs.new.needs.pairs done.1 done.2 in
+    record {
+      closed = omega (arith, c.in-Ok.ensures.row);
+      known = omega (arith, c.in_ok-front.ensures.known);
+      count = omega (arith, long, so_far.count);
+    }

@@ -1,5 +1,5 @@
 -- Each piece is read behind those before it.
-use Rattle.std.proofs.Common.{◌∙◌, ◌++◌, ℕ, List, ap, arith, length, subst, rules}
+use Rattle.std.proofs.Common.{◌∙◌, ◌++◌, ℕ, List, Ok, ap, arith, length, length-append, subst, sym, rules}
 use Rattle.minelib_reader.specs.Answer.{FailsBy}
 use Rattle.minelib_reader.specs.Marks.{AddsRows, with_pairs}
 use Rattle.minelib_reader.specs.Prec.{pairs_from}
@@ -19,7 +19,7 @@ returns-in-Err-clause-exact g c =
     let kept = c.loop-kept.kept.items in
     let piece = c.read_piece.new.piece.items in
     let kept' = c.read_piece.new.kept.items in
-    let pairs = c.loop-kept.pairs.items in
+    let pairs = c.loop-kept.needs.pairs in
     let r = c.loop-kept.invariant.read in
     let e = c.in-Err.fault in
     let p = c.in_ok-ended.ensures.piece in
@@ -45,13 +45,16 @@ returns-then-ended-clause-exact g c =
     let kept = c.loop-kept.kept.items in
     let piece = c.read_piece.new.piece.items in
     let kept' = c.read_piece.new.kept.items in
-    let pairs = c.loop-kept.pairs.items in
-    let pairs' = c.read_lines.new.pairs.items in
+    let pairs = c.loop-kept.needs.pairs in
+    let pairs' = c.read_lines.new.needs.pairs in
     let after = c.in-Ok.after in
     let r = c.loop-kept.invariant.read in
     let p = subst (IsPiece mid new AtEnd kept piece kept') c.if-ended.true c.in_ok-ended.ensures.piece in
-    let added = subst (λ (t : List ℕ). AddsRows c.args.n b.from b.total (rows_at b.line t) pairs pairs' after.from after.total) c.deref.ensures.value c.in-Ok.ensures.ok in
-    (_, read_to_end c.args.n old mid new AtEnd b.from b.total b.line kept piece kept' pairs r p, ends c.args.n old mid new AtEnd b.from b.total b.line kept piece kept' pairs r p after.from after.total pairs' added)
+    let added = subst (λ (t : List ℕ). AddsRows c.args.n b.from b.total (rows_at b.line t) pairs pairs' after.from after.total) c.deref.ensures.value c.in-Ok.ensures.ok in (
+      _,
+      read_to_end c.args.n old mid new AtEnd b.from b.total b.line kept piece kept' pairs r p,
+      ends c.args.n old mid new AtEnd b.from b.total b.line kept piece kept' pairs r p after.from after.total pairs' added ∙ ap (λ (ps : List (ℕ × ℕ)). Ok ps) (sym c.open_row.ensures.pairs),
+    )
 
 pub loop-kept-preserved : goal.loop-kept-preserved
 loop-kept-preserved g c =
@@ -63,15 +66,26 @@ loop-kept-preserved g c =
     let kept = c.loop-kept.kept.items in
     let piece = c.read_piece.new.piece.items in
     let kept' = c.read_piece.new.kept.items in
-    let pairs = c.loop-kept.pairs.items in
-    let pairs' = c.read_lines.new.pairs.items in
+    let pairs = c.loop-kept.needs.pairs in
+    let pairs' = c.read_lines.new.needs.pairs in
     let after = c.in-Ok.after in
     let p = subst (IsPiece mid new AtEnd kept piece kept') c.if-ended.false c.in_ok-ended.ensures.piece in
     let added = subst (λ (t : List ℕ). AddsRows c.args.n b.from b.total (rows_at b.line t) pairs pairs' after.from after.total) c.deref.ensures.value c.in-Ok.ensures.ok in
     record {
       read = goes_on c.args.n old mid new AtEnd b.from b.total b.line kept piece kept' pairs c.loop-kept.invariant.read p after.from after.total after.line pairs' added (c.in-Ok.ensures.counted ∙ ap (λ (t : List ℕ). lines_at b.line t) c.deref.ensures.value) (let short = c.in-Ok.ensures.short in let same = ap length c.deref.ensures.value in omega arith);
       known = search rules;
+      so_far = c.in-Ok.ensures.so_far;
       few = c.in-Ok.ensures.few;
       sizes = c.in-Ok.ensures.sizes;
       marks = c.in-Ok.ensures.new_marks;
     }
+
+pub read_lines-requires-clause-countable : goal.read_lines-requires-clause-countable
+read_lines-requires-clause-countable g c =
+    let kept = c.loop-kept.kept.items in
+    let piece = c.read_piece.new.piece.items in
+    let r = c.loop-kept.invariant.read in
+    let p = c.in_ok-ended.ensures.piece in
+    let parts = ap length p.parts in
+    let same = ap length c.deref.ensures.value in
+    omega (arith, c.requires.bounded, r.allowance, r.short, p.allowance, length-append piece c.read_piece.new.kept.items, length-append kept p.text)

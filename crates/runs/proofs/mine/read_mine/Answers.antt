@@ -20,14 +20,14 @@ returns-in_err-model-clause-refused g c =
     let files = files_of g.M.InBytes.progress g.M.InBytes.IsAtEnd g.P.InBytes.progress g.P.InBytes.IsAtEnd g.F.InBytes.progress g.F.InBytes.IsAtEnd c.args.files.now (record { model = c.read_upit.new.reader; prec = now.prec; fixed = now.fixed }) in
     rw (p.1, p.2) (model_refused e.refusal e files refl refl (still g.F.InBytes.progress g.F.InBytes.IsAtEnd now.fixed) c.in_err-model.ensures.answers)
 
-pub returns-in_err-pairs-clause-refused : goal.returns-in_err-pairs-clause-refused
-returns-in_err-pairs-clause-refused g c =
-    let p = err_from_is_err_and c.from_residual-in_err-pairs.result c.from_residual-in_err-pairs.ensures.1 in
-    let e = c.in_err-pairs.field-0.0 in
+pub returns-in_err-needs-clause-refused : goal.returns-in_err-needs-clause-refused
+returns-in_err-needs-clause-refused g c =
+    let p = err_from_is_err_and c.from_residual-in_err-needs.result c.from_residual-in_err-needs.ensures.1 in
+    let e = c.in_err-needs.field-0.0 in
     let now = c.args.files.now in
     let files = files_of g.M.InBytes.progress g.M.InBytes.IsAtEnd g.P.InBytes.progress g.P.InBytes.IsAtEnd g.F.InBytes.progress g.F.InBytes.IsAtEnd c.args.files.now (record { model = c.read_upit.new.reader; prec = c.read_prec.new.reader; fixed = now.fixed }) in
     let m = c.in_ok-model.ensures.answers in
-    rw (p.1, p.2) (prec_refused e.refusal e files (upit c.in_ok-model.model.n c.in_ok-model.model.values.items) m.0 refl (still g.F.InBytes.progress g.F.InBytes.IsAtEnd now.fixed) m.1 m.2 c.in_err-pairs.ensures.answers)
+    rw (p.1, p.2) (prec_refused e.refusal e files (upit c.in_ok-model.model.n c.in_ok-model.model.values.items) m.0 refl (still g.F.InBytes.progress g.F.InBytes.IsAtEnd now.fixed) m.1 m.2 c.in_err-needs.ensures.answers)
 
 pub returns-in_err-forced-clause-refused : goal.returns-in_err-forced-clause-refused
 returns-in_err-forced-clause-refused g c =
@@ -35,8 +35,8 @@ returns-in_err-forced-clause-refused g c =
     let e = c.in_err-forced.field-0.0 in
     let files = files_of g.M.InBytes.progress g.M.InBytes.IsAtEnd g.P.InBytes.progress g.P.InBytes.IsAtEnd g.F.InBytes.progress g.F.InBytes.IsAtEnd c.args.files.now (record { model = c.read_upit.new.reader; prec = c.read_prec.new.reader; fixed = c.read_lists.new.fixed }) in
     let m = c.in_ok-model.ensures.answers in
-    let q = c.in_ok-pairs.ensures.answers in
-    rw (p.1, p.2) (fixed_refused e.refusal e files (upit c.in_ok-model.model.n c.in_ok-model.model.values.items) c.in_ok-pairs.pairs.items refl
+    let q = c.in_ok-needs.ensures.answers in
+    rw (p.1, p.2) (fixed_refused e.refusal e files (upit c.in_ok-model.model.n c.in_ok-model.model.values.items) c.in_ok-needs.needs.pairs refl
     (record { model_text = m.0; prec_text = q.0; model_given = m.1; prec_given = q.1; model_spelled = m.2; prec_spelled = q.2 })
     c.in_err-forced.ensures.refused)
 
@@ -46,8 +46,8 @@ returns-in_err-graph-clause-refused g c =
     let e = c.in_err-graph.field-0.0 in
     let files = files_of g.M.InBytes.progress g.M.InBytes.IsAtEnd g.P.InBytes.progress g.P.InBytes.IsAtEnd g.F.InBytes.progress g.F.InBytes.IsAtEnd c.args.files.now (record { model = c.read_upit.new.reader; prec = c.read_prec.new.reader; fixed = c.read_lists.new.fixed }) in
     let m = c.in_ok-model.ensures.answers in
-    let q = c.in_ok-pairs.ensures.answers in
-    rw (p.1, p.2) (pairs_refused e.refusal e files (upit c.in_ok-model.model.n c.in_ok-model.model.values.items) c.in_ok-pairs.pairs.items _
+    let q = c.in_ok-needs.ensures.answers in
+    rw (p.1, p.2) (pairs_refused e.refusal e files (upit c.in_ok-model.model.n c.in_ok-model.model.values.items) c.in_ok-needs.needs.pairs _
     (record { model_text = m.0; prec_text = q.0; model_given = m.1; prec_given = q.1; model_spelled = m.2; prec_spelled = q.2 })
     c.in_ok-forced.ensures.given c.in_err-graph.ensures.refused c.in_err-graph.ensures.refused)
 
@@ -55,9 +55,9 @@ pub returns-in_err-new-clause-refused : goal.returns-in_err-new-clause-refused
 returns-in_err-new-clause-refused g c =
     let files = files_of g.M.InBytes.progress g.M.InBytes.IsAtEnd g.P.InBytes.progress g.P.InBytes.IsAtEnd g.F.InBytes.progress g.F.InBytes.IsAtEnd c.args.files.now (record { model = c.read_upit.new.reader; prec = c.read_prec.new.reader; fixed = c.read_lists.new.fixed }) in
     let m = c.in_ok-model.ensures.answers in
-    let q = c.in_ok-pairs.ensures.answers in
+    let q = c.in_ok-needs.ensures.answers in
     let p = err_from_is_err_and c.from_residual-in_err-new.result c.from_residual-in_err-new.ensures.1 in
-    rw (p.1, p.2) (memory_refused files (upit c.in_ok-model.model.n c.in_ok-model.model.values.items) c.in_ok-pairs.pairs.items _
+    rw (p.1, p.2) (memory_refused files (upit c.in_ok-model.model.n c.in_ok-model.model.values.items) c.in_ok-needs.needs.pairs _
     (record { model_text = m.0; prec_text = q.0; model_given = m.1; prec_given = q.1; model_spelled = m.2; prec_spelled = q.2 })
     c.in_ok-forced.ensures.given)
 
@@ -67,9 +67,9 @@ returns-in_err-fixed-clause-refused g c =
     let e = c.in_err-fixed.field-0.0 in
     let files = files_of g.M.InBytes.progress g.M.InBytes.IsAtEnd g.P.InBytes.progress g.P.InBytes.IsAtEnd g.F.InBytes.progress g.F.InBytes.IsAtEnd c.args.files.now (record { model = c.read_upit.new.reader; prec = c.read_prec.new.reader; fixed = c.read_lists.new.fixed }) in
     let m = c.in_ok-model.ensures.answers in
-    let q = c.in_ok-pairs.ensures.answers in
+    let q = c.in_ok-needs.ensures.answers in
     let mine = c.watched-mine.result in
-    let pairs = c.in_ok-pairs.pairs.items in
+    let pairs = c.in_ok-needs.needs.pairs in
     let lists = fixed_lists c.in_ok-forced.forced.items c.in_ok-forced.barred.items in
     let task : FixedMine = record { mine = mine; lists = lists } in
     let held : arc_value c.in_ok-new.field-0 ≡ c.in_ok-graph.graph = c.in_ok-new.ensures.ok in

@@ -1,5 +1,5 @@
 -- The users of a block are those that the turned pairs lead to.
-use Rattle.std.proofs.Common.{ℕ, ◌<◌, length, get_or, subst, sym, arith}
+use Rattle.std.proofs.Common.{◌<◌, length, subst, sym, arith}
 use Rattle.std.proofs.lemmas.List.Elements.{All-from_get_or}
 use Rattle.mine_graph.specs.Flood.{TakesIn, pairs_along}
 use Rattle.mine_graph.specs.Users.{LeadsTo}

@@ -1,10 +1,10 @@
 -- A pair of the block would stand at the place that the search answers.
-use Rattle.std.proofs.Common.{◌≡◌, ℕ, ◌+◌, ◌-◌, ◌<◌, ◌≤◌, List, length, take, drop, get_or, arith, ap, subst, sym, ◌∙◌}
+use Rattle.std.proofs.Common.{◌≡◌, ℕ, ◌+◌, ◌-◌, ◌<◌, List, length, take, drop, arith, ap, subst, sym, ◌∙◌}
 use Rattle.std.proofs.lemmas.List.{get_or_default}
 use Rattle.pit_model.specs.Graph.{Graph, AreRising, second_of}
-use Rattle.mine_graph.specs.Rows.{pairs_of, AreSeconds}
+use Rattle.need_rows.specs.Rows.{pairs_of, AreSeconds}
 use Rattle.mine_graph.proofs.Search.{found_at, row_rises}
-use Rattle.mine_graph.proofs.Spelled.{length-pairs_of, seconds_of_rows}
+use Rattle.need_rows.proofs.Spelled.{length-pairs_of, seconds_of_rows}
 use Rattle.mine_graph.proofs.graph.Graph.arc_of.Goals as goal
 use Rattle.mine_graph.proofs.graph.Graph.arc_of.Goals.{else-place-end-via-then-place-end+else-index-p, else-place-end-via-else-place-end}
 

@@ -3,9 +3,9 @@ use Rattle.std.proofs.Common.{◌≡◌, ℕ, ◌+◌, ◌/◌, ◌<◌, ◌≤�
 use Rattle.std.proofs.lemmas.Bool.{cases_lt}
 use Rattle.std.proofs.lemmas.List.{get_or_default}
 use Rattle.pit_model.specs.Graph.{Graph, first_of}
-use Rattle.mine_graph.specs.Rows.{pairs_of}
+use Rattle.need_rows.specs.Rows.{pairs_of}
 use Rattle.mine_graph.proofs.Marking.{mark_below, mark_least, mark_most}
-use Rattle.mine_graph.proofs.Spelled.{length-pairs_of, starts_rise}
+use Rattle.need_rows.proofs.Spelled.{starts_rise}
 use Rattle.mine_graph.proofs.graph.Graph.first.Goals as goal
 
 pub row_between-requires-clause-rise : goal.row_between-requires-clause-rise

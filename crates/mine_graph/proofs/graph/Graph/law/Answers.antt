@@ -1,8 +1,8 @@
 -- As many pairs as needs.
 use Rattle.std.proofs.Common.{◌≡◌, ℕ, List, length, ap, arith}
 use Rattle.pit_model.specs.Graph.{Graph}
-use Rattle.mine_graph.specs.Rows.{pairs_of}
-use Rattle.mine_graph.proofs.Spelled.{length-pairs_of}
+use Rattle.need_rows.specs.Rows.{pairs_of}
+use Rattle.need_rows.proofs.Spelled.{length-pairs_of}
 use Rattle.mine_graph.proofs.graph.Graph.law.Goals as goal
 
 pub returns-clause-few_arcs : goal.returns-clause-few_arcs

@@ -1,9 +1,9 @@
 -- The second of a pair stands at its place.
-use Rattle.std.proofs.Common.{◌≡◌, ℕ, ◌<◌, List, length, get_or, ap, sym, ◌∙◌, arith}
+use Rattle.std.proofs.Common.{◌≡◌, ℕ, ◌<◌, List, length, ap, sym, ◌∙◌, arith}
 use Rattle.std.proofs.lemmas.List.{get_or_default}
 use Rattle.pit_model.specs.Graph.{Graph, second_of}
-use Rattle.mine_graph.specs.Rows.{pairs_of}
-use Rattle.mine_graph.proofs.Spelled.{length-pairs_of, pairs_of-at}
+use Rattle.need_rows.specs.Rows.{pairs_of}
+use Rattle.need_rows.proofs.Spelled.{length-pairs_of, pairs_of-at}
 use Rattle.mine_graph.proofs.graph.Graph.needed.Goals as goal
 
 pub index-requires : goal.index-requires

@@ -1,11 +1,12 @@
 -- The rows of the way back spell the pairs turned round.
 use Rattle.std.proofs.Common.{◌≡◌, ℕ, List, length, ap, arith, sym, subst, ◌∙◌}
 use Rattle.pit_model.specs.Fixed.{turned}
-use Rattle.pit_model.specs.Graph.{Graph, AreSamePairs, IsGraph}
-use Rattle.mine_graph.specs.Rows.{by_second, pairs_of, AreStarts, Spell}
+use Rattle.pit_model.specs.Graph.{Graph, AreSamePairs}
+use Rattle.need_rows.specs.Rows.{pairs_of}
+use Rattle.mine_graph.specs.Rows.{by_second}
 use Rattle.mine_graph.proofs.Order.{by_second-count, by_second-range}
 use Rattle.mine_graph.proofs.Reversed.{reversed_is_graph, turned_same}
-use Rattle.mine_graph.proofs.Spelled.{length-pairs_of, spelled}
+use Rattle.need_rows.proofs.Spelled.{length-pairs_of, spelled}
 use Rattle.mine_graph.proofs.graph.Graph.reversed.Goals as goal
 
 pub of_rows-requires-clause-few_pairs : goal.of_rows-requires-clause-few_pairs

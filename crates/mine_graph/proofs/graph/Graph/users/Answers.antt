@@ -1,8 +1,8 @@
 -- The way back, read for one block.
-use Rattle.std.proofs.Common.{◌≡◌, ℕ, ◌+◌, ◌-◌, ◌<◌, List, length, take, drop, get_or, arith, ap, subst, sym, ◌∙◌, ⊎_elim}
+use Rattle.std.proofs.Common.{◌≡◌, ℕ, ◌+◌, ◌-◌, ◌<◌, List, take, drop, get_or, arith, ap, subst, sym, ◌∙◌, ⊎_elim}
 use Rattle.std.proofs.lemmas.List.{get_or_default}
 use Rattle.pit_model.specs.Graph.{Graph, first_of, second_of}
-use Rattle.mine_graph.specs.Rows.{pairs_of}
+use Rattle.need_rows.specs.Rows.{pairs_of}
 use Rattle.mine_graph.specs.Users.{AreUsers}
 use Rattle.mine_graph.proofs.Users.{turned_row}
 use Rattle.mine_graph.proofs.graph.Graph.users.Goals as goal

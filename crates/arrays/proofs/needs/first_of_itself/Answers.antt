@@ -1,0 +1,8 @@
+-- Each row ends within the places.
+use Rattle.std.proofs.Common.{◌+◌, arith, length, subst, sym}
+use Rattle.arrays.specs.Spelled.{IsInRow}
+use Rattle.arrays.proofs.Spelling.{ends_within}
+use Rattle.arrays.proofs.needs.first_of_itself.Goals as goal
+
+pub own_place-requires-clause-inside : goal.own_place-requires-clause-inside
+own_place-requires-clause-inside c = ends_within c.args.blocks (length c.args.rows.seconds.now) c.args.rows.starts.now c.requires.rows (c.loop-block.block + 1) (omega arith)
