@@ -1,14 +1,14 @@
 -- One pass that takes the flow off the blocks that it leaves and adds it where it arrives: the excess as far as the first
 -- arcs go, which never leaves a signed number of 128 bits.
 use Rattle.std.proofs.Common.{◌≡◌, ℕ, zero, suc, ◌+◌, ◌*◌, ◌^◌, ◌<◌, ◌≤◌, Bool, true, false, eqb, sym, ap, ◌∙◌, arith, ⊎_elim, List, set, get_or, length}
-use Rattle.std.specs.Prelude.{ℤ, pos, neg_ℤ, ◌+ℤ◌, ◌-ℤ◌, ◌≤ℤ◌}
+use Rattle.std.specs.Prelude.{ℤ, int_lt, pos, neg_ℤ, ◌+ℤ◌, ◌-ℤ◌, ◌≤ℤ◌}
 use Rattle.std.proofs.lemmas.Int.{ints}
 use Rattle.std.proofs.lemmas.Bool.{cases_eq}
 use Rattle.std.proofs.lemmas.List.{get_or-set_same, get_or-set_other}
 use Rattle.pit_model.specs.Sum.{total, when}
 use Rattle.pit_model.specs.Mine.{Instance, source, target, value}
 use Rattle.pit_model.specs.Limits.{Between}
-use Rattle.pit_model.proofs.Sums.{when-here, when-other}
+use Rattle.pit_model.proofs.Sums.{when-here, when-other, when-zero}
 use Rattle.certificate.specs.Check.{amount}
 
 -- a place that was written holds less or more by what was taken off or added
@@ -60,6 +60,18 @@ so_far-more mine flow m u x e =
     let p : suc m ≡ m + 1 = omega arith in
     let q : x -ℤ when (eqb (source mine m) u) (amount flow m) +ℤ when (eqb (target mine m) u) (amount flow m) ≡ excess_so_far mine flow (suc m) u = omega (arith, ints) in
     q ∙ ap (λ k. excess_so_far mine flow k u) p
+
+-- an amount that is not negative, and not above 0
+pub no_flow : (x : ℤ) → (pos 0 ≤ℤ x) → int_lt (pos 0) x ≡ false → x ≡ pos 0
+no_flow x low none = omega (arith, ints)
+
+-- an arc without flow changes no excess
+pub so_far-skip : (mine : Instance) (flow : List ℤ) (m u : ℕ) (x : ℤ) → amount flow m ≡ pos 0 → x ≡ excess_so_far mine flow m u → x ≡ excess_so_far mine flow (m + 1) u
+so_far-skip mine flow m u x none e =
+    let from = ap (when (eqb (source mine m) u)) none ∙ when-zero (eqb (source mine m) u) in
+    let to = ap (when (eqb (target mine m) u)) none ∙ when-zero (eqb (target mine m) u) in
+    let more = so_far-more mine flow m u x e in
+    omega (arith, ints)
 
 -- it lies within 10^23 + 2^26 * 10^30 of 0
 pub so_far-bound : (mine : Instance) (flow : List ℤ) (m u : ℕ) → m ≤ 2 ^ 26

@@ -1,6 +1,6 @@
 //! The excess of each block under a flow, by plain sums: its value, then each amount taken off one block and added to
 //! another. `check` asks for them; nothing here knows the tree.
-ghost use Rattle.std.specs.Prelude.{◌≡◌, ◌<◌, ℕ, pos, ◌*◌, ◌^◌, neg_ℤ, ◌+ℤ◌, ◌-ℤ◌, ◌==◌, length, get_or, IfOk};
+ghost use Rattle.std.specs.Prelude.{◌≡◌, ◌<◌, ℕ, pos, ◌*◌, ◌^◌, neg_ℤ, ◌+ℤ◌, ◌-ℤ◌, ◌==◌, int_lt, length, get_or, IfOk};
 ghost use Rattle.pit_model.specs.Sum.{when};
 ghost use Rattle.pit_model.specs.Mine.{arcs, value};
 ghost use Rattle.pit_model.specs.Limits.{Between};
@@ -8,6 +8,14 @@ ghost use Rattle.certificate.specs.Check.{amount, AreAmounts, AreExcesses, AreVa
 
 use mine_graph::{Graph, Instance};
 use std::alloc::{AllocError, Global};
+
+/// Whether an arc has flow.
+pub fn has_flow(flow: &[i128], arc: u32) -> bool
+    requires { arc < length flow.now }
+    ensures { result ≡ int_lt (pos 0) (amount flow.now arc) }
+{
+    flow[arc as usize] > 0
+}
 
 /// Takes the amount of an arc off a block.
 fn take_off(flow: &[i128], k: usize, excesses: &mut [i128], block: usize)
@@ -31,7 +39,8 @@ fn add_to(flow: &[i128], k: usize, excesses: &mut [i128], block: usize)
     excesses[block] += flow[k];
 }
 
-/// Takes the flow off the blocks that it leaves, and adds it to those at which it arrives.
+/// Takes the flow off the blocks that it leaves, and adds it to those at which it arrives. To find the blocks of a pair its rows are
+/// halved, so pairs without flow, which most are, are passed over.
 fn add_flow(mine: &Instance, flow: &[i128], excesses: &mut [i128])
     requires counted { length flow.now ≡ arcs mine.now }
     requires amounts { AreAmounts flow.now }
@@ -42,9 +51,11 @@ fn add_flow(mine: &Instance, flow: &[i128], excesses: &mut [i128])
     mine.law();
     let graph: &Graph = mine.graph();
     for k in 0..graph.arcs() {
-        let (from, to) = graph.arc(k);
-        take_off(flow, k as usize, excesses, from as usize);
-        add_to(flow, k as usize, excesses, to as usize);
+        if has_flow(flow, k) {
+            let (from, to) = graph.arc(k);
+            take_off(flow, k as usize, excesses, from as usize);
+            add_to(flow, k as usize, excesses, to as usize);
+        }
     }
 }
 

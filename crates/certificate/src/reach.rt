@@ -8,6 +8,7 @@ ghost use Rattle.mine_graph.specs.Flood.{IsTrail, TakesIn, is_in};
 ghost use Rattle.certificate.specs.Check.{amount, has, AreExcesses, AreReached};
 ghost use Rattle.certificate.specs.Reaching.{IsVisited, Sends};
 
+use crate::excess::has_flow;
 use mine_graph::{Flood, Graph, Instance};
 use std::alloc::{AllocError, Global};
 use std::ops::Range;
@@ -52,14 +53,6 @@ fn visit_needed(flood: &mut Flood, inside: &[bool], graph: &Graph, row: Range<u3
     for k in row.start..row.end {
         visit(flood, inside, graph.needed(k));
     }
-}
-
-/// Whether an arc has flow.
-fn has_flow(flow: &[i128], arc: u32) -> bool
-    requires { arc < length flow.now }
-    ensures { result ≡ int_lt (pos 0) (amount flow.now arc) }
-{
-    flow[arc as usize] > 0
 }
 
 /// Whether flow comes from a block to another over their pair.

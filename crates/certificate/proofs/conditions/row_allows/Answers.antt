@@ -1,5 +1,5 @@
 -- One pair of the row more; before the row and behind it no pair is of the block.
-use Rattle.std.proofs.Common.{◌≡◌, ℕ, ◌<◌, ◌&&◌, true, length, arith, refl, subst, sym, ◌∙◌, ⊎_elim}
+use Rattle.std.proofs.Common.{◌≡◌, ◌<◌, ◌&&◌, length, arith, refl, subst, sym, ◌∙◌, ⊎_elim}
 use Rattle.std.proofs.lemmas.Bool.{cases_eq, false≢true}
 use Rattle.pit_model.specs.Graph.{second_of}
 use Rattle.certificate.specs.Check.{amount, has, open_in, PairAllows}

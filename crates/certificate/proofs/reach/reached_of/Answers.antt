@@ -1,5 +1,5 @@
 -- One block of the queue more: all that it reaches in one step is in. At the end of the queue no block is left.
-use Rattle.std.proofs.Common.{◌≡◌, ℕ, ◌<◌, ◌≤◌, arith, length, get_or, ap, subst, sym, ◌∙◌, true, List}
+use Rattle.std.proofs.Common.{◌≡◌, ℕ, ◌<◌, ◌≤◌, arith, length, ap, subst, sym, ◌∙◌, true}
 use Rattle.std.specs.Prelude.{◌↔◌}
 use Rattle.std.proofs.lemmas.List.{get_or_default}
 use Rattle.pit_model.specs.Graph.{Graph, first_of, second_of}

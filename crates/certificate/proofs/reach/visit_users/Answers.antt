@@ -1,5 +1,5 @@
 -- One of the users more, from which flow comes or not.
-use Rattle.std.proofs.Common.{◌≡◌, ℕ, length, arith, subst, sym, ◌∙◌}
+use Rattle.std.proofs.Common.{◌≡◌, length, arith, subst, sym, ◌∙◌}
 use Rattle.std.proofs.lemmas.Bool.{false≢true}
 use Rattle.mine_graph.specs.Flood.{TakesIn}
 use Rattle.certificate.proofs.Sending.{SentBefore, sent_none, sent_skip, sent_more, sent_all}

@@ -1,8 +1,5 @@
 -- Of the users so far those are visited from which flow comes.
-use Rattle.std.proofs.Common.{◌≡◌, ℕ, ◌<◌, true, get_or}
 use Rattle.mine_graph.specs.Flood.{TakesIn}
-use Rattle.certificate.specs.Check.{has}
-use Rattle.certificate.specs.Reaching.{Sends}
 use Rattle.certificate.proofs.Sending.{SentBefore}
 use Rattle.certificate.proofs.reach.visit_users.Given as goal
 
