@@ -2,7 +2,7 @@
 ghost use Rattle.std.specs.Prelude.{◌≡◌};
 
 use crate::board_calls::{answer_one, ask_for};
-use crate::failures::first_failure;
+use crate::failures::{Failed, first_failure, pass_or_name};
 use faults::Fault;
 use proposals::{Board, BoardId, HolderSeat, Reply, UnnamedBoard, Verdict, WorkerSeat};
 use std::alloc::Global;
@@ -43,7 +43,7 @@ fn meet<B: BoardId, R: Wait>(
     board: &Board<B>,
     seat: &mut WorkerSeat<B>,
     signs: &Signs,
-) -> Option<&'static str> {
+) -> Failed {
     let asked = ask_for(board, seat, 0);
     let replied = wait_for_reply(rt, board, seat).is_some();
     signs.rest.store(true, Ordering::SeqCst);
@@ -68,7 +68,7 @@ fn ask_for_all<B: BoardId, R: Wait>(
     seat: &mut WorkerSeat<B>,
     arcs: u32,
     signs: &Signs,
-) -> Option<&'static str> {
+) -> Failed {
     let met = meet(rt, board, seat, signs);
     let mut asked = true;
     let mut collected = true;
@@ -114,19 +114,14 @@ fn answer_until<B: BoardId, R: Wait>(
     }
 }
 
-fn two_threads<B: BoardId + Send + Sync, R: Threads + Wait + Sync>(
+/// A worker asks for so many arcs while the holder answers: what fails of that, or of what stands on the board in the end.
+fn at_once<B: BoardId + Send + Sync, R: Threads + Wait + Sync>(
     rt: &R,
-    alloc: Global,
-    unnamed: UnnamedBoard,
+    board: &Board<B>,
+    seat: &mut WorkerSeat<B>,
+    holder: &mut HolderSeat<B>,
     arcs: u32,
-) -> Result<Option<&'static str>, Fault>
-    requires named { unnamed ≡ B.board }
-    requires arcs { B.arcs ≡ 4294967295 }
-{
-    let (board, mut seats, mut holder) = Board::<B>::new(alloc, unnamed, u32::MAX)?;
-    let Some(mut seat) = seats.pop() else {
-        return Ok(Some("there is a seat"));
-    };
+) -> Failed {
     let signs = Signs {
         rest: AtomicBool::new(false),
         rests: AtomicBool::new(false),
@@ -134,26 +129,35 @@ fn two_threads<B: BoardId + Send + Sync, R: Threads + Wait + Sync>(
     };
     let (failed, _) = thread::join(
         rt,
-        || ask_for_all(rt, &board, &mut seat, arcs, &signs),
-        || answer_until(rt, &board, &mut holder, &signs),
+        || ask_for_all(rt, board, seat, arcs, &signs),
+        || answer_until(rt, board, holder, &signs),
     );
-    board.settle(&mut seat, &mut holder);
-    if failed.is_some() {
-        return Ok(failed);
+    board.settle(seat, holder);
+    let stood = first_failure(&[
+        ("no ask stands in the end", !board.withdraw(seat)),
+        ("no reply stands in the end", board.collect(seat).is_none()),
+    ]);
+    failed.or(stood)
+}
+
+fn two_threads<B: BoardId + Send + Sync, R: Threads + Wait + Sync>(
+    rt: &R,
+    alloc: Global,
+    unnamed: UnnamedBoard,
+    arcs: u32,
+) -> Result<Failed, Fault>
+    requires named { unnamed ≡ B.board }
+    requires arcs { B.arcs ≡ 4294967295 }
+{
+    let (board, mut seats, mut holder) = Board::<B>::new(alloc, unnamed, u32::MAX)?;
+    match seats.first_mut() {
+        Some(seat) => Ok(at_once(rt, &board, seat, &mut holder, arcs)),
+        None => Ok(Some("there is a seat")),
     }
-    Ok(first_failure(&[
-        ("no ask stands in the end", !board.withdraw(&mut seat)),
-        (
-            "no reply stands in the end",
-            board.collect(&mut seat).is_none(),
-        ),
-    ]))
 }
 
 #[test]
 fn a_worker_and_the_holder_at_once(rt: HostRuntime) -> Result<(), Fail> {
     let unnamed = UnnamedBoard::new(rt.alloc(), 1)?;
-    let failed = two_threads::<Brand, HostRuntime>(&rt, rt.alloc(), unnamed, 10_000)?;
-    assert_eq!(rt; failed, None);
-    Ok(())
+    pass_or_name(two_threads::<Brand, HostRuntime>(&rt, rt.alloc(), unnamed, 10_000))
 }

@@ -1,10 +1,9 @@
 //! Workers at one tree: that two of them work at once, and that their asks make the mergers and not the driver. Which worker does
 //! what differs from run to run.
 use crate::mines::{ores_below_waste, pairs_of_blocks};
-use crate::outcomes::{mergers_in, of_driver, pit_in};
+use crate::outcomes::{Counts, Crew, counts, mergers_in, pit_in};
 use crew::{Entry, Gate, OpenGate, solve_shared};
 use faults::Fault;
-use mine_graph::Instance;
 use std::alloc::Global;
 use std::sync::Wait;
 use std::sync::atomic::{AtomicBool, Ordering};
@@ -61,47 +60,74 @@ impl Gate for Meeting {
 /// Whether the journal has an entry for each of the two arcs, both mergers, the first under seat 1 and the last under seat 2: the
 /// second worker's pass answered both, in their order.
 fn is_of_both(journal: &[Entry]) -> bool {
-    let each = (0..2).all(|arc| journal.iter().any(|entry| entry.arc == arc));
-    let seats = journal.first().map(|entry| entry.seat) == Some(1)
-        && journal.last().map(|entry| entry.seat) == Some(2);
-    each && seats && journal.len() == 2 && mergers_in(journal) == 2
+    match journal {
+        [first, last] => {
+            let arcs = (first.arc == 0 && last.arc == 1) || (first.arc == 1 && last.arc == 0);
+            arcs && first.seat == 1 && last.seat == 2 && mergers_in(journal) == 2
+        }
+        _ => false,
+    }
+}
+
+/// Whether a solve by two workers at a gate digs all four blocks, and its journal is of both.
+fn is_dug_by_both<R: Threads + Wait + Sync>(
+    rt: &R,
+    alloc: Global,
+    gate: &Meeting,
+) -> Result<bool, Fault> {
+    let mine = pairs_of_blocks(alloc, 2)?;
+    let (outcome, journal) = solve_shared(rt, alloc, &mine, 2, None, 1, gate)?;
+    Ok(pit_in(&outcome) == Some([0, 1, 2, 3].as_slice()) && is_of_both(&journal))
 }
 
 #[test]
 fn two_workers_work_at_once(rt: HostRuntime) -> Result<(), Fail> {
-    let mine = pairs_of_blocks(rt.alloc(), 2)?;
     let gate = Meeting::new();
-    let (outcome, journal) = solve_shared(&rt, rt.alloc(), &mine, 2, None, 1, &gate)?;
+    let dug = is_dug_by_both(&rt, rt.alloc(), &gate)?;
     assert!(rt;
         !gate.is_over.load(Ordering::SeqCst),
         "both asked before either was served"
     );
-    assert_eq!(rt; pit_in(&outcome), Some([0, 1, 2, 3].as_slice()));
-    assert!(rt; is_of_both(&journal));
+    assert!(rt; dug);
     Ok(())
 }
 
-/// How many entries the journal of a solve by workers has, how many of them are mergers, and how many the driver's.
-fn counts<R: Threads + Wait + Sync>(
+/// What the journal counts of a solve of so many pairs of blocks.
+fn counts_of_pairs<R: Threads + Wait + Sync>(
     rt: &R,
     alloc: Global,
-    mine: &Instance,
-    workers: u32,
-    chunk: u32,
-) -> Result<(usize, usize, usize), Fault> {
-    if workers == 0 || workers > 64 || chunk == 0 || chunk > 10_000 {
-        return Ok((0, 0, 0));
+    copies: u32,
+    crew: Crew,
+) -> Result<Counts, Fault> {
+    let mine = pairs_of_blocks(alloc, copies)?;
+    counts(rt, alloc, &mine, crew, &OpenGate)
+}
+
+/// What the journal counts of a solve of so many ores below waste.
+fn counts_of_ores<R: Threads + Wait + Sync>(
+    rt: &R,
+    alloc: Global,
+    copies: u32,
+    crew: Crew,
+) -> Result<Counts, Fault> {
+    let mine = ores_below_waste(alloc, copies)?;
+    counts(rt, alloc, &mine, crew, &OpenGate)
+}
+
+/// A crew without a budget.
+fn crew_of(workers: u32, chunk: u32) -> Crew {
+    Crew {
+        workers,
+        chunk,
+        budget: None,
     }
-    let (_, journal) = solve_shared(rt, alloc, mine, workers, None, chunk, &OpenGate)?;
-    Ok((journal.len(), mergers_in(&journal), of_driver(&journal)))
 }
 
 /// A thousand copies are a merger each: the asks of workers make all of them, at any chunk, and the driver none.
 #[test]
 fn asks_of_workers_make_the_mergers(rt: HostRuntime) -> Result<(), Fail> {
-    let mine = pairs_of_blocks(rt.alloc(), 1000)?;
     for (workers, chunk) in [(2, 1), (3, 7), (3, 600), (3, 5000)] {
-        let counted = counts(&rt, rt.alloc(), &mine, workers, chunk)?;
+        let counted = counts_of_pairs(&rt, rt.alloc(), 1000, crew_of(workers, chunk))?;
         assert_eq!(rt; counted, (1000, 1000, 0), "chunks of {chunk}");
     }
     Ok(())
@@ -112,11 +138,9 @@ fn asks_of_workers_make_the_mergers(rt: HostRuntime) -> Result<(), Fail> {
 /// in one sweep, and ask for nothing else.
 #[test]
 fn a_plan_leads_the_workers(rt: HostRuntime) -> Result<(), Fail> {
-    let few = ores_below_waste(rt.alloc(), 3)?;
-    let many = ores_below_waste(rt.alloc(), 100)?;
     for chunk in 1..4 {
-        let by_two = counts(&rt, rt.alloc(), &few, 2, chunk)?;
-        let planned = counts(&rt, rt.alloc(), &many, chunk, 7)?;
+        let by_two = counts_of_ores(&rt, rt.alloc(), 3, crew_of(2, chunk))?;
+        let planned = counts_of_ores(&rt, rt.alloc(), 100, crew_of(chunk, 7))?;
         assert_eq!(rt; (by_two, planned), ((6, 6, 1), (200, 200, 0)));
     }
     Ok(())

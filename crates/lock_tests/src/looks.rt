@@ -1,4 +1,4 @@
-//! What looks at the versions of `cut_once` show, worked out by hand.
+//! What looks at the versions of `FOUR_BLOCKS` show, worked out by hand.
 use versions::{ListId, LookSeat, Version};
 
 /// Which of the four blocks are strong, and which of the three arcs are merger arcs.
@@ -25,14 +25,32 @@ pub const LAST: Shown = Shown {
     mergers: [false, false, false],
 };
 
-/// Whether the version shows this, and no merger arc where there is no arc.
-fn is_shown<V: ListId>(version: &Version<V>, expected: &Shown) -> bool {
+/// Whether the version has these labels of four blocks.
+fn has_labels<V: ListId>(version: &Version<V>, strong: &[bool; 4]) -> bool {
     if version.instance().graph().n() != 4 {
         return false;
     }
-    let strong = (0..4).all(|block| version.is_strong(block) == expected.strong[block as usize]);
-    let mergers = (0..3).all(|arc| version.is_merger(arc) == expected.mergers[arc as usize]);
-    strong && mergers && !version.is_merger(3)
+    for block in 0..4 {
+        if version.is_strong(block) != strong[block as usize] {
+            return false;
+        }
+    }
+    true
+}
+
+/// Whether the version has these merger arcs of three, and none where there is no arc.
+fn has_mergers<V: ListId>(version: &Version<V>, mergers: &[bool; 3]) -> bool {
+    for arc in 0..3 {
+        if version.is_merger(arc) != mergers[arc as usize] {
+            return false;
+        }
+    }
+    !version.is_merger(3)
+}
+
+/// Whether the version shows this.
+fn is_shown<V: ListId>(version: &Version<V>, expected: &Shown) -> bool {
+    has_labels(version, &expected.strong) && has_mergers(version, &expected.mergers)
 }
 
 /// Looks: whether there was a version, which showed this. The seat comes back.

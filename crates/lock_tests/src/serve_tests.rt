@@ -1,14 +1,14 @@
 //! Workers at a board ask for the arcs of four blocks. What is answered and what stands in the journal was worked out by hand.
 use crate::board_calls::ask_for;
-use crate::failures::first_failure;
-use crate::mines::dug_whole;
-use crate::trial::{Trial, try_with};
+use crate::failures::{Failed, first_failure, pass_or_name};
+use crate::trial::{Setting, Trial, failure_of};
 use faults::Fault;
 use proposals::{Board, WorkerSeat};
+use small_mines::FOUR_BLOCKS_THAT_PAY;
 use std::alloc::Global;
 use std::sync::Wait;
 use std::test::Fail;
-use tree_lock::{Entry, Holder, LockId, SharedTree, Verdict};
+use tree_lock::{Holder, LockId, SharedTree, Verdict};
 
 /// What three workers ask for at once, and what each is answered.
 #[derive(Clone, Copy)]
@@ -17,58 +17,77 @@ struct Round {
     verdicts: [Verdict; 3],
 }
 
+/// Each worker asks for its arc: whether each could.
+fn all_ask<S: LockId>(board: &Board<S>, seats: &mut [WorkerSeat<S>], round: &Round) -> bool {
+    if seats.len() != 3 {
+        return false;
+    }
+    let mut asked = true;
+    for i in 0..3 {
+        asked = ask_for(board, &mut seats[i], round.arcs[i]) && asked;
+    }
+    asked
+}
+
+/// Each worker collects: whether each was answered so.
+fn all_collect<S: LockId>(
+    holder: &mut Holder<S>,
+    board: &Board<S>,
+    seats: &mut [WorkerSeat<S>],
+    round: &Round,
+) -> bool {
+    if seats.len() != 3 {
+        return false;
+    }
+    let mut answered = true;
+    for i in 0..3 {
+        let reply = board.collect(&mut seats[i]);
+        holder.settle(board, &mut seats[i]);
+        answered = match reply {
+            Some(reply) => {
+                reply.arc == round.arcs[i] && reply.verdict == round.verdicts[i] && answered
+            }
+            None => false,
+        };
+    }
+    answered
+}
+
 /// Each worker asks for its arc, the holder serves all of them in one pass, and each collects: what fails of that.
 fn failure_in_round<S: LockId, R: Wait>(
     rt: &R,
     holder: &mut Holder<S>,
     board: &Board<S>,
     seats: &mut [WorkerSeat<S>],
-    expected: &Round,
-) -> Result<Option<&'static str>, Fault> {
-    if seats.len() != 3 {
-        return Ok(Some("there are three workers"));
-    }
-    let mut asked = true;
-    for i in 0..3 {
-        asked = ask_for(board, &mut seats[i], expected.arcs[i]) && asked;
-    }
+    round: &Round,
+) -> Result<Failed, Fault> {
+    let asked = all_ask(board, seats, round);
     let served = holder.serve(rt, board)?;
-    let mut answered = true;
-    for i in 0..3 {
-        answered = match board.collect(&mut seats[i]) {
-            Some(reply) => {
-                reply.arc == expected.arcs[i] && reply.verdict == expected.verdicts[i] && answered
-            }
-            None => false,
-        };
-        holder.settle(board, &mut seats[i]);
-    }
+    let answered = all_collect(holder, board, seats, round);
     Ok(first_failure(&[
-        ("each worker asks", asked),
+        ("each of three workers asks", asked),
         ("one pass serves all three", served == 3),
         ("each collects its own reply", answered),
     ]))
 }
 
-/// The rounds one after the other, and a pass that finds nothing: what fails first.
+/// The rounds one after the other, and a pass that finds nothing.
 #[derive(Clone, Copy)]
 struct Rounds {
     rounds: [Round; 2],
 }
 
 impl Trial for Rounds {
-    type Seen = Option<&'static str>;
-
     fn at<S: LockId, R: Wait>(
         &self,
         rt: &R,
         board: &Board<S>,
         workers: &mut [WorkerSeat<S>],
         shared: &mut SharedTree<S>,
-    ) -> Result<Option<&'static str>, Fault> {
+    ) -> Result<Failed, Fault> {
         let holder = shared.holder();
-        for expected in &self.rounds {
-            let failed = failure_in_round(rt, holder, board, workers, expected)?;
+        for round in &self.rounds {
+            let failed = failure_in_round(rt, holder, board, workers, round)?;
             if failed.is_some() {
                 return Ok(failed);
             }
@@ -84,79 +103,67 @@ const FIRST: Round = Round {
     verdicts: [Verdict::Applied, Verdict::Stale, Verdict::Stale],
 };
 
-/// An entry by its seat, its arc and its verdict.
-type Line = (u32, u32, Verdict);
+/// The round behind it, without a budget.
+const SECOND: Round = Round {
+    arcs: [1, 2, 2],
+    verdicts: [Verdict::Applied, Verdict::Applied, Verdict::Stale],
+};
 
-const WITHOUT_A_BUDGET: [Line; 6] = [
-    (1, 0, Verdict::Applied),
-    (2, 0, Verdict::Stale),
-    (3, 2, Verdict::Stale),
-    (1, 1, Verdict::Applied),
-    (2, 2, Verdict::Applied),
-    (3, 2, Verdict::Stale),
-];
+/// The round behind it, under a budget of one merger.
+const SPENT: Round = Round {
+    arcs: [1, 2, 2],
+    verdicts: [Verdict::Spent, Verdict::Stale, Verdict::Stale],
+};
 
-const UNDER_A_BUDGET_OF_ONE: [Line; 6] = [
-    (1, 0, Verdict::Applied),
-    (2, 0, Verdict::Stale),
-    (3, 2, Verdict::Stale),
-    (1, 1, Verdict::Spent),
-    (2, 2, Verdict::Stale),
-    (3, 2, Verdict::Stale),
-];
+const WITHOUT_A_BUDGET: Setting = Setting {
+    mine: FOUR_BLOCKS_THAT_PAY,
+    workers: 3,
+    budget: None,
+    journal: &[
+        (1, 0, Verdict::Applied),
+        (2, 0, Verdict::Stale),
+        (3, 2, Verdict::Stale),
+        (1, 1, Verdict::Applied),
+        (2, 2, Verdict::Applied),
+        (3, 2, Verdict::Stale),
+    ],
+    merger: None,
+};
 
-/// Whether the journal has these entries.
-fn has_entries(journal: &[Entry], lines: &[Line]) -> bool {
-    for (entry, (seat, arc, verdict)) in journal.iter().zip(lines) {
-        if entry.seat != *seat || entry.arc != *arc || entry.verdict != *verdict {
-            return false;
-        }
-    }
-    journal.len() == lines.len()
-}
+const UNDER_A_BUDGET_OF_ONE: Setting = Setting {
+    mine: FOUR_BLOCKS_THAT_PAY,
+    workers: 3,
+    budget: Some(1),
+    journal: &[
+        (1, 0, Verdict::Applied),
+        (2, 0, Verdict::Stale),
+        (3, 2, Verdict::Stale),
+        (1, 1, Verdict::Spent),
+        (2, 2, Verdict::Stale),
+        (3, 2, Verdict::Stale),
+    ],
+    merger: Some(1),
+};
 
-/// The round that comes behind it.
-fn second(verdicts: [Verdict; 3]) -> Round {
-    Round {
-        arcs: [1, 2, 2],
-        verdicts,
-    }
-}
-
-/// What fails of two rounds of which the second has these verdicts, and of their journal.
+/// What fails of the first round and this one behind it.
 fn failure_in_two<R: Wait>(
     rt: &R,
     alloc: Global,
-    budget: Option<u64>,
-    verdicts: [Verdict; 3],
-    lines: &[Line],
-) -> Result<Option<&'static str>, Fault> {
-    let mine = dug_whole(alloc)?;
+    setting: &Setting,
+    second: Round,
+) -> Result<Failed, Fault> {
     let rounds = Rounds {
-        rounds: [FIRST, second(verdicts)],
+        rounds: [FIRST, second],
     };
-    let ended = try_with(rt, alloc, &mine, 3, budget, &rounds)?;
-    if ended.seen.is_some() {
-        return Ok(ended.seen);
-    }
-    Ok(first_failure(&[(
-        "the journal has each entry",
-        has_entries(&ended.journal, lines),
-    )]))
+    failure_of(rt, alloc, setting, &rounds)
 }
 
 #[test]
 fn asks_are_served_in_the_order_of_workers(rt: HostRuntime) -> Result<(), Fail> {
-    let verdicts = [Verdict::Applied, Verdict::Applied, Verdict::Stale];
-    let failed = failure_in_two(&rt, rt.alloc(), None, verdicts, &WITHOUT_A_BUDGET)?;
-    assert_eq!(rt; failed, None);
-    Ok(())
+    pass_or_name(failure_in_two(&rt, rt.alloc(), &WITHOUT_A_BUDGET, SECOND))
 }
 
 #[test]
 fn asks_past_the_budget_are_spent(rt: HostRuntime) -> Result<(), Fail> {
-    let verdicts = [Verdict::Spent, Verdict::Stale, Verdict::Stale];
-    let failed = failure_in_two(&rt, rt.alloc(), Some(1), verdicts, &UNDER_A_BUDGET_OF_ONE)?;
-    assert_eq!(rt; failed, None);
-    Ok(())
+    pass_or_name(failure_in_two(&rt, rt.alloc(), &UNDER_A_BUDGET_OF_ONE, SPENT))
 }

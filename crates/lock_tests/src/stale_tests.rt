@@ -1,10 +1,15 @@
 //! Asks that another merger made stale, or for which no budget is left: what is answered, and whether the worker goes on.
-use crate::mines::{eight_over_one, one_waste_for_two, pairs_of_blocks};
-use crate::outcomes::{mergers_in, of_driver};
-use crew::{Gate, solve_shared};
+use crate::mines::{EIGHT_OVER_ONE, FOUR_PAIRS, ONE_WASTE_FOR_TWO, spelled};
+use crate::outcomes::{Counts, Crew, counts};
+use crew::Gate;
+use faults::Fault;
+use small_mines::SmallMine;
+use std::alloc::Global;
+use std::sync::Wait;
 use std::sync::atomic::{AtomicBool, AtomicU32, Ordering};
 use std::test::*;
 use std::thread;
+use std::thread::Threads;
 
 /// Holds so many workers back, each at its ask, until all have asked.
 #[derive(Drop)]
@@ -39,30 +44,45 @@ impl Gate for AllAsked {
     fn served(&self, _worker: u32) {}
 }
 
+/// What the journal of a solve counts in which all workers ask before any is served; None where they did not in time.
+fn counts_of_all_at_once<R: Threads + Wait + Sync>(
+    rt: &R,
+    alloc: Global,
+    mine: SmallMine,
+    crew: Crew,
+) -> Result<Option<Counts>, Fault> {
+    let gate = AllAsked::of(crew.workers);
+    let mine = spelled(alloc, mine)?;
+    let counted = counts(rt, alloc, &mine, crew, &gate)?;
+    if gate.is_over.load(Ordering::SeqCst) {
+        return Ok(None);
+    }
+    Ok(Some(counted))
+}
+
 /// The journal has an entry for each worker, of which one is a merger and the driver's is none: so seven are stale.
 #[test]
 fn one_of_eight_asks_at_once_is_applied(rt: HostRuntime) -> Result<(), Fail> {
-    let mine = eight_over_one(rt.alloc())?;
-    let gate = AllAsked::of(8);
-    let (_, journal) = solve_shared(&rt, rt.alloc(), &mine, 8, None, 1, &gate)?;
-    let counted = (journal.len(), mergers_in(&journal), of_driver(&journal));
-    assert!(rt;
-        !gate.is_over.load(Ordering::SeqCst),
-        "all asked before any was served"
-    );
-    assert_eq!(rt; counted, (8, 1, 0));
+    let crew = Crew {
+        workers: 8,
+        chunk: 1,
+        budget: None,
+    };
+    let counted = counts_of_all_at_once(&rt, rt.alloc(), EIGHT_OVER_ONE, crew)?;
+    assert_eq!(rt; counted, Some((8, 1, 0)));
     Ok(())
 }
 
 /// Both workers ask at once, one ask is stale, and each worker goes on to the second arc of its chunk: the driver has none left.
 #[test]
 fn a_stale_ask_does_not_end_a_chunk(rt: HostRuntime) -> Result<(), Fail> {
-    let mine = one_waste_for_two(rt.alloc())?;
-    let gate = AllAsked::of(2);
-    let (_, journal) = solve_shared(&rt, rt.alloc(), &mine, 2, None, 2, &gate)?;
-    let counted = (journal.len(), mergers_in(&journal), of_driver(&journal));
-    assert!(rt; !gate.is_over.load(Ordering::SeqCst), "both asked at once");
-    assert_eq!(rt; counted, (4, 3, 0));
+    let crew = Crew {
+        workers: 2,
+        chunk: 2,
+        budget: None,
+    };
+    let counted = counts_of_all_at_once(&rt, rt.alloc(), ONE_WASTE_FOR_TWO, crew)?;
+    assert_eq!(rt; counted, Some((4, 3, 0)));
     Ok(())
 }
 
@@ -70,11 +90,12 @@ fn a_stale_ask_does_not_end_a_chunk(rt: HostRuntime) -> Result<(), Fail> {
 /// merger goes on, to one spent ask; and the driver's is spent.
 #[test]
 fn a_spent_ask_ends_a_chunk(rt: HostRuntime) -> Result<(), Fail> {
-    let mine = pairs_of_blocks(rt.alloc(), 4)?;
-    let gate = AllAsked::of(2);
-    let (_, journal) = solve_shared(&rt, rt.alloc(), &mine, 2, Some(1), 2, &gate)?;
-    let counted = (journal.len(), mergers_in(&journal), of_driver(&journal));
-    assert!(rt; !gate.is_over.load(Ordering::SeqCst), "both asked at once");
-    assert_eq!(rt; counted, (4, 1, 1));
+    let crew = Crew {
+        workers: 2,
+        chunk: 2,
+        budget: Some(1),
+    };
+    let counted = counts_of_all_at_once(&rt, rt.alloc(), FOUR_PAIRS, crew)?;
+    assert_eq!(rt; counted, Some((4, 1, 1)));
     Ok(())
 }

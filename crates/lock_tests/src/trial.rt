@@ -1,91 +1,130 @@
 //! A tree under a lock with a board of workers, on which a test tries what it is about. Which type names the board, the list
 //! of mergers and the budget is settled here, once for all tests.
 ghost use Rattle.std.specs.Prelude.{◌≡◌};
-ghost use Rattle.pit_model.specs.Tree.{opening};
 
+use crate::failures::{Failed, first_failure};
+use crate::mines::spelled;
 use faults::Fault;
 use mine_graph::Instance;
 use norm_tree::NormTree;
 use proposals::{Board, UnnamedBoard, WorkerSeat};
+use small_mines::SmallMine;
 use std::alloc::Global;
 use std::marker::Brand;
 use std::sync::Wait;
-use tree_lock::{Entry, LockId, SharedTree, UnnamedList};
+use tree_lock::{Entry, LockId, SharedTree, UnnamedList, Verdict};
 
-/// What is tried at a tree, and what it tells of that.
+/// What is tried at a tree.
 pub trait Trial {
-    type Seen: Drop;
-
     fn at<S: LockId, R: Wait>(
         &self,
         rt: &R,
         board: &Board<S>,
         workers: &mut [WorkerSeat<S>],
         shared: &mut SharedTree<S>,
-    ) -> Result<Self::Seen, Fault>;
+    ) -> Result<Failed, Fault>;
 }
 
-/// How a trial ended: what it saw, and the tree and the journal that it left.
-#[derive(Drop)]
-pub struct Ended<T: Drop> {
-    pub seen: T,
-    pub tree: NormTree,
-    pub journal: Vec<Entry>,
+/// An entry by its seat, its arc and its verdict.
+pub type Line = (u32, u32, Verdict);
+
+/// What a trial begins with, and what it must leave: the journal, and the least merger arc.
+#[derive(Clone, Copy)]
+pub struct Setting {
+    pub mine: SmallMine,
+    pub workers: u32,
+    pub budget: Option<u64>,
+    pub journal: &'static [Line],
+    pub merger: Option<u32>,
 }
 
 /// What a lock begins with, of which no type has the name yet.
-struct Beginning {
-    tree: NormTree,
+struct Beginning<'a> {
     list: UnnamedList,
     unnamed: UnnamedBoard,
-    budget: Option<u64>,
+    mine: &'a Instance,
+}
+
+/// Whether the journal has these entries.
+fn has_entries(journal: &[Entry], lines: &[Line]) -> bool {
+    for (entry, (seat, arc, verdict)) in journal.iter().zip(lines) {
+        if entry.seat != *seat || entry.arc != *arc || entry.verdict != *verdict {
+            return false;
+        }
+    }
+    journal.len() == lines.len()
+}
+
+/// What fails of the tree and the journal that were left.
+fn failure_left(tree: &NormTree, journal: &[Entry], setting: &Setting) -> Failed {
+    first_failure(&[
+        (
+            "the journal has each entry",
+            has_entries(journal, setting.journal),
+        ),
+        (
+            "the least merger arc is left",
+            tree.find_merger() == setting.merger,
+        ),
+    ])
+}
+
+/// What was seen to fail, or else what fails of what was left.
+fn first_of(seen: Result<Failed, Fault>, left: Failed) -> Result<Failed, Fault> {
+    Ok(seen?.or(left))
+}
+
+/// Ends the lock: what was seen to fail, or else what fails of what it leaves.
+fn end<S: LockId, R: Wait>(
+    rt: &R,
+    shared: SharedTree<S>,
+    seen: Result<Failed, Fault>,
+    setting: &Setting,
+) -> Result<Failed, Fault> {
+    let (tree, journal) = shared.into_holder().into_parts(rt);
+    first_of(seen, failure_left(&tree, &journal, setting))
 }
 
 fn try_at<S: LockId, T: Trial, R: Wait>(
     rt: &R,
     alloc: Global,
     begun: Beginning,
+    setting: &Setting,
     trial: &T,
-) -> Result<Ended<T::Seen>, Fault>
-    requires opening { begun.tree.tree ≡ opening begun.tree.mine }
-    requires mine { begun.tree.mine ≡ S.mine }
+) -> Result<Failed, Fault>
+    requires mine { begun.mine.now ≡ S.mine }
     requires book { begun.list ≡ S.book }
-    requires budget { begun.budget ≡ S.budget }
+    requires budget { setting.now.budget ≡ S.budget }
     requires board { begun.unnamed ≡ S.board }
     requires arcs { S.arcs ≡ 4294967295 }
     requires workers { begun.unnamed.words ≡ S.workers }
 {
     let Beginning {
-        tree,
         list,
         unnamed,
-        budget,
+        mine,
     } = begun;
     let (board, mut workers, seat) = Board::<S>::new(alloc, unnamed, u32::MAX)?;
-    let mut shared = SharedTree::<S>::new(alloc, list, tree, budget, &board, seat)?;
+    let tree = NormTree::start(alloc, mine)?;
+    let mut shared = SharedTree::<S>::new(alloc, list, tree, setting.budget, &board, seat)?;
     let seen = trial.at(rt, &board, &mut workers, &mut shared);
-    let (tree, journal) = shared.into_holder().into_parts(rt);
-    Ok(Ended {
-        seen: seen?,
-        tree,
-        journal,
-    })
+    end(rt, shared, seen, setting)
 }
 
-/// The trial at the opening tree of a mine, with so many workers and this budget.
-pub fn try_with<T: Trial, R: Wait>(
+/// What fails of a trial at the opening tree of a mine, or of what it leaves.
+pub fn failure_of<T: Trial, R: Wait>(
     rt: &R,
     alloc: Global,
-    mine: &Instance,
-    workers: u32,
-    budget: Option<u64>,
+    setting: &Setting,
     trial: &T,
-) -> Result<Ended<T::Seen>, Fault> {
+) -> Result<Failed, Fault> {
+    let list = UnnamedList::new()?;
+    let unnamed = UnnamedBoard::new(alloc, setting.workers)?;
+    let mine = spelled(alloc, setting.mine)?;
     let begun = Beginning {
-        tree: NormTree::start(alloc, mine)?,
-        list: UnnamedList::new()?,
-        unnamed: UnnamedBoard::new(alloc, workers)?,
-        budget,
+        list,
+        unnamed,
+        mine: &mine,
     };
-    try_at::<Brand, T, R>(rt, alloc, begun, trial)
+    try_at::<Brand, T, R>(rt, alloc, begun, setting, trial)
 }

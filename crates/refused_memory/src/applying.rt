@@ -1,9 +1,8 @@
 //! The driver decides the arcs in turn.
 use crate::mine::ARCS;
-use crate::trial::Trial;
+use crate::trial::{WitnessedTrial, Workplace};
 use crate::witness::Witness;
 use faults::Fault;
-use proposals::{Board, WorkerSeat};
 use std::sync::Wait;
 use tree_lock::{Holder, LockId, Verdict};
 
@@ -40,12 +39,11 @@ fn apply_next<S: LockId, R: Wait>(
     witness.compare(holder, count.saturating_add(1))
 }
 
-impl Trial for Applying {
+impl WitnessedTrial for Applying {
     fn at<S: LockId, R: Wait>(
         &self,
         rt: &R,
-        _board: &Board<S>,
-        _workers: &mut [WorkerSeat<S>],
+        _place: &mut Workplace<S>,
         holder: &mut Holder<S>,
         witness: &mut Witness<'_, S>,
     ) -> Result<(), Fault> {

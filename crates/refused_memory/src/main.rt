@@ -22,11 +22,11 @@ use std::alloc::AllocGlobal;
 use std::process::ExitCode;
 use std::sync::Wait;
 use tree_lock::Entry;
-use trial::{Trial, try_with};
+use trial::{WitnessedTrial, try_with};
 use witness::Seen;
 
 /// What was seen in a trial.
-fn tried<T: Trial, R: AllocGlobal + Wait>(rt: &R, trial: &T) -> Result<Seen, Fault> {
+fn tried<T: WitnessedTrial, R: AllocGlobal + Wait>(rt: &R, trial: &T) -> Result<Seen, Fault> {
     let mine = mine(rt.alloc())?;
     try_with(rt, rt.alloc(), &mine, trial)
 }

@@ -1,6 +1,6 @@
 //! Six workers ask for an arc each, and the holder serves the board.
 use crate::mine::ARCS;
-use crate::trial::Trial;
+use crate::trial::{WitnessedTrial, Workplace};
 use crate::witness::Witness;
 use faults::Fault;
 use proposals::{Board, WorkerSeat};
@@ -32,30 +32,32 @@ fn all_applied<S: LockId>(board: &Board<S>, workers: &mut [WorkerSeat<S>]) -> bo
     applied
 }
 
-impl Trial for Serving {
+impl WitnessedTrial for Serving {
     fn at<S: LockId, R: Wait>(
         &self,
         rt: &R,
-        board: &Board<S>,
-        workers: &mut [WorkerSeat<S>],
+        place: &mut Workplace<S>,
         holder: &mut Holder<S>,
         witness: &mut Witness<'_, S>,
     ) -> Result<(), Fault> {
-        witness.expect("there are six workers", workers.len() == ARCS.len());
-        witness.expect("each worker asks", all_ask(board, workers));
+        witness.expect("there are six workers", place.workers.len() == ARCS.len());
+        witness.expect(
+            "each worker asks",
+            all_ask(&place.board, &mut place.workers),
+        );
         let mut answered = 0;
-        let mut served = holder.serve(rt, board);
+        let mut served = holder.serve(rt, &place.board);
         if served.is_err() {
             witness.seen.refused = witness.seen.refused.saturating_add(1);
             answered = holder.journal().len();
             witness.compare(holder, answered)?;
-            served = holder.serve(rt, board);
+            served = holder.serve(rt, &place.board);
         }
         let all = answered + served? as usize == ARCS.len();
         witness.expect("the passes answer each ask once", all);
         witness.expect(
             "each worker collects its reply",
-            all_applied(board, workers),
+            all_applied(&place.board, &mut place.workers),
         );
         witness.compare(holder, ARCS.len())
     }

@@ -14,14 +14,20 @@ use tree_lock::{Holder, LockId, SharedTree, UnnamedList};
 
 const WORKERS: u32 = 6;
 
-/// What is tried at a tree.
-pub trait Trial {
+/// A board, and the seats of its workers at it.
+#[derive(Drop)]
+pub struct Workplace<S: LockId> {
+    pub board: Board<S>,
+    pub workers: Vec<WorkerSeat<S>>,
+}
+
+/// What is tried at a tree, before a witness.
+pub trait WitnessedTrial {
     /// Refused for want of memory, where that is refused to the witness, or again to the call that the trial is of.
     fn at<S: LockId, R: Wait>(
         &self,
         rt: &R,
-        board: &Board<S>,
-        workers: &mut [WorkerSeat<S>],
+        place: &mut Workplace<S>,
         holder: &mut Holder<S>,
         witness: &mut Witness<'_, S>,
     ) -> Result<(), Fault>;
@@ -34,7 +40,7 @@ struct Beginning {
     unnamed: UnnamedBoard,
 }
 
-fn try_at<S: LockId, T: Trial, R: Wait>(
+fn try_at<S: LockId, T: WitnessedTrial, R: Wait>(
     rt: &R,
     alloc: Global,
     mine: &Instance,
@@ -54,13 +60,14 @@ fn try_at<S: LockId, T: Trial, R: Wait>(
         list,
         unnamed,
     } = begun;
-    let (board, mut workers, seat) = Board::<S>::new(alloc, unnamed, u32::MAX)?;
+    let (board, workers, seat) = Board::<S>::new(alloc, unnamed, u32::MAX)?;
     let mut shared = SharedTree::<S>::new(alloc, list, tree, None, &board, seat)?;
+    let mut place = Workplace { board, workers };
     let tried = match shared.look_seat() {
         Ok(seat) => {
             let mut witness = Witness::new(alloc, mine, seat);
             trial
-                .at(rt, &board, &mut workers, shared.holder(), &mut witness)
+                .at(rt, &mut place, shared.holder(), &mut witness)
                 .map(|_| witness.seen)
         }
         Err(fault) => Err(fault),
@@ -70,7 +77,7 @@ fn try_at<S: LockId, T: Trial, R: Wait>(
 }
 
 /// The trial at the opening tree of a mine. Refused for want of memory, and where a seat was.
-pub fn try_with<T: Trial, R: Wait>(
+pub fn try_with<T: WitnessedTrial, R: Wait>(
     rt: &R,
     alloc: Global,
     mine: &Instance,

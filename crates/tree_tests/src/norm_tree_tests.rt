@@ -20,14 +20,14 @@ struct State {
 
 /// A merger over an arc, how the tree stands after it, and an arc that is no merger arc then.
 #[derive(Clone, Copy)]
-struct Merger {
+struct CheckedMerger {
     arc: u32,
     after: State,
     stale: u32,
 }
 
-const WITHIN_A_BRANCH: [Merger; 3] = [
-    Merger {
+const WITHIN_A_BRANCH: [CheckedMerger; 3] = [
+    CheckedMerger {
         arc: 0,
         after: State {
             parents: [Some(1), None, None, None],
@@ -37,7 +37,7 @@ const WITHIN_A_BRANCH: [Merger; 3] = [
         },
         stale: 1,
     },
-    Merger {
+    CheckedMerger {
         arc: 2,
         after: State {
             parents: [Some(1), None, Some(1), None],
@@ -48,7 +48,7 @@ const WITHIN_A_BRANCH: [Merger; 3] = [
         },
         stale: 0,
     },
-    Merger {
+    CheckedMerger {
         arc: 1,
         after: State {
             parents: [Some(3), None, Some(1), None],
@@ -61,7 +61,7 @@ const WITHIN_A_BRANCH: [Merger; 3] = [
     },
 ];
 
-const FIRST_OF_FOUR: Merger = Merger {
+const FIRST_OF_FOUR: CheckedMerger = CheckedMerger {
     arc: 0,
     after: State {
         parents: [Some(1), None, None, None],
@@ -72,7 +72,7 @@ const FIRST_OF_FOUR: Merger = Merger {
     stale: 2,
 };
 
-const SECOND_OF_FOUR: Merger = Merger {
+const SECOND_OF_FOUR: CheckedMerger = CheckedMerger {
     arc: 1,
     after: State {
         parents: [Some(3), Some(0), None, None],
@@ -83,10 +83,10 @@ const SECOND_OF_FOUR: Merger = Merger {
     stale: 0,
 };
 
-const BETWEEN_STRONG_BRANCHES: [Merger; 3] = [
+const BETWEEN_STRONG_BRANCHES: [CheckedMerger; 3] = [
     FIRST_OF_FOUR,
     SECOND_OF_FOUR,
-    Merger {
+    CheckedMerger {
         arc: 2,
         after: State {
             parents: [Some(3), None, Some(1), None],
@@ -98,10 +98,10 @@ const BETWEEN_STRONG_BRANCHES: [Merger; 3] = [
     },
 ];
 
-const AN_EQUAL_RESIDUAL: [Merger; 3] = [
+const AN_EQUAL_RESIDUAL: [CheckedMerger; 3] = [
     FIRST_OF_FOUR,
     SECOND_OF_FOUR,
-    Merger {
+    CheckedMerger {
         arc: 2,
         after: State {
             parents: [Some(3), Some(0), Some(1), None],
@@ -115,10 +115,16 @@ const AN_EQUAL_RESIDUAL: [Merger; 3] = [
 
 /// Whether the parents and the roots are these.
 fn has_links(tree: &NormTree, state: &State) -> bool {
-    tree.instance().graph().n() == 4
-        && (0..4).all(|u| {
-            tree.parent(u) == state.parents[u as usize] && tree.root(u) == state.roots[u as usize]
-        })
+    if tree.instance().graph().n() != 4 {
+        return false;
+    }
+    for u in 0..4 {
+        let at = u as usize;
+        if tree.parent(u) != state.parents[at] || tree.root(u) != state.roots[at] {
+            return false;
+        }
+    }
+    true
 }
 
 /// Whether a tree stands so.
@@ -131,7 +137,7 @@ fn stands(tree: &NormTree, state: &State) -> Result<bool, Fault> {
 }
 
 /// Makes a merger: whether its arc was a merger arc, and all is as it must be after it.
-fn merges(tree: &mut NormTree, merger: &Merger) -> Result<bool, Fault> {
+fn merges(tree: &mut NormTree, merger: &CheckedMerger) -> Result<bool, Fault> {
     Ok(
         tree.try_merge(merger.arc)
             && !tree.is_merger(merger.stale)
@@ -145,15 +151,31 @@ fn ends(tree: &NormTree, pit: &[u32]) -> Result<bool, Fault> {
     Ok(tree.find_merger() == None && tree.pit()?.as_slice() == pit)
 }
 
-/// Whether the mergers of a mine go so, one by one, to this pit.
-fn go_so(alloc: Global, mine: SmallMine, mergers: &[Merger], pit: &[u32]) -> Result<bool, Fault> {
-    let mut tree = NormTree::start(alloc, &instance_of(alloc, mine)?)?;
+/// Whether the mergers of a tree go so, one by one, to this pit.
+fn are_made(tree: &mut NormTree, mergers: &[CheckedMerger], pit: &[u32]) -> Result<bool, Fault> {
     for merger in mergers {
-        if !merges(&mut tree, merger)? {
+        if !merges(tree, merger)? {
             return Ok(false);
         }
     }
-    ends(&tree, pit)
+    ends(tree, pit)
+}
+
+/// The opening tree of a mine.
+fn opening(alloc: Global, mine: SmallMine) -> Result<NormTree, Fault> {
+    let mine = instance_of(alloc, mine)?;
+    NormTree::start(alloc, &mine)
+}
+
+/// Whether the mergers of a mine go so.
+fn go_so(
+    alloc: Global,
+    mine: SmallMine,
+    mergers: &[CheckedMerger],
+    pit: &[u32],
+) -> Result<bool, Fault> {
+    let mut tree = opening(alloc, mine)?;
+    are_made(&mut tree, mergers, pit)
 }
 
 #[test]
