@@ -1,6 +1,9 @@
 //! The command line of `pitshell`, as `clap` sees it: its subcommands, their options, and the words of its help.
 #![tactic(auto)]
 
+ghost use Rattle.std.specs.Prelude.{◌≡◌, ◌∷◌, [], ◌++◌, codes, IfOk};
+ghost use Rattle.command_line.specs.Options.{asked_options, blocks_options, check_options, column_options, mine_options, needed, offered, output_options, replay_options, shells_options, solve_options, standing, subcommands_in, watch_options, AddsOptions, HasOptions, IsOption};
+
 use clap::{Arg, ArgAction, Command, value_parser};
 use std::alloc::{AllocError, Global};
 
@@ -12,7 +15,9 @@ const STATUSES: &str = "Exit status:\n  \
 4  the answer is no";
 
 /// An option that takes one value, which help calls by this name.
-fn option<'a>(alloc: Global, name: &'a str, value: &'a str, help: &'a str) -> Arg<'a> {
+fn option<'a>(alloc: Global, name: &'a str, value: &'a str, help: &'a str) -> Arg<'a>
+    ensures { IsOption (offered name.now) result }
+{
     Arg::new(alloc, name)
         .long(name)
         .value_name(value)
@@ -21,12 +26,16 @@ fn option<'a>(alloc: Global, name: &'a str, value: &'a str, help: &'a str) -> Ar
 }
 
 /// An option that must be given and takes the name of a file.
-fn file<'a>(alloc: Global, name: &'a str, help: &'a str) -> Arg<'a> {
+fn file<'a>(alloc: Global, name: &'a str, help: &'a str) -> Arg<'a>
+    ensures { IsOption (needed name.now) result }
+{
     option(alloc, name, "FILE", help).required(true)
 }
 
 /// The model of a mine.
-fn model_file<'a>(alloc: Global) -> Arg<'a> {
+fn model_file<'a>(alloc: Global) -> Arg<'a>
+    ensures { IsOption (needed (codes "model")) result }
+{
     file(
         alloc,
         "model",
@@ -35,7 +44,9 @@ fn model_file<'a>(alloc: Global) -> Arg<'a> {
 }
 
 /// The pairs of a mine.
-fn prec_file<'a>(alloc: Global) -> Arg<'a> {
+fn prec_file<'a>(alloc: Global) -> Arg<'a>
+    ensures { IsOption (needed (codes "prec")) result }
+{
     file(
         alloc,
         "prec",
@@ -44,7 +55,9 @@ fn prec_file<'a>(alloc: Global) -> Arg<'a> {
 }
 
 /// The fixed blocks of a mine, where some are.
-fn fixed_file<'a>(alloc: Global) -> Arg<'a> {
+fn fixed_file<'a>(alloc: Global) -> Arg<'a>
+    ensures { IsOption (offered (codes "fixed")) result }
+{
     option(
         alloc,
         "fixed",
@@ -54,7 +67,9 @@ fn fixed_file<'a>(alloc: Global) -> Arg<'a> {
 }
 
 /// The files of a mine, in the order in which they are read. Help shows them first.
-fn with_mine<'a>(alloc: Global, command: Command<'a>) -> Result<Command<'a>, AllocError> {
+fn with_mine<'a>(alloc: Global, command: Command<'a>) -> Result<Command<'a>, AllocError>
+    ensures { IfOk result (AddsOptions mine_options command.entry) }
+{
     command
         .arg(model_file(alloc).display_order(0))?
         .arg(prec_file(alloc).display_order(1))?
@@ -62,7 +77,9 @@ fn with_mine<'a>(alloc: Global, command: Command<'a>) -> Result<Command<'a>, All
 }
 
 /// `check` with its files.
-fn check_command<'a>(alloc: Global) -> Result<Command<'a>, AllocError> {
+fn check_command<'a>(alloc: Global) -> Result<Command<'a>, AllocError>
+    ensures { IfOk result (HasOptions (codes "check") check_options) }
+{
     let check = Command::new(alloc, "check")
         .about("Writes yes where a certificate shows the ultimate pit of the mine, and else no")
         .after_help(STATUSES);
@@ -74,7 +91,9 @@ fn check_command<'a>(alloc: Global) -> Result<Command<'a>, AllocError> {
 }
 
 /// `replay` with its files.
-fn replay_command<'a>(alloc: Global) -> Result<Command<'a>, AllocError> {
+fn replay_command<'a>(alloc: Global) -> Result<Command<'a>, AllocError>
+    ensures { IfOk result (HasOptions (codes "replay") replay_options) }
+{
     let replay = Command::new(alloc, "replay")
         .about("Writes the ultimate pit that a journal of mode shared leads to, by one thread")
         .after_help(STATUSES);
@@ -86,14 +105,18 @@ fn replay_command<'a>(alloc: Global) -> Result<Command<'a>, AllocError> {
 }
 
 /// An option that must be given and takes the number of an attribute column.
-fn attribute<'a>(alloc: Global, name: &'a str, help: &'a str) -> Arg<'a> {
+fn attribute<'a>(alloc: Global, name: &'a str, help: &'a str) -> Arg<'a>
+    ensures { IsOption (needed name.now) result }
+{
     option(alloc, name, "COLUMN", help)
         .value_parser(value_parser!(u64).range(0..=63))
         .required(true)
 }
 
 /// The price factors of a table of shells.
-fn factors_list<'a>(alloc: Global) -> Arg<'a> {
+fn factors_list<'a>(alloc: Global) -> Arg<'a>
+    ensures { IsOption (needed (codes "factors")) result }
+{
     option(
         alloc,
         "factors",
@@ -105,7 +128,9 @@ fn factors_list<'a>(alloc: Global) -> Arg<'a> {
 }
 
 /// The model of a mine at each price, and its pairs.
-fn with_blocks<'a>(alloc: Global, command: Command<'a>) -> Result<Command<'a>, AllocError> {
+fn with_blocks<'a>(alloc: Global, command: Command<'a>) -> Result<Command<'a>, AllocError>
+    ensures { IfOk result (AddsOptions blocks_options command.entry) }
+{
     command
         .arg(file(
             alloc,
@@ -116,7 +141,9 @@ fn with_blocks<'a>(alloc: Global, command: Command<'a>) -> Result<Command<'a>, A
 }
 
 /// The attribute columns of the money.
-fn with_columns<'a>(alloc: Global, command: Command<'a>) -> Result<Command<'a>, AllocError> {
+fn with_columns<'a>(alloc: Global, command: Command<'a>) -> Result<Command<'a>, AllocError>
+    ensures { IfOk result (AddsOptions column_options command.entry) }
+{
     command
         .arg(attribute(
             alloc,
@@ -131,7 +158,9 @@ fn with_columns<'a>(alloc: Global, command: Command<'a>) -> Result<Command<'a>, 
 }
 
 /// `shells` with its files, columns and factors, and how to solve.
-fn shells_command<'a>(alloc: Global) -> Result<Command<'a>, AllocError> {
+fn shells_command<'a>(alloc: Global) -> Result<Command<'a>, AllocError>
+    ensures { IfOk result (HasOptions (codes "shells") shells_options) }
+{
     let shells = Command::new(alloc, "shells")
         .about("Writes the nested pits: the ultimate pit at each price factor")
         .after_help(STATUSES);
@@ -140,7 +169,9 @@ fn shells_command<'a>(alloc: Global) -> Result<Command<'a>, AllocError> {
 }
 
 /// The word of the mode.
-fn mode_word<'a>(alloc: Global) -> Arg<'a> {
+fn mode_word<'a>(alloc: Global) -> Arg<'a>
+    ensures { IsOption (standing (codes "mode") (codes "single")) result }
+{
     option(
         alloc,
         "mode",
@@ -151,7 +182,9 @@ fn mode_word<'a>(alloc: Global) -> Arg<'a> {
 }
 
 /// How many workers there are.
-fn workers_number<'a>(alloc: Global) -> Arg<'a> {
+fn workers_number<'a>(alloc: Global) -> Arg<'a>
+    ensures { IsOption (standing (codes "workers") (codes "4")) result }
+{
     option(
         alloc,
         "workers",
@@ -163,7 +196,9 @@ fn workers_number<'a>(alloc: Global) -> Arg<'a> {
 }
 
 /// The budget of mergers.
-fn budget_number<'a>(alloc: Global) -> Arg<'a> {
+fn budget_number<'a>(alloc: Global) -> Arg<'a>
+    ensures { IsOption (offered (codes "budget")) result }
+{
     option(
         alloc,
         "budget",
@@ -174,7 +209,9 @@ fn budget_number<'a>(alloc: Global) -> Arg<'a> {
 }
 
 /// The word of the pit.
-fn pit_word<'a>(alloc: Global) -> Arg<'a> {
+fn pit_word<'a>(alloc: Global) -> Arg<'a>
+    ensures { IsOption (standing (codes "pit") (codes "least")) result }
+{
     option(
         alloc,
         "pit",
@@ -190,7 +227,9 @@ fn with_asked<'a>(
     alloc: Global,
     command: Command<'a>,
     place: usize,
-) -> Result<Command<'a>, AllocError> {
+) -> Result<Command<'a>, AllocError>
+    ensures { IfOk result (AddsOptions asked_options command.entry) }
+{
     command
         .arg(mode_word(alloc).display_order(place))?
         .arg(workers_number(alloc).display_order(place.saturating_add(1)))?
@@ -199,7 +238,9 @@ fn with_asked<'a>(
 }
 
 /// After how many seconds a line tells what the run is at.
-fn progress_seconds<'a>(alloc: Global) -> Arg<'a> {
+fn progress_seconds<'a>(alloc: Global) -> Arg<'a>
+    ensures { IsOption (offered (codes "progress")) result }
+{
     option(
         alloc,
         "progress",
@@ -210,12 +251,16 @@ fn progress_seconds<'a>(alloc: Global) -> Arg<'a> {
 }
 
 /// An option that may be given and takes the name of a file that is written.
-fn output<'a>(alloc: Global, name: &'a str, help: &'a str) -> Arg<'a> {
+fn output<'a>(alloc: Global, name: &'a str, help: &'a str) -> Arg<'a>
+    ensures { IsOption (offered name.now) result }
+{
     option(alloc, name, "FILE", help)
 }
 
 /// What is told of a run beside its answer. Help shows it last.
-fn with_watch<'a>(alloc: Global, command: Command<'a>) -> Result<Command<'a>, AllocError> {
+fn with_watch<'a>(alloc: Global, command: Command<'a>) -> Result<Command<'a>, AllocError>
+    ensures { IfOk result (AddsOptions watch_options command.entry) }
+{
     command.arg(progress_seconds(alloc))?.arg(output(
         alloc,
         "stats",
@@ -224,7 +269,9 @@ fn with_watch<'a>(alloc: Global, command: Command<'a>) -> Result<Command<'a>, Al
 }
 
 /// What a solve writes beside the pit.
-fn with_outputs<'a>(alloc: Global, command: Command<'a>) -> Result<Command<'a>, AllocError> {
+fn with_outputs<'a>(alloc: Global, command: Command<'a>) -> Result<Command<'a>, AllocError>
+    ensures { IfOk result (AddsOptions output_options command.entry) }
+{
     command
         .arg(output(
             alloc,
@@ -240,7 +287,9 @@ fn with_outputs<'a>(alloc: Global, command: Command<'a>) -> Result<Command<'a>, 
 
 /// `solve` with its files and what is asked for. The model's option is added behind that of the mode: of two names that are as
 /// close to a mistyped one, the last is suggested.
-fn solve_command<'a>(alloc: Global) -> Result<Command<'a>, AllocError> {
+fn solve_command<'a>(alloc: Global) -> Result<Command<'a>, AllocError>
+    ensures { IfOk result (HasOptions (codes "solve") solve_options) }
+{
     let solve = Command::new(alloc, "solve")
         .about("Writes the smallest closed set of greatest worth: the ultimate pit")
         .after_help(STATUSES);
@@ -249,21 +298,27 @@ fn solve_command<'a>(alloc: Global) -> Result<Command<'a>, AllocError> {
 }
 
 /// With the subcommands that solve.
-fn with_solves<'a>(alloc: Global, command: Command<'a>) -> Result<Command<'a>, AllocError> {
+fn with_solves<'a>(alloc: Global, command: Command<'a>) -> Result<Command<'a>, AllocError>
+    ensures { IfOk result (λ made. subcommands_in made ≡ subcommands_in command.entry ++ (codes "solve", solve_options) ∷ (codes "shells", shells_options) ∷ []) }
+{
     command
         .subcommand(solve_command(alloc)?)?
         .subcommand(shells_command(alloc)?)
 }
 
 /// With the subcommands that judge what a solve has written.
-fn with_judges<'a>(alloc: Global, command: Command<'a>) -> Result<Command<'a>, AllocError> {
+fn with_judges<'a>(alloc: Global, command: Command<'a>) -> Result<Command<'a>, AllocError>
+    ensures { IfOk result (λ made. subcommands_in made ≡ subcommands_in command.entry ++ (codes "check", check_options) ∷ (codes "replay", replay_options) ∷ []) }
+{
     command
         .subcommand(check_command(alloc)?)?
         .subcommand(replay_command(alloc)?)
 }
 
 /// `pitshell` with its subcommands. Its version is the release. Refused for want of memory alone.
-pub fn command<'a>(alloc: Global) -> Result<Command<'a>, AllocError> {
+pub fn command<'a>(alloc: Global) -> Result<Command<'a>, AllocError>
+    ensures { IfOk result (λ made. subcommands_in made ≡ (codes "solve", solve_options) ∷ (codes "shells", shells_options) ∷ (codes "check", check_options) ∷ (codes "replay", replay_options) ∷ []) }
+{
     let command = Command::new(alloc, "pitshell")
         .version("0.1.0")
         .about("Finds the ultimate pit of a mine with a proved solver")

@@ -1,0 +1,82 @@
+-- The options of a command: by which name each is given, whether it must be, and what is taken where it is not.
+use Rattle.std.specs.Prelude.{◌≡◌, Bool, List, ◌∷◌, [], ◌++◌, map, codes, true, false, Some}
+use Rattle.clap.specs.Words.{Rule, Text, rule_of, shape_of, app_of, Shape}
+use Rattle.clap.specs.declared.builder.command.Command.TheViews.{out-Command as fields_of}
+use Rattle.clap.specs.declared.builder.action.ArgAction.TheVariants.{Set}
+use Rattle.clap.specs.declared.builder.arg.Arg.{Arg}
+use Rattle.clap.specs.declared.builder.command.Command.{Command}
+
+pub record Choice : Type 0 where
+  pub name : Text
+  pub must : Bool
+  pub default : List Text
+
+-- it must be given
+abbrev pub needed : Text → Choice
+needed name = record { name = name; must = true; default = [] }
+
+-- it may be left out, and then there is none
+abbrev pub offered : Text → Choice
+offered name = record { name = name; must = false; default = [] }
+
+-- it may be left out, and then it is this
+abbrev pub standing : Text → Text → Choice
+standing name word = record { name = name; must = false; default = word ∷ [] }
+
+abbrev pub choice_of : Rule → Choice
+choice_of rule = record { name = rule.id; must = rule.required; default = rule.defaults }
+
+-- the argument is given by the name of the choice, once, with one value
+pub record IsOption (choice : Choice) (arg : Arg) : Type 0 where
+  pub choice_is : choice_of (rule_of arg) ≡ choice
+  pub long : (rule_of arg).long ≡ Some choice.name
+  pub one_value : arg.action ≡ Some Set
+  pub local : arg.global ≡ false
+
+-- the command has this name and these options
+pub record HasOptions (name : Text) (choices : List Choice) (command : Command) : Type 0 where
+  pub called : (shape_of command).name ≡ name
+  pub choices_are : map choice_of (shape_of command).rules ≡ choices
+  pub local : (fields_of command).has_globals ≡ false
+
+-- the command has these options more, behind those that it had
+abbrev pub AddsOptions : List Choice → Command → Command → Type 0
+AddsOptions more old new = (name : Text) (had : List Choice) → HasOptions name had old → HasOptions name (had ++ more) new
+
+abbrev pub mine_options : List Choice
+mine_options = needed (codes "model") ∷ needed (codes "prec") ∷ offered (codes "fixed") ∷ []
+
+abbrev pub asked_options : List Choice
+asked_options =
+    standing (codes "mode") (codes "single") ∷ standing (codes "workers") (codes "4") ∷ offered (codes "budget") ∷ standing (codes "pit") (codes "least") ∷ []
+
+abbrev pub watch_options : List Choice
+watch_options = offered (codes "progress") ∷ offered (codes "stats") ∷ []
+
+abbrev pub output_options : List Choice
+output_options = offered (codes "certificate") ∷ offered (codes "journal") ∷ []
+
+abbrev pub blocks_options : List Choice
+blocks_options = needed (codes "blocks") ∷ needed (codes "prec") ∷ []
+
+abbrev pub column_options : List Choice
+column_options = needed (codes "revenue") ∷ needed (codes "cost") ∷ []
+
+abbrev pub solve_options : List Choice
+solve_options = asked_options ++ mine_options ++ output_options ++ watch_options
+
+abbrev pub shells_options : List Choice
+shells_options = blocks_options ++ column_options ++ needed (codes "factors") ∷ asked_options ++ watch_options
+
+-- a subcommand's name and its options
+abbrev pub subcommand_of : Shape → Text × List Choice
+subcommand_of shape = (shape.name, map choice_of shape.rules)
+
+abbrev pub subcommands_in : Command → List (Text × List Choice)
+subcommands_in command = map subcommand_of (app_of command).subs
+
+abbrev pub check_options : List Choice
+check_options = mine_options ++ needed (codes "certificate") ∷ []
+
+abbrev pub replay_options : List Choice
+replay_options = mine_options ++ needed (codes "journal") ∷ []
