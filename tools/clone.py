@@ -14,18 +14,25 @@ from crates import TOP
 
 def left_out(folder: str, names: list[str]) -> list[str]:
     """What no copy needs: what was built, and what proofs have left in a crate's own folder."""
-    place = pathlib.Path(folder)
-    made = {TOP: {".git", "build"}, TOP / "bench": {"work"}}.get(place, set())
-    made = made | ({"out"} if place.parent == TOP / "crates" else set()) | {"__pycache__"}
+    made = {"out"} if pathlib.Path(folder).parent == TOP / "crates" else set()
+    return [*unneeded(folder, names), *(name for name in names if name in made)]
+
+
+def unneeded(folder: str, names: list[str]) -> list[str]:
+    """What was built, but for what proofs have left."""
+    made = {TOP: {".git", "build"}, TOP / "bench": {"work"}}.get(pathlib.Path(folder), set()) | {"__pycache__"}
     return [name for name in names if name in made]
 
 
 @contextlib.contextmanager
-def clone(mutants: Iterable[pathlib.Path] = (), only: Iterable[str] = ()) -> Iterator[pathlib.Path]:
-    """A folder with the repository's files, these mutants where the prover tries them, and only these crates, where any are named."""
+def clone(mutants: Iterable[pathlib.Path] = (), only: Iterable[str] = (), warm: bool = False) -> Iterator[pathlib.Path]:
+    """A folder with the repository's files, these mutants where the prover tries them, and only these crates, where any are named.
+
+    A warm one has what proofs have left in the crates' folders too, so that there only what changes is proved anew.
+    """
     with tempfile.TemporaryDirectory(prefix="pitshell-", ignore_cleanup_errors=True) as name:
         copy = pathlib.Path(name) / "copy"
-        shutil.copytree(TOP, copy, ignore=left_out)
+        shutil.copytree(TOP, copy, ignore=unneeded if warm else left_out)
         for mutant in mutants:
             planted = copy / "crates" / mutant.parent.parent.name / "must-fail"
             planted.mkdir(exist_ok=True)

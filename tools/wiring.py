@@ -1,7 +1,7 @@
 #!/usr/bin/env python3
 """Plants exchanges in the program's own wiring, builds it so, and looks whether the test named beside each fails.
 
-    tools/wiring.py [--only WORD] [--results FILE]      by hand; a proof of the program a round
+    tools/wiring.py [--only WORD] [--results FILE]      by hand; rt run pitshell first, so that a round proves what it changes alone
     tools/wiring.py --read                              plants none: each can be planted, and its test is there
 
 No contract says which option goes to which field, when an output is kept, or what a file of the system may be: the prover lets an
@@ -92,19 +92,22 @@ def fails(test: str, program: pathlib.Path) -> bool:
     return ran.returncode == 1
 
 
-def try_round(together: list[Exchange]) -> list[str]:
-    """What is told of each exchange, planted together: "seen", "not seen", or "not proved" of all."""
-    with clone.clone(only=in_order(PROGRAM)) as copy:
-        for exchange in together:
-            file = copy / SOURCES / exchange.file
-            file.write_text(exchange.planted(file.read_text()))
-        lines: list[str] = []
-        clone.prove(copy, lines.append)
-        program = copy / "crates" / PROGRAM / "out" / PROGRAM
-        if not program.is_file():
-            print("".join(lines[-30:]))
-            return ["not proved"] * len(together)
-        return ["seen" if fails(exchange.test, program) else "not seen" for exchange in together]
+def try_round(copy: pathlib.Path, together: list[Exchange]) -> list[str]:
+    """What is told of each exchange, planted together in a copy and taken out of it again: "seen", "not seen", or "not proved" of all."""
+    files = {copy / SOURCES / exchange.file for exchange in together}
+    before = {file: file.read_text() for file in files}
+    for exchange in together:
+        file = copy / SOURCES / exchange.file
+        file.write_text(exchange.planted(file.read_text()))
+    program = copy / "crates" / PROGRAM / "out" / PROGRAM
+    program.unlink(missing_ok=True)
+    ran = subprocess.run(["rt", "run", PROGRAM, "--", "--version"], cwd=copy, capture_output=True, text=True, errors="replace")
+    for file, text in before.items():
+        file.write_text(text)
+    if not program.is_file():
+        print(f"{ran.stdout[-4000:]}{ran.stderr[-4000:]}")
+        return ["not proved"] * len(together)
+    return ["seen" if fails(exchange.test, program) else "not seen" for exchange in together]
 
 
 def main() -> int:
@@ -120,11 +123,12 @@ def main() -> int:
         return 1 if wrong else 0
     rows = [f"# Exchanges in the program's wiring, {datetime.date.today()}", "", "`tools/wiring.py`: no contract refuses these; the test beside each must.", "", "| exchange | test | told |", "|---|---|---|"]
     told: list[str] = []
-    for together in rounds(exchanges):
-        answers = try_round(together)
-        rows += [f"| {it.file}: {it.what} | `{it.test}` | {answer} |" for it, answer in zip(together, answers)]
-        print("\n".join(rows[-len(together) :]), flush=True)
-        told += answers
+    with clone.clone(only=in_order(PROGRAM), warm=True) as copy:
+        for together in rounds(exchanges):
+            answers = try_round(copy, together)
+            rows += [f"| {it.file}: {it.what} | `{it.test}` | {answer} |" for it, answer in zip(together, answers)]
+            print("\n".join(rows[-len(together) :]), flush=True)
+            told += answers
     if given.results:
         given.results.write_text("\n".join(rows) + "\n")
     return 2 if "not proved" in told else 1 if "not seen" in told else 0
