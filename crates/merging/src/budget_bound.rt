@@ -30,11 +30,18 @@ fn positive_worth(instance: &Instance) -> i128
     worth
 }
 
-/// Whether the budget is at least P * (n + 1) + n, P the sum of the values above 0, which bounds the mergers of each run.
-pub(crate) fn is_enough(instance: &Instance, budget: u64) -> bool
-    ensures { MatchBool result (most_mergers instance.now ≤ℤ pos budget) (pos budget <ℤ most_mergers instance.now) }
+/// P * (n + 1) + n, P the sum of the values above 0: no run has more mergers.
+fn most_mergers(instance: &Instance) -> i128
+    ensures { result ≡ most_mergers instance.now }
 {
     instance.law();
     let blocks = i128::from(instance.graph().n());
-    positive_worth(instance) * (blocks + 1) + blocks <= i128::from(budget)
+    positive_worth(instance) * (blocks + 1) + blocks
+}
+
+/// Whether the budget is at least what bounds the mergers of each run.
+pub(crate) fn is_enough(instance: &Instance, budget: u64) -> bool
+    ensures { MatchBool result (most_mergers instance.now ≤ℤ pos budget) (pos budget <ℤ most_mergers instance.now) }
+{
+    most_mergers(instance) <= i128::from(budget)
 }

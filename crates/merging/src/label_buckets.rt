@@ -1,11 +1,11 @@
 //! The strong roots that wait for their turn, by label: a first-in-first-out list for each label, through one link a block.
-ghost use Rattle.std.specs.Prelude.{◌≡◌, ◌<◌, ◌≤◌, ◌^◌, ◌+◌, length, IfOk, IfErr, IfSome};
+ghost use Rattle.std.specs.Prelude.{◌≡◌, ◌<◌, ◌≤◌, ◌^◌, ◌+◌, length, replicate, None, IfOk, IfErr, IfSome};
 ghost use Rattle.pit_model.specs.Size.{most_blocks};
 ghost use Rattle.faults.specs.Refused.{no_memory};
 ghost use Rattle.merging.specs.Order.{AreWaiting};
 
 use faults::Fault;
-use std::alloc::Global;
+use std::alloc::{AllocError, Global};
 use std::marker::Model;
 
 /// To a contract it is the number of blocks; the labels are below that number plus 2.
@@ -85,6 +85,14 @@ fn lowest_from(first: &[Option<u32>], from: u32) -> Option<u32>
     None
 }
 
+/// So many places with no root in any.
+fn no_roots(alloc: Global, places: usize) -> Result<Vec<Option<u32>>, AllocError>
+    requires { places < 2 ^ 32 }
+    ensures { IfOk result (λ v. v.items ≡ replicate places None) }
+{
+    vec![in alloc; None; places]
+}
+
 impl LabelBuckets {
     /// No root waits yet. Refused for want of memory alone.
     pub fn new(alloc: Global, blocks: u32) -> Result<LabelBuckets, Fault>
@@ -94,9 +102,9 @@ impl LabelBuckets {
     {
         let labels = blocks as usize + 2;
         Ok(LabelBuckets {
-            first: vec![in alloc; None; labels]?,
-            last: vec![in alloc; None; labels]?,
-            next: vec![in alloc; None; blocks as usize]?,
+            first: no_roots(alloc, labels)?,
+            last: no_roots(alloc, labels)?,
+            next: no_roots(alloc, blocks as usize)?,
             lowest: 0,
         })
     }

@@ -41,9 +41,9 @@ impl RisingMine {
         ensures mine { IfOk result (λ r. r ≡ instance.now) }
         ensures refused { IfErr result (λ e. e ≡ no_memory) }
     {
+        let strong = vec![in alloc; false; instance.graph().n() as usize]?;
         let tree = BareTree::start(alloc, instance)?;
         let order = LowestLabel::new(alloc, &tree)?;
-        let strong = vec![in alloc; false; instance.graph().n() as usize]?;
         Ok(RisingMine {
             tree,
             order,

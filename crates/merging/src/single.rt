@@ -1,6 +1,7 @@
 //! One thread solves the whole instance.
 ghost use Rattle.std.specs.Prelude.{◌≡◌, ℕ, false, Some, None, IfOk, IfErr};
 ghost use Rattle.faults.specs.Refused.{no_memory};
+ghost use Rattle.pit_model.specs.FirstRun.{first_run};
 ghost use Rattle.pit_model.specs.Tree.{is_merger};
 ghost use Rattle.certificate.specs.Certificate.{IsCertificateOf};
 ghost use Rattle.certificate.specs.Check.{ShowsPit};
@@ -29,16 +30,25 @@ fn solved_tree(alloc: Global, instance: &Instance) -> Result<NormTree, Fault>
     merge_rest(NormTree::from_bare(bare)?)
 }
 
+/// The certificate in a tree with no merger arc left. Refused for want of memory alone.
+fn certificate_in(tree: &NormTree) -> Result<Certificate, Fault>
+    requires none_left { (k : ℕ) → is_merger tree.now.mine tree.now.tree k ≡ false }
+    ensures answer { IfOk result (IsCertificateOf tree.now.mine) }
+    ensures refused { IfErr result (λ e. e ≡ no_memory) }
+{
+    match of_tree(tree)? {
+        Some(certificate) => Ok(certificate),
+        None => unreachable!(),
+    }
+}
+
 /// The pit with its certificate. Refused for want of memory alone.
 pub(crate) fn certificate_of(alloc: Global, instance: &Instance) -> Result<Certificate, Fault>
     ensures answer { IfOk result (IsCertificateOf instance.now) }
     ensures refused { IfErr result (λ e. e ≡ no_memory) }
 {
     let tree = solved_tree(alloc, instance)?;
-    match of_tree(&tree)? {
-        Some(certificate) => Ok(certificate),
-        None => unreachable!(),
-    }
+    certificate_in(&tree)
 }
 
 /// The pit alone: the flow that shows it stays in the tree. Refused for want of memory alone.
@@ -59,17 +69,36 @@ fn solve_freely(alloc: Global, instance: &Instance) -> Result<Outcome, Fault>
     Ok(Outcome::Pit(certificate_of(alloc, instance)?))
 }
 
+/// The tree after the mergers of the first run, at most as many as the budget.
+fn first_tree(alloc: Global, instance: &Instance, budget: u64) -> Result<NormTree, Fault>
+    ensures mine { IfOk result (λ t. t.mine ≡ instance.now) }
+    ensures run { IfOk result (λ t. t.tree ≡ first_run t.mine budget) }
+    ensures refused { IfErr result (λ e. e ≡ no_memory) }
+{
+    let mut tree = NormTree::start(alloc, instance)?.indexed()?;
+    make_first_mergers(&mut tree, budget);
+    Ok(tree)
+}
+
+/// What the tree of the first run answers.
+fn answer_of(tree: &NormTree, budget: u64) -> Result<Outcome, Fault>
+    requires run { tree.now.tree ≡ first_run tree.now.mine budget }
+    ensures solved { IfOk result (IsSolvedAlone tree.now.mine (Some budget)) }
+    ensures refused { IfErr result (λ e. e ≡ no_memory) }
+{
+    match of_tree(tree)? {
+        Some(certificate) => Ok(Outcome::Pit(certificate)),
+        None => Ok(Outcome::Exhausted(budget)),
+    }
+}
+
 /// The pit, where the mergers of the first run end within the budget.
 fn solve_by_first_run(alloc: Global, instance: &Instance, budget: u64) -> Result<Outcome, Fault>
     ensures solved { IfOk result (IsSolvedAlone instance.now (Some budget)) }
     ensures refused { IfErr result (λ e. e ≡ no_memory) }
 {
-    let mut tree = NormTree::start(alloc, instance)?.indexed()?;
-    make_first_mergers(&mut tree, budget);
-    match of_tree(&tree)? {
-        Some(certificate) => Ok(Outcome::Pit(certificate)),
-        None => Ok(Outcome::Exhausted(budget)),
-    }
+    let tree = first_tree(alloc, instance, budget)?;
+    answer_of(&tree, budget)
 }
 
 /// The same. Where no run uses the budget up, the order of the mergers is free.
