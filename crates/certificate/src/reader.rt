@@ -19,7 +19,7 @@ use crate::lines::{in_certificate, read_arc, read_count, read_id};
 use crate::pit_with_flow::Certificate;
 use faults::{Fault, Refusal, Source};
 use mine_graph::{Fixed, Graph};
-use minelib_reader::{InBytes, Row, Rows, read_all};
+use minelib_reader::{InBytes, Row, TextRows, read_all};
 use std::alloc::Global;
 
 /// The line of a block, while some are left; then how many arcs follow.
@@ -117,7 +117,7 @@ fn parse_lines(
     requires { length text.now ≤ 2 ^ 40 }
     ensures exact { Gives (λ c. pit_and_flow c.pit.items c.flow.items) result (certificate_of graph.now fixed.now.lists text.now) }
 {
-    let mut rows = Rows::new(text);
+    let mut rows = TextRows::new(text);
     let pit = Vec::new(alloc);
     let flow = vec![in alloc; 0i128; graph.arcs() as usize]?;
     let mut found = Certificate { pit, flow };

@@ -21,7 +21,7 @@ use crate::input::read_all;
 use crate::limits::MOST_BLOCKS;
 use crate::lines::{count_fields, first_four, next_field};
 use crate::number::{decimal, signed, whole_number};
-use crate::rows::{Row, Rows};
+use crate::rows::{Row, TextRows};
 use crate::table::BlockTable;
 use counters::Counters;
 use faults::{Fault, Refusal, Source};
@@ -31,7 +31,7 @@ const MOST_COLUMNS: usize = 64;
 
 /// The place of a block, and the part of its line that writes its attributes.
 #[derive(Clone, Copy)]
-struct Front<'a> {
+struct BlockFront<'a> {
     place: (i32, i32, i32),
     rest: &'a [u8],
 }
@@ -63,7 +63,7 @@ fn read_width(text: &[u8]) -> Result<u32, Fault>
     ensures gives { Gives (λ w. w) result (width_of (rows_of text.now)) }
     ensures narrow { IfOk result (λ w. w ≤ 64) }
 {
-    let mut rows = Rows::new(text);
+    let mut rows = TextRows::new(text);
     match rows.next_row() {
         None => Ok(0),
         Some(first) => count_attributes(first),
@@ -85,7 +85,7 @@ fn read_coordinate(line: u64, field: &[u8]) -> Result<i32, Fault>
 
 /// The place of a block, where its line passes all checks up to its attributes.
 #[tactic(auto, unfolding(crate::specs::Blocks::front_of))]
-fn read_front<'a>(width: u32, id: u64, r: Row<'a>) -> Result<Front<'a>, Fault>
+fn read_front<'a>(width: u32, id: u64, r: Row<'a>) -> Result<BlockFront<'a>, Fault>
     ensures gives { Gives (λ f. (f.place, fields_of f.rest.now)) result (front_of width id (row r.entry.line (fields_of r.entry.text.now))) }
     ensures known { IfOk result (λ _. id < most_blocks) }
     ensures wide { IfOk result (λ f. length (fields_of f.rest.now) ≡ width) }
@@ -108,7 +108,7 @@ fn read_front<'a>(width: u32, id: u64, r: Row<'a>) -> Result<Front<'a>, Fault>
     let x = read_coordinate(r.line, x)?;
     let y = read_coordinate(r.line, y)?;
     let z = read_coordinate(r.line, z)?;
-    Ok(Front {
+    Ok(BlockFront {
         place: (x, y, z),
         rest,
     })
@@ -170,7 +170,7 @@ fn read_lines(
     requires narrow { width ≤ 64 }
     ensures { Gives (λ t. t) result (as_table width (blocks_from width 0 (rows_of text.now))) }
 {
-    let mut rows = Rows::new(text);
+    let mut rows = TextRows::new(text);
     let mut places = Vec::new(alloc);
     let mut attributes = Vec::new(alloc);
     while let Some(row) = rows.next_row() {

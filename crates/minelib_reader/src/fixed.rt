@@ -15,7 +15,7 @@ use crate::device::InBytes;
 use crate::input::read_all;
 use crate::lines::two_fields;
 use crate::number::whole_number;
-use crate::rows::{Row, Rows};
+use crate::rows::{Row, TextRows};
 use faults::{Fault, Refusal, Source};
 use std::alloc::Global;
 
@@ -65,7 +65,7 @@ fn parse_lines(alloc: Global, text: &[u8], n: u32) -> Result<(Vec<u32>, Vec<u32>
     requires { length text.now ≤ 2 ^ 40 }
     ensures { Gives (λ v. fixed_lists v.0.items v.1.items) result (fixed_blocks_of n text.now) }
 {
-    let mut rows = Rows::new(text);
+    let mut rows = TextRows::new(text);
     let mut forced = Vec::new(alloc);
     let mut barred = Vec::new(alloc);
     let mut from = 0;

@@ -29,7 +29,7 @@ pub use lines::{next_field, next_whole, two_fields};
 pub use number::{Decimal, cut, decimal, digits, whole_number};
 pub use output::{MemoryWriter, StreamWriter, write_all};
 pub use prec::{parse_prec, prec_law, read_prec};
-pub use rows::{Row, Rows};
+pub use rows::{Row, TextRows};
 pub use stream::{InputStream, OutputStream};
 pub use table::BlockTable;
 pub use upit::{Model, parse_upit, read_upit, upit_law};

@@ -23,7 +23,7 @@ use crate::device::InBytes;
 use crate::limits::MOST_PAIRS;
 use crate::lines::{count_fields, has_fields, next_whole, plain_whole};
 use crate::pieces::{read_past, read_piece};
-use crate::rows::{Row, Rows};
+use crate::rows::{Row, TextRows};
 use faults::{Fault, Refusal, Source};
 use need_rows::NeedRows;
 use std::alloc::Global;
@@ -45,7 +45,7 @@ const AT_FIRST: Before = Before {
 
 /// The front of a line, and the part of it that names the predecessors.
 #[derive(Clone, Copy)]
-struct Front<'a> {
+struct PrecFront<'a> {
     id: u32,
     count: u64,
     rest: &'a [u8],
@@ -198,7 +198,7 @@ fn over_limit(line: u64, count: u64, rest: &[u8]) -> Fault
 /// The id of a line and how many predecessors it names, checked up to these. Whether there are so many, the caller
 /// finds as it reads them.
 #[tactic(auto, unfolding(crate::specs::Prec::front_of))]
-fn read_front<'a>(n: u32, before: Before, r: Row<'a>) -> Result<Front<'a>, Fault>
+fn read_front<'a>(n: u32, before: Before, r: Row<'a>) -> Result<PrecFront<'a>, Fault>
     requires few { before.total ≤ most_pairs }
     ensures counted { IfOk result (λ f. length (fields_of f.rest.now) ≡ f.count → front_of n before.from before.total (row r.entry.line (fields_of r.entry.text.now)) ≡ Ok (f.id, f.count, fields_of f.rest.now)) }
     ensures miscounted { IfOk result (λ f. length (fields_of f.rest.now) ≢ f.count → front_of n before.from before.total (row r.entry.line (fields_of r.entry.text.now)) ≡ Err (in_precedence WrongFieldCount r.entry.line)) }
@@ -226,7 +226,7 @@ fn read_front<'a>(n: u32, before: Before, r: Row<'a>) -> Result<Front<'a>, Fault
         return Err(over_limit(r.line, count, rest));
     }
     let id = id as u32;
-    Ok(Front { id, count, rest })
+    Ok(PrecFront { id, count, rest })
 }
 
 /// Adds the pairs of a line, and answers what it and the lines before tell the next.
@@ -297,7 +297,7 @@ fn read_lines(
     ensures sizes { length marks.new.items ≡ n }
     ensures new_marks { IfOk result (λ after. All (λ m. m ≤ after.from) marks.new.items) }
 {
-    let mut rows = Rows {
+    let mut rows = TextRows {
         rest: text,
         number: before.line,
     };

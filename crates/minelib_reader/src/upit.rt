@@ -18,7 +18,7 @@ use crate::input::read_all;
 use crate::limits::MOST_BLOCKS;
 use crate::lines::{next_field, two_fields};
 use crate::number::{Decimal, decimal, whole_number};
-use crate::rows::{Row, Rows};
+use crate::rows::{Row, TextRows};
 use counters::Counters;
 use faults::{Fault, Refusal, Source};
 use std::alloc::Global;
@@ -110,7 +110,7 @@ fn check_objective(r: Row) -> Result<(), Fault>
 }
 
 /// The next row, where one is due.
-fn next_due<'a>(rows: &mut Rows<'a>) -> Result<Row<'a>, Fault>
+fn next_due<'a>(rows: &mut TextRows<'a>) -> Result<Row<'a>, Fault>
     ensures gives { Gives (λ r. (row r.line (fields_of r.text.now), rows_at rows.new.number rows.new.rest.now)) result
         (due (lines_at rows.old.number rows.old.rest.now) (rows_at rows.old.number rows.old.rest.now)) }
     ensures count { lines_at rows.new.number rows.new.rest.now ≡ lines_at rows.old.number rows.old.rest.now }
@@ -124,7 +124,7 @@ fn next_due<'a>(rows: &mut Rows<'a>) -> Result<Row<'a>, Fault>
 fn read_values(
     alloc: Global,
     n: u32,
-    rows: &mut Rows,
+    rows: &mut TextRows,
     counters: &Counters,
 ) -> Result<Vec<Decimal>, Fault>
     ensures gives { Gives (λ v. (v.items, rows_at rows.new.number rows.new.rest.now)) result
@@ -143,7 +143,7 @@ fn read_values(
 }
 
 #[tactic(auto, unfolding(crate::specs::Upit::header_of))]
-fn read_header(rows: &mut Rows) -> Result<u32, Fault>
+fn read_header(rows: &mut TextRows) -> Result<u32, Fault>
     ensures gives { Gives (λ n. (n, rows_at rows.new.number rows.new.rest.now)) result
         (header_of (lines_at rows.old.number rows.old.rest.now) (rows_at rows.old.number rows.old.rest.now)) }
     ensures count { lines_at rows.new.number rows.new.rest.now ≡ lines_at rows.old.number rows.old.rest.now }
@@ -160,7 +160,7 @@ fn read_header(rows: &mut Rows) -> Result<u32, Fault>
     Ok(n)
 }
 
-fn check_ended(rows: &mut Rows) -> Result<(), Fault>
+fn check_ended(rows: &mut TextRows) -> Result<(), Fault>
     ensures { Gives (λ _. tt) result (ended (rows_at rows.old.number rows.old.rest.now)) }
 {
     match rows.next_row() {
@@ -175,7 +175,7 @@ fn parse_lines(alloc: Global, text: &[u8], counters: &Counters) -> Result<Model,
     ensures exact { Gives (λ m. upit m.n m.values.items) result (upit_of text.now) }
     ensures small { IfOk result (λ m. IsSmallModel m.n m.values.items) }
 {
-    let mut rows = Rows::new(text);
+    let mut rows = TextRows::new(text);
     let n = read_header(&mut rows)?;
     let values = read_values(alloc, n, &mut rows, counters)?;
     check_ended(&mut rows)?;

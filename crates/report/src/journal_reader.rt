@@ -19,7 +19,7 @@ use crate::journal_lines::{in_journal, read_budget, read_count, read_entry};
 use crate::journal_text::JournalText;
 use faults::{Fault, Refusal, Source};
 use mine_graph::Graph;
-use minelib_reader::{InBytes, Row, Rows, read_all};
+use minelib_reader::{InBytes, Row, TextRows, read_all};
 use pit_model::Entry;
 use std::alloc::Global;
 
@@ -98,7 +98,7 @@ fn parse_lines(alloc: Global, text: &[u8], graph: &Graph) -> Result<JournalText,
     requires { length text.now ≤ 2 ^ 40 }
     ensures exact { Gives (λ j. budget_and_entries j.budget j.entries.items) result (journal_of graph.now text.now) }
 {
-    let mut rows = Rows::new(text);
+    let mut rows = TextRows::new(text);
     let mut entries = Vec::new(alloc);
     let mut due = JournalLine::Title;
     while let Some(row) = rows.next_row() {
