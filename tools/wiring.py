@@ -1,7 +1,7 @@
 #!/usr/bin/env python3
 """Plants exchanges in the program's own wiring, builds it so, and looks whether the test named beside each fails.
 
-    tools/wiring.py [--only WORD] [--results FILE]      by hand; rt run pitshell first, so that a round proves what it changes alone
+    tools/wiring.py [--only WORD] [--results FILE]      by hand; rt run in crates/pitshell first: then a round proves what it changes alone
     tools/wiring.py --read                              plants none: each can be planted, and its test is there
 
 No contract says which option goes to which field, when an output is kept, or what a file of the system may be: the prover lets an
@@ -101,7 +101,7 @@ def try_round(copy: pathlib.Path, together: list[Exchange]) -> list[str]:
         file.write_text(exchange.planted(file.read_text()))
     program = copy / "crates" / PROGRAM / "out" / PROGRAM
     program.unlink(missing_ok=True)
-    ran = subprocess.run(["rt", "run", PROGRAM, "--", "--version"], cwd=copy, capture_output=True, text=True, errors="replace")
+    ran = subprocess.run(["rt", "run", "--", "--version"], cwd=program.parent.parent, capture_output=True, text=True, errors="replace")
     for file, text in before.items():
         file.write_text(text)
     if not program.is_file():
