@@ -24,7 +24,7 @@ both xs ys a b c first second name had has =
 -- the place in the help is no matter
 pub placed : (choice : Choice) (arg new : Arg) (place : ℕ) → new ≡ record arg { disp_ord = Some place } → IsOption choice arg → IsOption choice new
 placed choice arg new place same is = subst (λ (it : Arg). IsOption choice it) (sym same)
-    (record { choice_is = is.choice_is; long = is.long; one_value = is.one_value; local = is.local })
+    (record { choice_is = is.choice_is; local = is.local })
 
 pub adds_last : {E : Type 0} (xs : List Choice) (choice : Choice) (a b : Command) (arg : Arg) (made : Result Command E) → AddsOptions xs a b
     → IsOption choice arg → IfOk made (AddsArg b arg) → IfOk made (AddsOptions (xs ++ choice ∷ []) a)

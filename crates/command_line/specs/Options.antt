@@ -1,36 +1,43 @@
--- The options of a command: by which name each is given, whether it must be, and what is taken where it is not.
-use Rattle.std.specs.Prelude.{◌≡◌, Bool, List, ◌∷◌, [], ◌++◌, map, codes, true, false, Some}
+-- The options of a command.
+use Rattle.std.specs.Prelude.{◌≡◌, Bool, List, Option, ◌∷◌, [], ◌++◌, map, codes, true, false, Some}
 use Rattle.clap.specs.Words.{Rule, Text, rule_of, shape_of, app_of, Shape}
 use Rattle.clap.specs.declared.builder.command.Command.TheViews.{out-Command as fields_of}
+use Rattle.clap.specs.declared.builder.action.ArgAction.{ArgAction}
 use Rattle.clap.specs.declared.builder.action.ArgAction.TheVariants.{Set}
 use Rattle.clap.specs.declared.builder.arg.Arg.{Arg}
 use Rattle.clap.specs.declared.builder.command.Command.{Command}
 
+-- the name under which the value is found, the word behind -- by which it is given, what giving it does, whether it must be given, and
+-- what is taken where it is not
 pub record Choice : Type 0 where
   pub name : Text
+  pub word : Option Text
+  pub action : Option ArgAction
   pub must : Bool
   pub default : List Text
 
+-- it is given by its own name, and sets one value
+abbrev pub choice : Text → Bool → List Text → Choice
+choice name must default = record { name = name; word = Some name; action = Some Set; must = must; default = default }
+
 -- it must be given
 abbrev pub needed : Text → Choice
-needed name = record { name = name; must = true; default = [] }
+needed name = choice name true []
 
 -- it may be left out, and then there is none
 abbrev pub offered : Text → Choice
-offered name = record { name = name; must = false; default = [] }
+offered name = choice name false []
 
 -- it may be left out, and then it is this
 abbrev pub standing : Text → Text → Choice
-standing name word = record { name = name; must = false; default = word ∷ [] }
+standing name word = choice name false (word ∷ [])
 
 abbrev pub choice_of : Rule → Choice
-choice_of rule = record { name = rule.id; must = rule.required; default = rule.defaults }
+choice_of rule = record { name = rule.id; word = rule.long; action = rule.action; must = rule.required; default = rule.defaults }
 
--- the argument is given by the name of the choice, once, with one value
+-- the argument is this choice, of its own command alone
 pub record IsOption (choice : Choice) (arg : Arg) : Type 0 where
   pub choice_is : choice_of (rule_of arg) ≡ choice
-  pub long : (rule_of arg).long ≡ Some choice.name
-  pub one_value : arg.action ≡ Some Set
   pub local : arg.global ≡ false
 
 -- the command has this name and these options
