@@ -75,7 +75,10 @@ pub extern "C" fn pitshell_solve(
 {
     let arrays = MineArrays {
         values,
-        rows: Rows { starts, seconds: needs },
+        rows: Rows {
+            starts,
+            seconds: needs,
+        },
         numbers,
     };
     match mark_pit(alloc, &arrays, greatest, marks) {
@@ -118,7 +121,10 @@ pub extern "C" fn pitshell_shells(
     let deposit = DepositArrays {
         revenues,
         costs,
-        rows: Rows { starts, seconds: needs },
+        rows: Rows {
+            starts,
+            seconds: needs,
+        },
     };
     match mark_shells(alloc, &deposit, factors, firsts) {
         Ok(worths) => {
@@ -154,7 +160,15 @@ pub extern "C" fn pitshell_certificate(
         *found = PitshellFound::refused(0);
         return Refusal::CountsDiffer.number();
     }
-    match mark_certified(alloc, values, &Rows { starts, seconds: needs }, marks) {
+    match mark_certified(
+        alloc,
+        values,
+        &Rows {
+            starts,
+            seconds: needs,
+        },
+        marks,
+    ) {
         Ok(Certified { worth, flow }) => {
             write_parts(&flow, flow_high, flow_low);
             *found = PitshellFound::worth(worth);
@@ -193,7 +207,16 @@ pub extern "C" fn pitshell_check(
     let Ok(flow) = numbers_of(alloc, flow_high, flow_low) else {
         return Refusal::NoMemory.number();
     };
-    match check_marks(alloc, values, &Rows { starts, seconds: needs }, marks, flow) {
+    match check_marks(
+        alloc,
+        values,
+        &Rows {
+            starts,
+            seconds: needs,
+        },
+        marks,
+        flow,
+    ) {
         Ok(answer) => {
             *yes = answer;
             0
@@ -224,7 +247,15 @@ pub extern "C" fn pitshell_cycle(
 {
     *count = 0;
     *place = 0;
-    match find_cycle(alloc, blocks, &Rows { starts, seconds: needs }, cycle) {
+    match find_cycle(
+        alloc,
+        blocks,
+        &Rows {
+            starts,
+            seconds: needs,
+        },
+        cycle,
+    ) {
         Ok(None) => 0,
         Ok(Some(found)) => {
             *count = found;
