@@ -11,3 +11,4 @@ pub mod OneFault
 pub mod Replaying
 pub mod ReplayOnce
 pub mod ReplayTakes
+pub mod ReplaySpends

@@ -1,7 +1,7 @@
 -- Of two texts there is one first fault: each file has one, a text that has one spells nothing, and the cycle of pairs is one.
 -- Where a run is done, both texts are spelled and the pairs have no cycle; so there is none.
 use Rattle.std.proofs.Common.{◌≡◌, ℕ, ◌&&◌, Bool, inl, inr, refl, sym, ap, subst, ◌∙◌, List, ◌++◌}
-use Rattle.std.specs.Prelude.{◌⊎◌, None, codes, decimal}
+use Rattle.std.specs.Prelude.{None, codes, decimal}
 use Rattle.std.specs.List.{flat_map}
 use Rattle.std.proofs.lemmas.Bool.{and_parts, true≢false}
 use Rattle.minelib_reader.specs.Text.{rows_of, count_of_lines}
@@ -38,8 +38,8 @@ use Rattle.pit_model.proofs.Fixed.{allowed_exists_unless_clash, closure_is_one}
 use Rattle.pit_model.proofs.SamePairs.{fixed_pit_knows_no_order}
 use Rattle.pit_model.proofs.OneCycle.{cycle_is_one, least_once}
 use Rattle.report.specs.FaultText.{fault_text, detail_of, place_text, cycle_block}
-use Rattle.runs.specs.Solve.{Choice, no_reader, one_reader, gone, Files, FixedMine, Gave, GaveFixed, GaveMine, IsPitText, OfChoice, FirstFault, in_model, in_prec, in_fixed, in_pairs, in_blocks, RefusesMine, fixed_in, mine_of}
-use Rattle.runs.specs.Uniqueness.{ChoseAlike, ReadAlike, NeverFaulty, FaultsOnce}
+use Rattle.runs.specs.Solve.{Choice, no_reader, one_reader, gone, Files, FixedMine, Gave, GaveFixed, GaveMine, IsPitText, OfChoice, FirstFault, in_model, in_prec, in_fixed, in_pairs, in_blocks, GaveInOrder, HasNoClash, RefusesMine, fixed_in, mine_of}
+use Rattle.runs.specs.Uniqueness.{ChoseAlike, IsUnread, ReadAlike, NeverFaulty, FaultsOnce}
 use Rattle.runs.proofs.Uniqueness.{model_once, one_lists, one_model, one_precedence, mine_in_order}
 
 -- a text that spells something has no fault
@@ -92,9 +92,28 @@ no_clash direction mine fixed pit block is clash =
     let both = and_parts (fixed.barred block) (dug block) clash.least.member in
     true≢false (sym both.1 ∙ (allowed_exists_unless_clash mine fixed dug clash.dug_is).1 (pit, ok) block both.0)
 
+-- where the readers gave a mine that has a pit, it has no clash, whoever reads it
+module _ (files other : Files) (same : ReadAlike files other)
+    (u : Upit) (ps : List (ℕ × ℕ)) (lists : FixedLists) (one : GaveMine files.model files.prec u ps) (fixed_one : GaveFixed files.fixed u.n lists)
+    (direction : Direction) (text_of : List ℕ) (solved : IsPitText direction (mine_of u ps lists) text_of) where
+  pit_has_no_clash : (task : FixedMine) → GaveInOrder other task → HasNoClash task
+  pit_has_no_clash task gave block named =
+      let h = gave.holds in
+      let upit = one_model files.model files.prec other.model other.prec same.model same.prec u h.upit ps h.pairs one h.given in
+      let pairs = one_precedence files.model files.prec other.model other.prec same.model same.prec u h.upit ps h.pairs one h.given in
+      let same_lists = one_lists files.fixed other.fixed u.n h.upit.n lists task.lists same.fixed (ap (λ (w : Upit). w.n) upit) fixed_one h.fixed_given in
+      let here = subst (λ l. IsPitToward direction (mine_of u ps l).mine (fixed_of l) solved.pit) same_lists solved.is_pit in
+      let there = subst (λ (w : Upit). IsPitToward direction (mine_of w ps task.lists).mine (fixed_of task.lists) solved.pit) upit here in
+      let whole = subst (λ qs. IsPitToward direction (mine_of h.upit qs task.lists).mine (fixed_of task.lists) solved.pit) pairs there in
+      let moved = fixed_pit_knows_no_order direction h.upit.n h.upit.values h.pairs task.mine.pairs (fixed_of task.lists) solved.pit h.same whole in
+      let own = subst (λ n. IsPitToward direction (instance_of n h.upit.values task.mine.pairs) (fixed_of task.lists) solved.pit) (sym h.blocks) moved in
+      no_clash direction task.mine (fixed_of task.lists) solved.pit block
+      (subst (λ vs. IsPitToward direction (instance_of task.mine.blocks vs task.mine.pairs) (fixed_of task.lists) solved.pit) (sym h.values) own) named
+
+-- where the readers gave a mine without a cycle and without a clash, no run over the same texts finds a fault in them
 module _ (files other : Files) (same : ReadAlike files other)
     (u : Upit) (ps : List (ℕ × ℕ)) (lists : FixedLists) (one : GaveMine files.model files.prec u ps) (fixed_one : GaveFixed files.fixed u.n lists) (acyclic : IsAcyclic ps)
-    (direction : Direction) (text_of : List ℕ) (solved : IsPitText direction (mine_of u ps lists) text_of) where
+    (clash_free : (task : FixedMine) → GaveInOrder other task → HasNoClash task) where
   no_fault : (fault : Fault) → FirstFault fault other → fault ≡ no_memory
   no_fault fault (in_model text given is) =
       absurd (sound_model text u fault (subst (λ t. SpellsUpit t u) (same.model one.model_text text one.model_given given) one.model_spelled) is)
@@ -107,20 +126,9 @@ module _ (files other : Files) (same : ReadAlike files other)
       absurd (no_fixed_fault files.fixed other.fixed u.n upit.n lists fault same.fixed (ap (λ (w : Upit). w.n) m) fixed_one faulty)
   no_fault fault (in_pairs upit pairs named gave fixed_gave is) =
       only_memory acyclic_has_no_needy pairs upit.n fault.refusal fault (subst IsAcyclic (one_precedence files.model files.prec other.model other.prec same.model same.prec u upit ps pairs one gave) acyclic) is
-  no_fault fault (in_blocks task block gave named is) =
-      let h = gave.holds in
-      let upit = one_model files.model files.prec other.model other.prec same.model same.prec u h.upit ps h.pairs one h.given in
-      let pairs = one_precedence files.model files.prec other.model other.prec same.model same.prec u h.upit ps h.pairs one h.given in
-      let same_lists = one_lists files.fixed other.fixed u.n h.upit.n lists task.lists same.fixed (ap (λ (w : Upit). w.n) upit) fixed_one h.fixed_given in
-      let here = subst (λ l. IsPitToward direction (mine_of u ps l).mine (fixed_of l) solved.pit) same_lists solved.is_pit in
-      let there = subst (λ (w : Upit). IsPitToward direction (mine_of w ps task.lists).mine (fixed_of task.lists) solved.pit) upit here in
-      let whole = subst (λ qs. IsPitToward direction (mine_of h.upit qs task.lists).mine (fixed_of task.lists) solved.pit) pairs there in
-      let moved = fixed_pit_knows_no_order direction h.upit.n h.upit.values h.pairs task.mine.pairs (fixed_of task.lists) solved.pit h.same whole in
-      let own = subst (λ n. IsPitToward direction (instance_of n h.upit.values task.mine.pairs) (fixed_of task.lists) solved.pit) (sym h.blocks) moved in
-      absurd (no_clash direction task.mine (fixed_of task.lists) solved.pit block
-      (subst (λ vs. IsPitToward direction (instance_of task.mine.blocks vs task.mine.pairs) (fixed_of task.lists) solved.pit) (sym h.values) own) named)
+  no_fault fault (in_blocks task block gave named is) = absurd (clash_free task gave block named)
 
-  only_passing : (r : Refusal) (fault : Fault) → fault.refusal ≡ r → RefusesMine r fault other → (r ≡ NoMemory) ⊎ (r ≡ ReadFailed)
+  only_passing : (r : Refusal) (fault : Fault) → fault.refusal ≡ r → RefusesMine r fault other → IsUnread r
   only_passing NoMemory fault is h = inl refl
   only_passing ReadFailed fault is h = inr refl
   only_passing WriteFailed fault is h = absurd h
@@ -131,7 +139,15 @@ module _ (files other : Files) (same : ReadAlike files other)
 pub never_faulty : (files other : Files) → NeverFaulty files other
 never_faulty files other direction before after status fault same done h =
     let a = done.solves in
-    only_passing files other same a.upit a.pairs a.lists a.given a.fixed_given a.acyclic direction done.text a.solved fault.refusal fault refl h
+    let clash_free = pit_has_no_clash files other same a.upit a.pairs a.lists a.given a.fixed_given direction done.text a.solved in
+    only_passing files other same a.upit a.pairs a.lists a.given a.fixed_given a.acyclic clash_free fault.refusal fault refl h
+
+-- and so where they gave a mine in order
+pub given_is_faultless : (files other : Files) (task : FixedMine) (fault : Fault) → ReadAlike files other → GaveInOrder files task → HasNoClash task → RefusesMine fault.refusal fault other → IsUnread fault.refusal
+given_is_faultless files other task fault same gave free h =
+    let a = gave.holds in
+    let clash_free = λ (there : FixedMine) (given : GaveInOrder other there). subst HasNoClash (mine_in_order files other same task there gave given) free in
+    only_passing files other same a.upit a.pairs task.lists a.given a.fixed_given a.acyclic clash_free fault.refusal fault refl h
 
 -- the text of a cycle's fault is that of its blocks
 cycle_text : List ℕ → List ℕ

@@ -1,5 +1,6 @@
 -- Where one step of a run is refused, the run is refused so: by cases on the refusal.
-use Rattle.std.proofs.Common.{◌≡◌, ℕ, List, Option, Some, None, inl, inr, ⊎_elim, refl, sym, subst}
+use Rattle.std.proofs.Common.{◌≡◌, ℕ, List, Option, Some, None, inl, inr, ⊎_elim, refl, sym, subst, ◌∙◌}
+use Rattle.std.proofs.lemmas.Bool.{and_parts, true≢false}
 use Rattle.faults.specs.Refused.{no_memory, write_failed}
 use Rattle.minelib_reader.specs.Device.{Progress}
 use Rattle.minelib_reader.specs.Answer.{Refuses, ReadsText}
@@ -13,12 +14,14 @@ use Rattle.faults.specs.declared.refusal.Refusal.TheVariants.{NoMemory, ReadFail
 use Rattle.faults.specs.declared.source.Source.TheVariants as sources
 use Rattle.mine_graph.specs.Faults.{RefusesPairs, IsGraphFault}
 use Rattle.minelib_reader.specs.FixedFault.{IsFirstFixedFault}
-use Rattle.mine_graph.specs.FixedBlocks.{RefusesFixed}
-use Rattle.pit_model.specs.Fixed.{FixedLists, graph_of_mine}
+use Rattle.mine_graph.specs.FixedBlocks.{IsFixedOf, RefusesFixed, dug_in}
+use Rattle.pit_model.specs.Fixed.{FixedLists, fixed_of, graph_of_mine}
+use Rattle.pit_model.proofs.Fixed.{closure_is_one}
 use Rattle.pit_model.specs.declared.direction.Direction.{Direction}
 use Rattle.solver.specs.declared.mode.Mode.{Mode}
 use Rattle.solver.specs.Searched.{RefusesSearch}
-use Rattle.runs.specs.Solve.{Choice, no_reader, one_reader, gone, choice, Files, FixedMine, GaveFixed, GaveInOrder, HoldsMine, OfChoice, OfChoiceIfAny, Gave, NeverFailed, GaveMine, in_model, in_prec, in_fixed, in_pairs, in_blocks, RefusesFixedText, RefusesMine, fixed_in}
+use Rattle.runs.specs.Solve.{Choice, no_reader, one_reader, gone, choice, Files, FixedMine, GaveFixed, GaveInOrder, HasNoClash, HoldsMine, OfChoice, OfChoiceIfAny, Gave, NeverFailed, GaveMine, in_model, in_prec, in_fixed, in_pairs, in_blocks, RefusesFixedText, RefusesMine, fixed_in, task_of}
+use Rattle.runs.specs.declared.mine.Task.{Task}
 use Rattle.runs.specs.declared.asked.Asked.{Asked}
 use Rattle.pit_model.specs.Replay.{IsSettled}
 use Rattle.runs.specs.Chosen.{Chosen, IsLeft}
@@ -103,6 +106,14 @@ blocks_refused NoMemory e files task given h = (h, given.holds.given.model_given
 blocks_refused (FixedClash block) e files task given h = in_blocks task block given h.1 h.0
 blocks_refused _ e files task given h = absurd h
 
+-- fixed blocks in memory have no clash
+pub has_no_clash : (task : Task) → IsFixedOf (graph_of_mine task.mine) task.fixed → HasNoClash (task_of task)
+has_no_clash task is block clash =
+    let fixed = fixed_of task.fixed.lists in
+    let both = and_parts (fixed.barred block) (clash.dug block) clash.least.member in
+    let same = closure_is_one task.mine.pairs fixed.forced clash.dug (dug_in task.fixed) clash.dug_is is.settled.dug_is block in
+    true≢false (sym both.1 ∙ same ∙ is.clash_free block both.0)
+
 -- a refusal of the files is one of the run
 pub read_refused : (asked : Asked) (r : Refusal) (e : Fault) (files : Files) (journal certificate : Chosen) (out : Progress) → IsLeft journal → IsLeft certificate → RefusesMine r e files → RefusesRun asked r e files journal certificate out out
 read_refused asked WriteFailed e files journal certificate out j c h = absurd h
@@ -120,22 +131,22 @@ search_refused mode direction task _ e journal certificate none left same h = (h
 
 -- and so is a refusal to find the pit
 pub pit_refused :
-    (asked : Asked) (r : Refusal) (e : Fault) (files : Files) (task : FixedMine) (journal certificate : Chosen) (out : Progress) → HoldsMine files task
+    (asked : Asked) (r : Refusal) (e : Fault) (files : Files) (task : FixedMine) (journal certificate : Chosen) (out : Progress) → HoldsMine files task → HasNoClash task
     → RefusesPit asked.mode asked.pit task r e journal certificate → RefusesRun asked r e files journal certificate out out
-pit_refused asked WriteFailed e files task journal certificate out holds h = ⊎_elim
+pit_refused asked WriteFailed e files task journal certificate out holds free h = ⊎_elim
     (λ of_journal. (of_journal.0.1, in_journal (journal_cut asked.mode files task e journal holds of_journal.0.0) of_journal.1 refl))
     (λ behind. (
       behind.2.1,
-      in_certificate (record { within = (task, holds, behind.0); journaled = journaled IsSettled asked.mode files task journal holds behind.1 })
+      in_certificate (record { within = (task, holds, behind.0); journaled = journaled IsSettled asked.mode files task journal holds free behind.1 })
           (certificate_cut files task e certificate holds behind.2.0) refl,
     ))
     h
-pit_refused asked NoMemory e files task journal certificate out holds h =
+pit_refused asked NoMemory e files task journal certificate out holds free h =
     ((h.0, holds.given.model_given.failures, holds.given.prec_given.failures, given_fixed files.fixed holds.upit.n task.lists holds.fixed_given), record { no_journal = h.1; no_certificate = h.2; no_pit = refl })
-pit_refused asked NoSeat e files task journal certificate out holds h = (h.0.0, h.0.1, (task, holds), record { no_journal = h.1; no_certificate = h.2; no_pit = refl })
-pit_refused asked (Exhausted count) e files task journal certificate out holds h =
-    (h.0.0, (task, holds, h.0.1), journaled (AtBudget count) asked.mode files task journal holds h.1, h.2, refl)
-pit_refused asked _ e files task journal certificate out holds h = absurd h.0
+pit_refused asked NoSeat e files task journal certificate out holds free h = (h.0.0, h.0.1, (task, holds), record { no_journal = h.1; no_certificate = h.2; no_pit = refl })
+pit_refused asked (Exhausted count) e files task journal certificate out holds free h =
+    (h.0.0, (task, holds, h.0.1), journaled (AtBudget count) asked.mode files task journal holds free h.1, h.2, refl)
+pit_refused asked _ e files task journal certificate out holds free h = absurd h.0
 
 pub write_refused :
     (asked : Asked) (e : Fault) (files : Files) (journal certificate : Chosen) (before after : Progress) → e ≡ write_failed → WasCutShort asked files journal certificate before after

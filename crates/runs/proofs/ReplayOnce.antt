@@ -1,6 +1,5 @@
 -- The journal that a solve wrote has one replay: it ends as the solve did.
-use Rattle.std.proofs.Common.{rules, ◌≡◌, ℕ, zero, suc, true, sym, subst, ◌∙◌, List, [], ◌∷◌, take, Option}
-use Rattle.std.specs.Prelude.{◌==◌}
+use Rattle.std.proofs.Common.{◌≡◌, ℕ, zero, suc, sym, subst, ◌∙◌, List, [], ◌∷◌, take, Option}
 use Rattle.std.proofs.lemmas.Bool.{false≢true}
 use Rattle.std.proofs.lemmas.List.{append_cancel_left}
 use Rattle.minelib_reader.specs.Device.{Progress}
@@ -10,8 +9,8 @@ use Rattle.pit_model.specs.declared.journal.Entry.{Entry}
 use Rattle.pit_model.specs.Graph.{Graph}
 use Rattle.pit_model.specs.Mine.{Instance}
 use Rattle.pit_model.specs.Tree.{Tree, opening}
-use Rattle.pit_model.specs.Journal.{is_used_up, tree_after, count_after, IsLawful, IsLawfulFrom}
-use Rattle.pit_model.specs.Replay.{DiffersAt, IsSettled, IsSpentAt}
+use Rattle.pit_model.specs.Journal.{tree_after, count_after, IsLawful, IsLawfulFrom}
+use Rattle.pit_model.specs.Replay.{DiffersAt, IsSettled}
 use Rattle.report.specs.JournalLines.{BudgetAndEntries, budget_and_entries}
 use Rattle.report.specs.JournalGrammar.{SpellsJournal}
 use Rattle.report.proofs.JournalRead as journals
@@ -22,9 +21,9 @@ use Rattle.pit_model.specs.declared.direction.Direction.TheVariants.{Least}
 use Rattle.pit_model.specs.Fixed.{IsRestOf}
 use Rattle.pit_model.proofs.OneRest.{rest_is_one}
 use Rattle.runs.specs.Solve.{Files, FixedMine, Reading, IsDone, fixed_in}
-use Rattle.runs.specs.Journaled.{GaveRest, JournalEnd, AtBudget, SaysJournal, IsJournaled}
+use Rattle.runs.specs.Journaled.{GaveRest, JournalEnd, SaysJournal, IsJournaled}
 use Rattle.runs.specs.Replay.{GaveJournal, AnswersJournal, settled, differs, unfinished}
-use Rattle.runs.specs.Uniqueness.{GaveTaken, ReadAlike, PassesReplay, SpendsReplay}
+use Rattle.runs.specs.Uniqueness.{GaveTaken, ReadAlike, PassesReplay}
 use Rattle.runs.specs.declared.status.Status.{Status}
 use Rattle.runs.specs.declared.status.Status.TheVariants.{Done}
 use Rattle.runs.proofs.Uniqueness.{given_once, mine_in_order, solves_once}
@@ -39,7 +38,7 @@ lawful_front mine budget tree made zero journal lawful = tt
 lawful_front mine budget tree made (suc k) [] lawful = tt
 lawful_front mine budget tree made (suc k) (entry ∷ others) lawful = (lawful.0, lawful_front mine budget (tree_after mine tree entry) (count_after made entry) k others lawful.1)
 
-no_difference : (mine : Instance) (budget : Option ℕ) (journal : List Entry) (k : ℕ) → IsLawful mine budget journal → DiffersAt mine budget journal k → ⊥
+pub no_difference : (mine : Instance) (budget : Option ℕ) (journal : List Entry) (k : ℕ) → IsLawful mine budget journal → DiffersAt mine budget journal k → ⊥
 no_difference mine budget journal k lawful d = d.differs (lawful_front mine budget (opening mine) 0 k journal lawful)
 
 -- what a journal's text says of the rest of the mine that the readers gave, whoever reads it
@@ -80,24 +79,3 @@ passes_replay files other journal mode before after pit_before pit_after other_b
     let is_done = settles r.task r.rest r.said told.text other_status s r.answers in
     let two : IsDone Least other other_before other_after other_status = record { done = is_done; text = told.text; solves = r.solves is_done; written = told.written; no_failure = told.no_failure } in
     (solves_once files other Least pit_before pit_after other_before other_after status other_status same done two, is_done ∙ sym done.done)
-
-itself : (n : ℕ) → (n == n) ≡ true
-itself n = search rules
-
-never_told : (task : FixedMine) (mine : Instance) (said : BudgetAndEntries) (text : List ℕ) (status : Status) (count : ℕ) → IsSpentAt mine said.budget said.entries count → AnswersJournal task mine said text status → ⊥
-never_told task mine said text status count s (settled t is_text done) = false≢true (sym (t.none_left s.left.0) ∙ s.left.1)
-never_told task mine said text status count s (differs k d is_text negative) = no_difference mine said.budget said.entries k s.lawful d
-never_told task mine said text status count s (unfinished made o is_text negative) =
-    let same : made ≡ count = sym o.made ∙ s.made in
-    false≢true (sym o.allowed ∙ (λ i. is_used_up (s.allowed i) (same i)) ∙ itself count)
-
-pub spends_replay : (files other : Files) (journal : Reading) → SpendsReplay files other journal
-spends_replay files other journal = record {
-  not_told = λ mode count before after other_before other_after other_status same taken wrote told.
-      let r = told.replays in
-      never_told r.task r.rest r.said told.text other_status count
-      (taken_so files other journal same (AtBudget count) mode before after r.rest r.said taken wrote (r.task, r.given, r.is_rest) r.journal_given) r.answers;
-  same_count = λ mode count named before after same taken wrote used.
-      let s = taken_so files other journal same (AtBudget count) mode before after used.rest used.said taken wrote used.given used.journal_given in
-      sym used.spent.made ∙ s.made;
-}

@@ -44,7 +44,7 @@ spells Ends (Single budget) rest text says = absurd says
 spells Ends Parts rest text says = absurd says
 
 module _ (files other : Files) (journal : Reading) (same : ReadAlike files other) where
-  faultless : (Ends : JournalEnd) (mode : Mode) (before after : Progress) (task : FixedMine) (r : Refusal) (fault : Fault) → GaveTaken journal before after → IsJournaled Ends mode files before after
+  pub faultless : (Ends : JournalEnd) (mode : Mode) (before after : Progress) (task : FixedMine) (r : Refusal) (fault : Fault) → GaveTaken journal before after → IsJournaled Ends mode files before after
       → GaveInOrder other task → RefusesJournal r fault task journal → IsUnread r
   faultless Ends mode before after task NoMemory fault taken wrote given h = inl refl
   faultless Ends mode before after task ReadFailed fault taken wrote given h = inr refl

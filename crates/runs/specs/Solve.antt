@@ -145,6 +145,10 @@ pub record GaveInOrder (files : Files) (task : FixedMine) : Type 0 where
   pub holds : HoldsMine files task
   pub ordered : IsGraph task.mine.blocks task.mine.pairs
 
+-- no barred block of the mine must be dug
+abbrev pub HasNoClash : FixedMine → Type 0
+HasNoClash task = (block : ℕ) → IsClash task.mine.pairs (fixed_in task) block → ⊥
+
 -- a text is the text of the pit of a mine: toward `Least`, of the smallest closed set of greatest worth that holds each block
 -- forced in and none that is barred
 pub record IsPitText (direction : Direction) (task : FixedMine) (text : List ℕ) : Type 0 where

@@ -4,7 +4,7 @@ use Rattle.minelib_reader.specs.Device.{Progress}
 use Rattle.faults.specs.Refused.{no_memory}
 use Rattle.faults.specs.declared.fault.Fault.{Fault}
 use Rattle.faults.specs.declared.refusal.Refusal.{Refusal}
-use Rattle.faults.specs.declared.refusal.Refusal.TheVariants.{NoMemory, ReadFailed, WriteFailed}
+use Rattle.faults.specs.declared.refusal.Refusal.TheVariants.{Exhausted, NoMemory, ReadFailed, WriteFailed}
 use Rattle.pit_model.specs.Graph.{IsGraph}
 use Rattle.pit_model.specs.declared.direction.Direction.{Direction}
 use Rattle.pit_model.specs.declared.direction.Direction.TheVariants.{Least}
@@ -15,7 +15,7 @@ use Rattle.runs.specs.ShellsRun.{IsShellsDone}
 use Rattle.runs.specs.Certified.{IsCertified}
 use Rattle.runs.specs.Check.{AnswersText, IsChecked}
 use Rattle.runs.specs.Journaled.{AtAnyEnd, AtBudget, IsJournaled}
-use Rattle.runs.specs.Replay.{IsJournalSpent, IsToldReplay, RefusesJournal, RefusesReplay}
+use Rattle.runs.specs.Replay.{IsToldReplay, RefusesJournal, RefusesReplay}
 use Rattle.pit_model.specs.Replay.{IsSettled}
 use Rattle.solver.specs.declared.mode.Mode.{Mode}
 use Rattle.runs.specs.declared.status.Status.{Status}
@@ -56,13 +56,17 @@ SolvesOnce files other =
     → ReadAlike files other → IsDone direction files before after status → IsDone direction other other_before other_after other_status
     → TookSame before after other_before other_after
 
+-- a text was not read for want of memory, or by a failed read
+abbrev pub IsUnread : Refusal → Type 0
+IsUnread refusal = (refusal ≡ NoMemory) ⊎ (refusal ≡ ReadFailed)
+
 -- where a run of `solve` is done, none over the same texts finds a fault in them: if it reads no mine, then for want of memory
 -- or by a failed read
 abbrev pub NeverFaulty : (files other : Files) → Type 0
 NeverFaulty files other =
     (direction : Direction) (before after : Progress) (status : Status) (fault : Fault)
     → ReadAlike files other → IsDone direction files before after status → RefusesMine fault.refusal fault other
-    → (fault.refusal ≡ NoMemory) ⊎ (fault.refusal ≡ ReadFailed)
+    → IsUnread fault.refusal
 
 -- two runs over the same texts that their first fault refuses name the same fault: its text is the same
 abbrev pub FaultsOnce : (files other : Files) → Type 0
@@ -114,21 +118,18 @@ PassesReplay files other journal =
     → IsToldReplay other journal other_before other_after other_status
     → TookSame pit_before pit_after other_before other_after × (other_status ≡ status)
 
--- where a run of `solve` used up its budget, `replay` over the same texts and its journal writes nothing; and if it names a count
--- of mergers, it is that budget
+-- where a run of `solve` used up its budget, `replay` over the same texts and its journal answers nothing: it is refused by that
+-- budget with the same count of mergers, for want of memory, or by a failed read
 pub record SpendsReplay (files other : Files) (journal : Reading) : Type 0 where
   pub not_told :
       (mode : Mode) (count : ℕ) (before after other_before other_after : Progress) (other_status : Status)
       → ReadAlike files other → GaveTaken journal before after
       → IsJournaled (AtBudget count) mode files before after → IsToldReplay other journal other_before other_after other_status → ⊥
-  pub same_count :
-      (mode : Mode) (count named : ℕ) (before after : Progress)
+  pub refused :
+      (mode : Mode) (count : ℕ) (before after other_before other_after : Progress) (fault : Fault)
       → ReadAlike files other → GaveTaken journal before after
-      → IsJournaled (AtBudget count) mode files before after → IsJournalSpent other journal named → named ≡ count
-
--- a text was not read for want of memory, or by a failed read
-abbrev pub IsUnread : Refusal → Type 0
-IsUnread refusal = (refusal ≡ NoMemory) ⊎ (refusal ≡ ReadFailed)
+      → IsJournaled (AtBudget count) mode files before after → RefusesReplay fault.refusal fault other journal other_before other_after
+      → (fault.refusal ≡ Exhausted count) ⊎ IsUnread fault.refusal
 
 -- where a run of `solve` wrote its journal, `replay` over the same texts finds no fault in it; and where that run was done, it is
 -- refused for want of memory, or by a failed read or write, alone

@@ -99,9 +99,10 @@ pub fn solve_passes_check<
         (reading (C.progress certificate) (C.progress certificate_end) (C.IsAtEnd certificate_end)) }
 {}
 
-/// Where `replay` ends over the texts of a run of `solve` and the journal that it wrote: with the same pit and the same status
-/// where that run was done, and with no answer where it used up its budget. It finds no fault in that journal; and where that run
-/// was done, it is refused for want of memory, or by a failed read or write, alone.
+/// How `replay` ends over the texts of a run of `solve` and the journal that it wrote. Where that run was done, with the same pit
+/// and the same status, unless it is refused for want of memory, or by a failed read or write. Where it used up its budget, with
+/// a refusal by that budget and the same count of mergers, for want of memory, or by a failed read. It finds no fault in that
+/// journal.
 pub fn solve_passes_replay<
     M: InBytes,
     P: InBytes,

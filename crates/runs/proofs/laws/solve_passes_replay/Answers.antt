@@ -1,5 +1,6 @@
 use Rattle.runs.specs.Solve.{files_of, reading}
-use Rattle.runs.proofs.ReplayOnce.{passes_replay, spends_replay}
+use Rattle.runs.proofs.ReplayOnce.{passes_replay}
+use Rattle.runs.proofs.ReplaySpends.{spends_replay}
 use Rattle.runs.proofs.ReplayTakes.{takes_replay}
 use Rattle.runs.proofs.laws.solve_passes_replay.Goals as goal
 
