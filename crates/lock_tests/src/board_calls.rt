@@ -15,8 +15,8 @@ pub fn answer_one<B: BoardId>(
     worker: u32,
     verdict: Verdict,
 ) -> Option<u32>
-    requires { (0 < worker) × (worker ≤ length holder.old) }
-    ensures { length holder.new ≡ length holder.old }
+    requires { (0 < worker) × (worker ≤ length holder.old.served) }
+    ensures { length holder.new.served ≡ length holder.old.served }
 {
     match board.claim_ask(holder, worker) {
         Some(arc) => {

@@ -16,8 +16,8 @@ fn first_ask<B: BoardId>(
     seat: &mut WorkerSeat<B>,
     holder: &mut HolderSeat<B>,
 ) -> Failed
-    requires one { length holder.old ≡ 1 }
-    ensures one { length holder.new ≡ 1 }
+    requires one { length holder.old.served ≡ 1 }
+    ensures one { length holder.new.served ≡ 1 }
 {
     let asked = ask_for(board, seat, 0) && !ask_for(board, seat, 1);
     let withdrew = board.withdraw(seat);
@@ -35,7 +35,7 @@ fn second_ask<B: BoardId>(
     seat: &mut WorkerSeat<B>,
     holder: &mut HolderSeat<B>,
 ) -> Failed
-    requires one { length holder.old ≡ 1 }
+    requires one { length holder.old.served ≡ 1 }
 {
     let again = ask_for(board, seat, 1);
     let Some(arc) = board.claim_ask(holder, 1) else {
@@ -57,7 +57,7 @@ fn asks_go_back<B: BoardId>(
     seat: &mut WorkerSeat<B>,
     holder: &mut HolderSeat<B>,
 ) -> Failed
-    requires one { length holder.old ≡ 1 }
+    requires one { length holder.old.served ≡ 1 }
 {
     let failed = first_ask(board, seat, holder);
     if failed.is_some() {

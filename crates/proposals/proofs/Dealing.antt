@@ -102,8 +102,8 @@ may_deal n id v q is less s h at = reseat n s h owner h.holder (h.dealt + 1) vie
         (λ (t : get_elem? front j ≡ some u). ⊎_elim
         (λ (x : (j ≡ id) × (dealing v ≡ u)).
         let k : one_more v.holder ≡ Some y = ap (λ (w : Knows). w.holder) x.1 ∙ has in
-        let k' : Some (holder_ledger (q.dealt + 1) q.served) ≡ Some y = sym (ap one_more is) ∙ k in
-        let k'' : holder_ledger (q.dealt + 1) q.served ≡ y = cc in
+        let k' : Some (holder_ledger (q.dealt + 1) q.served q.looks) ≡ Some y = sym (ap one_more is) ∙ k in
+        let k'' : holder_ledger (q.dealt + 1) q.served q.looks ≡ y = cc in
         subst (λ (z : ℕ × HolderLedger). HolderFits h.rows h.holder (h.dealt + 1) z.0 z.1) (λ i. (sym x.0 i, k'' i)) record { own = f.own; count = let c = f.count in omega arith; serves = f.serves })
         (λ (x : (j ≢ id) × (get_elem? s.views j ≡ some u)). absurd (x.0 (sym (h.holders j u y x.1 has).own ∙ f.own)))
         (at_set s.views id j (dealing v) u t))
@@ -222,7 +222,7 @@ may_open n = record {
 
     holders : (j : ℕ) (v : Knows) (q : HolderLedger) → get_elem? (opener n ∷ []) j ≡ some v → v.holder ≡ Some q → HolderFits (replicate n fresh) 0 0 j q
     holders zero v q e is =
-        let k : Some (holder_ledger 0 (replicate n nothing)) ≡ Some q = ap (λ (x : Knows). x.holder) (some-injective (opener n) v e) ∙ is in
-        let k' : holder_ledger 0 (replicate n nothing) ≡ q = cc in
+        let k : Some (holder_ledger 0 (replicate n nothing) []) ≡ Some q = ap (λ (x : Knows). x.holder) (some-injective (opener n) v e) ∙ is in
+        let k' : holder_ledger 0 (replicate n nothing) [] ≡ q = cc in
         subst (λ (z : HolderLedger). HolderFits (replicate n fresh) 0 0 0 z) k' record { own = refl; count = refl; serves = holder_ledgers n }
     holders (suc j) v q e is = absurd (some-ne-none v (sym e))

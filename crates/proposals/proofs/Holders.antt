@@ -14,8 +14,8 @@ use Rattle.proposals.specs.declared.knows.WorkerLedger.{WorkerLedger}
 use Rattle.proposals.specs.declared.knows.Served.{Served}
 use Rattle.proposals.specs.declared.knows.HolderLedger.{HolderLedger}
 use Rattle.proposals.specs.declared.knows.Knows.{Knows}
-use Rattle.proposals.specs.Ledger.{code, reply, arcs, Phase, idle, asks, claims, gave, took, Row, row, SmallAt, fresh, served_of, word_of, asked_at, collected_at, word_at, WorkerFits, HolderFits, Boarded, knows, nothing, holder_ledger, served, answered_to, claimed_from, claiming, answering, unclaiming, Claimed, Reads, Answered, Unclaimed, Meets, Agreed}
-use Rattle.proposals.proofs.Turns.{KeepsWorkerLedger, worker_ledger_kept, arcs_snoc, turn, word_is, still, holder_ledgers_set, St}
+use Rattle.proposals.specs.Ledger.{code, reply, arcs, Phase, idle, asks, claims, gave, took, Row, row, SmallAt, fresh, served_of, word_of, asked_at, collected_at, word_at, WorkerFits, HolderFits, Boarded, knows, nothing, served, answered_to, claimed_from, claiming, answering, unclaiming, serving, looking, Looked, Claimed, Reads, Answered, Unclaimed, Meets, Agreed}
+use Rattle.proposals.proofs.Turns.{KeepsWorkerLedger, worker_ledger_kept, arcs_snoc, turn, word_is, retold, still, holder_ledgers_set, St}
 use Rattle.proposals.proofs.Workers.{low}
 
 abbrev Sat : Type 0
@@ -44,13 +44,13 @@ row_of n s h id i v q r seat is at = ap (λ (l : List Served). get_or l i nothin
 -- a step of the holder, in a row that is not fresh
 serves : (n : ℕ) (s : St) (h : Boarded n s) (id i k : ℕ) (c : List (ℕ × Unit {0})) (v : Knows) (q : HolderLedger) (x : Served) (r r' : Row) → get_elem? s.views id ≡ some v → v.holder ≡ Some q → get_elem? h.rows i ≡ some r
     → k ≡ word_of r' → SmallAt r'.phase → r ≢ fresh → KeepsWorkerLedger r r' → served_of r' ≡ x
-    → Boarded n (stepped s i k id c (knows v.worker (Some (holder_ledger q.dealt (set q.served i x)))) keeps)
+    → Boarded n (stepped s i k id c (knows v.worker (Some (serving q (set q.served i x)))) keeps)
 serves n s h id i k c v q x r r' seat is at word small old keep new =
     let f = h.holders id v q seat is in
     let in_use : i < h.dealt = ⊎_elim (λ (lt : i < h.dealt). lt) (λ (le : h.dealt ≤ i). absurd (old (h.new i r le at))) (below i h.dealt) in
-    turn n s h id i k c r r' (knows v.worker (Some (holder_ledger q.dealt (set q.served i x)))) at word small in_use (inl keep) (inr f.own)
+    turn n s h id i k c r r' (knows v.worker (Some (serving q (set q.served i x)))) at word small in_use (inl keep) (inr f.own)
     (λ d e. mine d e)
-    (λ y e. let same : holder_ledger q.dealt (set q.served i x) ≡ y = cc in subst (λ (z : HolderLedger). HolderFits (set h.rows i r') h.holder h.dealt id z) same record {
+    (λ y e. let same : serving q (set q.served i x) ≡ y = cc in subst (λ (z : HolderLedger). HolderFits (set h.rows i r') h.holder h.dealt id z) same record {
       own = f.own;
       count = f.count;
       serves = ap (λ (l : List Served). set l i x) f.serves ∙ sym (holder_ledgers_set h.rows i r r' at x new);
@@ -91,7 +91,7 @@ module _ (n slots id i : ℕ) (me : Sat) (q : HolderLedger) (is : me.0.holder �
           me.0,
           keeps,
           tt,
-          subst (λ b. Boarded n (stepped s i (either b (8589934592 + a) (get_or s.words i 0)) id me.1 me.0 keeps)) (sym (ne_eqb _ _ ne)) (still n s h id i me.1 me.0 r seat at),
+          subst (λ b. Boarded n (stepped s i (either b (8589934592 + a) (get_or s.words i 0)) id me.1 me.0 keeps)) (sym (ne_eqb _ _ ne)) (still n s h id i me.1 me.0 seat),
           λ y b e f. ((λ hit. absurd (ne hit)), (λ _. refl)),
         )
 
@@ -105,13 +105,13 @@ module _ (n slots id i : ℕ) (me : Sat) (q : HolderLedger) (is : me.0.holder �
         let hit : get_or s.words i 0 ≡ 4294967296 + a = word_is n s h i (row done (asks b)) at ∙ ap (λ (x : ℕ). 4294967296 + x) same in
         let knew : get_or q.served i nothing ≡ served done None = row_of n s h id i me.0 q (row done (asks b)) seat is at in
         let x : Served = served (answered_to q.served i) (Some a) in (
-          knows me.0.worker (Some (holder_ledger q.dealt (set q.served i x))),
+          knows me.0.worker (Some (serving q (set q.served i x))),
           keeps,
           tt,
-          subst (λ y. Boarded n (stepped s i (either y (8589934592 + a) (get_or s.words i 0)) id me.1 (knows me.0.worker (Some (holder_ledger q.dealt (set q.served i x)))) keeps)) (sym (eq-eqb _ _ hit))
+          subst (λ y. Boarded n (stepped s i (either y (8589934592 + a) (get_or s.words i 0)) id me.1 (knows me.0.worker (Some (serving q (set q.served i x)))) keeps)) (sym (eq-eqb _ _ hit))
               (serves n s h id i (8589934592 + a) me.1 me.0 q x (row done (asks b)) (row done (claims a)) seat is at refl small (asks_not_fresh done b) (ap (λ (y : ℕ). arcs done ++ y ∷ []) (sym same), refl)
               (λ k. served (sym (ap (λ (z : Served). z.answered) knew) k) (Some a))),
-          λ y c e f. ((λ _. let g : a ≡ c = omega arith in let m : q ≡ y = cc in (ap (λ (z : HolderLedger). claimed_from z.served i) (sym m) ∙ ap (λ (z : Served). z.claimed) knew, λ k. (knows me.0.worker (Some (holder_ledger (m k).dealt (claiming (m k).served i (g k)))), me.1))), (λ miss. absurd (miss hit))),
+          λ y c e f. ((λ _. let g : a ≡ c = omega arith in let m : q ≡ y = cc in (ap (λ (z : HolderLedger). claimed_from z.served i) (sym m) ∙ ap (λ (z : Served). z.claimed) knew, λ k. (knows me.0.worker (Some (serving (m k) (claiming (m k).served i (g k)))), me.1))), (λ miss. absurd (miss hit))),
         ))
         (λ ne. claims_not s h (row done (asks b)) seat at (λ e. ne (omega arith)))
 
@@ -142,7 +142,7 @@ module _ (n slots id i : ℕ) (me : Sat) (q : HolderLedger) (is : me.0.holder �
           me.0,
           keeps,
           tt,
-          still n s h id i me.1 me.0 (row r.0 (claims a)) seat r.1,
+          still n s h id i me.1 me.0 seat,
           (refl, λ y b e f. let g : q ≡ y = cc in let k : a ≡ b = let m : Some a ≡ Some b = sym has ∙ (ap (λ (z : HolderLedger). claimed_from z.served i) g ∙ f) in cc in (w ∙ ap (λ (z : ℕ). 8589934592 + z) k, subst (λ (z : ℕ). z < 4294967296) k r.2)),
         )
 
@@ -150,26 +150,38 @@ module _ (n slots id i : ℕ) (me : Sat) (q : HolderLedger) (is : me.0.holder �
     may_answer v s h _ seat _ =
         let r = row_claimed s h seat in
         let x : Served = served (answered_to q.served i ++ reply a v ∷ []) None in (
-          knows me.0.worker (Some (holder_ledger q.dealt (set q.served i x))),
+          knows me.0.worker (Some (serving q (set q.served i x))),
           keeps,
           tt,
           serves n s h id i (code v) me.1 me.0 q x (row r.0 (claims a)) (row r.0 (gave (reply a v))) seat is r.1 refl tt (claims_not_fresh r.0 a) (arcs_snoc r.0 (reply a v), refl)
               (λ k. served (sym r.3 k ++ reply a v ∷ []) None),
           λ y b u e f c. let g : q ≡ y = cc in let k : a ≡ b = let m : Some a ≡ Some b = sym has ∙ (ap (λ (z : HolderLedger). claimed_from z.served i) g ∙ f) in cc in
               let same : v ≡ u = same_code v u c in
-              λ j. (knows me.0.worker (Some (holder_ledger (g j).dealt (answering (g j).served i (reply (k j) (same j))))), me.1),
+              λ j. (knows me.0.worker (Some (serving (g j) (answering (g j).served i (reply (k j) (same j))))), me.1),
         )
 
     pub may_unclaim : Allows (Boarded n) slots id me i (λ _. 4294967296 + a) (λ _. Unclaimed (step slots i (4294967296 + a) 0 none) me (4294967296 + a))
     may_unclaim s h _ seat _ =
         let r = row_claimed s h seat in
         let x : Served = served (answered_to q.served i) None in (
-          knows me.0.worker (Some (holder_ledger q.dealt (set q.served i x))),
+          knows me.0.worker (Some (serving q (set q.served i x))),
           keeps,
           tt,
           serves n s h id i (4294967296 + a) me.1 me.0 q x (row r.0 (claims a)) (row r.0 (asks a)) seat is r.1 refl r.2 (claims_not_fresh r.0 a) (refl, refl) (λ k. served (sym r.3 k) None),
-          λ y e. let g : q ≡ y = cc in λ j. (knows me.0.worker (Some (holder_ledger (g j).dealt (unclaiming (g j).served i))), me.1),
+          λ y e. let g : q ≡ y = cc in λ j. (knows me.0.worker (Some (serving (g j) (unclaiming (g j).served i))), me.1),
         )
+
+-- `claim_ask`: a load of the worker's word, which the ledger counts
+pub may_look : (n slots id i : ℕ) (me : Sat) (q : HolderLedger) → me.0.holder ≡ Some q → Allows (Boarded n) slots id me i (λ x. x) (Looked (step slots i 0 0 none) me)
+may_look n slots id i me q is s h _ seat _ =
+    let f = h.holders id me.0 q seat is in (
+      knows me.0.worker (Some (looking q i)),
+      keeps,
+      tt,
+      retold n s h id i me.1 (knows me.0.worker (Some (looking q i))) (λ d e. h.workers id me.0 d seat e)
+          (λ y e. let same : looking q i ≡ y = cc in subst (HolderFits h.rows h.holder h.dealt id) same record { own = f.own; count = f.count; serves = f.serves }),
+      λ y e. let g : q ≡ y = cc in λ j. (knows me.0.worker (Some (looking (g j) i)), me.1),
+    )
 
 -- the two seats as one: what the ledger says of both
 pub may_agree : (n slots id : ℕ) (me : Sat) (d : WorkerLedger) (q : HolderLedger) → me.0.worker ≡ Some d → me.0.holder ≡ Some q → Allows (Boarded n) slots id me d.cell (λ x. x) (Agreed (step slots d.cell 0 0 none) me)
@@ -179,7 +191,7 @@ may_agree n slots id me d q is has s h _ seat _ =
       me.0,
       keeps,
       tt,
-      still n s h id d.cell me.1 me.0 f.at seat f.is,
+      still n s h id d.cell me.1 me.0 seat,
       (
         refl,
         λ x y e g. let same : d ≡ x = cc in let same' : q ≡ y = cc in

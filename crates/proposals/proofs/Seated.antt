@@ -7,14 +7,13 @@ use Rattle.atomic_table.specs.Seated.{TableId}
 use Rattle.atomic_table.specs.declared.shared.Seat.{Seat}
 use Rattle.pit_model.specs.declared.journal.Verdict.{Verdict}
 use Rattle.proposals.specs.declared.knows.WorkerLedger.{WorkerLedger}
-use Rattle.proposals.specs.declared.knows.Served.{Served}
 use Rattle.proposals.specs.declared.knows.HolderLedger.{HolderLedger}
 use Rattle.proposals.specs.declared.knows.Knows.{Knows}
-use Rattle.proposals.specs.Ledger.{code, reply, arcs, Boarded, knows, holder_ledger, nothing, IsIdle, OpenIs, asking, withdrawn, collecting, worker_ledger_or, holder_ledger_or, claiming, answering, unclaiming, claimed_from, Asked, Withdrew, Collected, Claimed, Reads, Answered, Unclaimed, Meets, Agreed, meeting, worker_part, holder_part}
+use Rattle.proposals.specs.Ledger.{code, reply, Boarded, knows, nothing, OpenIs, asking, withdrawn, collecting, worker_ledger_or, holder_ledger_or, claiming, answering, unclaiming, claimed_from, HolderView, serving, looking, Asked, Withdrew, Collected, Looked, Claimed, Reads, Answered, Unclaimed, Meets, Agreed, meeting, worker_part, holder_part}
 use Rattle.proposals.specs.Seats.{worker_ledger_in, holder_ledger_in, IsWorker, IsHolder}
-use Rattle.proposals.proofs.Turns.{longer, arcs_snoc}
+use Rattle.proposals.proofs.Turns.{arcs_snoc}
 use Rattle.proposals.proofs.Workers.{may_ask, may_collect, may_withdraw}
-use Rattle.proposals.proofs.Holders.{may_claim, may_read, may_answer, may_unclaim, may_agree}
+use Rattle.proposals.proofs.Holders.{may_look, may_claim, may_read, may_answer, may_unclaim, may_agree}
 
 abbrev S : Type 0
 S = Seat (Unit {0}) Knows
@@ -79,10 +78,10 @@ module _ (z : TableId) (n slots cell : ℕ) (s : S) where
   pub not_withdrawn_as : (a k : ℕ) (t : S) → IsWorker z cell (Some a) s → t.table_id ≡ s.table_id → Withdrew (step slots cell (4294967296 + a) 0 none) s.me k t.me → k ≢ 4294967296 + a → IsWorker z cell (Some a) t × (worker_ledger_in t ≡ worker_ledger_in s)
   not_withdrawn_as a k t w same told miss = let me = (told (worker_ledger_in s) w.is).1 miss in (same_worker z cell (Some a) s t w same me, ap (λ m. worker_ledger_or m.0.worker) me)
 
--- the holder's seat after a step that left it with these rows
-pub now_holder : (z : TableId) (s t : S) (xs : List Served) → IsHolder z s → t.table_id ≡ s.table_id → t.me ≡ (knows s.me.0.worker (Some (holder_ledger (holder_ledger_in s).dealt xs)), s.me.1) → length xs ≡ z.words → IsHolder z t
-now_holder z s t xs w same me wide =
-    let is : holder_ledger_in t ≡ holder_ledger (holder_ledger_in s).dealt xs = ap (λ m. holder_ledger_or m.0.holder) me in
+-- the holder's seat after a step that left it with this ledger
+pub now_holder : (z : TableId) (s t : S) (q : HolderLedger) → IsHolder z s → t.table_id ≡ s.table_id → t.me ≡ (knows s.me.0.worker (Some q), s.me.1) → length q.served ≡ z.words → IsHolder z t
+now_holder z s t q w same me wide =
+    let is : holder_ledger_in t ≡ q = ap (λ m. holder_ledger_or m.0.holder) me in
     record { table = same ∙ w.table; empty = ap (λ m. m.1) me ∙ w.empty; is = ap (λ m. m.0.holder) me ∙ ap (λ (x : HolderLedger). Some x) (sym is); wide = ap (λ (x : HolderLedger). length x.served) is ∙ wide }
 
 pub same_holder : (z : TableId) (s t : S) → IsHolder z s → t.table_id ≡ s.table_id → t.me ≡ s.me → IsHolder z t
@@ -91,6 +90,14 @@ same_holder z s t w same me =
     record { table = same ∙ w.table; empty = ap (λ m. m.1) me ∙ w.empty; is = ap (λ m. m.0.holder) me ∙ (w.is ∙ ap (λ (x : HolderLedger). Some x) (sym is)); wide = ap (λ (x : HolderLedger). length x.served) is ∙ w.wide }
 
 module _ (z : TableId) (n slots cell : ℕ) (s : S) (h : IsHolder z s) where
+  pub look_as : Allows (Boarded n) slots s.id s.me cell (λ x. x) (Looked (step slots cell 0 0 none) s.me)
+  look_as = may_look n slots s.id cell s.me (holder_ledger_in s) h.is
+
+  pub looked_as : (k : ℕ) (t : S) → t.table_id ≡ s.table_id → Looked (step slots cell 0 0 none) s.me k t.me → IsHolder z t × (holder_ledger_in t ≡ looking (holder_ledger_in s) cell)
+  looked_as k t same told =
+      let me = told (holder_ledger_in s) h.is in
+      (now_holder z s t (looking (holder_ledger_in s) cell) h same me h.wide, ap (λ m. holder_ledger_or m.0.holder) me)
+
   pub claim_as : (word : ℕ) → cell < n → 4294967296 ≤ word → word < 8589934592 → Allows (Boarded n) slots s.id s.me cell (λ x. either (eqb x word) (word + 4294967296) x) (Claimed (step slots cell word (word + 4294967296) none) s.me)
   claim_as word inside low high =
       let a : ℕ = word - 4294967296 in
@@ -99,11 +106,11 @@ module _ (z : TableId) (n slots cell : ℕ) (s : S) (h : IsHolder z s) where
       subst (λ (p : ℕ × ℕ). Allows (Boarded n) slots s.id s.me cell (λ x. either (eqb x p.0) p.1 x) (Claimed (step slots cell p.0 p.1 none) s.me)) (λ i. (e i, f i)) (may_claim n slots s.id cell s.me (holder_ledger_in s) h.is inside a (omega arith))
 
   pub claimed_as : (word k : ℕ) (t : S) → 4294967296 ≤ word → t.table_id ≡ s.table_id → Claimed (step slots cell word (word + 4294967296) none) s.me k t.me → k ≡ word
-      → IsHolder z t × ((holder_ledger_in t).served ≡ claiming (holder_ledger_in s).served cell (word - 4294967296)) × (claimed_from (holder_ledger_in s).served cell ≡ None)
+      → IsHolder z t × (holder_ledger_in t ≡ serving (holder_ledger_in s) (claiming (holder_ledger_in s).served cell (word - 4294967296))) × (claimed_from (holder_ledger_in s).served cell ≡ None)
   claimed_as word k t low same told hit =
       let e : word ≡ 4294967296 + (word - 4294967296) = omega arith in
       let got = (told (holder_ledger_in s) (word - 4294967296) h.is e).0 hit in
-      (now_holder z s t (claiming (holder_ledger_in s).served cell (word - 4294967296)) h same got.1 (length-set (holder_ledger_in s).served cell _ ∙ h.wide), ap (λ m. (holder_ledger_or m.0.holder).served) got.1, got.0)
+      (now_holder z s t (serving (holder_ledger_in s) (claiming (holder_ledger_in s).served cell (word - 4294967296))) h same got.1 (length-set (holder_ledger_in s).served cell _ ∙ h.wide), ap (λ m. holder_ledger_or m.0.holder) got.1, got.0)
 
   pub not_claimed_as : (word k : ℕ) (t : S) → 4294967296 ≤ word → t.table_id ≡ s.table_id → Claimed (step slots cell word (word + 4294967296) none) s.me k t.me → k ≢ word → IsHolder z t × (holder_ledger_in t ≡ holder_ledger_in s)
   not_claimed_as word k t low same told miss =
@@ -118,22 +125,22 @@ module _ (z : TableId) (n slots cell : ℕ) (s : S) (h : IsHolder z s) where
     pub answer_as : (v : Verdict) (k : ℕ) → cell < n → k ≡ code v → Allows (Boarded n) slots s.id s.me cell (λ _. k) (λ _. Answered (step slots cell k 0 none) s.me k)
     answer_as v k inside e = subst (λ (x : ℕ). Allows (Boarded n) slots s.id s.me cell (λ _. x) (λ _. Answered (step slots cell x 0 none) s.me x)) (sym e) (may_answer n slots s.id cell s.me (holder_ledger_in s) h.is inside a has v)
 
-    pub answered_as : (v : Verdict) (k : ℕ) (t : S) → k ≡ code v → t.table_id ≡ s.table_id → Answered (step slots cell k 0 none) s.me k t.me → IsHolder z t × ((holder_ledger_in t).served ≡ answering (holder_ledger_in s).served cell (reply a v))
+    pub answered_as : (v : Verdict) (k : ℕ) (t : S) → k ≡ code v → t.table_id ≡ s.table_id → Answered (step slots cell k 0 none) s.me k t.me → IsHolder z t × (holder_ledger_in t ≡ serving (holder_ledger_in s) (answering (holder_ledger_in s).served cell (reply a v)))
     answered_as v k t e same told =
         let me = told (holder_ledger_in s) a v h.is has e in
-        (now_holder z s t (answering (holder_ledger_in s).served cell (reply a v)) h same me (length-set (holder_ledger_in s).served cell _ ∙ h.wide), ap (λ m. (holder_ledger_or m.0.holder).served) me)
+        (now_holder z s t (serving (holder_ledger_in s) (answering (holder_ledger_in s).served cell (reply a v))) h same me (length-set (holder_ledger_in s).served cell _ ∙ h.wide), ap (λ m. holder_ledger_or m.0.holder) me)
 
     pub unclaim_as : (k : ℕ) → cell < n → k ≡ 4294967296 + a → Allows (Boarded n) slots s.id s.me cell (λ _. k) (λ _. Unclaimed (step slots cell k 0 none) s.me k)
     unclaim_as k inside e = subst (λ (x : ℕ). Allows (Boarded n) slots s.id s.me cell (λ _. x) (λ _. Unclaimed (step slots cell x 0 none) s.me x)) (sym e) (may_unclaim n slots s.id cell s.me (holder_ledger_in s) h.is inside a has)
 
-    pub unclaimed_as : (k : ℕ) (t : S) → t.table_id ≡ s.table_id → Unclaimed (step slots cell k 0 none) s.me k t.me → IsHolder z t × ((holder_ledger_in t).served ≡ unclaiming (holder_ledger_in s).served cell)
+    pub unclaimed_as : (k : ℕ) (t : S) → t.table_id ≡ s.table_id → Unclaimed (step slots cell k 0 none) s.me k t.me → IsHolder z t × (holder_ledger_in t ≡ serving (holder_ledger_in s) (unclaiming (holder_ledger_in s).served cell))
     unclaimed_as k t same told =
         let me = told (holder_ledger_in s) h.is in
-        (now_holder z s t (unclaiming (holder_ledger_in s).served cell) h same me (length-set (holder_ledger_in s).served cell _ ∙ h.wide), ap (λ m. (holder_ledger_or m.0.holder).served) me)
+        (now_holder z s t (serving (holder_ledger_in s) (unclaiming (holder_ledger_in s).served cell)) h same me (length-set (holder_ledger_in s).served cell _ ∙ h.wide), ap (λ m. holder_ledger_or m.0.holder) me)
 
 -- the worker w has a cell
-pub cell_in : (z t : TableId) (xs ys : List Served) (w : ℕ) → t ≡ z → length xs ≡ z.words → xs ≡ ys → 0 < w → w ≤ length ys → w - 1 < t.words
-cell_in z t xs ys w e wide same low high = let a : t.words ≡ z.words = ap (λ (x : TableId). x.words) e in omega (arith, ap length same)
+pub cell_in : (z t : TableId) (xs ys : HolderView) (w : ℕ) → t ≡ z → length xs.served ≡ z.words → xs ≡ ys → 0 < w → w ≤ length ys.served → w - 1 < t.words
+cell_in z t xs ys w e wide same low high = let a : t.words ≡ z.words = ap (λ (x : TableId). x.words) e in omega (arith, ap (λ (x : HolderView). length x.served) same)
 
 -- what follows from a join of the holder's seat t into the worker's seat s
 pub agree_as : (z : TableId) (n slots cell : ℕ) (ask : Option ℕ) (s t u : S) → IsWorker z cell ask s → IsHolder z t → u.me ≡ (meeting s.me.0 t.me.0, s.me.1) → Allows (Boarded n) slots u.id u.me cell (λ x. x) (Agreed (step slots cell 0 0 none) u.me)

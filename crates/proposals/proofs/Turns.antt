@@ -6,6 +6,7 @@ use mathlib.Core.List.{map-append}
 use native.Mathlib.Decide.{ℕ_discrete}
 use lib.ListN.{get_elem?}
 use lib.Seq.{map-set}
+use Rattle.std.proofs.lemmas.List.{set-get_or}
 use Rattle.atomic_table.specs.Table.{State, keeps, stepped}
 use Rattle.atomic_table.proofs.Lists.{at_set, set_here, set_else, set_again, at_map}
 use Rattle.proposals.specs.declared.verdict.Reply.{Reply}
@@ -120,9 +121,30 @@ works n s h id k c v d d' r r' seat is at word small served cell asked' collecte
     })
     (λ q e. let g = h.holders id v q seat e in record { own = g.own; count = g.count; serves = g.serves ∙ sym (holder_ledgers_same h.rows d.cell r r' at served) })
 
+-- a step that changes no word: the seat id has the view w
+pub retold : (n : ℕ) (s : St) (h : Boarded n s) (id i : ℕ) (c : List (ℕ × Unit {0})) (w : Knows)
+    → ((d : WorkerLedger) → w.worker ≡ Some d → WorkerFits h.rows h.owner h.dealt id d)
+    → ((q : HolderLedger) → w.holder ≡ Some q → HolderFits h.rows h.holder h.dealt id q)
+    → Boarded n (stepped s i (get_or s.words i 0) id c w keeps)
+retold n s h id i c w mine holds = record {
+  rows = h.rows;
+  owner = h.owner;
+  holder = h.holder;
+  dealt = h.dealt;
+  words = set-get_or s.words i 0 ∙ h.words;
+  wide = h.wide;
+  small = h.small;
+  new = h.new;
+  workers = λ j v d e is. ⊎_elim
+      (λ (t : (j ≡ id) × (w ≡ v)). subst (λ (z : ℕ). WorkerFits h.rows h.owner h.dealt z d) (sym t.0) (mine d (ap (λ (x : Knows). x.worker) t.1 ∙ is)))
+      (λ (t : (j ≢ id) × (get_elem? s.views j ≡ some v)). h.workers j v d t.1 is)
+      (at_set s.views id j w v e);
+  holders = λ j v q e is. ⊎_elim
+      (λ (t : (j ≡ id) × (w ≡ v)). subst (λ (z : ℕ). HolderFits h.rows h.holder h.dealt z q) (sym t.0) (holds q (ap (λ (x : Knows). x.holder) t.1 ∙ is)))
+      (λ (t : (j ≢ id) × (get_elem? s.views j ≡ some v)). h.holders j v q t.1 is)
+      (at_set s.views id j w v e);
+}
+
 -- a step that changes nothing
-pub still : (n : ℕ) (s : St) (h : Boarded n s) (id i : ℕ) (c : List (ℕ × Unit {0})) (v : Knows) (r : Row) → get_elem? s.views id ≡ some v → get_elem? h.rows i ≡ some r → Boarded n (stepped s i (get_or s.words i 0) id c v keeps)
-still n s h id i c v r seat at =
-    subst (λ (l : List ℕ × List Knows). Boarded n record { words = l.0; homes = s.homes; views = l.1 })
-    (λ k. (sym (ap (λ (x : ℕ). set s.words i x) (word_is n s h i r at) ∙ (ap (λ (l : List ℕ). set l i (word_of r)) h.words ∙ (set_again (map word_of h.rows) i (word_of r) (at_map word_of h.rows i r at) ∙ sym h.words))) k, sym (set_again s.views id v seat) k))
-    h
+pub still : (n : ℕ) (s : St) (h : Boarded n s) (id i : ℕ) (c : List (ℕ × Unit {0})) (v : Knows) → get_elem? s.views id ≡ some v → Boarded n (stepped s i (get_or s.words i 0) id c v keeps)
+still n s h id i c v seat = retold n s h id i c v (λ d e. h.workers id v d seat e) (λ q e. h.holders id v q seat e)

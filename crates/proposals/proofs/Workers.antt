@@ -61,7 +61,7 @@ module _ (n slots id a : ℕ) (me : Sat) (d : WorkerLedger) (is : me.0.worker �
 
   collects_not : (s : St) (h : Boarded n s) (r : Row) → get_elem? s.views id ≡ some me.0 → get_elem? h.rows d.cell ≡ some r → 4 ≤ word_at r.phase → Collects s
   collects_not s h r seat at high =
-      (me.0, keeps, tt, still n s h id d.cell me.1 me.0 r seat at, λ x b e o. ((λ lt. absurd (let w = word_is n s h d.cell r at in omega arith)), (λ _. refl)))
+      (me.0, keeps, tt, still n s h id d.cell me.1 me.0 seat, λ x b e o. ((λ lt. absurd (let w = word_is n s h d.cell r at in omega arith)), (λ _. refl)))
 
   collects_at : (s : St) (h : Boarded n s) (done : List Reply) (p : Phase) → get_elem? s.views id ≡ some me.0 → get_elem? h.rows d.cell ≡ some (row done p) → d.asked ≡ asked_at done p → d.collected ≡ collected_at done p → Collects s
   collects_at s h done idle seat at q k = absurd (longer (arcs done) a (ap (λ l. arcs l ++ a ∷ []) (sym k) ∙ (sym open_is ∙ q)))
@@ -92,7 +92,7 @@ module _ (n slots id a : ℕ) (me : Sat) (d : WorkerLedger) (is : me.0.worker �
         me.0,
         keeps,
         tt,
-        subst (λ b. Boarded n (stepped s d.cell (either b 0 (get_or s.words d.cell 0)) id me.1 me.0 keeps)) (sym (ne_eqb _ _ ne)) (still n s h id d.cell me.1 me.0 r seat at),
+        subst (λ b. Boarded n (stepped s d.cell (either b 0 (get_or s.words d.cell 0)) id me.1 me.0 keeps)) (sym (ne_eqb _ _ ne)) (still n s h id d.cell me.1 me.0 seat),
         λ x e. ((λ hit. absurd (ne hit)), (λ _. refl)),
       )
 

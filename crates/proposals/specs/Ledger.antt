@@ -131,11 +131,11 @@ knows w h = record { worker = w; holder = h }
 abbrev pub worker_ledger : ℕ → List ℕ → List Reply → WorkerLedger
 worker_ledger i q k = record { cell = i; asked = q; collected = k }
 
-abbrev pub holder_ledger : ℕ → List Served → HolderLedger
-holder_ledger n ss = record { dealt = n; served = ss }
+abbrev pub holder_ledger : ℕ → List Served → List ℕ → HolderLedger
+holder_ledger n ss ls = record { dealt = n; served = ss; looks = ls }
 
 abbrev pub opener : ℕ → Knows
-opener n = knows None (Some (holder_ledger 0 (replicate n nothing)))
+opener n = knows None (Some (holder_ledger 0 (replicate n nothing) []))
 
 abbrev pub nobody : Knows
 nobody = knows None None
@@ -195,18 +195,29 @@ answering ss i r = set ss i (served (answered_to ss i ++ r ∷ []) None)
 abbrev pub unclaiming : List Served → ℕ → List Served
 unclaiming ss i = set ss i (served (answered_to ss i) None)
 
+-- the holder's ledger where what it did is this
+abbrev pub serving : HolderLedger → List Served → HolderLedger
+serving q ss = holder_ledger q.dealt ss q.looks
+
+-- and where it has looked for an ask in one cell more
+abbrev pub looking : HolderLedger → ℕ → HolderLedger
+looking q i = holder_ledger q.dealt q.served (q.looks ++ i ∷ [])
+
+abbrev pub Looked : At → Sat → ℕ → Sat → Type 0
+Looked st m n m' = (q : HolderLedger) → m.0.holder ≡ Some q → m' ≡ (knows m.0.worker (Some (looking q st.word)), m.1)
+
 abbrev pub Claimed : At → Sat → ℕ → Sat → Type 0
 Claimed st m n m' = (q : HolderLedger) (a : ℕ) → m.0.holder ≡ Some q → st.first ≡ 4294967296 + a
-    → (n ≡ st.first → (claimed_from q.served st.word ≡ None) × (m' ≡ (knows m.0.worker (Some (holder_ledger q.dealt (claiming q.served st.word a))), m.1))) × (n ≢ st.first → m' ≡ m)
+    → (n ≡ st.first → (claimed_from q.served st.word ≡ None) × (m' ≡ (knows m.0.worker (Some (serving q (claiming q.served st.word a))), m.1))) × (n ≢ st.first → m' ≡ m)
 
 abbrev pub Reads : At → Sat → ℕ → Sat → Type 0
 Reads st m n m' = (m' ≡ m) × ((q : HolderLedger) (a : ℕ) → m.0.holder ≡ Some q → claimed_from q.served st.word ≡ Some a → (n ≡ 8589934592 + a) × (a < 4294967296))
 
 abbrev pub Answered : At → Sat → ℕ → Sat → Type 0
-Answered st m n m' = (q : HolderLedger) (a : ℕ) (v : Verdict) → m.0.holder ≡ Some q → claimed_from q.served st.word ≡ Some a → n ≡ code v → m' ≡ (knows m.0.worker (Some (holder_ledger q.dealt (answering q.served st.word (reply a v)))), m.1)
+Answered st m n m' = (q : HolderLedger) (a : ℕ) (v : Verdict) → m.0.holder ≡ Some q → claimed_from q.served st.word ≡ Some a → n ≡ code v → m' ≡ (knows m.0.worker (Some (serving q (answering q.served st.word (reply a v)))), m.1)
 
 abbrev pub Unclaimed : At → Sat → ℕ → Sat → Type 0
-Unclaimed st m n m' = (q : HolderLedger) → m.0.holder ≡ Some q → m' ≡ (knows m.0.worker (Some (holder_ledger q.dealt (unclaiming q.served st.word))), m.1)
+Unclaimed st m n m' = (q : HolderLedger) → m.0.holder ≡ Some q → m' ≡ (knows m.0.worker (Some (serving q (unclaiming q.served st.word))), m.1)
 
 -- Meeting: what the ledger says of a worker's seat and the holder's seat together
 abbrev pub Meets : WorkerLedger → Served → Type 0
@@ -223,7 +234,7 @@ sat st m n m' = m'.0 ≡ nobody
 -- The holder's seat gives the next worker a seat.
 abbrev pub one_more : Option HolderLedger → Option HolderLedger
 one_more None = None
-one_more (Some q) = Some (holder_ledger (q.dealt + 1) q.served)
+one_more (Some q) = Some (holder_ledger (q.dealt + 1) q.served q.looks)
 
 abbrev pub newcomer : Option HolderLedger → Option WorkerLedger
 newcomer None = None
@@ -251,8 +262,17 @@ worker_ledger_or None = worker_ledger 0 [] []
 worker_ledger_or (Some d) = d
 
 abbrev pub holder_ledger_or : Option HolderLedger → HolderLedger
-holder_ledger_or None = holder_ledger 0 []
+holder_ledger_or None = holder_ledger 0 [] []
 holder_ledger_or (Some q) = q
+
+-- the holder's seat, to a contract: for each worker what was answered to it and what is claimed from it, and the cells in which the
+-- holder looked for an ask, in order
+pub record HolderView : Type 0 where
+  pub served : List Served
+  pub looks : List ℕ
+
+abbrev pub holder_view : HolderLedger → HolderView
+holder_view q = record { served = q.served; looks = q.looks }
 
 -- what a worker's seat remembers of its open ask
 abbrev pub OpenIs : Option ℕ → WorkerLedger → Type 0

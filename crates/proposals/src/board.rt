@@ -74,7 +74,7 @@ impl UnnamedBoard {
 
 impl<B: BoardId> Board<B> {
     /// The board under the name `B`, with a seat for each worker, in order, and the holder's, on which so many arcs may be
-    /// asked for. Nothing was asked, answered or collected, and nothing is claimed.
+    /// asked for. Nothing was asked, answered or collected, nothing is claimed, and no word was looked at.
     /// Errors: `NoMemory` where memory for the seats was refused.
     pub fn new(
         alloc: Global,
@@ -84,7 +84,8 @@ impl<B: BoardId> Board<B> {
         requires board { unnamed ≡ B.board }
         requires arcs { arcs ≡ B.arcs }
         ensures workers { IfOk result (λ made. made.1.items ≡ worker_ledgers unnamed.words) }
-        ensures holder { IfOk result (λ made. made.2 ≡ replicate unnamed.words nothing) }
+        ensures holder { IfOk result (λ made. made.2.served ≡ replicate unnamed.words nothing) }
+        ensures looks { IfOk result (λ made. made.2.looks ≡ []) }
         ensures refused { IfErr result (λ fault. fault ≡ no_memory) }
     {
         let UnnamedBoard {
@@ -125,7 +126,7 @@ impl<B: BoardId> Board<B> {
 
     /// The number of workers.
     pub fn workers(&self, holder: &HolderSeat<B>) -> u32
-        ensures { result ≡ length holder.now }
+        ensures { result ≡ length holder.now.served }
     {
         let _ = &holder.seat;
         self.cells.word_count() as u32

@@ -16,10 +16,11 @@ pub struct Served {
     pub claimed: Option<u32>,
 }
 
-/// What the holder knows: how many workers have a seat, and what it did for each.
+/// What the holder knows: how many workers have a seat, what it did for each, and the cells in which it looked for an ask, in order.
 pub struct HolderLedger {
     pub dealt: u64,
     pub served: LinkedList<Served>,
+    pub looks: LinkedList<u64>,
 }
 
 /// What a seat knows. Each part is there or not, so that a worker's seat and the holder's can be one for a while.

@@ -26,7 +26,8 @@ impl<B: BoardId> Model for WorkerSeat<B> {
     ghost invariant = { λ s. IsWorker B.board s.cell s.ask s.seat };
 }
 
-/// The holder's seat. To a contract it is, for each worker, what was answered to it and what is claimed from it.
+/// The holder's seat. To a contract it is, for each worker, what was answered to it and what is claimed from it, and the cells in
+/// which the holder looked for an ask, in order.
 #[derive(Drop)]
 pub struct HolderSeat<B: BoardId> {
     pub(crate) seat: Seat<(), Knows>,
@@ -34,14 +35,13 @@ pub struct HolderSeat<B: BoardId> {
 }
 
 impl<B: BoardId> Model for HolderSeat<B> {
-    ghost use Rattle.std.specs.Prelude.{List};
-    ghost use Rattle.proposals.specs.declared.knows.Served.{Served};
+    ghost use Rattle.proposals.specs.Ledger.{HolderView, holder_view};
 
-    ghost Value = { List Served };
+    ghost Value = { HolderView };
 
     ghost use Rattle.proposals.specs.Seats.{holder_ledger_in, IsHolder};
 
-    ghost view = { λ s. (holder_ledger_in s.seat).served };
+    ghost view = { λ s. holder_view (holder_ledger_in s.seat) };
 
     ghost invariant = { λ s. IsHolder B.board s.seat };
 }

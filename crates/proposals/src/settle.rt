@@ -15,7 +15,7 @@ impl<B: BoardId> Board<B> {
     /// and the collected replies are the answered ones, or those without a last one that is still open.
     pub fn settle(&self, worker: &mut WorkerSeat<B>, holder: &mut HolderSeat<B>)
         ensures same { (worker.new ≡ worker.old) × (holder.new ≡ holder.old) }
-        ensures meets { Meets worker.old (slice_index_or holder.old worker.old.cell nothing) }
+        ensures meets { Meets worker.old (slice_index_or holder.old.served worker.old.cell nothing) }
     {
         let shared = &self.cells.shared;
         let cell = worker.cell as usize;

@@ -38,6 +38,15 @@ impl Play<(), Knows> for Collect {
     ghost then = { Collected };
 }
 
+/// The holder looks for an ask in a worker's word.
+pub(crate) struct Look;
+
+impl Play<(), Knows> for Look {
+    ghost use Rattle.proposals.specs.Ledger.{Looked};
+
+    ghost then = { Looked };
+}
+
 pub(crate) struct Claim;
 
 impl Play<(), Knows> for Claim {

@@ -25,7 +25,7 @@ fn asks_go_back<B: BoardId>(
     holder: &mut HolderSeat<B>,
 ) -> Option<&'static str>
     requires arcs { 1 < B.arcs }
-    requires worker { 0 < length holder.old }
+    requires worker { 0 < length holder.old.served }
 {
     if !board.ask(seat, 0) || board.ask(seat, 1) {
         return Some("one ask stands, and no second");

@@ -1,9 +1,11 @@
--- A pass over the board that has come to a worker: the entries so far stand under rising seats up to it.
-use Rattle.std.proofs.Common.{◌≡◌, ℕ, ◌+◌, ◌<◌, ◌≤◌, true, List, [], ◌∷◌, ◌++◌, length, append_assoc, append-nil, sym, refl, ap, ◌∙◌, subst, arith, length-append}
+-- A pass over the board that has come to a worker: the entries so far stand under rising seats up to it,
+-- and each word up to it was looked at.
+use Rattle.std.proofs.Common.{◌≡◌, ℕ, zero, suc, add-one, ◌+◌, ◌-◌, ◌<◌, ◌≤◌, true, List, [], ◌∷◌, ◌++◌, length, append_assoc, append-nil, sym, refl, ap, ◌∙◌, subst, arith, length-append}
+use Rattle.std.specs.List.{range_with_len}
 use Rattle.pit_model.specs.declared.journal.Entry.{Entry}
 use Rattle.tree_lock.specs.Kept.{entry_of}
-use Rattle.tree_lock.specs.Held.{Held}
-use Rattle.tree_lock.specs.Served.{AreRisingSeats, Serves, ServesOne}
+use Rattle.tree_lock.specs.Held.{Held, with_look}
+use Rattle.tree_lock.specs.Served.{LooksAtFirst, AreRisingSeats, Serves, ServesOne}
 
 abbrev pub AreUpTo : ℕ → List Entry → Type 0
 AreUpTo w [] = Unit {0}
@@ -12,6 +14,7 @@ AreUpTo w (e ∷ es) = (e.seat ≤ w) × AreUpTo w es
 pub record HasCome (w n : ℕ) (h k : Held) : Type 0 where
   pub served : Serves h k n
   pub upto : AreUpTo w served.more
+  pub looked : LooksAtFirst w h k
 
 further : (w v : ℕ) (es : List Entry) → w ≤ v → AreUpTo w es → AreUpTo v es
 further w v [] le u = tt
@@ -25,11 +28,32 @@ rising_snoc : (v w : ℕ) (es : List Entry) (e : Entry) → v ≤ w → AreRisin
 rising_snoc v w [] e le r u lt = (omega arith, tt)
 rising_snoc v w (x ∷ xs) e le r u lt = (r.0, rising_snoc x.seat w xs e u.0 r.1 u.1 lt)
 
-pub begins : (h : Held) → HasCome 0 0 h h
-begins h = record { served = record { more = []; journal = sym (append-nil h.journal); counted = refl; rising = tt; mine = refl; budget = refl }; upto = tt }
+range_more : (a n b : ℕ) → a + n ≡ b → range_with_len a (suc n) ≡ range_with_len a n ++ b ∷ []
+range_more a zero b e = let same : a ≡ b = omega arith in ap (λ (x : ℕ). x ∷ []) same
+range_more a (suc n) b e = ap (λ (l : List ℕ). a ∷ l) (range_more (a + 1) n b (omega arith))
 
-pub skips : (w n : ℕ) (h k k' : Held) → HasCome w n h k → k' ≡ k → HasCome (w + 1) n h k'
-skips w n h k k' s e = subst (HasCome (w + 1) n h) (sym e) record { served = s.served; upto = further w (w + 1) s.served.more (omega arith) s.upto }
+-- a look at the word of the next worker
+looks_on : (w : ℕ) (h k : Held) → LooksAtFirst w h k → k.looks ++ ((w + 1) - 1) ∷ [] ≡ h.looks ++ range_with_len 0 (w + 1)
+looks_on w h k s =
+    let cell : (w + 1) - 1 ≡ w = omega arith in
+    ap (λ (l : List ℕ). l ++ ((w + 1) - 1) ∷ []) s
+    ∙ (append_assoc h.looks (range_with_len 0 w) (((w + 1) - 1) ∷ [])
+    ∙ ap (λ (l : List ℕ). h.looks ++ l) (ap (λ (x : ℕ). range_with_len 0 w ++ x ∷ []) cell ∙ sym (ap (range_with_len 0) (add-one w) ∙ range_more 0 w w (omega arith))))
+
+pub begins : (h : Held) → HasCome 0 0 h h
+begins h = record {
+  served = record { more = []; journal = sym (append-nil h.journal); counted = refl; rising = tt; mine = refl; budget = refl };
+  upto = tt;
+  looked = sym (append-nil h.looks);
+}
+
+-- a look that nothing came of
+pub skips : (w n : ℕ) (h k k' : Held) → HasCome w n h k → k' ≡ with_look k ((w + 1) - 1) → HasCome (w + 1) n h k'
+skips w n h k k' s e = let f = s.served in subst (HasCome (w + 1) n h) (sym e) record {
+  served = record { more = f.more; journal = f.journal; counted = f.counted; rising = f.rising; mine = f.mine; budget = f.budget };
+  upto = further w (w + 1) f.more (omega arith) s.upto;
+  looked = looks_on w h k s.looked;
+}
 
 pub adds : (w n : ℕ) (h k k' : Held) → HasCome w n h k → ServesOne (w + 1) k k' true → HasCome (w + 1) (n + 1) h k'
 adds w n h k k' s d =
@@ -45,6 +69,7 @@ adds w n h k k' s d =
         budget = f.budget;
       };
       upto = upto_snoc (w + 1) f.more e (further w (w + 1) f.more (omega arith) s.upto) (omega arith);
+      looked = looks_on w h k s.looked;
     }
 
 few : (v w : ℕ) (es : List Entry) → v ≤ w → AreRisingSeats v es → AreUpTo w es → v + length es ≤ w

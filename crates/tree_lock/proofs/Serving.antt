@@ -8,14 +8,14 @@ use Rattle.std.proofs.lemmas.List.{set-get_or}
 use Rattle.std.proofs.lemmas.List.Elements.{All-push}
 use Rattle.proposals.specs.declared.verdict.Reply.{Reply}
 use Rattle.proposals.specs.declared.knows.Served.{Served}
-use Rattle.proposals.specs.Ledger.{reply, served, nothing, answered_to, claimed_from, claiming, answering, unclaiming}
+use Rattle.proposals.specs.Ledger.{HolderView, reply, served, nothing, answered_to, claimed_from, claiming, answering, unclaiming}
 use Rattle.pit_model.specs.declared.journal.Verdict.{Verdict}
 use Rattle.pit_model.specs.declared.journal.Entry.{Entry}
 use Rattle.pit_model.specs.Mine.{Instance, arcs}
 use Rattle.pit_model.specs.Version.{arcs_after}
 use Rattle.pit_model.proofs.Versions.{version_tree-after}
 use Rattle.tree_lock.specs.Kept.{Kept, entry_of, Keeps}
-use Rattle.tree_lock.specs.Held.{held_by, seats_after, Decides, DecidesFor}
+use Rattle.tree_lock.specs.Held.{held_by, seats_after, with_look, Decides, DecidesFor}
 use Rattle.tree_lock.specs.Served.{replies_under, IsUnderSeat, IsServed}
 
 replies-snoc : (s : ℕ) (es : List Entry) (e : Entry) → replies_under s (es ++ e ∷ []) ≡ cond (eqb s e.seat) (replies_under s es ++ reply e.arc e.verdict ∷ []) (replies_under s es)
@@ -103,18 +103,19 @@ given_back ss i a lt free =
 
 -- what a book decided, the holder decided
 pub decided :
-    (mine : Instance) (k k' : Kept) (ss ss' : List Served) (s a : ℕ) (v : Verdict) → Keeps mine s a k k' v → ss' ≡ seats_after ss (entry_of s a v)
-    → DecidesFor s a (held_by mine k ss) (held_by mine k' ss') v
-decided mine k k' ss ss' s a v keeps seats =
+    (mine : Instance) (k k' : Kept) (seat seat' : HolderView) (s a : ℕ) (v : Verdict) → Keeps mine s a k k' v → seat'.served ≡ seats_after seat.served (entry_of s a v) → seat'.looks ≡ seat.looks
+    → DecidesFor s a (held_by mine k seat) (held_by mine k' seat') v
+decided mine k k' seat seat' s a v keeps seats looks =
     let entry : Entry = entry_of s a v in (
       keeps.0,
-      (λ i. held_by mine (keeps.1 i) (seats i)) ∙ (λ i. record {
+      (λ i. held_by mine (keeps.1 i) (record { served = seats i; looks = looks i })) ∙ (λ i. record {
         mine = mine;
         tree = version_tree-after mine k.published entry i;
         journal = k.journal ++ entry ∷ [];
         budget = k.budget;
         published = arcs_after k.published entry;
-        seats = seats_after ss entry;
+        seats = seats_after seat.served entry;
+        looks = seat.looks;
       }),
     )
 
@@ -128,9 +129,9 @@ after_apply mine k k' workers asked ss a (Ok v) ok err is below =
 after_apply mine k k' workers asked ss a (Err e) ok err is below =
     (subst (λ (x : Kept). IsServed mine x.journal workers asked ss) (sym err.1) is, ap (λ (x : Kept). x.budget) err.1)
 
-pub applied : (mine : Instance) (k k' : Kept) (ss : List Served) (a : ℕ) (r : Result Verdict Fault) → IfOk r (Keeps mine 0 a k k') → IfOk r (Decides a (held_by mine k ss) (held_by mine k' ss))
-applied mine k k' ss a (Ok v) ok = decided mine k k' ss ss 0 a v ok refl
-applied mine k k' ss a (Err e) ok = tt
+pub applied : (mine : Instance) (k k' : Kept) (seat : HolderView) (a : ℕ) (r : Result Verdict Fault) → IfOk r (Keeps mine 0 a k k') → IfOk r (Decides a (held_by mine k seat) (held_by mine k' seat))
+applied mine k k' seat a (Ok v) ok = decided mine k k' seat seat 0 a v ok refl refl
+applied mine k k' seat a (Err e) ok = tt
 
 -- the seat after an ask was claimed and answered
 pub seats_answered :
@@ -161,5 +162,6 @@ seats_returned ss xs ys w a low high free claim back =
     let lt : w - 1 < length ss = omega arith in
     back ∙ (ap (λ l. unclaiming l (w - 1)) claim ∙ given_back ss (w - 1) a lt free)
 
-pub returned : (mine : Instance) (k k' : Kept) (ss ys : List Served) → k' ≡ k → ys ≡ ss → held_by mine k' ys ≡ held_by mine k ss
-returned mine k k' ss ys kept seats = λ i. held_by mine (kept i) (seats i)
+-- after a look that changed nothing else
+pub looked : (mine : Instance) (k k' : Kept) (seat seat' : HolderView) (cell : ℕ) → k' ≡ k → seat'.served ≡ seat.served → seat'.looks ≡ seat.looks ++ cell ∷ [] → held_by mine k' seat' ≡ with_look (held_by mine k seat) cell
+looked mine k k' seat seat' cell kept seats looks = λ i. held_by mine (kept i) (record { served = seats i; looks = looks i })

@@ -1,8 +1,9 @@
 -- What the holder of the lock has: the tree of an instance, the journal of what was decided, the budget of mergers, the arcs of
--- the mergers that readers see, and for each worker what was answered to it and what is claimed from it.
+-- the mergers that readers see, for each worker what was answered to it and what is claimed from it, and the cells of the workers whose
+-- words it looked at, in order.
 use Rattle.std.specs.Prelude.{◌≡◌, ℕ, ◌-◌, ◌==◌, if◌then◌else◌, [], ◌∷◌, ◌++◌, List, Option}
 use Rattle.proposals.specs.declared.knows.Served.{Served}
-use Rattle.proposals.specs.Ledger.{reply, answering}
+use Rattle.proposals.specs.Ledger.{HolderView, reply, answering}
 use Rattle.pit_model.specs.declared.journal.Verdict.{Verdict}
 use Rattle.pit_model.specs.declared.journal.Entry.{Entry}
 use Rattle.pit_model.specs.Mine.{Instance}
@@ -18,21 +19,23 @@ pub record Held : Type 0 where
   pub budget : Option ℕ
   pub published : List ℕ
   pub seats : List Served
+  pub looks : List ℕ
 
 -- the opening tree, with nothing decided yet
-abbrev pub opened : Instance → Option ℕ → List Served → Held
-opened mine budget seats =
-    record { mine = mine; tree = opening mine; journal = []; budget = budget; published = []; seats = seats }
+abbrev pub opened : Instance → Option ℕ → HolderView → Held
+opened mine budget seat =
+    record { mine = mine; tree = opening mine; journal = []; budget = budget; published = []; seats = seat.served; looks = seat.looks }
 
 -- what a book keeps, with the tree of the published mergers and the seat at the board
-abbrev pub held_by : Instance → Kept → List Served → Held
-held_by mine kept seats = record {
+abbrev pub held_by : Instance → Kept → HolderView → Held
+held_by mine kept seat = record {
   mine = mine;
   tree = version_tree mine kept.published;
   journal = kept.journal;
   budget = kept.budget;
   published = kept.published;
-  seats = seats;
+  seats = seat.served;
+  looks = seat.looks;
 }
 
 -- what is to be decided of an arc now
@@ -53,6 +56,19 @@ with_entry before entry = record {
   budget = before.budget;
   published = arcs_after before.published entry;
   seats = seats_after before.seats entry;
+  looks = before.looks;
+}
+
+-- after a look at the word of one worker more, at its cell
+abbrev pub with_look : Held → ℕ → Held
+with_look before cell = record {
+  mine = before.mine;
+  tree = before.tree;
+  journal = before.journal;
+  budget = before.budget;
+  published = before.published;
+  seats = before.seats;
+  looks = before.looks ++ cell ∷ [];
 }
 
 -- an arc was decided for a seat, as is lawful

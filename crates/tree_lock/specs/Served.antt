@@ -1,13 +1,13 @@
 -- How the journal stands to the board: what stands under a worker's seat is what was answered to it.
-use Rattle.std.specs.Prelude.{◌≡◌, ℕ, ◌+◌, ◌<◌, ◌≤◌, ◌==◌, Bool, true, false, if◌then◌else◌, List, [], ◌∷◌, ◌++◌, length, None}
-use Rattle.std.specs.List.{All}
+use Rattle.std.specs.Prelude.{◌≡◌, ℕ, ◌+◌, ◌-◌, ◌<◌, ◌≤◌, ◌==◌, Bool, true, false, if◌then◌else◌, List, [], ◌∷◌, ◌++◌, length, None}
+use Rattle.std.specs.List.{All, range_with_len}
 use Rattle.proposals.specs.declared.verdict.Reply.{Reply}
 use Rattle.proposals.specs.declared.knows.WorkerLedger.{WorkerLedger}
 use Rattle.proposals.specs.declared.knows.Served.{Served}
 use Rattle.proposals.specs.Ledger.{reply, served, answered_to, claimed_from, Meets}
 use Rattle.pit_model.specs.declared.journal.Entry.{Entry}
 use Rattle.pit_model.specs.Mine.{Instance, arcs}
-use Rattle.tree_lock.specs.Held.{Held, DecidesFor}
+use Rattle.tree_lock.specs.Held.{Held, with_look, DecidesFor}
 
 -- the entries under a seat, as replies
 abbrev pub replies_under : ℕ → List Entry → List Reply
@@ -35,10 +35,14 @@ pub record IsServed (mine : Instance) (journal : List Entry) (workers asked : �
   pub unclaimed : (i : ℕ) → claimed_from seat i ≡ None
   pub seated : AreUnderSeats mine workers asked journal
 
--- one ask of the worker was decided, or none
+-- the word of the worker was looked at, once; then one ask of it was decided, or none
 abbrev pub ServesOne : ℕ → Held → Held → Bool → Type 0
-ServesOne worker old new true = (arc : ℕ) × (verdict : _) × DecidesFor worker arc old new verdict
-ServesOne worker old new false = new ≡ old
+ServesOne worker old new true = (arc : ℕ) × (verdict : _) × DecidesFor worker arc (with_look old (worker - 1)) new verdict
+ServesOne worker old new false = new ≡ with_look old (worker - 1)
+
+-- the words of the first so many workers were looked at, in order, each once
+abbrev pub LooksAtFirst : ℕ → Held → Held → Type 0
+LooksAtFirst workers old new = new.looks ≡ old.looks ++ range_with_len 0 workers
 
 -- under seats that rise, all above this one
 abbrev pub AreRisingSeats : ℕ → List Entry → Type 0

@@ -28,9 +28,9 @@ use versions::{LookSeat, Publisher};
 /// The seat under which the driver's entries stand.
 const DRIVER: u32 = 0;
 
-/// To a contract it is its tree, its journal and its budget, the arcs that are published, and what was answered to each worker
-/// and is claimed from it. Tree and budget are those of the lock's id. It is not `Drop`, since its end waits for
-/// readers that have not left: end it by `into_parts`.
+/// To a contract it is its tree, its journal and its budget, the arcs that are published, what was answered to each worker and is
+/// claimed from it, and the cells of the workers whose words it looked at, in order. Tree and budget are those of the lock's id. It
+/// is not `Drop`, since its end waits for readers that have not left: end it by `into_parts`.
 pub struct Holder<S: LockId> {
     pub(crate) book: Book<S>,
     pub(crate) seat: HolderSeat<S>,
@@ -45,7 +45,7 @@ impl<S: LockId> Model for Holder<S> {
 
     ghost view = { λ h. held_by S.mine h.book h.seat };
 
-    ghost invariant = { λ h. IsServed S.mine h.book.journal S.workers S.arcs h.seat × (h.book.budget ≡ S.budget) };
+    ghost invariant = { λ h. IsServed S.mine h.book.journal S.workers S.arcs h.seat.served × (h.book.budget ≡ S.budget) };
 }
 
 impl<S: LockId> Holder<S> {
@@ -58,7 +58,7 @@ impl<S: LockId> Holder<S> {
     ) -> Holder<S>
         requires opening { publisher ≡ [] }
         requires budget { budget ≡ S.budget }
-        requires fresh { IsFresh S.workers seat }
+        requires fresh { IsFresh S.workers seat.served }
         ensures { result ≡ opened S.mine budget seat }
     {
         Holder {

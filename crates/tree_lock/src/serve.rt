@@ -1,8 +1,9 @@
 //! The pass of the holder over the board: each ask that stands there is decided, with an entry under its worker's seat,
 //! and answered (flat combining: Hendler, Incze, Shavit and Tzafrir 2010).
-ghost use Rattle.std.specs.Prelude.{◌≡◌, ℕ, ◌<◌, IfOk, IfErr};
+ghost use Rattle.std.specs.Prelude.{◌≡◌, ℕ, ◌-◌, ◌<◌, ◌≤◌, IfOk, IfErr};
 ghost use Rattle.faults.specs.Refused.{no_memory};
-ghost use Rattle.tree_lock.specs.Served.{Serves, ServesOne};
+ghost use Rattle.tree_lock.specs.Held.{with_look};
+ghost use Rattle.tree_lock.specs.Served.{LooksAtFirst, Serves, ServesOne};
 
 use crate::holder::Holder;
 use crate::lock_id::LockId;
@@ -11,15 +12,12 @@ use proposals::Board;
 use std::sync::Wait;
 
 impl<S: LockId> Holder<S> {
-    /// Serves one worker, and tells whether an ask of it stood there.
+    /// Looks at the word of one worker, whatever comes of it, and tells whether an ask of it was served.
     fn serve_one<R: Wait>(&mut self, rt: &R, board: &Board<S>, worker: u32) -> Result<bool, Fault>
-        requires { 0 < worker }
+        requires { (0 < worker) × (worker ≤ S.workers) }
         ensures served { IfOk result (ServesOne worker self.old self.new) }
-        ensures refused { IfErr result (λ e. (e ≡ no_memory) × (self.new ≡ self.old)) }
+        ensures refused { IfErr result (λ e. (e ≡ no_memory) × (self.new ≡ with_look self.old (worker - 1))) }
     {
-        if worker > board.workers(&self.seat) {
-            return Ok(false);
-        }
         let Some(arc) = board.claim_ask(&mut self.seat, worker) else {
             return Ok(false);
         };
@@ -35,15 +33,18 @@ impl<S: LockId> Holder<S> {
         }
     }
 
-    /// One pass over the board, workers rising: each ask that stands there is decided and answered, with an entry under its
-    /// worker's seat, at most one for each worker; an applied merger is published before its answer. It answers how many
-    /// were. An arc that the instance does not have is stale. It waits for readers that have not left an old version.
+    /// One pass over the board, workers rising: it looks at the word of each worker once, and each ask that it finds there is
+    /// decided and answered, with an entry under its worker's seat, at most one for each worker; an applied merger is published
+    /// before its answer. It answers how many were. An arc that the instance does not have is stale. It waits for readers that
+    /// have not left an old version.
     ///
     /// Errors: `NoMemory` where memory for an entry or its merger was refused: all is then as after the asks answered before
-    /// it, its ask stands as it stood, and the pass ends.
+    /// it, its ask stands as it stood, and the pass ends: the words of that worker and of those before it were looked at.
     pub fn serve<R: Wait>(&mut self, rt: &R, board: &Board<S>) -> Result<u32, Fault>
         ensures served { IfOk result (Serves self.old self.new) }
+        ensures looked { IfOk result (λ _. LooksAtFirst S.workers self.old self.new) }
         ensures refused { IfErr result (λ e. (e ≡ no_memory) × ((count : ℕ) × Serves self.old self.new count)) }
+        ensures stopped { IfErr result (λ _. (last : ℕ) × (0 < last) × (last ≤ S.workers) × LooksAtFirst last self.old self.new) }
     {
         let workers = board.workers(&self.seat);
         let mut count = 0;

@@ -37,7 +37,7 @@ impl<S: LockId> SharedTree<S> {
         requires opening { tree.tree ≡ opening tree.mine }
         requires mine { tree.mine ≡ S.mine }
         requires budget { budget ≡ S.budget }
-        requires fresh { IsFresh S.workers seat }
+        requires fresh { IsFresh S.workers seat.served }
         ensures { IfErr result IsNoRoom }
     {
         let places = board.workers(&seat).saturating_add(1);

@@ -8,7 +8,7 @@ pub invariant_of-self : goal.invariant_of-self
 invariant_of-self g c =
     let i = c.self.invariant in
     let did = c.decide.ensures in
-    let now = after_apply g.S.ListId.mine c.self.inside.book c.decide.new.self g.S.LockId.workers g.S.BoardId.arcs c.self.inside.seat c.args.arc c.decide.result did.decided did.refused i.0 (subst (λ (h : Held). c.args.arc < arcs h.mine) (sym c.self.view_is) c.requires) in
+    let now = after_apply g.S.ListId.mine c.self.inside.book c.decide.new.self g.S.LockId.workers g.S.BoardId.arcs c.self.inside.seat.served c.args.arc c.decide.result did.decided did.refused i.0 (subst (λ (h : Held). c.args.arc < arcs h.mine) (sym c.self.view_is) c.requires) in
     (now.0, now.1 ∙ i.1)
 
 pub returns-clause-decided : goal.returns-clause-decided
