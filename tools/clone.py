@@ -54,7 +54,16 @@ def keep_only(copy: pathlib.Path, kept: set[str]) -> None:
 def prove(copy: pathlib.Path, tell: Callable[[str], None], names: Iterable[str] = ()) -> int:
     """Runs the gate's proofs in a copy, of these crates and those below them alone where any are named, and hands on each line that they
     print; gives their status."""
-    with subprocess.Popen(["rt", "ci", *names], cwd=copy, stdout=subprocess.PIPE, stderr=subprocess.STDOUT, text=True, errors="replace") as ran:
+    return listen(copy, ["rt", "ci", *names], tell)
+
+
+def try_mutants(copy: pathlib.Path, tell: Callable[[str], None], names: Iterable[str]) -> int:
+    """Tries the mutants of these crates in a copy, and proves no other crate that was kept there; the rest as for the proofs."""
+    return listen(copy, ["rt", "must-fail", *names], tell)
+
+
+def listen(copy: pathlib.Path, words: list[str], tell: Callable[[str], None]) -> int:
+    with subprocess.Popen(words, cwd=copy, stdout=subprocess.PIPE, stderr=subprocess.STDOUT, text=True, errors="replace") as ran:
         for line in ran.stdout:
             tell(line)
     return ran.returncode

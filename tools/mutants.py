@@ -3,13 +3,13 @@
 
     tools/mutants.py --changed     for the gate: those of each crate that is not as it was when the table was written, and those of one
                                    crate more, another each day; the programs and the library are taken into build/
-    tools/mutants.py [CRATE..]     those of these crates, or all, for an hour or two; the table is renewed, and where the toolchain proves
-                                   single crates no others are proved
+    tools/mutants.py [CRATE..]     those of these crates, or all, for an hour or two; the table is renewed. Where crates are named no others
+                                   are proved, but those below them that nothing was kept of
     tools/mutants.py --read        none: looks whether each can be planted and stands in the table
 
 bench/results/mutants.md says of each mutant by what it was refused, and of each crate in which state: the SHA-256 over its sources,
-definitions, proofs and mutants, and over the definitions of the crates below it. The status is 1 where a mutant can't be planted, has
-no row or is not refused, and that of the proofs where these fail.
+definitions, proofs and mutants, and over the files of definitions of other crates that these cite, directly or through others. The
+status is 1 where a mutant can't be planted, has no row or is not refused, and that of the proofs where these fail.
 """
 import argparse
 import datetime
@@ -30,9 +30,10 @@ REFUSED = "refused, as it must be"
 HEAD = """# Mutants
 
 What the prover said of each wrong body or definition in `crates/*/mutants/`, and the state of each crate in which it said so: the
-SHA-256 over the crate's sources, definitions, proofs and mutants, and over the definitions of the crates below it. `tools/mutants.py`
-writes this; the gate tries the mutants of each crate that is in another state, and of one crate more, another each day.
+SHA-256 over the crate's sources, definitions, proofs and mutants, and over the files of definitions of other crates that these cite.
+`tools/mutants.py` writes this; the gate tries the mutants of each crate that is in another state, and of one crate more, another each day.
 """
+CITES = re.compile(r"\buse Rattle\.(\w+)\.specs\.([\w.-]+)")
 
 
 class Table(NamedTuple):
@@ -65,15 +66,30 @@ def misplanted(mutant: pathlib.Path) -> str:
     return "" if texts else "it changes nothing"
 
 
+def cited_in(file: pathlib.Path) -> set[pathlib.Path]:
+    """The files of definitions that a file names; what the toolchain declares of a crate's types has none."""
+    found = set()
+    for crate, words in CITES.findall(file.read_text()):
+        modules = words.rstrip(".").split(".")
+        found |= {TOP.joinpath("crates", crate, "specs", *modules[:count]).with_suffix(".antt") for count in range(1, len(modules) + 1)}
+    return {it for it in found if it.is_file()}
+
+
+def own_files(crate: str) -> list[pathlib.Path]:
+    """All that a crate's own folder says of it and of its mutants."""
+    folders = [TOP / "crates" / crate / part for part in ("src", "specs", "proofs", "mutants")]
+    return [it for folder in folders for it in folder.rglob("*") if it.is_file()]
+
+
 def state_of(crate: str) -> str:
     """The SHA-256 over all that decides what becomes of a crate's mutants."""
-    parts = [(crate, part) for part in ("src", "specs", "proofs", "mutants")]
-    parts += [(below, "specs") for below in sorted(in_order(crate)) if below != crate]
+    files = set(own_files(crate))
+    new = {it for it in files if it.suffix in {".antt", ".rt"}}
+    while new := {cited for it in new for cited in cited_in(it)} - files:
+        files |= new
     digest = hashlib.sha256()
-    for name, part in parts:
-        folder = TOP / "crates" / name / part
-        for file in sorted(it for it in folder.rglob("*") if it.is_file()):
-            digest.update(f"{file.relative_to(TOP)} {hashlib.sha256(file.read_bytes()).hexdigest()}\n".encode())
+    for file in sorted(files):
+        digest.update(f"{file.relative_to(TOP)} {hashlib.sha256(file.read_bytes()).hexdigest()}\n".encode())
     return digest.hexdigest()
 
 
@@ -116,10 +132,11 @@ def due(table: Table) -> list[str]:
     return changed + others[turn : turn + 1]
 
 
-def tried(chosen: list[str], table: Table, alone: bool) -> tuple[int, list[str]]:
-    """Plants the mutants of these crates and proves, those crates alone where that will do, else all; notes in the table what was told of
-    each. The status, and those not refused."""
+def tried(chosen: list[str], alone: bool) -> tuple[int, Table, list[str]]:
+    """Plants the mutants of these crates and proves, those crates alone where that will do, else all. The status, what the table gains,
+    and the mutants that were not refused."""
     mutants = [(crate, mutant) for crate in chosen for mutant in mutants_of(crate)]
+    states = {crate: state_of(crate) for crate in chosen}
     print(f"{len(mutants)} mutants are planted, of {', '.join(chosen)}", flush=True)
     told: dict[tuple[str, str], str] = {}
 
@@ -128,21 +145,18 @@ def tried(chosen: list[str], table: Table, alone: bool) -> tuple[int, list[str]]
         if found := TOLD.match(line):
             told[found[1], found[2]] = found[3].strip()
 
-    with clone.clone(mutant for _, mutant in mutants) as copy:
-        status = clone.prove(copy, tell, chosen if alone else ())
+    only = {it for crate in chosen for it in in_order(crate)} if alone else ()
+    is_warm = alone and not ahead.keeps()
+    with clone.clone((mutant for _, mutant in mutants), only, is_warm) as copy:
+        status = clone.try_mutants(copy, tell, chosen) if is_warm else clone.prove(copy, tell, chosen if alone else ())
         if status == 0 and not alone:
             for crate in build.FILES:
                 if crate != build.LIBRARY or build.has_libraries(copy):
                     build.take(copy, crate)
-    wrong = []
-    for crate, mutant in mutants:
-        said = told.get((crate, mutant.stem), "nothing was told")
-        if said.startswith(REFUSED):
-            table.told[crate, mutant.stem] = said.removeprefix(REFUSED).removeprefix(": ").replace("|", "\\|")
-        else:
-            wrong.append(f"{crate}/{mutant.stem}: {said}")
-    table.states.update({crate: state_of(crate) for crate in chosen if status == 0 and not wrong})
-    return status, wrong
+    refused = {it: said.removeprefix(REFUSED).removeprefix(": ").replace("|", "\\|") for it, said in told.items() if said.startswith(REFUSED)}
+    all_told = ((crate, mutant.stem) for crate, mutant in mutants)
+    wrong = [f"{crate}/{name}: {told.get((crate, name), 'nothing was told')}" for crate, name in all_told if (crate, name) not in refused]
+    return status, Table(states if status == 0 and not wrong else {}, refused), wrong
 
 
 def main() -> int:
@@ -158,8 +172,9 @@ def main() -> int:
     if given.read:
         return 0
     chosen = due(table) if given.changed else [it for it in named if mutants_of(it)]
-    status, wrong = tried(chosen, table, bool(given.crates) and ahead.keeps())
-    write_table(table)
+    status, gained, wrong = tried(chosen, bool(given.crates))
+    before = read_table()
+    write_table(Table(before.states | gained.states, before.told | gained.told))
     print("".join(f"not refused: {mutant}\n" for mutant in wrong), end="")
     return status or bool(wrong)
 
