@@ -1,13 +1,13 @@
 #!/usr/bin/env python3
 """Plants exchanges in the program's own wiring, builds it so, and looks whether the test named beside each fails.
 
-    tools/wiring.py [--only WORD] [--results FILE]      by hand; rt run in crates/pitshell first: then a round proves what it changes alone
-    tools/wiring.py --read                              plants none: each can be planted, and its test is there
+    tools/wiring.py [--only WORD] [--untried]      by hand; rt run in crates/pitshell first: then a round proves what it changes alone
+    tools/wiring.py --read                         plants none: each can be planted, and its test is there
 
 No contract says which option goes to which field, when an output is kept, or what a file of the system may be: the prover lets an
 exchange pass, and only a test of the built program refuses it. wiring.toml lists them. Those that have no feature in common are planted
-together, since the test of one cannot see the others. An exchange that its test does not see is named, and the status is 1; it is 2
-where a round is not proved.
+together, since the test of one cannot see the others. bench/results/wiring.md has a row for each that was tried, written after each
+round. An exchange that its test does not see is named, and the status is 1; it is 2 where a round is not proved.
 """
 
 import argparse
@@ -25,6 +25,14 @@ from build import PROGRAM
 from crates import TOP, in_order
 
 SOURCES = pathlib.Path("crates")
+TABLE = TOP / "bench" / "results" / "wiring.md"
+HEAD = """# Exchanges in the program's wiring, {day}
+
+`tools/wiring.py`: no contract refuses these; the test beside each must. {tried} of {all} were tried.
+
+| exchange | test | told |
+|---|---|---|
+"""
 
 
 class Exchange(NamedTuple):
@@ -48,6 +56,23 @@ class Exchange(NamedTuple):
 def listed() -> list[Exchange]:
     told = tomllib.loads((TOP / "tools" / "wiring.toml").read_text())["exchange"]
     return [Exchange(**it) for it in told]
+
+
+def row_of(exchange: Exchange) -> str:
+    """How the exchange's row begins."""
+    return f"| {exchange.file}: {exchange.what} | `{exchange.test}` |"
+
+
+def read_table(exchanges: list[Exchange]) -> dict[str, str]:
+    """What the table tells of these, by how their rows begin."""
+    rows = TABLE.read_text().splitlines() if TABLE.is_file() else []
+    found = {row_of(it): next((row for row in rows if row.startswith(row_of(it))), "") for it in exchanges}
+    return {head: row.removeprefix(head).strip(" |") for head, row in found.items() if row}
+
+
+def write_table(exchanges: list[Exchange], told: dict[str, str]) -> None:
+    rows = [f"{row_of(it)} {told[row_of(it)]} |\n" for it in exchanges if row_of(it) in told]
+    TABLE.write_text(HEAD.format(day=datetime.date.today(), tried=len(rows), all=len(exchanges)) + "".join(rows))
 
 
 def misplaced(exchange: Exchange) -> str:
@@ -110,27 +135,33 @@ def try_round(copy: pathlib.Path, together: list[Exchange]) -> list[str]:
     return ["seen" if fails(exchange.test, program) else "not seen" for exchange in together]
 
 
+def try_all(chosen: list[Exchange], everything: list[Exchange]) -> list[str]:
+    """What is told of these, round by round; the table is written after each."""
+    told, answers = read_table(everything), []
+    with clone.clone(only=in_order(PROGRAM), warm=True) as copy:
+        for together in rounds(chosen):
+            here = try_round(copy, together)
+            told |= {row_of(it): answer for it, answer in zip(together, here)}
+            write_table(everything, told)
+            print("".join(f"{row_of(it)} {answer} |\n" for it, answer in zip(together, here)), end="", flush=True)
+            answers += here
+    return answers
+
+
 def main() -> int:
     parser = argparse.ArgumentParser(description=__doc__, formatter_class=argparse.RawDescriptionHelpFormatter)
     parser.add_argument("--only", default="", metavar="WORD", help="the exchanges alone whose words have this one")
+    parser.add_argument("--untried", action="store_true", help="those alone that have no row in the table")
     parser.add_argument("--read", action="store_true", help="plant none")
-    parser.add_argument("--results", type=pathlib.Path)
     given = parser.parse_args()
-    exchanges = [it for it in listed() if given.only in it.what]
-    wrong = [it for it in map(misplaced, exchanges) if it]
+    everything = listed()
+    tried = read_table(everything) if given.untried else {}
+    chosen = [it for it in everything if given.only in it.what and row_of(it) not in tried]
+    wrong = [it for it in map(misplaced, chosen) if it]
     if wrong or given.read:
         print("".join(f"{it}\n" for it in wrong), end="")
         return 1 if wrong else 0
-    rows = [f"# Exchanges in the program's wiring, {datetime.date.today()}", "", "`tools/wiring.py`: no contract refuses these; the test beside each must.", "", "| exchange | test | told |", "|---|---|---|"]
-    told: list[str] = []
-    with clone.clone(only=in_order(PROGRAM), warm=True) as copy:
-        for together in rounds(exchanges):
-            answers = try_round(copy, together)
-            rows += [f"| {it.file}: {it.what} | `{it.test}` | {answer} |" for it, answer in zip(together, answers)]
-            print("\n".join(rows[-len(together) :]), flush=True)
-            told += answers
-    if given.results:
-        given.results.write_text("\n".join(rows) + "\n")
+    told = try_all(chosen, everything)
     return 2 if "not proved" in told else 1 if "not seen" in told else 0
 
 
