@@ -65,10 +65,11 @@ test-program: setup
 	test -x build/pitshell || $(MAKE) build
 	/usr/bin/python3 -m pytest tests -q -p no:cacheprovider
 
-# The tests of the planner's layer alone. Where there is no program yet it is proved and built first, for half an hour.
+# The tests of the planner's layer alone, as many processes as processors. Where there is no program yet it is proved and built first,
+# for half an hour.
 test-plan: setup
 	test -x build/pitshell || $(MAKE) build
-	/usr/bin/python3 -m pytest python/tests -q -p no:cacheprovider
+	/usr/bin/python3 -m pytest python/tests -q -p no:cacheprovider -n auto --dist loadfile
 
 # Tries all mutants, for an hour or two, and renews their table. tools/mutants.py CRATE tries those of a crate.
 mutants:

@@ -23,6 +23,7 @@ coinor-cbc            tests    the same: that solver
 python3-dask          tests    pitplan scenarios --on local, or on a cluster
 python3-distributed   tests    the same
 python3-pytest        tests    make test
+python3-pytest-xdist  tests    make test-plan, as many processes as processors
 python3-hypothesis    tests    the same: properties
 python3-setuptools    tests    make dist: wheels
 python3-wheel         tests    the same
