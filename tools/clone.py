@@ -3,36 +3,58 @@
 The toolchain takes no repository within a repository, and proves what a copy holds as it proves the original.
 """
 import contextlib
+import os
 import pathlib
 import re
 import shutil
 import subprocess
 import tempfile
 from collections.abc import Callable, Iterable, Iterator
+from typing import Optional
 
 from crates import TOP
 
+
+# Of what proofs have left in a crate's folder: the compiled crate, which is all that those above it need.
+COMPILED = "rlib"
+
+
+def unneeded(folder: str, names: list[str]) -> list[str]:
+    """What was built or left by proofs, but for a compiled crate."""
+    here = pathlib.Path(folder)
+    if here.name == "out" and here.parent.parent == TOP / "crates":
+        return [name for name in names if name != COMPILED]
+    made = {TOP: {".git", "build"}, TOP / "bench": {"work"}}.get(here, set()) | {"__pycache__"}
+    return [name for name in names if name in made]
+
+
 def left_out(folder: str, names: list[str]) -> list[str]:
-    """What no copy needs: what was built, and what proofs have left in a crate's own folder."""
+    """What no copy needs that is proved from nothing."""
     made = {"out"} if pathlib.Path(folder).parent == TOP / "crates" else set()
     return [*unneeded(folder, names), *(name for name in names if name in made)]
 
 
-def unneeded(folder: str, names: list[str]) -> list[str]:
-    """What was built, but for what proofs have left."""
-    made = {TOP: {".git", "build"}, TOP / "bench": {"work"}}.get(pathlib.Path(folder), set()) | {"__pycache__"}
-    return [name for name in names if name in made]
+def link_compiled(source: str, target: str) -> None:
+    """A file of a compiled crate, which is written anew as a whole and never changed, is shared where that can be; any other is copied."""
+    if COMPILED in pathlib.Path(source).parts:
+        with contextlib.suppress(OSError):
+            os.link(source, target)
+            return
+    shutil.copy2(source, target)
 
 
 @contextlib.contextmanager
-def clone(mutants: Iterable[pathlib.Path] = (), only: Iterable[str] = (), warm: bool = False) -> Iterator[pathlib.Path]:
+def clone(mutants: Iterable[pathlib.Path] = (), only: Iterable[str] = (), warm: Optional[Iterable[str]] = None) -> Iterator[pathlib.Path]:
     """A folder with the repository's files, these mutants where the prover tries them, and only these crates, where any are named.
 
-    A warm one has what proofs have left in the crates' folders too, so that there only what changes is proved anew.
+    A warm one has the compiled crates too, and all that proofs have left of those that are named warm: there only what changes is proved
+    anew.
     """
     with tempfile.TemporaryDirectory(prefix="pitshell-", ignore_cleanup_errors=True) as name:
         copy = pathlib.Path(name) / "copy"
-        shutil.copytree(TOP, copy, ignore=unneeded if warm else left_out)
+        shutil.copytree(TOP, copy, ignore=left_out if warm is None else unneeded, copy_function=link_compiled)
+        for crate in warm or ():
+            shutil.copytree(TOP / "crates" / crate / "out", copy / "crates" / crate / "out", ignore=shutil.ignore_patterns(COMPILED), dirs_exist_ok=True)
         for mutant in mutants:
             planted = copy / "crates" / mutant.parent.parent.name / "must-fail"
             planted.mkdir(exist_ok=True)

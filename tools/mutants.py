@@ -147,7 +147,7 @@ def tried(chosen: list[str], alone: bool) -> tuple[int, Table, list[str]]:
 
     only = {it for crate in chosen for it in in_order(crate)} if alone else ()
     is_warm = alone and not ahead.keeps()
-    with clone.clone((mutant for _, mutant in mutants), only, is_warm) as copy:
+    with clone.clone((mutant for _, mutant in mutants), only, () if is_warm else None) as copy:
         status = clone.try_mutants(copy, tell, chosen) if is_warm else clone.prove(copy, tell, chosen if alone else ())
         if status == 0 and not alone:
             for crate in build.FILES:

@@ -137,12 +137,11 @@ def try_round(copy: pathlib.Path, together: list[Exchange]) -> list[str]:
 
 def try_all(chosen: list[Exchange], everything: list[Exchange]) -> list[str]:
     """What is told of these, round by round; the table is written after each."""
-    told, answers = read_table(everything), []
-    with clone.clone(only=in_order(PROGRAM), warm=True) as copy:
+    answers: list[str] = []
+    with clone.clone(only=in_order(PROGRAM), warm=[PROGRAM, "command_line"]) as copy:
         for together in rounds(chosen):
             here = try_round(copy, together)
-            told |= {row_of(it): answer for it, answer in zip(together, here)}
-            write_table(everything, told)
+            write_table(everything, read_table(everything) | {row_of(it): answer for it, answer in zip(together, here)})
             print("".join(f"{row_of(it)} {answer} |\n" for it, answer in zip(together, here)), end="", flush=True)
             answers += here
     return answers
