@@ -20,7 +20,7 @@ import time
 
 import ahead
 import clone
-from crates import TOP, crates, in_order
+from crates import TOP, crates, in_order, sources
 
 PROGRAM, LIBRARY = "pitshell", "pitshell_c"
 # What is built of each crate: the first file's SHA-256 stands in its .version.
@@ -64,23 +64,15 @@ class Told:
 
 def prove(crate: str) -> bool:
     names = in_order(crate)
-    told = Told(names)
+    told, now = Told(names), ahead.states(names)
     print(f"{len(names)} crates are proved and linked, {', '.join(longest_chain(told.left))} one behind the other", flush=True)
     with clone.clone(only=names) as copy:
-        if not ahead.prove_ahead(copy, names, told) or clone.prove(copy, told):
+        if not ahead.prove_ahead(copy, now, told) or clone.prove(copy, told):
             print("".join(told.lines))
             return False
         take(copy, crate)
+    ahead.note_proved(now)
     return True
-
-
-def sources(crate: str) -> str:
-    """The SHA-256 over all that a crate's files are made of."""
-    digest = hashlib.sha256()
-    files = [file for name in in_order(crate) for part in ("src", "specs", "proofs") for file in (TOP / "crates" / name / part).rglob("*")]
-    for file in sorted(it for it in [*files, TOP / "crates.txt", TOP / "HANDLES"] if it.is_file()):
-        digest.update(f"{file.relative_to(TOP)} {hashlib.sha256(file.read_bytes()).hexdigest()}\n".encode())
-    return digest.hexdigest()
 
 
 def version_file(crate: str) -> pathlib.Path:

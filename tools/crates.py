@@ -1,4 +1,5 @@
 """What crates.txt says: the crates of the repository and which of them each stands on."""
+import hashlib
 import pathlib
 import re
 
@@ -28,3 +29,12 @@ def in_order(name: str) -> list[str]:
 
     visit(name)
     return order
+
+
+def sources(crate: str) -> str:
+    """The SHA-256 over all that a crate and those below it are made of."""
+    digest = hashlib.sha256()
+    files = [file for name in in_order(crate) for part in ("src", "specs", "proofs") for file in (TOP / "crates" / name / part).rglob("*")]
+    for file in sorted(it for it in [*files, TOP / "crates.txt", TOP / "HANDLES"] if it.is_file()):
+        digest.update(f"{file.relative_to(TOP)} {hashlib.sha256(file.read_bytes()).hexdigest()}\n".encode())
+    return digest.hexdigest()
