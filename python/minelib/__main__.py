@@ -8,6 +8,7 @@ from pathlib import Path
 from typing import Optional, Sequence
 
 from .convert import FORMATS, convert
+from .ending import ended, tell
 from .text import MinelibError
 
 
@@ -20,14 +21,12 @@ def main(arguments: Optional[Sequence[str]] = None, name: str = "minelib") -> in
     """0 where the files are written, 1 where they are refused, with a sentence on standard error; `name` is what was called."""
     parser = argparse.ArgumentParser(prog=name, description="Published MineLib files to those of pitshell.")
     add_arguments(parser)
-    options = parser.parse_args(arguments)
-    try:
-        record = convert(options.files, options.out)
-    except MinelibError as error:
-        print(f"{name.split()[0]}: {error}", file=sys.stderr)
-        return 1
-    for note in record["notes"]:
-        print(note, file=sys.stderr)
+    return ended(name.split()[0], lambda: run(parser.parse_args(arguments)), (MinelibError,))
+
+
+def run(options: argparse.Namespace) -> int:
+    for note in convert(options.files, options.out)["notes"]:
+        tell(note)
     print(options.out)
     return 0
 

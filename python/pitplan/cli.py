@@ -3,9 +3,6 @@
 from __future__ import annotations
 
 import argparse
-import signal
-import sys
-import threading
 from dataclasses import replace
 from pathlib import Path
 from typing import Any, Optional, Sequence
@@ -13,6 +10,7 @@ from typing import Any, Optional, Sequence
 import minelib
 import pandas as pd
 from minelib.__main__ import add_arguments as add_minelib
+from minelib.ending import ended, tell
 
 from . import __version__, block_commands, commands, exports, files, init, report, sensitivity_files, simulation, stages
 from .errors import PlanError
@@ -22,9 +20,6 @@ from .simulation.folder import BLOCK, PIT
 from .simulation.on_dask import Where
 from .solver import BY
 from .verification import demand
-
-# As a shell has it: 128 and the signal's number.
-INTERRUPTED = 130
 
 
 def parser() -> argparse.ArgumentParser:
@@ -150,47 +145,36 @@ def main(arguments: Optional[Sequence[str]] = None) -> int:
 
     `scenario` ends with the status of its scenario.
     """
-    options = parser().parse_args(arguments)
+    return ended("pitplan", lambda: run_subcommand(parser().parse_args(arguments)), (PlanError, minelib.MinelibError))
+
+
+def run_subcommand(options: argparse.Namespace) -> int:
     progress = silent if getattr(options, "quiet", False) else on_standard_error()
-    end_where_asked()
-    try:
-        if options.command == "scenario":
-            outcome = simulation.one(options.folder, options.number)
-            if outcome.why:
-                print(f"pitplan: {outcome.why}", file=sys.stderr)
-            return outcome.status
-        if options.command in ("scenarios", "gather"):
-            run_scenarios(options, progress)
-        elif options.command == "verify":
-            tell_verified(options.folder)
-        elif options.command == "init":
-            project_file = options.out or options.table.parent / "project.toml"
-            tell_notes(init.write(options.table, project_file))
-            print(project_file)
-        elif options.command == "convert":
-            tell_notes(minelib.convert(options.files, options.out)["notes"])
-            print(options.out)
-        else:
-            project = project_of(options)
-            run_command(options, project, options.out or project.folder, progress)
-    except (PlanError, minelib.MinelibError) as error:
-        print(f"pitplan: {error}", file=sys.stderr)
-        return 1
-    except KeyboardInterrupt:
-        print("pitplan: interrupted", file=sys.stderr)
-        return INTERRUPTED
+    if options.command == "scenario":
+        outcome = simulation.one(options.folder, options.number)
+        if outcome.why:
+            tell(f"pitplan: {outcome.why}")
+        return outcome.status
+    if options.command in ("scenarios", "gather"):
+        run_scenarios(options, progress)
+    elif options.command == "verify":
+        tell_verified(options.folder)
+    elif options.command == "init":
+        project_file = options.out or options.table.parent / "project.toml"
+        tell_notes(init.write(options.table, project_file))
+        print(project_file)
+    elif options.command == "convert":
+        tell_notes(minelib.convert(options.files, options.out)["notes"])
+        print(options.out)
+    else:
+        project = project_of(options)
+        run_command(options, project, options.out or project.folder, progress)
     return 0
 
 
 def project_of(options: argparse.Namespace) -> Project:
     """The project of a command, with what it asks for to solve."""
     return replace(load(options.project), solver=getattr(options, "solver", None))
-
-
-def end_where_asked() -> None:
-    """Lets a request to end (SIGTERM) unwind as an interruption does, so that nothing half written stays behind."""
-    if threading.current_thread() is threading.main_thread():
-        signal.signal(signal.SIGTERM, lambda number, frame: sys.exit(128 + number))
 
 
 def run_command(options: argparse.Namespace, project: Project, folder: Path, progress: Progress) -> None:
@@ -272,7 +256,7 @@ def run_scenarios(options: argparse.Namespace, progress: Progress) -> None:
 
 def tell_notes(notes: list[str]) -> None:
     for note in notes:
-        print(note, file=sys.stderr)
+        tell(note)
 
 
 def print_table(headings: list[str], rows: list[list[str]]) -> None:

@@ -4,7 +4,7 @@ from __future__ import annotations
 
 import sys
 import time
-from contextlib import contextmanager
+from contextlib import contextmanager, suppress
 from typing import Iterable, Iterator, Optional, TextIO
 
 
@@ -31,7 +31,9 @@ class Progress:
 
     def say(self, words: str, end: str = "\n") -> None:
         if self.stream is not None:
-            print(words, end=end, file=self.stream, flush=True)
+            # Who does not listen any more loses the words, and not the run.
+            with suppress(OSError):
+                print(words, end=end, file=self.stream, flush=True)
 
 
 silent = Progress()

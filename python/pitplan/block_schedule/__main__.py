@@ -10,6 +10,7 @@ from typing import Optional, Sequence
 import numpy as np
 import pandas as pd
 from minelib import MinelibError
+from minelib.ending import INTERRUPTED, ended
 from minelib.schedule_models import SECONDS
 
 from ..errors import PlanError
@@ -18,8 +19,6 @@ from ..progress import on_standard_error, silent
 from ..schedule_rules import Effort
 from .of_minelib import of_minelib
 from .solving import Scheduled, solve
-
-INTERRUPTED = 130
 
 
 def parser() -> argparse.ArgumentParser:
@@ -37,20 +36,16 @@ def parser() -> argparse.ArgumentParser:
 def main(arguments: Optional[Sequence[str]] = None) -> int:
     """0 where there is a bound and a schedule, 1 where the files are refused, with a sentence on standard error, 130 where it was
     interrupted, with the best so far if there is a bound."""
-    options = parser().parse_args(arguments)
+    return ended("pitplan", lambda: run(parser().parse_args(arguments)), (PlanError, MinelibError))
+
+
+def run(options: argparse.Namespace) -> int:
     effort = None if options.seconds is None else Effort(options.gap, options.seconds)
-    try:
-        problem = of_minelib(options.model, options.prec, options.behind_block)
-        found = solve(problem, effort, silent if options.quiet else on_standard_error())
-        print(f"BOUND: {found.bound:.6f}\nVALUE: {found.value:.6f}\nGAP: {100 * found.gap:.4f} %")
-        if options.out is not None:
-            write(options.out, found, problem.years)
-    except (PlanError, MinelibError) as error:
-        print(f"pitplan: {error}", file=sys.stderr)
-        return 1
-    except KeyboardInterrupt:
-        print("pitplan: interrupted", file=sys.stderr)
-        return INTERRUPTED
+    problem = of_minelib(options.model, options.prec, options.behind_block)
+    found = solve(problem, effort, silent if options.quiet else on_standard_error())
+    print(f"BOUND: {found.bound:.6f}\nVALUE: {found.value:.6f}\nGAP: {100 * found.gap:.4f} %")
+    if options.out is not None:
+        write(options.out, found, problem.years)
     return INTERRUPTED if found.interrupted else 0
 
 
