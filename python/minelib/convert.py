@@ -34,6 +34,7 @@ def convert(paths: Iterable[Path], folder: Path, limits: Limits = Limits()) -> d
     MinelibError, with nothing written, where a file cannot be converted exactly but for the roundings that it tells.
     """
     sources = sorted_by_kind(list(paths))
+    demand_apart(sources, folder)
     record: dict[str, Any] = {"sources": {kind: str(path) for kind, path in sources.items()}, "notes": []}
     try:
         folder.mkdir(parents=True, exist_ok=True)
@@ -64,6 +65,14 @@ def sorted_by_kind(paths: list[Path]) -> dict[str, Path]:
     if not found:
         raise MinelibError("no file to convert")
     return found
+
+
+def demand_apart(sources: dict[str, Path], folder: Path) -> None:
+    """Raises MinelibError where a file that is read would be written over."""
+    for path in sources.values():
+        for name in (MODEL, PREC, BLOCKS):
+            if path.exists() and (folder / name).exists() and path.samefile(folder / name):
+                raise MinelibError(f"{path}: would be written over: name another folder by --out")
 
 
 def write(sources: dict[str, Path], stage: Path, limits: Limits, record: dict[str, Any]) -> None:

@@ -2,6 +2,7 @@
 
 from __future__ import annotations
 
+import codecs
 import re
 from dataclasses import dataclass
 from decimal import Decimal
@@ -11,6 +12,8 @@ from typing import Iterator
 NUMBER = re.compile(r"[+-]?(\d+\.?\d*|\.\d+)([eE][+-]?\d{1,3})?")
 # Far beyond any amount; keeps a bent exponent from taking all memory.
 MOST_CHARACTERS, GREATEST_POWER = 100, 40
+# What Windows puts before a text in UTF-8, as latin-1 reads it.
+MARK = codecs.BOM_UTF8.decode("latin-1")
 
 
 class MinelibError(ValueError):
@@ -56,7 +59,7 @@ def lines(path: Path) -> Iterator[Line]:
         # Texts may be in any eight-bit code: latin-1 reads them all, and numbers are the same in each.
         with open(path, encoding="latin-1") as file:
             for number, raw in enumerate(file, 1):
-                text = raw.split("%", 1)[0].strip(" \t\r\n\f\v\x1a\ufeff")
+                text = raw.split("%", 1)[0].removeprefix(MARK if number == 1 else "").strip(" \t\r\n\f\v\x1a")
                 if not text:
                     continue
                 line = Line(path, number, text)

@@ -257,3 +257,18 @@ def test_the_command_and_the_package_alone_write_the_same(tmp_path):
 def test_a_refusal_is_one_sentence(tmp_path, capsys):
     assert main(["convert", "minelib", str(Path("nowhere.upit")), "--out", str(tmp_path)]) == 1
     assert capsys.readouterr().err == "pitplan: nowhere.upit: cannot be read: No such file or directory\n"
+
+
+def test_a_file_that_is_read_is_not_written_over(tmp_path):
+    (tmp_path / "mine.upit").write_text(UPIT)
+    with pytest.raises(minelib.MinelibError) as said:
+        minelib.convert([tmp_path / "mine.upit"], tmp_path)
+    assert str(said.value) == f"{tmp_path / 'mine.upit'}: would be written over: name another folder by --out"
+    assert (tmp_path / "mine.upit").read_text() == UPIT
+
+
+def test_the_mark_that_windows_puts_before_a_text_is_passed_over(tmp_path):
+    for name, mark in (("plain", b""), ("marked", b"\xef\xbb\xbf")):
+        (tmp_path / f"{name}.upit").write_bytes(mark + UPIT.encode())
+        minelib.convert([tmp_path / f"{name}.upit"], tmp_path / name)
+    assert (tmp_path / "marked" / "mine.upit").read_bytes() == (tmp_path / "plain" / "mine.upit").read_bytes()
