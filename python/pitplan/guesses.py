@@ -63,12 +63,14 @@ class MetalGuess:
 
 @dataclass(frozen=True)
 class Columns:
-    """What the columns of a table seem to say. sizes holds x, y and z, or nothing; named has ids, tonnes, codes by their keys."""
+    """What the columns of a table seem to say. sizes holds x, y and z, or nothing; named has ids, tonnes, codes by their keys; texts are
+    columns that are called like amounts, and hold something else too."""
 
     centres: dict[str, Guess]
     sizes: dict[str, Guess]
     named: dict[str, Guess]
     metals: tuple[MetalGuess, ...]
+    texts: tuple[str, ...] = ()
 
 
 def columns_of(frame: pd.DataFrame) -> Columns:
@@ -82,7 +84,14 @@ def columns_of(frame: pd.DataFrame) -> Columns:
     named = {key: found for key, found in named.items() if key in ("id", "rock", "region") or is_number(frame, found.column)}
     taken = {guess.column for group in (centres, sizes, named) for guess in group.values()}
     metals = [found for name in map(str, frame.columns) if name not in taken and (found := metal_of(frame, name))]
-    return Columns(centres, sizes if len(sizes) == 3 else {}, named, first_of_each(metals))
+    texts = tuple(name for name in map(str, frame.columns) if not is_number(frame, name) and is_called_like_an_amount(name))
+    return Columns(centres, sizes if len(sizes) == 3 else {}, named, first_of_each(metals), texts)
+
+
+def is_called_like_an_amount(name: str) -> bool:
+    """Whether a column's name is one of tonnes, a density, a volume or a metal's grades."""
+    amounts = " ".join(OTHERS[key] for key in ("tonnes", "density", "volume")).split()
+    return plain_of(name) in amounts or sign_of(name) is not None
 
 
 def plain_of(name: str) -> str:
@@ -117,17 +126,21 @@ def is_lattice(frame: pd.DataFrame, name: str) -> bool:
     return bool(gaps.min() > 0.5 and np.abs(steps - np.rint(steps)).max() < 0.01)
 
 
-def metal_of(frame: pd.DataFrame, name: str) -> Optional[MetalGuess]:
-    """The metal of a column of grades: its sign stands first in the name, perhaps with a unit behind it."""
+def sign_of(name: str) -> Optional[tuple[str, list[str]]]:
+    """The sign of a metal that stands first in a name, and the words behind it, perhaps a unit; None where there is none."""
     words = re.findall(r"[a-z]+|%", name.lower())
-    if not words or not is_number(frame, name):
+    if not words or words[0] in METALS:
+        return (words[0], words[1:]) if words else None
+    found = re.fullmatch(r"(" + "|".join(METALS) + r")(percent|pct|perc|ppm|gpt)", words[0])
+    return (found[1], [found[2], *words[1:]]) if found else None
+
+
+def metal_of(frame: pd.DataFrame, name: str) -> Optional[MetalGuess]:
+    """The metal of a column of grades, by its name, and their unit, by it or by the values."""
+    signed = sign_of(name)
+    if signed is None or not is_number(frame, name):
         return None
-    sign, rest = words[0], words[1:]
-    if sign not in METALS:
-        found = re.fullmatch(r"(" + "|".join(METALS) + r")(percent|pct|perc|ppm|gpt)", sign)
-        if not found:
-            return None
-        sign, rest = found[1], [found[2], *rest]
+    sign, rest = signed
     metal, joined = METALS[sign], "".join(rest)
     unit = "percent" if "%" in rest else next((UNITS[word] for word in (*rest, joined) if word in UNITS), None)
     if unit:

@@ -13,10 +13,11 @@ import numpy as np
 import pandas as pd
 
 from .errors import PlanError
+from .files import staged_file
 from .guesses import PRECIOUS, Columns, MetalGuess, columns_of
 from .project import GridRules
 from .summary import Axis, Grade, mean_of, not_used
-from .table import has_decimal_commas, read_columns
+from .table import filled_numbers, has_decimal_commas, read_columns
 from .table_format import NAMES, UNREADABLE, TableFormat, demand_text, guessed_separator, opened, unreadable
 from .turned import Places, azimuth_of, of_centres
 
@@ -57,8 +58,11 @@ def write(file: Path, out: Path) -> list[str]:
         raise PlanError(f"{out}: exists already: name another file by --out")
     model = read(file)
     demand_enough(model)
-    out.write_text(text_of(model, out), encoding="utf-8")
-    return [*summary(model), f"{out} was written: look at each line of it that has a #, above all at prices, costs and walls"]
+    demand_numbers(model, [guess.column for guess in model.columns.centres.values()])
+    told = summary(model)
+    with staged_file(out) as place:
+        place.write_text(text_of(model, out), encoding="utf-8")
+    return [*told, f"{out} was written: look at each line of it that has a #, above all at prices, costs and walls"]
 
 
 def read(file: Path) -> Model:
@@ -102,13 +106,23 @@ def encoding_of(file: Path) -> str:
 
 def demand_enough(model: Model) -> None:
     columns, there = model.columns, ", ".join(map(str, model.frame.columns))
+    if model.frame.empty:
+        raise PlanError(f"{model.file}: has no blocks")
     missing = [axis for axis in "xyz" if axis not in columns.centres]
     if missing:
         raise PlanError(f"{model.file} row 1: no column seems to hold {' and '.join(missing)} of the centres; the columns are {there}")
     if "tonnes" not in columns.named and "density" not in columns.named:
+        demand_numbers(model, list(columns.texts))
         raise PlanError(f"{model.file} row 1: no column seems to hold tonnes or a density; the columns are {there}")
     if not columns.metals:
+        demand_numbers(model, list(columns.texts))
         raise PlanError(f"{model.file} row 1: no column seems to hold grades, such as cu_pct or AU; the columns are {there}")
+
+
+def demand_numbers(model: Model, names: list[str]) -> None:
+    """Raises PlanError, with the row, where a column has a field that is no number."""
+    for name in names:
+        filled_numbers(model.frame[name], str(model.file), name, may_fill=False)
 
 
 def text_of(model: Model, out: Path) -> str:

@@ -235,3 +235,32 @@ def test_a_density_needs_a_size_and_no_tonnes(plan_folder):
 
 def plan_text(words):
     return PROJECT.replace('file = "blocks.csv"', f'file = "blocks.csv"\n{words}')
+
+
+HEAD = "X,Y,Z,TONNES,CU\n"
+
+
+@pytest.mark.parametrize(
+    ("text", "why"),
+    [
+        (HEAD, "m.csv: has no blocks"),
+        (HEAD + "5,5,5,9,1\n15,,5,9,1\n", "m.csv row 3 column Y: is empty"),
+        (HEAD + "5,5,5,9,1\n15,5,a,9,1\n", 'm.csv row 3 column Z: "a" is not a number'),
+        (HEAD + "m,m,m,t,%\n5,5,5,9,1\n", 'm.csv row 2 column TONNES: "t" is not a number'),
+        (HEAD + "5,5,5,9,nan\n5,5,15,9,1\n", 'm.csv row 2 column CU: "nan" is not a number'),
+    ],
+)
+def test_a_field_of_which_nothing_can_be_made_is_named(tmp_path, capsys, text, why):
+    (tmp_path / "m.csv").write_text(text)
+    assert main(["init", str(tmp_path / "m.csv")]) == 1
+    assert capsys.readouterr().err == f"pitplan: {tmp_path}/{why}\n"
+    assert [path.name for path in tmp_path.iterdir()] == ["m.csv"]
+
+
+def test_a_folder_of_the_project_is_made_or_named(tmp_path, capsys):
+    rows(3, 3, 3, cu=lambda i, j, k: 1.0).to_csv(tmp_path / "m.csv", index=False)
+    assert main(["init", str(tmp_path / "m.csv"), "--out", str(tmp_path / "new" / "project.toml")]) == 0
+    assert load(tmp_path / "new" / "project.toml").table.file.samefile(tmp_path / "m.csv")
+    below_a_file = tmp_path / "m.csv" / "project.toml"
+    assert main(["init", str(tmp_path / "m.csv"), "--out", str(below_a_file)]) == 1
+    assert capsys.readouterr().err.endswith(f"pitplan: {below_a_file.parent}: cannot be written: File exists\n")
