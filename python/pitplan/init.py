@@ -129,13 +129,14 @@ def text_of(model: Model, out: Path) -> str:
     from jinja2 import Environment, FileSystemLoader
 
     environment = Environment(loader=FileSystemLoader(TEMPLATES), keep_trailing_newline=True)
+    environment.filters["quoted"] = quoted
     size, size_why = size_of(model)
     ore = ore_per_year(model)
     words = {
-        "file": os.path.relpath(model.file, out.parent),
-        "title": model.file.name.split(".")[0],
+        "file": file_name(model.file, out),
+        "title": "".join(letter if letter.isprintable() else " " for letter in model.file.name.split(".")[0]),
         "blocks": f"{len(model.frame):,}",
-        "table": [(key, json.dumps(value, ensure_ascii=False), why) for key, value, why in table_lines(model)],
+        "table": [(key, quoted(value), why) for key, value, why in table_lines(model)],
         "size": size and json.dumps(size),
         "size_why": size_why,
         "metals": [priced(metal) for metal in model.columns.metals],
@@ -144,6 +145,21 @@ def text_of(model: Model, out: Path) -> str:
         "ore_why": "by Taylor's rule for the blocks that pay at these prices; put your own",
     }
     return environment.get_template("project.toml").render(words)
+
+
+def file_name(file: Path, out: Path) -> str:
+    """How a project names its table. Raises PlanError where it cannot."""
+    name = os.path.relpath(file, out.parent)
+    try:
+        name.encode()
+    except UnicodeEncodeError as error:
+        raise PlanError(f"{file}: has a name that is not UTF-8, as all of a project is: rename it") from error
+    return name
+
+
+def quoted(words: str) -> str:
+    """A text as TOML has it."""
+    return json.dumps(words, ensure_ascii=False).replace("\x7f", "\\u007f")
 
 
 def table_lines(model: Model) -> list[tuple[str, str, str]]:

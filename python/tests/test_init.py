@@ -1,5 +1,6 @@
 """A project for a table of which nothing was said: what is guessed of it, and that the project runs as it stands."""
 
+import os
 from decimal import Decimal
 
 import pandas as pd
@@ -264,3 +265,20 @@ def test_a_folder_of_the_project_is_made_or_named(tmp_path, capsys):
     below_a_file = tmp_path / "m.csv" / "project.toml"
     assert main(["init", str(tmp_path / "m.csv"), "--out", str(below_a_file)]) == 1
     assert capsys.readouterr().err.endswith(f"pitplan: {below_a_file.parent}: cannot be written: File exists\n")
+
+
+@pytest.mark.parametrize("name", ["a b.csv", "Größe <1>.csv", 'a "q" \\.csv', "two\nlines.csv", "\x7f.csv"])
+def test_a_table_may_have_any_name(tmp_path, name):
+    rows(3, 3, 3, cu=lambda i, j, k: 1.0).rename(columns={"cu": "Cu \x7f é"}).to_csv(tmp_path / name, index=False)
+    init.write(tmp_path / name, tmp_path / "project.toml")
+    project = load(tmp_path / "project.toml")
+    assert (project.table.file, project.metals[0].column) == (tmp_path / name, "Cu \x7f é")
+    assert "\\u00" not in (tmp_path / "project.toml").read_text().replace("\\u007f", "")
+
+
+def test_a_name_that_no_project_can_hold_is_told(tmp_path):
+    table = tmp_path / os.fsdecode(b"caf\xe9.csv")
+    rows(3, 3, 3, cu=lambda i, j, k: 1.0).to_csv(table, index=False)
+    with pytest.raises(PlanError, match="has a name that is not UTF-8, as all of a project is: rename it"):
+        init.write(table, tmp_path / "project.toml")
+    assert list(tmp_path.iterdir()) == [table]
