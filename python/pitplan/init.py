@@ -196,11 +196,16 @@ def size_of(model: Model) -> tuple[Optional[list[float]], str]:
     if columns.sizes and not has_several_sizes(model):
         names = [columns.sizes[axis].column for axis in "xyz"]
         return [float(model.frame[name].iloc[0]) for name in names], f"by {', '.join(names)}"
-    if "tonnes" in columns.named or "volume" in columns.named:
-        return None, ""
     turned = turned_grid(model)
-    flat = list(turned.size) if turned else [least_gap(model, axis) for axis in "xy"]
-    return [*flat, least_gap(model, "z")], "the least steps between centres, which make volumes for the density"
+    gaps = [*turned.size, least_gap(model, "z")] if turned else [least_gap(model, axis) for axis in "xyz"]
+    flat = [axis for axis, gap in zip("xyz", gaps) if gap is None]
+    if not flat and ("tonnes" in columns.named or "volume" in columns.named):
+        return None, ""
+    # Of an axis along which all lie at one place nothing is known.
+    filled = [min((known for known in gaps if known), default=1.0) if gap is None else gap for gap in gaps]
+    guessed = f"; of {' and '.join(flat)}, where all lie at one place, put your own" if flat else ""
+    volumes = "" if "tonnes" in columns.named or "volume" in columns.named else ", which make volumes for the density"
+    return filled, f"the least steps between centres{volumes}{guessed}"
 
 
 def turned_grid(model: Model) -> Optional[Places]:
@@ -221,9 +226,10 @@ def has_several_sizes(model: Model) -> bool:
     return any(model.frame[guess.column].nunique() > 1 for guess in model.columns.sizes.values())
 
 
-def least_gap(model: Model, axis: str) -> float:
+def least_gap(model: Model, axis: str) -> Optional[float]:
+    """The least step between centres along an axis; None where all lie at one place."""
     values = np.unique(model.frame[model.columns.centres[axis].column].to_numpy(dtype=np.float64))
-    return float(np.diff(values).min()) if len(values) > 1 else 1.0
+    return float(np.diff(values).min()) if len(values) > 1 else None
 
 
 def tonnes_of(model: Model) -> np.ndarray:

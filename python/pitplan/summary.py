@@ -33,7 +33,8 @@ class Axis:
             return f"{self.name}: centres in {self.column} from {metres(self.least)} to {metres(self.greatest)} m"
         count, half = round((self.greatest - self.least) / self.size) + 1, self.size / 2
         extent = f"from {metres(self.least - half)} to {metres(self.greatest + half)} m"
-        return f"{self.name}: {extent}, {count:,} cells of {metres(self.size)} m, centres in {self.column}"
+        cells = "1 cell" if count == 1 else f"{count:,} cells"
+        return f"{self.name}: {extent}, {cells} of {metres(self.size)} m, centres in {self.column}"
 
 
 @dataclass(frozen=True)

@@ -282,3 +282,14 @@ def test_a_name_that_no_project_can_hold_is_told(tmp_path):
     with pytest.raises(PlanError, match="has a name that is not UTF-8, as all of a project is: rename it"):
         init.write(table, tmp_path / "project.toml")
     assert list(tmp_path.iterdir()) == [table]
+
+
+@pytest.mark.parametrize(("counts", "size"), [((6, 1, 3), (10, 10, 10)), ((6, 4, 1), (10, 10, 10)), ((1, 1, 1), (1, 1, 1))])
+def test_a_section_or_a_level_alone_runs_too(tmp_path, counts, size):
+    rows(*counts, cu=lambda i, j, k: 1.0).to_csv(tmp_path / "m.csv", index=False)
+    told = init.write(tmp_path / "m.csv", tmp_path / "project.toml")
+    why, project = said(tmp_path / "project.toml")
+    assert project.grid.size == size and prepare(tmp_path / "project.toml").grid.shape == counts[::-1]
+    flat = " and ".join(axis for axis, count in zip("xyz", counts) if count == 1)
+    assert f"metres, the least steps between centres; of {flat}, where all lie at one place, put your own" in why
+    assert any(f"1 cell of {size[1]} m" in line for line in told)
