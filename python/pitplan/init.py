@@ -88,7 +88,7 @@ def numbers_where_all_are(frame: pd.DataFrame) -> pd.DataFrame:
 
 
 def encoding_of(file: Path) -> str:
-    """What the text's mark says; else UTF-8 where it is that, and else the one of Western Windows."""
+    """What the text's mark says; else UTF-8 where it is that, and else the one of Western Windows. Raises PlanError where it is no text."""
     try:
         with opened(file) as text:
             seen = text.read(SEEN)
@@ -97,6 +97,8 @@ def encoding_of(file: Path) -> str:
     for mark, name in MARKS.items():
         if seen.startswith(mark):
             return name
+    if b"\0" in seen:
+        raise PlanError(f"{file}: is no text: save the table as CSV")
     try:
         codecs.getincrementaldecoder("utf-8")().decode(seen)
     except UnicodeDecodeError:

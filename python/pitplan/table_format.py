@@ -22,6 +22,8 @@ SEPARATORS = (",", ";", "\t", "|")
 NAMES = {",": "commas", ";": "semicolons", "\t": "tabs", "|": "bars"}
 # What a packed or plain file raises that cannot be read.
 UNREADABLE = (OSError, EOFError, zipfile.BadZipFile, zlib.error)
+# How files begin that Excel writes, new and old.
+PACKED = (b"PK\x03\x04", b"\xd0\xcf\x11\xe0")
 QUOTED = re.compile(r'"[^"]*"')
 
 
@@ -65,7 +67,7 @@ def first_line(file: Path, encoding: str) -> str:
 @contextmanager
 def opened(file: Path) -> Iterator[IO[bytes]]:
     """The bytes of a table's text, of a .gz or a .zip file those that it packs. Raises one of UNREADABLE, and PlanError where a .zip file
-    packs several files or none."""
+    packs several files or none, and where another file is packed too."""
     if file.suffix == ".gz":
         with gzip.open(file) as data:
             yield data
@@ -78,6 +80,8 @@ def opened(file: Path) -> Iterator[IO[bytes]]:
                 yield data
     else:
         with open(file, "rb") as data:
+            if data.peek()[: len(PACKED[0])] in PACKED:
+                raise PlanError(f"{file}: is a workbook or another packed file: save the sheet, or what it packs, as CSV")
             yield data
 
 

@@ -293,3 +293,19 @@ def test_a_section_or_a_level_alone_runs_too(tmp_path, counts, size):
     flat = " and ".join(axis for axis, count in zip("xyz", counts) if count == 1)
     assert f"metres, the least steps between centres; of {flat}, where all lie at one place, put your own" in why
     assert any(f"1 cell of {size[1]} m" in line for line in told)
+
+
+def test_a_workbook_and_a_file_that_is_no_text_are_told_so(tmp_path):
+    table = rows(3, 3, 3, cu=lambda i, j, k: 1.0)
+    table.to_excel(tmp_path / "m.xlsx", index=False)
+    (tmp_path / "m.dm").write_bytes(table.to_csv(index=False).encode("utf-16-le"))
+    for name, why in (("m.xlsx", "is a workbook or another packed file: save the sheet, or what it packs, as CSV"), ("m.dm", "is no text: save")):
+        with pytest.raises(PlanError, match=f"{name}: {why}"):
+            init.write(tmp_path / name, tmp_path / "project.toml")
+
+
+def test_a_project_that_names_a_workbook_is_told_so(plan_folder, tmp_path):
+    project = plan_folder(rows(3, 3, 3), PROJECT, ('file = "blocks.csv"', 'file = "m.xlsx"'))
+    rows(3, 3, 3).to_excel(tmp_path / "m.xlsx", index=False)
+    with pytest.raises(PlanError, match="m.xlsx: is a workbook or another packed file"):
+        prepare(project)
