@@ -21,6 +21,9 @@ from .simulation.on_dask import Where
 from .solver import BY
 from .verification import demand
 
+# Commands that write into a folder of their name.
+OF_THEIR_OWN = ("pit", "pushbacks", "schedule", "sensitivity")
+
 
 def parser() -> argparse.ArgumentParser:
     top = argparse.ArgumentParser(prog="pitplan", description="From a table of blocks and wall angles to nested pits.")
@@ -42,7 +45,8 @@ def parser() -> argparse.ArgumentParser:
     for name, help_text in words.items():
         sub = subs.add_parser(name, help=help_text, description=help_text)
         sub.add_argument("project", type=Path, help="project.toml")
-        sub.add_argument("--out", type=Path, help="the folder of the plan (default: the project's output folder)")
+        within = f"{name} in " if name in OF_THEIR_OWN else ""
+        sub.add_argument("--out", type=Path, help=f"the folder of the plan (default: {within}the project's output folder)")
         sub.add_argument("--quiet", action="store_true", help="tell no progress on standard error")
         if name == "export":
             add_export(sub)
@@ -62,7 +66,8 @@ def parser() -> argparse.ArgumentParser:
         if name in ("pit", "export", "audit"):
             is_needed = name == "audit"
             kind = positive if name == "pit" else int
-            sub.add_argument("--factor", type=kind, required=is_needed, default=None if is_needed else REFERENCE_FACTOR)
+            text = "the price factor in per mille" + ("" if is_needed else f" (default: {REFERENCE_FACTOR})")
+            sub.add_argument("--factor", type=kind, required=is_needed, default=None if is_needed else REFERENCE_FACTOR, help=text)
     text = "look a second time at the numbers of a folder that shells, pit, pushbacks, schedule, sensitivity, scenarios or gather has written"
     subs.add_parser("verify", help=text, description=text).add_argument("folder", type=Path, help="the folder of the plan or the scenarios")
     add_scenarios(subs)
@@ -74,7 +79,8 @@ def parser() -> argparse.ArgumentParser:
 
 
 def add_export(sub: Any) -> None:
-    sub.add_argument("--to", required=True, choices=tuple(exports.WRITERS))
+    text = "the format; table is the planner's own, with each block's factor, phase and year"
+    sub.add_argument("--to", required=True, choices=tuple(exports.WRITERS), help=text)
     sub.add_argument("--of", choices=stages.KINDS, default=stages.FACTOR, help="the pit of a factor (default), or all phases or years")
     text = "the blocks that are dug (pit, the default), or the open surface of the ground with the pit in it"
     sub.add_argument("--surface", choices=(stages.PIT, stages.GROUND), default=stages.PIT, help=text)
@@ -82,7 +88,8 @@ def add_export(sub: Any) -> None:
 
 
 def add_solver(sub: Any) -> None:
-    text = "what solves: the library on arrays, or the program on files, which are kept (default: the library where it is there)"
+    default = "that which PITSHELL_LIBRARY or PITSHELL names, else the library where it is there"
+    text = f"what solves: the library on arrays, or the program on files, which are kept (default: {default})"
     sub.add_argument("--solver", choices=BY, help=text)
 
 
@@ -186,7 +193,7 @@ def run_command(options: argparse.Namespace, project: Project, folder: Path, pro
         table = commands.write_shells(project, folder, progress, not options.no_verify)
         tell_table(table, report.columns_of(table, project), folder)
     elif options.command == "pit":
-        folder = options.out or project.folder / "pit"
+        folder = options.out or project.folder / options.command
         table = commands.pit(project, options.factor, folder, progress, not options.no_verify)
         columns = report.columns_of(table, project)
         lines = [[name, *row] for name, row in zip(table["fixed_blocks"], report.cells_of(table, columns))]
@@ -194,7 +201,7 @@ def run_command(options: argparse.Namespace, project: Project, folder: Path, pro
         tell_notes(files.read_record(folder)["notes"])
         print(folder / commands.PITS)
     elif options.command == "pushbacks":
-        folder = options.out or project.folder / "pushbacks"
+        folder = options.out or project.folder / options.command
         table = commands.pushbacks(project, folder, progress, not options.no_verify)
         tell_table(table, report.columns_of_phases(table, project), folder)
     elif options.command == "schedule" and options.by == "block":
@@ -204,13 +211,13 @@ def run_command(options: argparse.Namespace, project: Project, folder: Path, pro
         if files.read_json(folder / files.BLOCK_SCHEDULE)["interrupted"]:
             raise KeyboardInterrupt
     elif options.command == "schedule":
-        folder = options.out or project.folder / "schedule"
+        folder = options.out or project.folder / options.command
         table = commands.write_schedule(project, folder, progress, not options.no_verify)
         tell_table(table, report.columns_of_ways(table, project), folder)
         if files.read_json(folder / files.SCHEDULE_RECORD)["interrupted"]:
             raise KeyboardInterrupt
     elif options.command == "sensitivity":
-        folder = options.out or project.folder / "sensitivity"
+        folder = options.out or project.folder / options.command
         where = Where(options.on, options.workers) if options.on else None
         table = commands.sensitivity(project, folder, where, progress, not options.no_verify)
         table = report.of_cases(table)

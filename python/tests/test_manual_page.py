@@ -35,3 +35,12 @@ def test_the_page_is_shown_without_warnings():
     shown = subprocess.run(["man", "--warnings", "-l", PAGE], capture_output=True, text=True, env={"MANWIDTH": "100", "PATH": "/usr/bin:/bin"})
     assert shown.returncode == 0 and shown.stderr == ""
     assert "pitplan init [--out FILE] TABLE" in shown.stdout
+
+
+def test_help_says_what_each_option_is_for_and_which_folder_is_taken(tmp_path):
+    subs = subparsers(cli.parser())
+    silent = [(name, action.dest) for name, sub in subs.items() for action in sub._actions if not action.help and name != "convert"]
+    assert silent == []
+    # As --out of the page says, under OPTIONS.
+    for name in ("pit", "pushbacks", "schedule", "sensitivity"):
+        assert f"(default: {name} in the project's output folder)" in " ".join(subs[name].format_help().split())
