@@ -23,6 +23,11 @@ def dist() -> Path:
     return BUILD / "dist"
 
 
+def test_the_wheel_of_the_layer_asks_for_the_python_that_it_needs():
+    # tomllib, which reads projects, came with Python 3.11.
+    assert 'requires-python = ">=3.11"' in (ROOT / "python" / "packages" / "pitplan.toml").read_text()
+
+
 def run(*words: object, commands: Path) -> str:
     """Standard output of a command that sees these commands and Debian's, and nothing of the repository."""
     there = {"PATH": f"{commands}:/usr/bin:/bin", "HOME": str(commands)}
