@@ -86,7 +86,9 @@ class Section:
 
     def as_number(self, key: str, value: Any) -> Decimal:
         if isinstance(value, bool) or not isinstance(value, (int, Decimal)) or not Decimal(value).is_finite():
-            raise self.wrong(key, f"{value!r} is not a number")
+            # Decimals and dates as they stand in the file.
+            shown = repr(value) if isinstance(value, (bool, str, list, dict)) else str(value)
+            raise self.wrong(key, f"{shown} is not a number")
         return Decimal(value)
 
     def whole(self, key: str, default: int, least: int, most: int) -> int:

@@ -34,6 +34,8 @@ def test_a_byte_order_mark_is_passed_over_and_another_encoding_is_refused(plan_f
         ('id = "name"', 'id = "name"\nencoding = "utf-9"', '[table] encoding: "utf-9" is no encoding: such are utf-8, cp1252'),
         ('id = "name"', 'id = "name"\ndecimal = ";"', '[table] decimal: ";" is none of ., ,'),
         ("mining_cost = 2", "mining_cost = true", "[money] mining_cost: True is not a number"),
+        ("mining_cost = 2", "mining_cost = nan", "[money] mining_cost: NaN is not a number"),
+        ("mining_cost = 2", "mining_cost = 2026-11-27", "[money] mining_cost: 2026-11-27 is not a number"),
         ("mining_cost = 2", "mining_cost = -2", "[money] mining_cost: may not be negative"),
         ("mining_cost = 2", "mining_cost = 2\ndecimals = 7", "[money] decimals: must be a whole number from 0 to 6"),
         ("mining_cost = 2", 'mining_cost = 2\ncutoff = "loose"', '[money] cutoff: "loose" is none of moving, fixed'),
