@@ -44,3 +44,22 @@ def test_the_example_of_the_manual(tmp_path: pathlib.Path) -> None:
     assert len(runs) == 4
     for command, shown in runs:
         assert told_by_shell(re.sub(r"^pitshell", str(PROGRAM), command), tmp_path) == shown
+
+
+def made(*words: object, folder: pathlib.Path) -> tuple[int, str]:
+    """The status of a tool that makes mines, and its last line on standard error."""
+    ran = subprocess.run([str(word) for word in words], cwd=folder, capture_output=True, text=True, timeout=60)
+    return ran.returncode, "".join(ran.stderr.splitlines()[-1:])
+
+
+def test_mines_are_made_in_new_folders_and_refused_in_a_sentence(tmp_path: pathlib.Path) -> None:
+    mine, table = TOP / "tools" / "make_mine.py", TOP / "tools" / "make_table.py"
+    assert made(mine, "--blocks", 27, "--out", "a/b/mine", folder=tmp_path) == (0, "")
+    assert sorted(path.name for path in (tmp_path / "a" / "b").iterdir()) == ["mine.blocks", "mine.prec", "mine.upit"]
+    assert made(mine, "--blocks", 0, "--out", "mine", folder=tmp_path) == (2, "make_mine.py: error: --blocks is a number from 1 on")
+    said = "make_table.py: error: --columns, --rows and --levels are numbers from 1 on"
+    assert made(table, "--rows", 0, "--out", "t.csv", folder=tmp_path) == (2, said)
+    (tmp_path / "file").touch()
+    for tool in (mine, table):
+        status, last = made(tool, "--out", "file/x", folder=tmp_path)
+        assert status == 1 and last in ("file: File exists", "file/x: Not a directory")

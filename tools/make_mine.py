@@ -13,6 +13,7 @@ one's four neighbours, with 1:9 all nine; with cone it needs, in the three level
 
 import argparse
 import math
+import pathlib
 import random
 
 
@@ -85,7 +86,13 @@ def main():
     parser.add_argument("--seed", type=int, default=1, help="default 1")
     parser.add_argument("--out", required=True, help="the files are OUT.upit, OUT.prec and OUT.blocks")
     options = parser.parse_args()
-    write_mine(options.out, options.blocks, options.slopes, options.seed)
+    if options.blocks < 1:
+        parser.error("--blocks is a number from 1 on")
+    try:
+        pathlib.Path(options.out).parent.mkdir(parents=True, exist_ok=True)
+        write_mine(options.out, options.blocks, options.slopes, options.seed)
+    except OSError as error:
+        parser.exit(1, f"{error.filename or options.out}: {error.strerror}\n")
 
 
 if __name__ == "__main__":

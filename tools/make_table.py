@@ -83,6 +83,15 @@ def main():
     parser.add_argument("--models", type=int, default=0, help="how many models to write too (default none)")
     parser.add_argument("--folder", default="models", help="where models are written (default models)")
     options = parser.parse_args()
+    if min(options.columns, options.rows, options.levels) < 1:
+        parser.error("--columns, --rows and --levels are numbers from 1 on")
+    try:
+        write(options)
+    except OSError as error:
+        parser.exit(1, f"{error.filename or options.out}: {error.strerror}\n")
+
+
+def write(options):
     size = (options.columns, options.rows, options.levels)
     os.makedirs(os.path.dirname(options.out) or ".", exist_ok=True)
     opened = gzip.open(options.out, "wt") if options.out.endswith(".gz") else open(options.out, "w", encoding="ascii")
