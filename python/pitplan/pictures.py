@@ -36,6 +36,8 @@ from .run import Solution
 
 ORE, WASTE, GROUND = "#3b6ea5", "#cfc9bd", "#ece8df"
 BEST, WORST, PLAIN, CHOSEN = "#1b7f4b", "#c0392b", "#444444", "#ffe9a6"
+# Red and green are alike to many: the best case points upward.
+BEST_MARK, WORST_MARK = "^", "v"
 STYLE = {
     "font.size": 9,
     "axes.spines.top": False,
@@ -214,16 +216,14 @@ def draw_tonnes(axis: Axes, table: pd.DataFrame, chosen: int) -> None:
 def draw_worth(axis: Axes, table: pd.DataFrame, currency: str) -> None:
     """A line each for worth and both NPVs, with a ring round its greatest."""
     curves = (
-        ("worth", "undiscounted", PLAIN, "--"),
-        ("npv_best", "NPV, best case", BEST, "-"),
-        ("npv_worst", "NPV, worst case", WORST, "-"),
+        ("worth", "undiscounted", PLAIN, "--o"),
+        ("npv_best", "NPV, best case", BEST, f"-{BEST_MARK}"),
+        ("npv_worst", "NPV, worst case", WORST, f"-{WORST_MARK}"),
     )
     amounts = table[[column for column, _, _, _ in curves]]
     size, sign = scaled(float(amounts.abs().max().max()))
     for column, label, colour, line in curves:
-        axis.plot(
-            table["factor"], amounts[column] / size, line + "o", color=colour, markersize=3, linewidth=1.4, label=label
-        )
+        axis.plot(table["factor"], amounts[column] / size, line, color=colour, markersize=4, linewidth=1.4, label=label)
         peak = amounts[column].idxmax()
         ring = {"markersize": 9, "markerfacecolor": "none", "markeredgecolor": colour}
         axis.plot(table["factor"][peak], amounts[column][peak] / size, "o", **ring)
@@ -260,9 +260,10 @@ def plot_sections(scene: Scene, axes: Any) -> list[Axes]:
     row, column = scene.section_row, scene.section_column
     (first, second), (east, north) = section_titles(scene.grid, row, column), scene.grid.frame.names
     cuts = ((scene.from_west_to_east(row), first, east), (scene.from_south_to_north(column), second, north))
+    most = max(float(plane.grade[plane.solid].max(initial=0.0)) for plane, _, _ in cuts)
     for (plane, where, label), left, right in zip(cuts, found[::2], found[1::2]):
         plot_shells(scene, plane, left).set_title(f"Shells, {where}")
-        plot_grades(scene, plane, right)
+        plot_grades(scene, plane, right, most)
         for ax in (left, right):
             name_axes(ax, label, "elevation")
     return found
@@ -331,11 +332,12 @@ def plot_shells(scene: Scene, plane: Plane, ax: Axes) -> Axes:
     return ax
 
 
-def plot_grades(scene: Scene, plane: Plane, ax: Axes) -> Axes:
-    """The first metal's grades of a plane's cells over the ground, and the chosen pit's outline; gives `ax`."""
+def plot_grades(scene: Scene, plane: Plane, ax: Axes, most: Optional[float] = None) -> Axes:
+    """The first metal's grades of a plane's cells over the ground, and the chosen pit's outline; gives `ax`. The colours end at `most`, by
+    default at the plane's greatest grade."""
     draw_ground(ax, plane)
     shown = np.ma.masked_where(~plane.solid | (plane.grade <= 0), plane.grade)
-    image = ax.imshow(shown, extent=plane.extent, cmap="YlOrRd", vmin=0, **MAP)
+    image = ax.imshow(shown, extent=plane.extent, cmap="YlOrRd", vmin=0, vmax=most or None, **MAP)
     ax.set_title(f"{scene.metal.name.capitalize()} and the outline of the pit at factor {scene.chosen}")
     ax.figure.colorbar(image, ax=ax, shrink=0.85, label=f"{scene.metal.name}, {scene.metal.sign}")
     draw_outline(ax, plane)

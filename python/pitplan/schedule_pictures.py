@@ -15,7 +15,7 @@ from matplotlib.patches import Rectangle
 from matplotlib.ticker import MaxNLocator
 
 from .grid import metres
-from .pictures import BEST, ORE, PLAIN, STYLE, WASTE, WORST, finish, list_of, scaled
+from .pictures import BEST, BEST_MARK, ORE, PLAIN, STYLE, WASTE, WORST, WORST_MARK, finish, list_of, scaled
 from .project import Metal
 from .yearly import FAR_ABOVE, MARGIN, MILL, SHOVELS
 from .yearly_schedule import LP, MILP, RULE, YearlySchedule, years as years_of
@@ -25,7 +25,14 @@ COLOURS = {"worst": WORST, RULE: "#d08a1d", LP: ORE, MILP: "#7b4fa3", "best": BE
 NAMES = {"worst": "worst case", RULE: "rule", LP: "linear programme", MILP: "integer programme", "best": "best case", "bound": "bound"}
 MARKED = {"marker": "o", "markersize": 3, "linewidth": 1.4}
 # The rule's line is seen where the other lies on it.
-LINES = {"worst": MARKED, RULE: {"linewidth": 5, "alpha": 0.5}, LP: MARKED, MILP: MARKED, "best": MARKED, "bound": {"linestyle": "--", "linewidth": 1.2}}
+LINES = {
+    "worst": MARKED | {"marker": WORST_MARK, "markersize": 4},
+    RULE: {"linewidth": 5, "alpha": 0.5},
+    LP: MARKED,
+    MILP: MARKED | {"marker": "s"},
+    "best": MARKED | {"marker": BEST_MARK, "markersize": 4},
+    "bound": {"linestyle": "--", "linewidth": 1.2},
+}
 GRADE, STOCKED = "#a23b8f", "#8fb3d9"
 # The palest part of a bench is still seen.
 PALEST = 0.25

@@ -9,6 +9,7 @@ import pytest
 from conftest import PROJECT, rows
 from matplotlib import pyplot as plt
 from matplotlib.backends.backend_agg import FigureCanvasAgg
+from matplotlib.figure import Figure
 
 import pitplan
 from pitplan import phase_pictures, pictures, yearly
@@ -342,10 +343,21 @@ def test_shells_are_drawn_as_bars_and_curves(panels):
     ore, waste = ax.containers
     assert [bar.get_height() for bar in ore] == [12, 15, 20] and [bar.get_height() for bar in waste] == [8, 25, 40]
     assert [line.get_ydata().tolist() for line in right.lines[::2]] == [[100, 300, 200], [90, 250, 180], [80, 150, -50]]
+    # Who does not tell green from red tells them by their marks.
+    assert len({line.get_marker() for line in right.lines[::2]}) == 3
     # Each curve's greatest has a ring.
     assert [(line.get_xdata()[0], line.get_ydata()[0]) for line in right.lines[1::2]] == [(1000, 300), (1000, 250), (1000, 150)]
     names = [text.get_text() for text in ax.get_legend().get_texts()]
     assert names == ["chosen: 1000", "ore", "waste", "undiscounted", "NPV, best case", "NPV, worst case"]
+
+
+def test_sections_show_a_grade_in_one_colour():
+    """Along row 10 it is at most 3, along column 12 at most 2."""
+    shown = scene()
+    shown.grade[:, 10, :] = 3.0
+    shown.grade[:, :, 12] = 2.0
+    axes = pictures.plot_sections(shown, Figure().subplots(2, 2))
+    assert [ax.images[-1].get_clim() for ax in axes[1::2]] == [(0, 3), (0, 3)]
 
 
 def test_what_plans_show_of_a_solved_plan(solved):

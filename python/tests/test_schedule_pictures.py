@@ -87,6 +87,9 @@ def test_curves_end_at_what_each_case_earns(schedule):
     flat = [line.get_ydata()[0] for line in ax.lines if len(set(np.atleast_1d(line.get_ydata()))) == 1]
     assert 990.0 in flat
     assert len(ax.get_legend().get_texts()) == 4
+    # Who does not tell green from red, or orange from either, tells them by their marks.
+    seen = [(line.get_marker(), line.get_linestyle(), line.get_linewidth()) for line in ax.lines[:4]]
+    assert len(set(seen)) == 4
 
 
 def test_ore_from_a_stockpile_is_a_bar_of_its_own(schedule):
