@@ -33,15 +33,17 @@ demo:
 	head -n 8 build/pit.txt
 	cmp build/pit.txt $(SMALL_MINE)/pit.txt
 
-# Program, library, planner's layer, manual pages, completions and what was built, below PREFIX; where the library was not built, all
+# Program, library, planner's layer, manual pages, completions, documents, examples and what was built, below PREFIX; where the library was not built, all
 # but that. DESTDIR stands before it, for whoever makes a package.
 LAYER = $(DESTDIR)$(PREFIX)/lib/pitshell/python
 DOC = $(DESTDIR)$(PREFIX)/share/doc/pitshell
+DOCUMENTS = README.md CHANGELOG.md docs/*.md docs/*/* examples/*.ipynb examples/*/*.* examples/*/expected/* examples/*/models/*
 install:
 	test -x $(PROGRAM) || $(MAKE) build
 	install -D -m 755 $(PROGRAM) $(DESTDIR)$(PREFIX)/bin/pitshell
 	install -D -m 755 tools/pitplan $(DESTDIR)$(PREFIX)/bin/pitplan
 	install -D -m 644 LICENSE $(DOC)/LICENSE
+	for file in $(DOCUMENTS); do install -D -m 644 $$file $(DOC)/$$file || exit; done
 	test ! -e $(PROGRAM).version || install -D -m 644 $(PROGRAM).version $(DOC)/version
 	install -D -m 644 -t $(DESTDIR)$(PREFIX)/share/man/man1 man/pitshell.1 man/pitplan.1
 	install -D -m 644 completions/pitshell.bash $(DESTDIR)$(PREFIX)/share/bash-completion/completions/pitshell

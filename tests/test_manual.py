@@ -114,6 +114,10 @@ def test_install_puts_all_in_place(tmp_path: pathlib.Path) -> None:
     if (TOP / "build" / "libpitshell.so").exists():
         places |= {f"lib/{name}": TOP / "build" / name for name in ("libpitshell.so", "libpitshell.a")}
         places |= {"include/pitshell.h": TOP / "include" / "pitshell.h"}
+    named = ["git", "ls-files", "README.md", "CHANGELOG.md", "docs", "examples"]
+    documents = subprocess.run(named, cwd=TOP, capture_output=True, text=True, check=True).stdout.split()
+    assert {"docs/PLANNING.md", "examples/plan/project.toml"} <= set(documents)
+    places |= {f"share/doc/pitshell/{name}": TOP / name for name in documents}
     layer = "lib/pitshell/python"
     packages = [TOP / "python" / name for name in ("pitplan", "minelib", "pitshell")]
     sources = [file for package in packages for file in package.rglob("*") if file.is_file() and file.suffix != ".pyc"]

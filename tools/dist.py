@@ -3,8 +3,8 @@
 
     tools/dist.py
 
-    pitshell_VERSION_ARCHITECTURE.deb       program, library, header, manual pages, completions, licence, what was built, and the
-                                            planner's layer
+    pitshell_VERSION_ARCHITECTURE.deb       program, library, header, manual pages, completions, documents, examples, licence, what was
+                                            built, and the planner's layer
     pitshell-VERSION-linux-MACHINE.tar.gz   the same, to unpack anywhere
     pitshell-VERSION-py3-none-*.whl         the solver on numpy arrays, with the program
     pitplan-VERSION-py3-none-any.whl        the planner's layer, on that
