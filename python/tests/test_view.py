@@ -192,6 +192,23 @@ def test_the_picture_is_the_one_that_was_kept(page, tmp_path_factory):
     assert (abs(kept - now).max(axis=2) > 0.1).mean() < 0.02
 
 
+@needs_chromium
+def test_on_a_telephone_the_panel_begins_closed(page, browser, tmp_path_factory):
+    browser.open(page[0])
+    assert browser.ask("document.getElementById('panel').open")
+    phone = Browser(tmp_path_factory.mktemp("phone"), 390, 800)
+    try:
+        phone.call("Emulation.setDeviceMetricsOverride", width=390, height=800, deviceScaleFactor=1, mobile=True)
+        phone.open(page[0])
+        # As wide as the telephone, not as a desk's screen made small.
+        assert phone.ask("innerWidth") == 390
+        assert phone.ask("document.getElementById('panel').offsetHeight") < 80
+        places = phone.ask("Array.from(document.querySelectorAll('#labels span'), it => it.offsetLeft)")
+        assert all(0 < x < 390 for x in places)
+    finally:
+        phone.end()
+
+
 def bytes_of(text):
     return np.frombuffer(gzip.decompress(base64.b64decode(text)), dtype=np.uint8)
 
