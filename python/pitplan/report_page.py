@@ -13,7 +13,7 @@ from typing import Any, Callable, Optional
 
 import pandas as pd
 
-from . import files, report
+from . import files, report, schedule_pictures
 from .errors import PlanError
 from .files import hash_of
 from .project import REFERENCE_FACTOR, Project
@@ -158,6 +158,7 @@ def of_answer(folder: Path, project: Project, record: dict[str, Any]) -> dict[st
         shown = record.get("schedule", BY_BLOCK)
         of_ways = report.columns_by_block if shown == BY_BLOCK else report.columns_of_ways
         found["ways"], found["shown"] = parts_of(ways, of_ways, project, ways.frame["way"].map({shown: "chosen"}).fillna("")), shown
+        found["way"] = schedule_pictures.NAMES.get(shown, shown)
         # What is scheduled by block is the pit of the price as given, whichever shell is shown.
         pit = REFERENCE_FACTOR if shown == BY_BLOCK else chosen
         cases, figures = [shown], [*of_way(ways, shown, project), *grades(shells, pit, project)]

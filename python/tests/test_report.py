@@ -4,11 +4,13 @@ import csv
 import re
 import shutil
 import subprocess
+import time
 from decimal import Decimal
 from html.parser import HTMLParser
 
 import pandas as pd
 import pytest
+from browser import Browser, needs_chromium
 from conftest import PROJECT, rows
 
 import pitplan
@@ -248,3 +250,25 @@ def test_it_prints_on_a4_and_nothing_is_cut_off(written, tmp_path):
     numbers = {text for _, text, _ in Page(page.read_text()).shown if " " not in text and text != "–"}
     assert len(numbers) > 80 and numbers <= told
     assert {f"{k}" for k in range(1, len(sheets) + 1)} <= told, "pages are numbered"
+
+
+@needs_chromium
+def test_on_a_telephone_nothing_is_cut_off(written, tmp_path):
+    phone = Browser(tmp_path, 390, 800)
+    try:
+        phone.call("Emulation.setDeviceMetricsOverride", width=390, height=800, deviceScaleFactor=1, mobile=True)
+        phone.call("Page.navigate", url=f"file://{written / 'plan' / 'schedule' / 'report.html'}")
+        while not phone.ask("document.readyState === 'complete' && document.querySelector('.figures') !== null"):
+            time.sleep(0.1)
+        sides = phone.ask("Array.from(document.querySelectorAll('.figures div'), it => it.getBoundingClientRect().right)")
+    finally:
+        phone.end()
+    assert len(sides) > 8 and max(sides) <= 390
+
+
+def test_the_way_of_a_schedule_is_told_in_words(written):
+    folder, project = written / "plan" / "schedule", pitplan.load(written / "project.toml")
+    record = pitplan.files.read_record(folder)
+    told = [report_page.of_answer(folder, project, record | {"schedule": way})["way"] for way in ("rule", "lp")]
+    assert told == ["rule", "linear programme"]
+    assert f"A yearly schedule, by {told[record['schedule'] == 'lp']}, of the phases" in (folder / "report.html").read_text()
