@@ -3,7 +3,7 @@
 from __future__ import annotations
 
 from dataclasses import dataclass
-from decimal import ROUND_HALF_EVEN, Decimal
+from decimal import ROUND_HALF_EVEN, Decimal, InvalidOperation
 from typing import Any
 
 import numpy as np
@@ -80,7 +80,12 @@ def _of_decimals(numbers: NDArray[np.object_], name: str) -> Millionths:
     amounts = np.empty(len(numbers), dtype=np.int64)
     rounded = 0
     for block, number in enumerate(numbers):
-        exact = (number if isinstance(number, Decimal) else Decimal(number)) * MILLION
+        try:
+            exact = (number if isinstance(number, Decimal) else Decimal(number)) * MILLION
+        except (TypeError, ValueError, InvalidOperation) as error:
+            raise TypeError(f"{name}: that of block {block} is {number!r}, and not a number") from error
+        if not exact.is_finite():
+            raise ValueError(f"{name}: that of block {block} is not a finite number")
         whole = exact.to_integral_value(ROUND_HALF_EVEN)
         if abs(whole) > MOST_MILLIONTHS:
             raise _too_large(name, block)

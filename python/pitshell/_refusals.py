@@ -15,9 +15,9 @@ CYCLE = 14
 
 WORDS = {
     1: "no memory",
-    3: "wrong header",
+    3: "unknown number",
     4: "over the limit",
-    7: "id out of place",
+    7: "rows out of place",
     8: "predecessor out of range",
     9: "block needs itself",
     10: "predecessor named twice",
@@ -31,6 +31,9 @@ WORDS = {
 
 # So many blocks of a cycle stand in the words.
 MOST_NAMED = 20
+# Above it a number may have been one below 0.
+MOST_OF_SIGNED = 2**31 - 1
+OUTSIDE = "a number below 0, or above 2,147,483,647"
 
 
 class Refusal(ValueError):
@@ -53,7 +56,7 @@ class Refusal(ValueError):
         if words.endswith("block "):
             words = words + str(block) if block is not None else words.removesuffix(" at block ")
         elif block is not None:
-            words += f": block {block}" if needed is None else f": block {block} needs {needed}"
+            words += f": block {block}" + ("" if needed is None else f" needs {needed if needed <= MOST_OF_SIGNED else OUTSIDE}")
         elif cycle is not None:
             words += f": blocks {', '.join(map(str, cycle[:MOST_NAMED]))}{', ..' if len(cycle) > MOST_NAMED else ''}"
         if need is not None:

@@ -182,6 +182,33 @@ def test_fixed_blocks_that_are_refused():
         assert refused.value.number == number
 
 
+@pytest.mark.parametrize(
+    ("value", "kind", "why"),
+    [
+        (Decimal("nan"), ValueError, "values: that of block 1 is not a finite number"),
+        (Decimal("-inf"), ValueError, "values: that of block 1 is not a finite number"),
+        (None, TypeError, "values: that of block 1 is None, and not a number"),
+        ("a", TypeError, "values: that of block 1 is 'a', and not a number"),
+    ],
+)
+def test_what_is_no_number_is_named(value, kind, why):
+    with pytest.raises(kind, match=why):
+        pitshell.solve([Decimal(1), value], [])
+
+
+@pytest.mark.parametrize("needs", [[[1, -1]], np.array([[1, -2]], dtype=np.int32), [[1, 10**11]]])
+def test_a_block_that_no_mine_has_is_not_shown_as_another(needs):
+    with pytest.raises(pitshell.Refusal, match="error 8: predecessor out of range: block 1 needs a number below 0, or above 2,147,483,647"):
+        pitshell.solve(TWO, needs)
+
+
+def test_refusals_of_arrays_have_words_of_arrays():
+    with pytest.raises(pitshell.Refusal, match="error 3: unknown number: block 1"):
+        pitshell.solve(TWO, NEEDS, [0, 3])
+    with pytest.raises(pitshell.Refusal, match="error 7: rows out of place"):
+        pitshell.solve(TWO, ([0, 1], [0]))
+
+
 def test_the_words_name_the_pair():
     with pytest.raises(pitshell.Refusal, match="error 9: block needs itself: block 1 needs 1"):
         pitshell.solve(TWO, np.array([[1, 1]]))
