@@ -42,6 +42,12 @@ Description: ultimate pits of open mines, by a solver with a machine-checked pro
  to shells, tables and pictures; it needs the recommended packages.
 """
 
+# What Python has compiled there is in no list of the package's files, and would stay behind.
+BEFORE_REMOVAL = """#!/bin/sh
+set -e
+find /usr/lib/pitshell -name __pycache__ -type d -prune -exec rm -rf {} +
+"""
+
 
 def version() -> str:
     return re.search(r'^__version__ = "(.+)"$', (TOP / "python" / "pitplan" / "__init__.py").read_text(), re.MULTILINE)[1]
@@ -83,6 +89,8 @@ def debian_package() -> pathlib.Path:
     words["layer"] = ", ".join(run("tools/setup.sh", "names", "core").split())
     (root / "DEBIAN").mkdir()
     (root / "DEBIAN" / "control").write_text(CONTROL.format(**words))
+    (root / "DEBIAN" / "prerm").write_text(BEFORE_REMOVAL)
+    (root / "DEBIAN" / "prerm").chmod(0o755)
     made = DIST / f"pitshell_{words['version']}_{words['architecture']}.deb"
     run("dpkg-deb", "--root-owner-group", "--build", root, made)
     return made

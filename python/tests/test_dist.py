@@ -70,6 +70,19 @@ def test_the_debian_package_serves_where_it_is_unpacked(dist, tmp_path):
     assert {f"./usr/{name}" for name in wanted} <= held
 
 
+def test_nothing_of_the_debian_package_stays_behind(dist, tmp_path):
+    package, root = next(dist.glob("*.deb")), tmp_path / "root"
+    subprocess.run(["dpkg", "-x", package, root], check=True)
+    subprocess.run(["dpkg", "-e", package, tmp_path / "control"], check=True)
+    layer = root / "usr" / "lib" / "pitshell"
+    sources = set(layer.rglob("*"))
+    run(root / "usr" / "bin" / "pitplan", "--version", commands=tmp_path)
+    assert set(layer.rglob("*.pyc"))
+    script = (tmp_path / "control" / "prerm").read_text().replace("/usr/lib", f"{root}/usr/lib")
+    subprocess.run(["sh", "-c", script], check=True)
+    assert set(layer.rglob("*")) == sources
+
+
 def test_the_archive_serves_where_it_is_unpacked(dist, tmp_path):
     archive = next(dist.glob("*.tar.gz"))
     subprocess.run(["tar", "xf", archive, "-C", tmp_path], check=True)
