@@ -9,21 +9,26 @@ from typing import Iterable, Iterator, Optional, TextIO
 
 
 class Progress:
-    """Tells each step when it begins and when it ends; with no stream it tells nothing."""
+    """Tells each step when it begins and when it ends; with no stream it tells nothing. The line of a step that has others within it is ended
+    by the first of these, and told anew at its end."""
 
     def __init__(self, stream: Optional[TextIO] = None) -> None:
         self.stream = stream
+        self.is_open = False
 
     @contextmanager
     def step(self, what: str) -> Iterator[None]:
         began = time.perf_counter()
-        self.say(f"{what} ..", end="")
+        self.say(("\n" if self.is_open else "") + f"{what} ..", end="")
+        self.is_open = True
         try:
             yield
         except BaseException:
-            self.say("")
+            self.say("", end="\n" if self.is_open else "")
+            self.is_open = False
             raise
-        self.say(f" {time.perf_counter() - began:.1f} s")
+        self.say(("" if self.is_open else f"{what} ..") + f" {time.perf_counter() - began:.1f} s")
+        self.is_open = False
 
     def lines(self, lines: Iterable[str]) -> None:
         for line in lines:

@@ -1,5 +1,6 @@
 """How commands end: one sentence and a status, where a stream is closed or full, memory is short, or somebody ends them."""
 
+import io
 import os
 import resource
 import signal
@@ -9,6 +10,8 @@ import time
 
 import pytest
 from conftest import ROOT, rows
+
+from pitplan.progress import Progress
 
 PITPLAN = [sys.executable, str(ROOT / "tools" / "pitplan")]
 CONVERT = [*PITPLAN, "convert", "minelib"]
@@ -75,3 +78,14 @@ def test_short_memory_is_told(tmp_path):
         preexec_fn=lambda: resource.setrlimit(resource.RLIMIT_AS, limit),
     )
     assert (ran.returncode, ran.stderr) == (1, "pitplan: there is not enough memory\n")
+
+
+def test_steps_within_a_step_have_lines_of_their_own():
+    told = io.StringIO()
+    progress = Progress(told)
+    with progress.step("outer"):
+        with progress.step("first"):
+            pass
+        with pytest.raises(ValueError), progress.step("second"):
+            raise ValueError
+    assert told.getvalue().splitlines() == ["outer ..", "first .. 0.0 s", "second ..", "outer .. 0.0 s"]
