@@ -104,7 +104,7 @@ def read(path: Path, second: Optional[str] = None) -> ScheduleModel:
 def demand_kind(draft: Draft) -> None:
     """Refuses other models than a CPIT and a PCPSP, headers of the one in the other, and general side constraints."""
     if draft.kind not in ("CPIT", "PCPSP"):
-        raise MinelibError(f"{draft.path}: is a {draft.kind}, and schedules are read of a CPIT or a PCPSP")
+        raise MinelibError(f"{draft.path}: is {f'a {draft.kind}' if draft.kind else 'of no type'}, and schedules are read of a CPIT or a PCPSP")
     for key in OF_PCPSP:
         if draft.kind == "CPIT" and key in draft.headers:
             raise draft.headers[key].wrong(f"{key}: is no header of a CPIT")

@@ -90,6 +90,7 @@ def test_bound_and_schedule_of_two_pillars_by_hand(published, tmp_path, capsys):
         (("NPERIODS: 3\n", ""), "mine.cpit: has no header NPERIODS:"),
         (("NPERIODS: 3\n", "NPERIODS: 3\nNPERIODS: 4\n"), "mine.cpit line 5: NPERIODS: stands twice"),
         (("NPERIODS: 3\n", "NPERIODS: 3\nGENERAL_CONSTRAINTS: 4\n"), "mine.cpit line 5: GENERAL_CONSTRAINTS: is no header of a CPIT"),
+        (("TYPE: CPIT", "TYPE:"), "mine.cpit: is of no type, and schedules are read of a CPIT or a PCPSP"),
         (("TYPE: CPIT", "TYPE: UPIT"), "mine.cpit: is a UPIT, and schedules are read of a CPIT or a PCPSP"),
         (("NPERIODS: 3\n", "NPERIODS: 3\nNDESTINATIONS: 1\n"), "mine.cpit line 5: NDESTINATIONS: is no header of a CPIT"),
         (("3 5\n", "4 5\n"), "mine.cpit line 8: 4, where NBLOCKS: is 4 and numbers count from 0"),
@@ -121,6 +122,15 @@ def test_a_least_amount_is_kept(published, tmp_path, change, most):
     assert limit.floor.tolist() == [0, 0, 2] and limit.most.tolist() == [2, 2, most]
     assert main([*map(str, paths), "--out", str(tmp_path / "periods.csv"), "--quiet", "--seconds", "60"]) == 0
     assert pd.read_csv(tmp_path / "periods.csv")["period"].tolist() == [0, 0, 2, 2]
+
+
+def test_a_file_that_is_read_is_not_written_over(published, capsys):
+    paths = published()
+    before = [path.read_bytes() for path in paths]
+    for path in paths:
+        assert main([*map(str, paths), "--out", str(path), "--quiet"]) == 1
+        assert capsys.readouterr().err == f"pitplan: {path}: would be written over: name another file by --out\n"
+    assert [path.read_bytes() for path in paths] == before
 
 
 def test_a_least_amount_that_is_not_there_is_told(published, capsys):

@@ -40,6 +40,9 @@ def main(arguments: Optional[Sequence[str]] = None) -> int:
 
 
 def run(options: argparse.Namespace) -> int:
+    for read in (options.model, options.prec):
+        if options.out is not None and options.out.exists() and read.exists() and options.out.samefile(read):
+            raise PlanError(f"{read}: would be written over: name another file by --out")
     effort = None if options.seconds is None else Effort(options.gap, options.seconds)
     problem = of_minelib(options.model, options.prec, options.behind_block)
     found = solve(problem, effort, silent if options.quiet else on_standard_error())
