@@ -26,8 +26,9 @@ AIR = 255
 MOST_FACTORS = 254
 # Of more blocks than these the rows of those that some pit holds are in the page alone.
 MOST_ROWS = 300_000
-# What a block is dug by, besides the factor: the column, how it is called, and the colours.
-STAGES = (("phase", "viridis_r", (0.08, 0.95)), ("year", "turbo", (0.05, 0.95)))
+# What a block is dug by, besides the factor: the column, how it is called, and the colours, which darken from first to last, since not all
+# who look tell red from green.
+STAGES = (("phase", "viridis_r", (0.08, 0.95)), ("year", "plasma_r", (0.05, 0.95)))
 
 
 def write(path: Path, folder: Folder) -> None:

@@ -261,3 +261,10 @@ def test_as_many_factors_as_a_byte_tells_apart_are_shown(solved, monkeypatch):
 def test_the_page_needs_no_other_file(page):
     text = page[0].read_text()
     assert not re.search(r'(src|href)\s*=\s*"', text) and text.count("<script>") == 3
+
+
+@pytest.mark.parametrize(("name", "colour_map", "ends"), pages.STAGES)
+def test_the_colours_of_phases_and_years_darken(name, colour_map, ends):
+    """By the luminance of sRGB (IEC 61966-2-1), for whoever does not tell hues apart."""
+    linear = (np.array(pages.colours(colour_map, np.linspace(*ends, 30))) / 255) ** 2.2
+    assert (np.diff(linear @ [0.2126, 0.7152, 0.0722]) < 0).all(), name
