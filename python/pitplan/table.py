@@ -148,12 +148,26 @@ def read_header(file: Path, form: TableFormat) -> list[str]:
 
 def names_of(project: Project) -> list[str]:
     """The columns that the project names, each once."""
+    return list(dict.fromkeys(named(project)))
+
+
+def named(project: Project) -> list[str]:
+    """The columns that the project names, each as often as it does."""
     t = project.table
     fixed = [project.fixed.forced, project.fixed.barred] if project.fixed else []
     rock = [t.density, t.volume] if t.density else [t.tonnes]
     sums = project.schedule_rules.columns if project.schedule_rules else ()
-    named = [t.id, t.x, t.y, t.z, *rock, t.rock, t.region, *(metal.column for metal in project.metals), *fixed, *sums]
-    return list(dict.fromkeys(name for name in named if name))
+    columns = [t.id, t.x, t.y, t.z, *rock, t.rock, t.region, *(metal.column for metal in project.metals), *fixed, *sums]
+    return [name for name in columns if name]
+
+
+def demand_codes_apart(project: Project) -> None:
+    """Refuses a column of codes that would be read as numbers too."""
+    codes = {"id": project.table.id, "rock": project.table.rock, "region": project.table.region}
+    for key, name in codes.items():
+        if name and named(project).count(name) > list(codes.values()).count(name):
+            why = "is read as numbers too: codes need a column of their own"
+            raise PlanError(f"{project.path}: [table] {key}: the column {name} {why}")
 
 
 def demand_columns(frame: pd.DataFrame, wanted: list[str], source: str) -> None:
@@ -176,6 +190,7 @@ def checked(frame: pd.DataFrame, project: Project, source: str = "table") -> Tab
     Empty tonnes and grades are refused, or taken as 0 where the project says `empty = "zero"`.
     """
     columns = project.table
+    demand_codes_apart(project)
     demand_columns(frame, names_of(project), source)
     if frame.empty:
         raise PlanError(f"{source}: has no blocks")

@@ -207,6 +207,26 @@ def test_a_spreadsheets_mark_at_the_beginning_is_passed_over(plan_folder):
     )
 
 
+@pytest.mark.parametrize(
+    "change, key, name",
+    [
+        (('column = "cu"', 'column = "rock"'), "rock", "rock"),
+        (('rock = "rock"', 'rock = "cu"'), "rock", "cu"),
+        (('id = "name"', 'id = "tonnes"'), "id", "tonnes"),
+        (("[shells]", '[fixed]\nforced = "region"\n[shells]'), "region", "region"),
+        (("[shells]", '[[schedule.sums]]\ncolumn = "name"\nmost = 1\n[shells]'), "id", "name"),
+    ],
+)
+def test_a_column_of_codes_that_is_named_as_one_of_numbers_is_refused(plan_folder, change, key, name):
+    path = plan_folder(rows(3, 2, 2), PROJECT, change)
+    assert refused(path) == f"{path}: [table] {key}: the column {name} is read as numbers too: codes need a column of their own"
+
+
+def test_rock_and_region_may_be_one_column(plan_folder):
+    path = plan_folder(rows(3, 2, 2), PROJECT, ('region = "region"', 'region = "rock"'))
+    assert set(pitplan.prepare(path).blocks["rock"]) == {"R"}
+
+
 def test_columns_with_names_of_the_plans_own_are_kept_beside_them(plan_folder):
     table = rows(3, 2, 2).rename(columns={"name": "id", "cu": "revenue"})
     path = plan_folder(table, PROJECT, ('id = "name"', 'id = "id"'), ('column = "cu"', 'column = "revenue"'))
