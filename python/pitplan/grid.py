@@ -22,8 +22,8 @@ FEW = 0.01
 
 
 def metres(value: float) -> str:
-    """A coordinate with all its digits, to a tenth of a millimetre: 6512640, not 6.51264e+06."""
-    return f"{round(float(value), 4):.15g}"
+    """A coordinate with all its digits, to a tenth of a millimetre: 6512640, not 6.51264e+06, and 0 without a sign."""
+    return f"{round(float(value), 4) + 0.0:.15g}"
 
 
 @dataclass(frozen=True)
