@@ -57,6 +57,20 @@ def test_three_pillars_by_hand(plan_folder):
     assert told["years"] == 4
 
 
+def test_money_in_thousands_has_the_share_below_the_bound_of_what_is_told(plan_folder):
+    """The shovels take a block and a half a year, so a block a year: waste costs 0.2, and the ore under it earns 2.8, 1.6 and 0.8. The
+    bound, of shares of blocks, is more; files have both to a thousandth, and the share by which they differ is that of these."""
+    text = YEARLY.replace("rock_per_year = 200", "rock_per_year = 150").replace("price = 8000", "price = 8")
+    text = text.replace("mining_cost = 2", "mining_cost = 0.002").replace("processing_cost = 10", "processing_cost = 0.01")
+    row, folder = scheduled(plan_folder, "[schedule]\nyears = 6\n", text)
+    earned = [-0.2, 2.8, -0.2, 1.6, -0.2, 0.8]
+    assert row["value"] == pytest.approx(sum(cash / 1.1**year for year, cash in enumerate(earned, 1)))
+    told, way = json.loads((folder / "block_schedule.json").read_text()), pd.read_csv(folder / "ways.csv").iloc[0]
+    share = (told["bound"] - told["value"]) / told["bound"]
+    assert share > 0.01 and (told["value"], told["bound"]) == (way["value"], way["bound"])
+    assert told["gap"] == pytest.approx(share, abs=6e-10) and way["below_bound"] == pytest.approx(share, abs=6e-10)
+
+
 @pytest.mark.parametrize(
     ("words", "cash"),
     [

@@ -374,6 +374,12 @@ def test_amounts_are_written_to_a_thousandth_and_nothing_has_no_minus():
     assert written.splitlines()[1:] == ["0.0,0.123457,1,1000", "-0.001,0.0,2,-0.5", "1234.568,0.0,3,7"]
 
 
+def test_the_share_below_a_bound_is_that_of_the_value_and_the_bound_that_are_told():
+    """By hand: (5 + 500) / 5, (0.033 - 0.032) / 0.033, nothing of a bound that is told as 0, and nothing known without one."""
+    ways = {"value": [-500.0004, 0.0324, 0.0001, 7.0], "bound": [5.0004, 0.0334, 0.0003, np.nan], "below_bound": [100.99, 0.0299, 0.67, np.nan]}
+    assert commands.shown(pd.DataFrame(ways))["below_bound"].fillna(-1).tolist() == [101.0, 0.03030303, 0.0, -1]
+
+
 def test_the_command_line_tells_table_steps_and_warnings(solved_once):
     lines = solved_once.out.splitlines()
     assert lines[0].split()[:3] == ["factor", "blocks", "rock"] and lines[1].split()[:3] == ["per", "mille", "t"]

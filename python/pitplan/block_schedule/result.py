@@ -18,7 +18,7 @@ from ..schedule import year_discounts
 from ..schedule_rules import ScheduleRules
 from ..yearly_money import of_project
 from .of_plan import PlannedBlocks, cash_of, of_plan
-from .solving import Scheduled, solve
+from .solving import Scheduled, gap_of, solve
 
 # What years.csv calls the case, and how the names of blocks.csv's columns of shares begin.
 CASE, SHARE = "block", "share_"
@@ -97,13 +97,14 @@ class ScheduledBlocks:
 
     @property
     def record(self) -> dict[str, Any]:
-        """What block_schedule.json says: value and bound, the gap as a share of the bound, the years that there were, the limits, how the
-        bound was found, and the solver."""
+        """What block_schedule.json says: value and bound, the gap between these as a share of the bound, the years that there were, the
+        limits, how the bound was found, and the solver."""
         found, limits = self.found, self.planned.limits
+        value, bound = round(found.value, 3), round(found.bound, 3)
         return {
-            "value": round(found.value, 3),
-            "bound": round(found.bound, 3),
-            "gap": round(found.gap, 9),
+            "value": value,
+            "bound": bound,
+            "gap": round(gap_of(value, bound), 9),
             "years": self.planned.problem.years,
             "limits": limits.most,
             **({"least": limits.least} if limits.least else {}),

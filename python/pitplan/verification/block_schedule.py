@@ -179,7 +179,7 @@ def verify_value(answer: Answer, told: dict[str, Any], sums: pd.DataFrame) -> Ru
         differences.append(f"value {told['value']:.12g} for {value:.12g}")
     if value > bound + CENT + 1e-9 * abs(bound):
         differences.append(f"value {value:.12g} is above bound {bound:.12g}")
-    gap = (bound - value) / abs(bound) if bound else 0.0
+    gap = (bound - told["value"]) / abs(bound) if bound else 0.0
     if abs(told["gap"] - gap) > 1e-6:
         differences.append(f"gap {told['gap']:.9g} for {gap:.9g}")
     dug = int(((answer.said[YEAR] > 0) & (answer.tonnes > 0)).sum())
