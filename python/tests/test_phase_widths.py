@@ -235,6 +235,13 @@ def test_each_shape_that_is_bent_is_found(copied, column, rule, more):
     assert set(wrong(copied)) == {rule}
 
 
+def test_a_block_of_a_later_factor_than_the_last_phase_is_found(copied):
+    table = pd.read_csv(copied / "blocks.csv")
+    table.loc[table["factor"] > 0, "factor"] += 1000
+    table.to_csv(copied / "blocks.csv", index=False)
+    assert "blocks" in wrong(copied)
+
+
 @pytest.mark.parametrize(("name", "number"), [("b5-3-0", 0), ("b3-2-0", 2), ("b10-2-0", 0)])
 def test_a_block_that_makes_a_phase_too_narrow_is_found(copied, name, number):
     """The filled notch, a corner of the first square, and one of the second, in another phase or in none."""

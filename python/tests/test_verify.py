@@ -149,6 +149,24 @@ def test_a_year_above_its_capacity_is_found(copied):
     assert rule.differences == (f"{case} case of factor {factor}, year {year}: rock_tonnes 1000.5 above 1000",)
 
 
+@pytest.mark.parametrize(("file", "column"), [("blocks.csv", "revenue"), ("shells.csv", "npv_best"), ("years.csv", "cash")])
+@pytest.mark.parametrize(("field", "said"), [("", "is empty"), ("n/a", '"n/a" is not a number')])
+def test_a_field_that_is_no_number_is_named(copied, capsys, file, column, field, said):
+    table = pd.read_csv(copied / file, dtype=str, keep_default_na=False)
+    table.loc[1, column] = field
+    table.to_csv(copied / file, index=False)
+    assert main(["verify", str(copied)]) == 1
+    assert capsys.readouterr().err.splitlines()[-1].endswith(f"{file} row 3 column {column}: {said}")
+
+
+def test_shells_that_are_missing_or_too_many_are_named(copied):
+    table = pd.read_csv(copied / "shells.csv")
+    for rows_of, there in ((table.iloc[[0, 2]], "500, 1500"), (table.iloc[[0, 1, 1, 2]], "500, 1000, 1000, 1500")):
+        rows_of.to_csv(copied / "shells.csv", index=False)
+        with pytest.raises(PlanError, match=f"shells.csv: has rows of the factors {there} for 500, 1000, 1500"):
+            verify(copied)
+
+
 def plus_one(table, column):
     return table.assign(**{column: table[column] + 1})
 

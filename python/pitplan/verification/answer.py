@@ -19,6 +19,7 @@ from ..wall_rules import Wall
 from .feed import by_code, recovered
 from .put_together import divided, together, written_rows
 from .turned import steps_of
+from .written import demand_factors, demand_numbers, read_table
 
 # In place of a factor: a cell that is not dug at any, and one where there is nothing to dig.
 UNDUG, NOTHING = 2**30, 0
@@ -275,12 +276,13 @@ def said_of(project: Project) -> tuple[str, ...]:
 
 def read_shells(folder: Path, record: dict[str, Any], project: Project, written: pd.DataFrame, table: TableRows) -> Answer:
     """The answer of `pitplan shells`, `pitplan pushbacks` or `pitplan schedule`."""
-    shells = pd.read_csv(folder / "shells.csv", dtype={"worth_at_factor": str}).set_index("factor")
-    years = pd.read_csv(folder / "years.csv") if (folder / "years.csv").exists() else None
+    shells = read_table(folder / "shells.csv")
+    demand_factors(shells, record["shells"]["factors"], "shells.csv")
+    shells, years = shells.set_index("factor"), read_table(folder / "years.csv", ["case"]) if (folder / "years.csv").exists() else None
     frame, parts, beyond = table
     rows, known, order = beside(frame, written, project, record["grid"], "blocks.csv")
-    phases = pd.read_csv(folder / "phases.csv").set_index("phase") if "phases" in record else None
-    schedule = pd.read_csv(folder / "schedule.csv") if "schedule" in record else None
+    phases = read_table(folder / "phases.csv").set_index("phase") if "phases" in record else None
+    schedule = read_table(folder / "schedule.csv", ["way"]) if "schedule" in record else None
     is_by_block = "by_block" in record
     shares = shares_of(project) if is_by_block else []
     more = [*([PHASE] if phases is not None else []), *([YEAR] if schedule is not None or is_by_block else []), *shares]
@@ -306,8 +308,11 @@ def rows_of(project: Project, written: pd.DataFrame, grid: dict[str, Any], table
 
 def read_pits(folder: Path, record: dict[str, Any], project: Project, written: pd.DataFrame, table: TableRows) -> Answer:
     """The two answers of `pitplan pit`: that which keeps to the fixed blocks, and in it the one that does not."""
-    pits = pd.read_csv(folder / "pits.csv", dtype={"worth_at_factor": str})
+    pits = read_table(folder / "pits.csv", ["fixed_blocks"])
+    demand_factors(pits, [record["factors"][-1]] * 2, "pits.csv")
     kept, free = (pits[pits["fixed_blocks"] == name].set_index("factor") for name in ("kept", "free"))
+    if len(kept) != len(free):
+        raise PlanError("pits.csv: has not a row that keeps to the fixed blocks and one that is free")
     frame, parts, beyond = table
     rows, known, order = beside(frame, written, project, record["grid"], "blocks.csv")
     said = written[[*said_of(project), *FREE]].iloc[order].reset_index(drop=True)
@@ -319,13 +324,15 @@ def read_pits(folder: Path, record: dict[str, Any], project: Project, written: p
 
 def read_blocks(path: Path, project: Project, said: Optional[tuple[str, ...]] = None) -> pd.DataFrame:
     """The centres and those of these columns that the file has; every column where none are named, where rows may stand for cells that the
-    table has none of, or where they are put together or cut."""
+    table has none of, or where they are put together or cut. Raises PlanError where a field that is to be a number is none."""
     columns = project.table
     codes = {own_name(name): str for name in (columns.id, columns.rock, columns.region) if name}
     wanted = {*(said or ()), *(own_name(name) for name in (columns.x, columns.y, columns.z))}
     is_whole = said is None or isinstance(columns.absent, AbsentRock) or bool(columns.reblock or columns.topography)
     usecols = None if is_whole else wanted.__contains__
-    return pd.read_csv(path, dtype=codes, keep_default_na=False, na_values={}, float_precision="round_trip", usecols=usecols)
+    found = pd.read_csv(path, dtype=codes, keep_default_na=False, na_values={}, float_precision="round_trip", usecols=usecols)
+    demand_numbers(found, path.name, [*codes, PROCESS])
+    return found
 
 
 def own_name(column: str) -> str:

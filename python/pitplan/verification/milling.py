@@ -8,6 +8,7 @@ import numpy as np
 import pandas as pd
 
 from .answer import Answer
+from .written import read_table
 
 # The last place that milling.csv keeps of tonnes, and what a share may be off by the solver's tolerance.
 AMOUNT, SHARE = 0.6e-3, 1e-6
@@ -27,7 +28,7 @@ def parcels_of(answer: Answer, edges: list[float]) -> pd.DataFrame:
 def amounts(answer: Answer, rows: pd.DataFrame, plain: pd.DataFrame, told: dict[str, Any]) -> tuple[pd.DataFrame, pd.DataFrame, list[str]]:
     """What each row of a way's schedule should have, by how much it may be off, and what is wrong in milling.csv. `plain` is what it would
     have if all ore were milled as it is dug."""
-    table = pd.read_csv(answer.folder / "milling.csv")
+    table = read_table(answer.folder / "milling.csv", ["way"])
     table = table[table["way"].isin(rows["way"].unique())].copy()
     # Of a way that mills nothing there are no rows, by which the reader could tell numbers.
     table = table.astype({name: float if name.endswith("_tonnes") else int for name in table if name not in ("way", "bench")})

@@ -42,7 +42,7 @@ def verify_places(answer: Answer) -> Rule:
         differences.append(f"phases {numbers} of factors {answer.phases['factor'].tolist()} for the shells {factors}")
     differences += unlike_rules(answer, factors)
     first, said = answer.said["factor"].to_numpy(), answer.said["phase"].to_numpy()
-    expected = np.array([0, *range(1, len(factors) + 1)])[np.searchsorted([0, *factors], first)]
+    expected = np.array([0, *range(1, len(factors) + 1), -1])[np.searchsorted([0, *factors], first)]
     holds = "each block is in the phase of the first shell that holds it"
     off = np.flatnonzero(expected != said)
     if answer.project.phases is not None and (answer.project.phases.width or answer.project.phases.bottom):

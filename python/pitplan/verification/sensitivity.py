@@ -21,6 +21,7 @@ from ..project import Project, load, of_data
 from . import absent, fixed, money, sums, topography, walls, years
 from .answer import Answer, Rule, beside, read_blocks, rows_of, rule
 from .weighing import gains, weighed
+from .written import read_table
 
 SHARES = ("-0.2", "-0.1", "0.1", "0.2")
 AXES = ("number", "share", "second", "second_share")
@@ -85,7 +86,7 @@ class Told:
         said = pd.DataFrame({"id": blocks["id"].to_numpy()[order], "factor": 0})
         record |= {"walls": record["cases"][0]["walls"]}
         ground = Answer(folder, project, known, count, said, pd.DataFrame(), None, record, factors, parts=parts, beyond=beyond)
-        rows = pd.read_csv(written / "sensitivity.csv", dtype={"number": str, "second": str, "worth_at_factor": str}, keep_default_na=False, na_values=[""])
+        rows = read_table(written / "sensitivity.csv", ["number", "second"])
         rows[["number", "second"]] = rows[["number", "second"]].fillna("")
         return Told(ground, rows, list(cases_in(folder, record)), factor)
 

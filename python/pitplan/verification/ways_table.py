@@ -7,6 +7,7 @@ from typing import Any
 import pandas as pd
 
 from .answer import Answer
+from .written import read_table
 
 FILE = "ways.csv"
 # years.csv has thousandths, and ways.csv too.
@@ -19,7 +20,7 @@ def differences(answer: Answer, told: dict[str, dict[str, Any]]) -> list[str]:
     assert answer.years is not None
     if not (answer.folder / FILE).is_file():
         return [f"{FILE} is missing"]
-    said = pd.read_csv(answer.folder / FILE).set_index("way")
+    said = read_table(answer.folder / FILE, ["way"]).set_index("way")
     if said.index.tolist() != list(told):
         return [f"{FILE} has the ways {said.index.tolist()} for {list(told)}"]
     found = []

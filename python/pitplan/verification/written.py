@@ -1,0 +1,46 @@
+"""Tables of an answer as they are read: in a column of numbers each field is one."""
+
+from __future__ import annotations
+
+from collections.abc import Iterable, Sequence
+from pathlib import Path
+
+import pandas as pd
+
+from ..errors import PlanError
+from ..table import at_row
+
+# How the names of columns begin that are empty where there is no such amount: a ratio to no ore, a width of nothing, a bound that was not
+# sought, what is of other cases alone.
+MAY_LACK = ("strip_ratio", "grade_", "least_width", "bound", "below_bound", "sum_", "kept_", "skin_worth")
+# Numbers whose digits count each are left as texts.
+EXACT = "worth_at_factor"
+
+
+def read_table(path: Path, texts: Sequence[str] = ()) -> pd.DataFrame:
+    """A table, of which these columns are texts. Raises PlanError, with file, row and column, where a field is no number that is to be one."""
+    frame = pd.read_csv(path, dtype=dict.fromkeys([*texts, EXACT], str), keep_default_na=False, na_values=[""])
+    demand_numbers(frame, path.name, texts)
+    return frame
+
+
+def demand_numbers(frame: pd.DataFrame, source: str, texts: Iterable[str]) -> None:
+    """Raises PlanError as `read_table` does."""
+    for name in frame.columns.difference([*texts], sort=False):
+        column = frame[name]
+        if column.dtype != object and not column.isna().any():
+            continue
+        lacking = pd.to_numeric(column, errors="coerce").isna()
+        if name.startswith(MAY_LACK):
+            lacking &= column.notna()
+        if lacking.any():
+            row = int(lacking.to_numpy().argmax())
+            why = f'"{column.iloc[row]}" is not a number' if column.notna().iloc[row] and column.iloc[row] != "" else "is empty"
+            raise at_row(source, row, name, why)
+
+
+def demand_factors(frame: pd.DataFrame, factors: Iterable[int], source: str) -> None:
+    """Raises PlanError where a table has not one row for each factor, in their order."""
+    there, due = frame["factor"].tolist(), list(factors)
+    if there != due:
+        raise PlanError(f"{source}: has rows of the factors {', '.join(map(str, there))} for {', '.join(map(str, due))}")
