@@ -149,7 +149,20 @@ def test_a_year_above_its_capacity_is_found(copied):
     assert rule.differences == (f"{case} case of factor {factor}, year {year}: rock_tonnes 1000.5 above 1000",)
 
 
-@pytest.mark.parametrize(("file", "column"), [("blocks.csv", "revenue"), ("shells.csv", "npv_best"), ("years.csv", "cash")])
+@pytest.mark.parametrize(
+    ("column", "value"), [("name", "b0-0-1"), ("rock", "S"), ("region", "2"), ("tonnes", 99.70000001), ("cu", 1e-9), ("au", 0.7), ("must", 1.0), ("never", 2.0)]
+)
+def test_a_field_of_the_planners_that_is_another_is_found(copied, column, value):
+    table = pd.read_csv(copied / "blocks.csv", dtype={"region": str}, float_precision="round_trip")
+    at = table.index[table["name"] == "b0-0-0"][0]
+    table[column] = table[column].where(table.index != at, value)
+    table.to_csv(copied / "blocks.csv", index=False)
+    (rule,) = [rule for rule in verify(copied) if rule.differences]
+    assert rule.name == "blocks" and len(rule.differences) == 1
+    assert rule.differences[0].startswith(f"block b0-0-0: {column} {value} for ")
+
+
+@pytest.mark.parametrize(("file", "column"), [("blocks.csv", "revenue"), ("blocks.csv", "cu"), ("shells.csv", "npv_best"), ("years.csv", "cash")])
 @pytest.mark.parametrize(("field", "said"), [("", "is empty"), ("n/a", '"n/a" is not a number')])
 def test_a_field_that_is_no_number_is_named(copied, capsys, file, column, field, said):
     table = pd.read_csv(copied / file, dtype=str, keep_default_na=False)
@@ -238,9 +251,9 @@ def test_a_run_reads_its_table_once_and_a_later_look_reads_it_again(plan_folder,
     assert len(reads) == 1 and wrong(path.parent / "plan") == set() and len(reads) == 2
     table = read_table(load(path)).frame
     bent = table.assign(cu=table["cu"].where(table["cu"] < 6, 5.9))
-    assert {rule.name for rule in verify(path.parent / "plan", None, bent) if rule.differences} == {"money", "shells"}
+    assert {rule.name for rule in verify(path.parent / "plan", None, bent) if rule.differences} == {"blocks", "money", "shells"}
     deposit().assign(cu=bent["cu"].to_numpy()).to_csv(path.parent / "blocks.csv", index=False)
-    assert wrong(path.parent / "plan") == {"money", "shells"}
+    assert wrong(path.parent / "plan") == {"blocks", "money", "shells"}
 
 
 def looked_at(plan):

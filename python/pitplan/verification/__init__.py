@@ -4,8 +4,8 @@ It has nothing in common with what it checks but the readers of the project, of 
 shell is the best is proved of the program, for the files that it was given; here is looked whether these say what the project says, and
 whether the answer does:
 
-- each block of the table stands in the answer, in its own cell; where the project gives a rock to cells without rows, each that is not
-  above the highest row of its column is a block of that rock, and no other is;
+- each block of the table stands in the answer, in its own cell and with the table's own fields; where the project gives a rock to cells
+  without rows, each that is not above the highest row of its column is a block of that rock, and no other is;
 - of what was left out since no shell can reach it nothing pays or must be dug, and no shell needs ground there;
 - where rows are put together to blocks, each block holds those that lie in it;
 - where a topography cuts blocks, their tonnes are right in 200 columns of blocks exactly, and in 2,000 to a tenth of a block;

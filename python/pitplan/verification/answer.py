@@ -73,6 +73,7 @@ class Answer:
     phases  of `pitplan pushbacks` phases.csv, by phase; `said` has each block's phase then
     schedule  of `pitplan schedule` schedule.csv; `said` has each block's year then
     is_by_block  whether blocks were scheduled one by one; `said` has the year of each then
+    own     what blocks.csv has of the planner's columns in these rows, by the names that they have in the table
     parts   where rows are put together to blocks the table's rows; `rows` are then the answer's own, which hold them
     beyond  the table's rows that lie beyond the answer's grid, where some do
     """
@@ -93,6 +94,7 @@ class Answer:
     parts: Optional[pd.DataFrame] = None
     beyond: Optional[pd.DataFrame] = None
     is_by_block: bool = False
+    own: pd.DataFrame = field(default_factory=pd.DataFrame)
 
     @property
     def shape(self) -> tuple[int, int, int]:
@@ -251,7 +253,8 @@ def read(folder: Path, project: Optional[Project] = None, table: Optional[pd.Dat
     try:
         record = json.loads((folder / "prepare.json").read_text(encoding="utf-8"))
         project = project or load(folder / record["project"])
-        written = read_blocks(folder / "blocks.csv", project, (*said_of(project), *FREE, PHASE, YEAR, *shares_of(project)))
+        own = [own_name(name) for name in (*tables.names_of(project), project.table.tonnes)]
+        written = read_blocks(folder / "blocks.csv", project, (*said_of(project), *FREE, PHASE, YEAR, *shares_of(project), *own))
         rows = rows_of(project, written, record["grid"], table)
         return (read_shells if "shells" in record else read_pits)(folder, record, project, written, rows)
     except OSError as error:
@@ -288,6 +291,7 @@ def read_shells(folder: Path, record: dict[str, Any], project: Project, written:
     more = [*([PHASE] if phases is not None else []), *([YEAR] if schedule is not None or is_by_block else []), *shares]
     said, factors = written[[*said_of(project), *more]].iloc[order].reset_index(drop=True), tuple(record["shells"]["factors"])
     found = {"phases": phases, "schedule": schedule, "parts": parts, "beyond": beyond, "is_by_block": is_by_block}
+    found["own"] = own_columns(written, rows, order)
     return Answer(folder, project, rows, known, said, shells, years, record, factors, **found)
 
 
@@ -319,7 +323,8 @@ def read_pits(folder: Path, record: dict[str, Any], project: Project, written: p
     other = said.assign(**{name: said[f"free_{name}"] for name in ("factor", "process_factor")})
     factors = tuple(record["factors"])
     alone = Answer(folder, replace(project, fixed=None), rows, known, other, free, None, record, factors)
-    return Answer(folder, project, rows, known, said, kept, None, record, factors, alone, parts=parts, beyond=beyond)
+    own = own_columns(written, rows, order)
+    return Answer(folder, project, rows, known, said, kept, None, record, factors, alone, parts=parts, beyond=beyond, own=own)
 
 
 def read_blocks(path: Path, project: Project, said: Optional[tuple[str, ...]] = None) -> pd.DataFrame:
@@ -333,6 +338,12 @@ def read_blocks(path: Path, project: Project, said: Optional[tuple[str, ...]] = 
     found = pd.read_csv(path, dtype=codes, keep_default_na=False, na_values={}, float_precision="round_trip", usecols=usecols)
     demand_numbers(found, path.name, [*codes, PROCESS])
     return found
+
+
+def own_columns(written: pd.DataFrame, rows: pd.DataFrame, order: np.ndarray) -> pd.DataFrame:
+    """What a file of blocks has of the planner's columns, by their names in the table, in the order of the answer's rows."""
+    there = [name for name in rows.columns if own_name(name) in written]
+    return pd.DataFrame({name: written[own_name(name)].to_numpy()[order] for name in there})
 
 
 def own_name(column: str) -> str:

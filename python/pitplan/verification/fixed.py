@@ -6,7 +6,7 @@ import numpy as np
 from matplotlib.path import Path as Outline
 
 from ..fixed_rules import FixedRules
-from . import surface, survey
+from . import own_columns, surface, survey
 from .answer import TOLD, Answer, Rule, rule
 
 # Metres: of a centre that lies at the edge of an area to within so much nothing is demanded.
@@ -67,11 +67,13 @@ def in_ring(centres: np.ndarray, corners: np.ndarray) -> tuple[np.ndarray, np.nd
 
 
 def verify_places(answer: Answer) -> Rule:
-    """Each block lies in a cell of its own, at its centre, and bears its number; a shell's factor is one of the list."""
-    rules, differences, count = answer.project.grid, [], 0
+    """Each block lies in a cell of its own, at its centre, and bears its number and the planner's own fields; a shell's factor is one of the
+    list."""
+    rules, (differences, count) = answer.project.grid, own_columns.unlike(answer)
     tolerance = rules.tolerance
     if rules.azimuth is not None and rules.azimuth != answer.azimuth:
-        differences, count = [f"the grid's north has azimuth {answer.azimuth:.10g} for {rules.azimuth:.10g} of the project"], 1
+        differences.append(f"the grid's north has azimuth {answer.azimuth:.10g} for {rules.azimuth:.10g} of the project")
+        count += 1
     for steps, cell, size in zip(answer.steps, answer.cells[::-1], answer.size):
         off = np.abs(steps - cell) * size
         far = np.flatnonzero(off > tolerance + 1e-6)
@@ -83,4 +85,4 @@ def verify_places(answer: Answer) -> Rule:
     strange = np.flatnonzero(~answer.said["factor"].isin([0, *answer.factors]))
     differences += [f"{answer.called(row)} comes in at {answer.said['factor'].iloc[row]}" for row in strange[:TOLD]]
     count += len(wrong) + len(strange)
-    return rule("blocks", "every block of the table stands in the answer, in its own cell", differences, count)
+    return rule("blocks", "every block of the table stands in the answer, in its own cell and with the table's own fields", differences, count)

@@ -19,7 +19,7 @@ import pandas as pd
 from ..errors import PlanError
 from ..project import Project
 from . import absent, fixed, money, sums, walls
-from .answer import TOLD, Answer, Rule, rule
+from .answer import TOLD, Answer, Rule, own_columns, rule
 from .simulated import QUANTILES, SCENARIOS, Scenario, Simulated, Told, prices_of, read
 from .weighing import gains, weighed
 
@@ -73,7 +73,8 @@ class Verification:
         folder = self.folder
         said = pd.DataFrame({"id": folder.told["id"].to_numpy(), "factor": 0})
         rows, known = folder.rows, len(folder.table)
-        return Answer(folder.folder, folder.project, rows, known, said, pd.DataFrame(), None, folder.record, folder.factors)
+        own = own_columns(folder.told, rows, np.arange(len(rows)))
+        return Answer(folder.folder, folder.project, rows, known, said, pd.DataFrame(), None, folder.record, folder.factors, own=own)
 
     def listed(self) -> Rule:
         """Every model at every set of prices is a scenario, and the list has no other."""

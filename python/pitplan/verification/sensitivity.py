@@ -19,7 +19,7 @@ import pandas as pd
 from ..errors import PlanError
 from ..project import Project, load, of_data
 from . import absent, fixed, money, sums, topography, walls, years
-from .answer import Answer, Rule, beside, read_blocks, rows_of, rule
+from .answer import Answer, Rule, beside, own_columns, read_blocks, rows_of, rule
 from .weighing import gains, weighed
 from .written import read_table
 
@@ -85,7 +85,8 @@ class Told:
         factors = tuple(it for it in project.schedule.factors if it <= factor)
         said = pd.DataFrame({"id": blocks["id"].to_numpy()[order], "factor": 0})
         record |= {"walls": record["cases"][0]["walls"]}
-        ground = Answer(folder, project, known, count, said, pd.DataFrame(), None, record, factors, parts=parts, beyond=beyond)
+        found = {"parts": parts, "beyond": beyond, "own": own_columns(blocks, known, order)}
+        ground = Answer(folder, project, known, count, said, pd.DataFrame(), None, record, factors, **found)
         rows = read_table(written / "sensitivity.csv", ["number", "second"])
         rows[["number", "second"]] = rows[["number", "second"]].fillna("")
         return Told(ground, rows, list(cases_in(folder, record)), factor)
