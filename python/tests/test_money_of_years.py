@@ -214,4 +214,5 @@ def test_costs_of_a_year_that_are_bent_are_found(mine):
     table.loc[table.index[-1], "cash"] -= 1
     table.to_csv(file, index=False)
     (rule,) = [rule for rule in verify(path.parent / "plan") if rule.differences]
-    assert rule.name == "years" and rule.differences == ("worst case of factor 1500, year 2: fixed_cost 101 for 100",)
+    assert rule.name == "years"
+    assert rule.differences == tuple(f"worst case of factor 1500, year 2: {said}" for said in ("cash 849 for 850", "fixed_cost 101 for 100"))

@@ -146,7 +146,40 @@ def test_a_year_above_its_capacity_is_found(copied):
     years.to_csv(copied / "years.csv", index=False)
     (rule,) = [rule for rule in verify(copied) if rule.differences]
     case, factor, year = years.loc[full, ["case", "factor", "year"]]
-    assert rule.differences == (f"{case} case of factor {factor}, year {year}: rock_tonnes 1000.5 above 1000",)
+    last = years.loc[full + 1, "rock_tonnes"]
+    said = [f"{year}: rock_tonnes 1000.5 above 1000", f"{year}: rock_tonnes 1000.5 for 1000", f"{year + 1}: rock_tonnes {last:g} for {last + 0.5:g}"]
+    assert rule.differences == tuple(f"{case} case of factor {factor}, year {it}" for it in said)
+
+
+YEARLY = [("rock_tonnes", 1), ("ore_tonnes", 1), ("metal_copper", 0.1), ("metal_gold", 1), ("cash", 1), ("discounted", 1)]
+
+
+@pytest.mark.parametrize("case", ["best", "worst"])
+@pytest.mark.parametrize(("column", "less"), YEARLY)
+def test_what_flows_a_year_later_is_found(copied, case, column, less):
+    """All sums stay, and no capacity is exceeded."""
+    years = pd.read_csv(copied / "years.csv")
+    mine = years[(years["case"] == case) & (years["factor"] == 1500) & (years[column] > less)].index
+    years.loc[mine[0], column] -= less
+    years.loc[mine[-1], column] += less
+    assert mine[0] < mine[-1]
+    years.to_csv(copied / "years.csv", index=False)
+    assert wrong(copied) == {"years"}
+
+
+@pytest.mark.parametrize(
+    ("bend", "said"),
+    [
+        (lambda it: it.assign(year=it["year"] + (it["case"] == "worst")), "worst case of factor 1500: years [2, 3"),
+        (lambda it: it.assign(factor=it["factor"].where(it["case"] == "best", 1400)), "years of the worst case of factor 1400, which is none"),
+        (lambda it: it[it["case"] == "best"], "worst case of factor 1500: has no years"),
+        (lambda it: it.drop(columns="metal_gold"), "metal_gold nan for"),
+    ],
+)
+def test_years_that_are_missing_or_too_many_are_found(copied, bend, said):
+    bend(pd.read_csv(copied / "years.csv")).to_csv(copied / "years.csv", index=False)
+    (rule,) = [rule for rule in verify(copied) if rule.differences]
+    assert rule.name == "years" and any(said in difference for difference in rule.differences)
 
 
 @pytest.mark.parametrize(
@@ -251,9 +284,9 @@ def test_a_run_reads_its_table_once_and_a_later_look_reads_it_again(plan_folder,
     assert len(reads) == 1 and wrong(path.parent / "plan") == set() and len(reads) == 2
     table = read_table(load(path)).frame
     bent = table.assign(cu=table["cu"].where(table["cu"] < 6, 5.9))
-    assert {rule.name for rule in verify(path.parent / "plan", None, bent) if rule.differences} == {"blocks", "money", "shells"}
+    assert {rule.name for rule in verify(path.parent / "plan", None, bent) if rule.differences} == {"blocks", "money", "shells", "years"}
     deposit().assign(cu=bent["cu"].to_numpy()).to_csv(path.parent / "blocks.csv", index=False)
-    assert wrong(path.parent / "plan") == {"blocks", "money", "shells"}
+    assert wrong(path.parent / "plan") == {"blocks", "money", "shells", "years"}
 
 
 def looked_at(plan):

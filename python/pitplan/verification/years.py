@@ -3,32 +3,34 @@
 from __future__ import annotations
 
 import math
+from collections.abc import Iterator
+from itertools import product
 
 import numpy as np
 import pandas as pd
 
 from .answer import Answer, Rule, rule
-from .money_of_years import capital, last_year, more_by_prices, most_premium, premiums, years_cut
-from .sums import within
+from .money_of_years import capital, last_year, premiums, years_cut
+from .yearly_flows import years_of
 
 CENT = 0.01
+CASES = ("best", "worst")
+# What years.csv calls the tonnes of benches.
+NAMES = {"rock": "rock_tonnes", "ore": "ore_tonnes"}
 
 
 def verify(answer: Answer) -> Rule:
-    """No year exceeds a capacity; the years of a shell add up to it, and its NPV is what flows in them, discounted."""
+    """No year exceeds a capacity; each has what flows in it, and the NPV of a shell is that discounted."""
     flows = flows_of(answer)
     if answer.years is None:
         return verify_npv(answer, flows)
     # Those of a schedule are looked at with it.
     ways = [] if answer.schedule is None else answer.schedule["way"].unique().tolist()
     of_shells = answer.years[~answer.years["case"].isin([*ways, *(["block"] if answer.is_by_block else [])])]
-    differences: list[str] = over_capacity(answer, of_shells)
-    for (case, factor), years in of_shells.groupby(["case", "factor"]):
-        is_one = case in ("best", "worst")
-        differences += unlike_sums(answer, case, factor, years) if is_one else [f"years of case {case}, which is none"]
-        differences += unlike_costs(answer, (case, factor), years, flows) if is_one else []
+    differences = [*over_capacity(answer, of_shells), *unlike_years(answer, of_shells, flows)]
     npv = verify_npv(answer, flows)
-    return rule(npv.name, f"no year exceeds a capacity, years add up to their shell, and {npv.holds}", [*differences, *npv.differences])
+    holds = f"no year exceeds a capacity, each has what flows in it as benches are dug, and {npv.holds}"
+    return rule(npv.name, holds, [*differences, *npv.differences], len(differences) + npv.count)
 
 
 def over_capacity(answer: Answer, years: pd.DataFrame) -> list[str]:
@@ -41,44 +43,32 @@ def over_capacity(answer: Answer, years: pd.DataFrame) -> list[str]:
     return found
 
 
-def unlike_sums(answer: Answer, case: str, factor: int, years: pd.DataFrame) -> list[str]:
-    """What the years of a factor do not add up to."""
-    shell, found = answer.shells.loc[factor], []
-    pairs = {"rock_tonnes": "tonnes", "ore_tonnes": "ore_tonnes", "cash": "worth", "discounted": f"npv_{case}"}
-    pairs |= {name: name for name in (*answer.feeds, *(f"metal_{metal.name}" for metal in answer.project.metals))}
-    # Of cash the part that blocks are worth; a metal's last place is worth so much.
-    plain = years.assign(cash=years["cash"] + costs_told(years) - more_by_prices(answer.project, years))
-    last_place = 5e-4 * (1 + most_premium(answer.project))
-    # Phases may cost more than the worth of their blocks says.
-    plain.loc[plain.index[:1], "cash"] += (answer.worths - answer.earned)[within(answer, factor)].sum()
-    for name, whole in pairs.items():
-        total = plain[name].sum()
-        if abs(total - shell[whole]) > CENT + 1e-9 * abs(shell[whole]) + last_place * len(years):
-            found.append(f"{case} case of factor {factor}: {name} adds up to {total:.12g} for {whole} {shell[whole]:.12g}")
-    return found
+def unlike_years(answer: Answer, years: pd.DataFrame, flows: pd.DataFrame) -> Iterator[str]:
+    """Where a year of a case is not what flows in it, as benches are dug one after the other, or is missing or one too many."""
+    factors = flows.index.get_level_values("factor")
+    due = [(case, factor) for case, factor in product(CASES, answer.shells.index) if flows["rock"][factors <= factor].sum()]
+    groups = {pit: rows.set_index("year") for pit, rows in years.groupby(["case", "factor"])}
+    yield from (f"years of the {case} case of factor {factor}, which is none" for case, factor in groups.keys() - set(due))
+    for case, factor in due:
+        pieces = flows[factors <= factor]
+        pieces = pieces if case == "best" else pieces.groupby("level").sum()
+        expected = years_of(pieces.drop(columns="gross"), lasting(pieces, answer), answer.project).rename(columns=NAMES)
+        slack = CENT + 1e-12 * float(pieces["gross"].sum())
+        if (case, factor) in groups:
+            yield from (f"{case} case of factor {factor}{said}" for said in unlike_rows(groups[case, factor], expected, slack))
+        else:
+            yield f"{case} case of factor {factor}: has no years"
 
 
-def costs_told(years: pd.DataFrame) -> pd.Series:
-    """Fixed cost and capital of each year, as its row says."""
-    none = pd.Series(0.0, index=years.index)
-    return years.get("fixed_cost", none) + years.get("capital", none)
-
-
-def unlike_costs(answer: Answer, pit: tuple[str, int], years: pd.DataFrame, flows: pd.DataFrame) -> list[str]:
-    """The years of a pit, by case and factor, whose fixed cost or capital is not the project's."""
-    money, (case, factor) = answer.project.money, pit
-    if not money.fixed_cost_per_year and not money.capital:
-        return []
-    pieces = flows[flows.index.get_level_values("factor") <= factor]
-    end = lasting(pieces if case == "best" else pieces.groupby("level").sum(), answer).sum()
-    found = []
-    for row in years.itertuples():
-        runs = min(max(end - (row.year - 1), 0.0), 1.0)
-        expected = {"fixed_cost": float(money.fixed_cost_per_year) * runs, "capital": capital(answer.project, row.year)}
-        for name, amount in expected.items():
-            if abs(getattr(row, name, 0.0) - amount) > CENT + 1e-8 * amount:
-                found.append(f"{case} case of factor {factor}, year {row.year}: {name} {getattr(row, name, 0.0):.12g} for {amount:.12g}")
-    return found
+def unlike_rows(said: pd.DataFrame, expected: pd.DataFrame, slack: float) -> Iterator[str]:
+    """Where rows by year are not the expected ones."""
+    if said.index.tolist() != expected.index.tolist():
+        yield f": years {said.index.tolist()} for 1 to {len(expected)}"
+        return
+    for name in expected:
+        there = said.get(name, pd.Series(np.nan, index=said.index))
+        off = ~((there - expected[name]).abs() <= slack + 1e-9 * expected[name].abs())
+        yield from (f", year {year}: {name} {there[year]:.12g} for {expected[name][year]:.12g}" for year in said.index[off])
 
 
 def verify_npv(answer: Answer, flows: pd.DataFrame) -> Rule:
