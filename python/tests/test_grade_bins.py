@@ -234,7 +234,7 @@ def test_ore_in_bins_is_written_and_passes(written):
 
 @pytest.mark.parametrize(
     ("name", "by"),
-    [("dug_tonnes", 1.0), ("milled_tonnes", -1.0), ("milled_tonnes", 500.0), ("reclaimed_tonnes", 1.0), ("bin", 1), ("bin", 7), ("year", 1)],
+    [("dug_tonnes", 1.0), ("milled_tonnes", -1.0), ("milled_tonnes", 500.0), ("reclaimed_tonnes", 1.0), ("bin", 1), ("bin", 7), ("year", 1), ("bench", 0.2)],
 )
 def test_milling_that_is_bent_is_found(written, name, by):
     kept = (written / "milling.csv").read_text()

@@ -226,7 +226,7 @@ def copied(divided, tmp_path):
 
 
 @pytest.mark.parametrize(("column", "rule"), [("pieces", "phase widths"), ("least_width", "phase widths"), ("cost_of_width", "phases")])
-@pytest.mark.parametrize("more", [-10, 10])
+@pytest.mark.parametrize("more", [-10, 10, 0.4])
 def test_each_shape_that_is_bent_is_found(copied, column, rule, more):
     assert wrong(copied) == {}
     table = pd.read_csv(copied / "phases.csv")

@@ -12,6 +12,8 @@ from .written import read_table
 
 # The last place that milling.csv keeps of tonnes, and what a share may be off by the solver's tolerance.
 AMOUNT, SHARE = 0.6e-3, 1e-6
+# Of a bench's height, by which its middle may be off.
+SLIGHT = 1e-6
 KEYS = ["phase", "level", "bin"]
 
 
@@ -32,7 +34,9 @@ def amounts(answer: Answer, rows: pd.DataFrame, plain: pd.DataFrame, told: dict[
     table = table[table["way"].isin(rows["way"].unique())].copy()
     # Of a way that mills nothing there are no rows, by which the reader could tell numbers.
     table = table.astype({name: float if name.endswith("_tonnes") else int for name in table if name not in ("way", "bench")})
-    table["level"] = np.rint((answer.elevations[0] - table["bench"]) / answer.size[2]).astype(int)
+    steps = ((answer.elevations[0] - table["bench"]) / answer.size[2]).astype(float)
+    table["level"] = np.rint(steps).astype(int)
+    lost = [f"milling.csv: {z:.10g} is the middle of no bench" for z in table["bench"][(steps - table["level"]).abs() > SLIGHT].unique()]
     whole = parcels_of(answer, told["edges"])
     of_parcel = whole.reindex(pd.MultiIndex.from_frame(table[KEYS])).reset_index(drop=True).astype(float)
     table = table.reset_index(drop=True)
@@ -52,7 +56,7 @@ def amounts(answer: Answer, rows: pd.DataFrame, plain: pd.DataFrame, told: dict[
     expected["rock_tonnes"], loose["rock_tonnes"] = plain["rock_tonnes"], 0.0
     gains = whole["gain"].groupby(level=["phase", "level"]).sum().reindex(at.droplevel("year")).fillna(0.0).to_numpy()
     expected["cash"], loose["cash"] = plain["cash"] - rows["share"] * gains + flowed["gain"], more["gain"] + 1e-9 * np.abs(gains)
-    return expected, loose, [*unlike_rows(table, rows, of_parcel), *unlike_stock(table, whole, cost is not None)]
+    return expected, loose, [*lost, *unlike_rows(table, rows, of_parcel), *unlike_stock(table, whole, cost is not None)]
 
 
 def unlike_rows(table: pd.DataFrame, rows: pd.DataFrame, of_parcel: pd.DataFrame) -> list[str]:

@@ -14,6 +14,8 @@ from .answer import NOTHING, TOLD, Answer, Rule, rule
 
 # Rows and columns of blocks.
 Rectangle = tuple[int, int]
+# Of metres that are told to a thousandth.
+LAST_PLACE = 0.6e-3
 
 
 def verify(answer: Answer) -> Rule:
@@ -107,6 +109,8 @@ def unlike_shape(answer: Answer, phase: np.ndarray, room: np.ndarray, said: pd.S
     asking = phase & ~room
     if math.isnan(least) or not asking.any():
         return found + ([f"least_width {least:g}"] if asking.any() or not math.isnan(least) else [])
+    if abs(least - step * round(least / step)) > LAST_PLACE:
+        found.append(f"least_width {least:g} is no whole number of {step:g} m")
     for wide, is_so in ((least, True), (least + step, False)):
         covered = np.stack([cells_in(level, blocks_across(answer, wide)) for level in phase | room])
         if (asking & ~covered).any() == is_so:
