@@ -106,7 +106,8 @@ def rules_of(project: Project) -> ScheduleRules:
 def make(phases: Phases, progress: Progress = silent) -> YearlySchedule:
     """The schedule of a pit's phases. Where it is interrupted while programmes are solved, the ways that are found by then.
 
-    Raises PlanError where it takes more than a thousand years, HiGHS finds nothing, or the project asks for what is done by block alone.
+    Raises PlanError where it takes more than a thousand years, nothing can be dug, HiGHS finds nothing, or the project asks for what is done
+    by block alone.
     """
     project, rules = phases.plan.project, rules_of(phases.plan.project)
     if rules.least or rules.sums:
@@ -121,7 +122,10 @@ def make(phases: Phases, progress: Progress = silent) -> YearlySchedule:
         for schedule in better(schedule, rules, progress):
             pass
     except KeyboardInterrupt:
-        return replace(schedule, interrupted=True)
+        schedule = replace(schedule, interrupted=True)
+    if not any(shares.any() for shares in schedule.shares.values()):
+        why = f"within these limits nothing can be dug in {years} year{'s' * (years > 1)}: are ore_per_year and ramp_up as they are meant?"
+        raise PlanError(f"{project.path}: [schedule] years: {why}")
     return schedule
 
 

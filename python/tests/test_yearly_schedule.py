@@ -91,6 +91,14 @@ def test_what_is_refused(plan_folder, words, said):
     assert said in str(error.value) and "project.toml" in str(error.value)
 
 
+@pytest.mark.parametrize("words", ["", "bins = 2\n"])
+def test_limits_within_which_nothing_can_be_dug_are_refused(plan_folder, words):
+    """The mill takes nothing in the first year, which is the only one, and all is ore."""
+    path = plan_folder(rows(3, 1, 1, cu=lambda i, j, k: 2), PROJECT + f"[pushbacks]\ncount = 1\n[schedule]\nramp_up = [0, 1.0]\nyears = 1\n{words}")
+    with pytest.raises(PlanError, match="project.toml: .schedule. years: within these limits nothing can be dug in 1 year: are ore_per_year"):
+        pitplan.write_schedule(path)
+
+
 def test_without_phases_nothing_is_scheduled(plan_folder):
     with pytest.raises(PlanError, match="project.toml: .pushbacks. is missing"):
         pitplan.write_schedule(plan_folder(pillars(), UPRIGHT))
