@@ -167,6 +167,11 @@ def test_each_number_that_is_bent_is_found(copied, file, column, rule):
     assert rule in wrong(copied)
 
 
+def test_statuses_none_of_which_is_so_are_found(copied):
+    pd.read_csv(copied / "schedules.csv", dtype=str).assign(status="killed").to_csv(copied / "schedules.csv", index=False)
+    assert "tables" in wrong(copied)
+
+
 def test_a_status_and_a_model_that_are_not_so_are_found(copied):
     table = pd.read_csv(copied / "schedules.csv", dtype=str)
     for column in ("status", "model"):

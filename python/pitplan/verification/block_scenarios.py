@@ -205,6 +205,11 @@ class Tables:
     def rows(self) -> pd.DataFrame:
         return self.read(TABLE)
 
+    @property
+    def solved(self) -> pd.DataFrame:
+        """The rows of the scenarios that have an answer, whatever they say of it."""
+        return self.rows[self.rows["scenario"].isin([it.number for it in self.schedules.whole.folder.answered])]
+
     @cached_property
     def years(self) -> pd.DataFrame:
         return self.read(YEARS)
@@ -271,7 +276,7 @@ class Tables:
 
     def unlike_quantiles(self) -> list[str]:
         """Where quantiles.csv does not follow from the rows, of each set of prices."""
-        written, solved = self.read(QUANTILES), self.rows[self.rows["status"] == "solved"]
+        written, solved = self.read(QUANTILES), self.solved
         names = [name for name in solved if name.startswith("price_")]
         sets = [dict(zip(names, values)) for values in (solved[names].drop_duplicates().to_numpy().tolist() if names else [()])]
         found = [] if len(written) == len(sets) else [f"{QUANTILES}: has {len(written):,} rows for {len(sets):,}"]
@@ -287,7 +292,7 @@ class Tables:
     def unlike_record(self) -> Iterator[str]:
         """Where one_schedule.json differs."""
         told = json.loads((self.schedules.whole.folder.tables / RECORD).read_text(encoding="utf-8"))
-        solved, one = self.rows[self.rows["status"] == "solved"], self.schedules.one.row
+        solved, one = self.solved, self.schedules.one.row
         ramps = next(ramps for name, ramps, _ in self.schedules.limits if name == ORE)
         expected = {"scenarios": len(self.rows), "answered": len(solved), "years": self.schedules.whole.folder.record["years"]}
         expected |= {"limits": {name: most for name, _, most in self.schedules.limits}, "ramp_up": list(ramps)}
