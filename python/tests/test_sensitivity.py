@@ -228,7 +228,7 @@ def test_files_and_what_the_command_line_tells(small, capsys, monkeypatch, undra
         *("blocks.csv", "cases", "sensitivity.csv", "sensitivity.json", "tornado.png", "spider.png", "grid-price-mining_cost.png")
     }
     record = json.loads((folder / "sensitivity.json").read_text())
-    assert len(record["verified"]) == 12 and record["factor"] == 1000
+    assert len(record["verified"]) == 13 and record["factor"] == 1000
     assert main(["verify", str(folder)]) == 0
     assert "in 25 cases: " in capsys.readouterr().out
     assert main(["sensitivity", str(path), "--quiet", "--no-verify"]) == 0
@@ -322,6 +322,23 @@ def test_grades_ratios_and_years_have_six_decimals_and_amounts_three(copied):
     fine = ("grade_copper", "grade_gold", "strip_ratio", "years", "kept_years")
     assert max(decimals.pop(name) for name in fine) == 6 and decimals.pop("worth_at_factor") == 9
     assert max(decimals.values()) == 3
+
+
+@pytest.mark.parametrize("column", ["mining_cost", "revenue", "processing_cost", "factor"])
+def test_what_blocks_have_as_given_and_is_bent_is_found(copied, column):
+    table = pd.read_csv(copied / "blocks.csv", float_precision="round_trip")
+    at = table.index[table[column] > 0][-1]
+    table.loc[at, column] += 1
+    table.to_csv(copied / "blocks.csv", index=False)
+    assert list(wrong(copied)) == ["as given"]
+
+
+@pytest.mark.parametrize("column", ["kept_worth", "kept_npv_best", "kept_npv_worst", "kept_years", "skin_worth"])
+def test_what_is_not_told_of_the_pit_as_given_is_found(copied, column):
+    table = pd.read_csv(copied / "sensitivity.csv", dtype=str, keep_default_na=False)
+    table.loc[1, column] = ""
+    table.to_csv(copied / "sensitivity.csv", index=False)
+    assert set(wrong(copied)) == {"skin" if column == "skin_worth" else "kept"}
 
 
 AMOUNTS = "blocks tonnes ore_tonnes waste_tonnes strip_ratio processed_tonnes grade_copper metal_copper grade_gold metal_gold worth".split()

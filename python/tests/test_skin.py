@@ -82,8 +82,9 @@ def test_the_second_look_finds_another_skin(project):
     assert wrong(folder) == set()
     record = folder / "sensitivity.json"
     said = json.loads(record.read_text())
-    record.write_text(json.dumps(said | {"skin": said["skin"] | {"tonnes": 90}}))
-    assert wrong(folder) == {"skin's shell"}
+    for bent in ({"tonnes": 90}, {"share": said["skin"]["share"] + 0.001}, {"worth": said["skin"]["worth"] + 0.01}):
+        record.write_text(json.dumps(said | {"skin": said["skin"] | bent}))
+        assert wrong(folder) == {"skin's shell"}
     record.write_text(json.dumps(said))
     answer = folder / "cases" / f"{said['cases'][0]['key']}.npz"
     arrays = dict(np.load(answer))

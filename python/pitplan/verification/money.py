@@ -48,8 +48,10 @@ def unlike_best(answer: Answer) -> list[str]:
     of_best = np.stack(told)[best, np.arange(len(best))]
     said = np.rint(answer.said[["revenue", "processing_cost"]].to_numpy() * unit).astype(np.int64)
     expected = np.where(gains.max(axis=0) > 0, np.array(names, dtype=object)[best], "")
-    off = np.flatnonzero((said != of_best).any(axis=1) | (answer.said[PROCESS].to_numpy() != expected))
-    return [f"{answer.called(row)}: process {answer.said[PROCESS].iloc[row]!r} for {expected[row]!r}, or its amounts" for row in off]
+    # A sensitivity does not name it.
+    process = answer.said[PROCESS].to_numpy() if PROCESS in answer.said else expected
+    off = np.flatnonzero((said != of_best).any(axis=1) | (process != expected))
+    return [f"{answer.called(row)}: process {process[row]!r} for {expected[row]!r}, or its amounts" for row in off]
 
 
 def not_exact(answer: Answer, chosen: np.ndarray, names: tuple[str, str]) -> list[str]:

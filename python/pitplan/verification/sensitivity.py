@@ -18,8 +18,8 @@ import pandas as pd
 
 from ..errors import PlanError
 from ..project import Project, load, of_data
-from . import absent, fixed, money, sums, topography, walls, years
-from .answer import Answer, Rule, beside, own_columns, read_blocks, rows_of, rule
+from . import absent, fixed, haulage, money, sums, topography, walls, years
+from .answer import TOLD, Answer, Rule, beside, own_columns, read_blocks, rows_of, rule, said_of
 from .weighing import gains, weighed
 from .written import read_table
 
@@ -67,9 +67,11 @@ def verify(written: Path, folder: Path) -> list[Rule]:
 
 @dataclass(frozen=True)
 class Told:
-    """A folder as it is read: the blocks as if none were dug, the cases' rows, and what was recorded of them."""
+    """A folder as it is read: the blocks as if none were dug, and as blocks.csv tells of them; the cases' rows, and what was recorded of
+    them."""
 
     ground: Answer
+    told: Answer
     rows: pd.DataFrame
     cases: list[Case]
     factor: int
@@ -83,13 +85,14 @@ class Told:
         known, count, order = beside(frame, blocks, project, record["grid"], "blocks.csv")
         factor = int(record["factor"])
         factors = tuple(it for it in project.schedule.factors if it <= factor)
-        said = pd.DataFrame({"id": blocks["id"].to_numpy()[order], "factor": 0})
+        said = blocks[[name for name in said_of(project) if name in blocks]].iloc[order].reset_index(drop=True)
         record |= {"walls": record["cases"][0]["walls"]}
         found = {"parts": parts, "beyond": beyond, "own": own_columns(blocks, known, order)}
-        ground = Answer(folder, project, known, count, said, pd.DataFrame(), None, record, factors, **found)
+        told = Answer(folder, project, known, count, said, pd.DataFrame(), None, record, factors, **found)
+        ground = replace(told, said=said[["id"]].assign(factor=0))
         rows = read_table(written / "sensitivity.csv", ["number", "second"])
         rows[["number", "second"]] = rows[["number", "second"]].fillna("")
-        return Told(ground, rows, list(cases_in(folder, record)), factor)
+        return Told(ground, told, rows, list(cases_in(folder, record)), factor)
 
     def rules(self) -> list[Rule]:
         found: dict[str, list[Rule]] = {name: [] for name in OF_EACH}
@@ -98,7 +101,7 @@ class Told:
             for number, case in enumerate(self.cases):
                 for name, it in self.of_case(case, self.rows.iloc[[number]]).items():
                     found[name].append(replace(it, differences=tuple(f"{case.label}: {said}" for said in it.differences)))
-        of_ground = [fixed.verify_places(self.ground), absent.verify(self.ground), listed, self.outside_skin()]
+        of_ground = [fixed.verify_places(self.ground), absent.verify(self.ground), self.as_given(), listed, self.outside_skin()]
         of_ground += [topography.verify(self.ground)] if self.ground.project.table.topography else []
         count = f"in {len(self.cases):,} cases: "
         return [*of_ground, *(joined(name, count + holds, found[name]) for name, holds in OF_EACH.items())]
@@ -116,6 +119,17 @@ class Told:
             differences.append(f"sensitivity.csv has another factor than {self.factor}")
         return rule("cases", "each number that is varied has a row for each share, and each pair for each two", differences)
 
+    def as_given(self) -> Rule:
+        """What blocks.csv says of the project as given: costs, revenue and roads, and the least factor whose pit holds each block."""
+        told = self.told
+        found = [money.verify(told), *([haulage.verify(told, money.sample(told))] if told.project.haulage else [])]
+        said, due = told.said["factor"].to_numpy(), self.cases[0].entry[told.said["id"].to_numpy()]
+        off = np.flatnonzero(said != due)
+        differences = [difference for it in found for difference in it.differences]
+        differences += [f"{told.called(row)}: factor {said[row]} for {due[row]}" for row in off[:TOLD]]
+        holds = "costs and revenue of blocks follow from the project as given, and their factors are those of its pits"
+        return rule("as given", holds, differences, sum(it.count for it in found) + len(off))
+
     def outside_skin(self) -> Rule:
         """The pit as given without its skin is a shell, with what must be dug, and has at most the other share of the rock."""
         given, record, tonnes = self.cases[0], self.ground.record["skin"], self.ground.tonnes
@@ -127,6 +141,8 @@ class Told:
         whole, part = (float(tonnes[inside[ids]].sum()) for inside in (given.entry > 0, given.skin))
         if abs(part - record["tonnes"]) > 1e-6 * whole or part < float(share_of(self.ground.project)) * whole * (1 - 1e-9):
             differences.append(f"the skin has {part:,.0f} t of {whole:,.0f}, and sensitivity.json says {record['tonnes']:,.0f}")
+        expected = {"share": part / whole if part else 0.0, "worth": float(self.rows["skin_worth"].iloc[0])}
+        differences += [f"the skin's {name} {record[name]:.12g} for {it:.12g}" for name, it in expected.items() if abs(record[name] - it) > 6e-4]
         return rule("skin's shell", "the pit without its skin is a shell, and the skin has at least the share asked for", differences)
 
     def of_case(self, case: Case, row: pd.DataFrame) -> dict[str, Rule]:

@@ -81,7 +81,7 @@ def verify_npv(answer: Answer, flows: pd.DataFrame) -> Rule:
         expected = {"npv_best": npv(best, answer), "npv_worst": npv(worst, answer), "years": lasting(best, answer).sum()}
         for name, amount in expected.items():
             said = float(answer.shells[name][factor])
-            if abs(said - amount) > (1e-5 if name == "years" else slack) + 1e-9 * abs(amount):
+            if not abs(said - amount) <= (1e-5 if name == "years" else slack) + 1e-9 * abs(amount):
                 differences.append(f"factor {factor}: {name} {said:.12g} for {amount:.12g}")
     return rule("years", "both net present values follow from them", differences)
 
