@@ -273,6 +273,12 @@ def test_a_limit_that_is_not_the_projects_is_found(copied):
     assert wrong(copied) == {"block limits"}
 
 
+def test_a_ramp_up_that_is_not_the_projects_is_found(copied):
+    told = json.loads((copied / "block_schedule.json").read_text())
+    (copied / "block_schedule.json").write_text(json.dumps(told | {"ramp_up": [0.6, 1]}))
+    assert wrong(copied) == {"block limits"}
+
+
 def test_the_view_and_the_table_have_the_years(copied):
     from pitplan import commands
 

@@ -248,6 +248,19 @@ def test_milling_that_is_bent_is_found(written, name, by):
         (written / "milling.csv").write_text(kept)
 
 
+@pytest.mark.parametrize(("year", "cutoff"), [(1, 17.5), (1, None), (1, 16.0), (2, 17.5)])
+def test_a_cutoff_that_is_told_as_another_is_found(written, year, cutoff):
+    """That of the first two years is 0: some of the poorer bin is milled as it is dug."""
+    kept = (written / "schedule.json").read_text()
+    told = json.loads(kept)
+    told["bins"]["lp"]["cutoffs"][year - 1] = cutoff
+    try:
+        (written / "schedule.json").write_text(json.dumps(told))
+        assert "schedule amounts" in {rule.name for rule in verify(written) if rule.differences}
+    finally:
+        (written / "schedule.json").write_text(kept)
+
+
 def test_ore_that_is_reclaimed_before_it_is_stocked_is_found(written):
     kept = {name: (written / name).read_text() for name in ("milling.csv", "schedule.csv")}
     try:

@@ -229,6 +229,13 @@ def test_a_year_above_a_limit_is_found(copied, old, new):
     assert "schedule limits" in wrong(copied)
 
 
+@pytest.mark.parametrize("bent", [{"ramp_up": [0.6, 1]}, {"lag": 1}, {"sinking_rate": 3}, {"years": 1}, {"limits": {"ore_tonnes": 100}}])
+def test_limits_that_are_told_as_others_are_found(copied, bent):
+    told = json.loads((copied / "schedule.json").read_text())
+    (copied / "schedule.json").write_text(json.dumps(told | bent))
+    assert wrong(copied) == {"schedule limits"}
+
+
 def test_a_lag_that_is_not_kept_is_found(copied):
     project = copied.parents[1] / "project.toml"
     project.write_text(project.read_text() + "lag = 3\n")

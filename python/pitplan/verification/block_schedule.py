@@ -123,6 +123,9 @@ def verify_limits(answer: Answer, told: dict[str, Any], sums: pd.DataFrame) -> R
             allowed = most * ramps[min(int(year), len(ramps)) - 1]
             if amount > allowed * (1 + 1e-8) + CENT:
                 differences.append(f"year {year}: {name} {amount:.10g} above {allowed:.10g}")
+    rules = answer.project.schedule_rules
+    expected = {"ramp_up": list(rules.ramp_up) if rules else [1.0]} | ({"years": rules.years} if rules and rules.years else {})
+    differences += [f"{FILE}: {name} {told[name]} for {amount}" for name, amount in expected.items() if told[name] != amount]
     due = dict(least_of(answer))
     if told.get("least", {}) != due:
         differences.append(f"least amounts are told as {told.get('least', {})} for {due}")

@@ -2,6 +2,7 @@
 
 from __future__ import annotations
 
+import math
 from typing import Any
 
 import numpy as np
@@ -56,7 +57,21 @@ def amounts(answer: Answer, rows: pd.DataFrame, plain: pd.DataFrame, told: dict[
     expected["rock_tonnes"], loose["rock_tonnes"] = plain["rock_tonnes"], 0.0
     gains = whole["gain"].groupby(level=["phase", "level"]).sum().reindex(at.droplevel("year")).fillna(0.0).to_numpy()
     expected["cash"], loose["cash"] = plain["cash"] - rows["share"] * gains + flowed["gain"], more["gain"] + 1e-9 * np.abs(gains)
-    return expected, loose, [*lost, *unlike_rows(table, rows, of_parcel), *unlike_stock(table, whole, cost is not None)]
+    wrong = [*unlike_rows(table, rows, of_parcel), *unlike_stock(table, whole, cost is not None), *unlike_cutoffs(table, told)]
+    return expected, loose, [*lost, *wrong]
+
+
+def unlike_cutoffs(table: pd.DataFrame, told: dict[str, Any]) -> list[str]:
+    """Years whose cut-off is not the lower edge of the poorest bin of which some is milled as it is dug, or of one of which less is than
+    milling.csv shows."""
+    edges = [0.0, *told["edges"]]
+    poorest = table[table["milled_tonnes"] > 0].groupby("year")["bin"].min()
+    found = []
+    for year, cutoff in enumerate(told["cutoffs"], 1):
+        due = edges[poorest[year] - 1] if year in poorest.index else math.inf
+        if (math.inf if cutoff is None else cutoff) > due or cutoff not in (None, *edges):
+            found.append(f"schedule.json: the cut-off of year {year} is {cutoff} for {due:.10g}")
+    return found
 
 
 def unlike_rows(table: pd.DataFrame, rows: pd.DataFrame, of_parcel: pd.DataFrame) -> list[str]:

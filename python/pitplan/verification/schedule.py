@@ -60,7 +60,7 @@ def verify(answer: Answer) -> list[Rule]:
     return [
         verify_amounts(ways, told, sums, misplaced),
         verify_order(ways, sums),
-        verify_limits(ways),
+        verify_limits(ways, told),
         verify_value(ways, told, sums),
         verify_years_of_blocks(ways, told, sums),
     ]
@@ -148,9 +148,19 @@ def limits_of(way: Way) -> Iterator[tuple[str, float, float]]:
         yield f"metal_{name}", most, CENT
 
 
-def verify_limits(ways: list[Way]) -> Rule:
-    """No year is above a limit, the mill's ramp-up and the sinking rate among them, nor behind the last that is allowed."""
-    differences = []
+def unlike_limits(way: Way, told: dict[str, Any]) -> Iterator[str]:
+    """What schedule.json says of limits and years, and is not the project's."""
+    rules = way.project_rules
+    due: dict[str, Any] = {"limits": {name: most for name, most, _ in limits_of(way) if most < math.inf}}
+    due |= {"ramp_up": list(rules.ramp_up) if rules else [1.0], "lag": rules.lag if rules else 0, "sinking_rate": rules and rules.sinking_rate}
+    due |= {"years": rules.years} if rules and rules.years else {}
+    yield from (f"schedule.json: {name} {told[name]} for {amount}" for name, amount in due.items() if told[name] != amount)
+
+
+def verify_limits(ways: list[Way], told: dict[str, Any]) -> Rule:
+    """No year is above a limit, the mill's ramp-up and the sinking rate among them, nor behind the last that is allowed; and the record has
+    these."""
+    differences = list(unlike_limits(ways[0], told)) if ways else []
     for way in ways:
         rules = way.project_rules
         ramp_up = rules.ramp_up if rules else (1.0,)
@@ -163,7 +173,7 @@ def verify_limits(ways: list[Way]) -> Rule:
         sunk = way.rows.groupby(["phase", "year"])["share"].sum()
         deepest = (rules and rules.sinking_rate) or math.inf
         differences += [f"{way.name}: phase {at[0]} sinks {by:.9g} benches in year {at[1]}" for at, by in sunk[sunk > deepest + SLIGHT].items()]
-        if rules and rules.years and way.last > rules.years:
+        if way.last > told["years"]:
             differences.append(f"{way.name}: something is dug in year {way.last}")
     holds = "no year is above a limit of ore, rock, metal or sinking"
     return rule("schedule limits", holds, differences[:TOLD], len(differences))
