@@ -259,21 +259,26 @@ def demand_agreement(project: Project) -> None:
 
 
 def demand_sums_agree(project: Project) -> None:
-    """Refuses least amounts of what there is not, and sums of it; and a least above the most."""
+    """Refuses least amounts and sums of what there is not, or of a name that stands for several things; and a least above the most."""
     rules, names = project.schedule_rules, [process.name for process in project.processes]
     if rules is None:
         return
     shells, metals = project.schedule, [metal.name for metal in project.metals]
     most = {"ore": rules.ore_per_year or shells.ore_per_year, "rock": rules.rock_per_year or shells.rock_per_year}
     most |= rules.metal_per_year | {process.name: process.per_year for process in project.processes}
+    several = "stands for several things: call the metal or the process otherwise"
     for name, least in rules.least.items():
         if name not in ("ore", "rock", *metals, *names):
             raise PlanError(f"{project.path}: [schedule.least] {name}: is none of {', '.join(('ore', 'rock', *metals, *names))}")
+        if ("ore", "rock", *metals, *names).count(name) > 1:
+            raise PlanError(f"{project.path}: [schedule.least] {name}: {several}")
         if (limit := most.get(name)) and least > limit:
             raise PlanError(f"{project.path}: [schedule.least] {name}: {least:.10g} is above the most of a year, {limit:.10g}")
     for it in rules.sums:
         if it.of not in ("ore", "rock", *names):
             raise PlanError(f"{project.path}: [schedule.sums] {it.name}: of {it.of} is none of {', '.join(('rock', 'ore', *names))}")
+        if ("ore", "rock", *names).count(it.of) > 1:
+            raise PlanError(f"{project.path}: [schedule.sums] {it.name}: of {it.of} {several}")
     demand_sums_of_parts(project, rules)
 
 

@@ -180,6 +180,21 @@ def test_what_is_refused(plan_folder, words, said):
         scheduled(plan_folder, f"[schedule]\n{words}\n", WIDE)
 
 
+@pytest.mark.parametrize("name", ["ore", "rock"])
+def test_a_least_amount_of_a_name_that_is_a_metals_too_is_refused(plan_folder, name):
+    path = plan_folder(pillars(), WIDE.replace('name = "copper"', f'name = "{name}"') + f"[schedule]\nyears = 2\nleast = {{ {name} = 1 }}\n")
+    with pytest.raises(PlanError, match=rf"\[schedule.least\] {name}: stands for several things: call the metal or the process otherwise"):
+        load(path)
+
+
+def test_a_sum_of_a_name_that_is_a_processes_too_is_refused(plan_folder):
+    process = '[[processes]]\nname = "ore"\ncost = 3\nper_year = 100\nrecovery = { copper = 0.5 }\n'
+    text = WIDE.replace("processing_cost = 10\n", "").replace("recovery = 0.5\n", "").replace("ore_per_year = 300\n", "") + process
+    path = plan_folder(pillars(), text + '[[schedule.sums]]\ncolumn = "cu"\nof = "ore"\nmost = 1\n')
+    with pytest.raises(PlanError, match=r"\[schedule.sums\] cu: of ore stands for several things"):
+        load(path)
+
+
 def test_an_amount_below_0_is_refused(plan_folder):
     with pytest.raises(PlanError, match="row 2 column as_kg: -1 is negative"):
         scheduled(plan_folder, '[schedule]\n[[schedule.sums]]\ncolumn = "as_kg"\nmost = 1\n', WIDE, pillars(as_kg=lambda i, j, k: -1))
