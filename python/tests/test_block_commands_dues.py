@@ -195,6 +195,12 @@ def test_a_sum_of_a_name_that_is_a_processes_too_is_refused(plan_folder):
         load(path)
 
 
+def test_a_least_amount_to_which_no_block_adds_is_refused(plan_folder):
+    """There is rock enough, and no copper in it."""
+    with pytest.raises(PlanError, match="no schedule keeps what must be held at least: no block that adds to it can be dug in time"):
+        scheduled(plan_folder, "[schedule]\nyears = 2\nleast = { copper = 0.1 }\n", WIDE, pillars().assign(cu=0))
+
+
 def test_an_amount_below_0_is_refused(plan_folder):
     with pytest.raises(PlanError, match="row 2 column as_kg: -1 is negative"):
         scheduled(plan_folder, '[schedule]\n[[schedule.sums]]\ncolumn = "as_kg"\nmost = 1\n', WIDE, pillars(as_kg=lambda i, j, k: -1))

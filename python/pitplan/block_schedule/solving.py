@@ -111,7 +111,7 @@ def solve(problem: BlockProblem, effort: Optional[Effort] = None, progress: Prog
         part = reduced(problem)
     if not part.problem.blocks:
         if problem.owes:
-            raise PlanError("no schedule keeps what must be held at least: no block can be dug in time")
+            raise PlanError("no schedule keeps what must be held at least: no block that adds to it can be dug in time")
         return Scheduled(nothing(problem), 0.0, 0.0, 0, 0)
     progress.say(f"bounding all schedules of {part.problem.blocks:,} blocks by {len(part.nodes):,} nodes")
     relaxation = relaxed(part.nodes, Effort(RELAXED, effort and effort.seconds), lambda found: progress.say(told(found)))
