@@ -29,6 +29,7 @@ whether the answer does:
 from __future__ import annotations
 
 from decimal import Decimal
+from itertools import zip_longest
 from pathlib import Path
 from typing import Optional
 
@@ -99,8 +100,9 @@ def verify_scenarios(folder: Path, written: Optional[Path] = None) -> list[Rule]
 
 
 def demand(rules: list[Rule]) -> None:
-    """Raises PlanError with the first ten differences, where there are any."""
-    told = [f"{rule.name}: {difference}" for rule in rules for difference in rule.differences]
+    """Raises PlanError with ten of the differences, where there are any: the first of each rule, then the second ones, and so on."""
+    by_turns = zip_longest(*(rule.differences for rule in rules))
+    told = [f"{rule.name}: {said}" for turn in by_turns for rule, said in zip(rules, turn) if said is not None]
     if told:
         count = sum(rule.count for rule in rules)
         raise PlanError("\n  ".join([f"what was written is not right in {count:,} places:", *told[:TOLD]]))
