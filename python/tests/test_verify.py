@@ -240,6 +240,11 @@ def test_all_that_is_bent_is_counted_and_ten_told(copied, name, bend, count, tol
     assert len(str(said.value).splitlines()) == 11
 
 
+def test_one_place_is_told_as_one():
+    with pytest.raises(PlanError, match="what was written is not right in 1 place:\n  money: block 7: revenue 1 for 2"):
+        demand([answers.rule("money", "revenue follows", ["block 7: revenue 1 for 2"])])
+
+
 def test_amounts_are_looked_at_exactly_at_the_edges_of_shells(copied, monkeypatch):
     """A block that is dug and has one beside, above or below it that is dug at another factor or not at all, or none."""
     monkeypatch.setattr("pitplan.verification.money.SAMPLE", 0)
