@@ -43,7 +43,7 @@ def read_haulage(section: Section) -> Haulage:
     place = section.get("exit")
     if not isinstance(place, list) or len(place) != 3:
         raise section.wrong("exit", "must be a list of 3 numbers, x, y and z")
-    x, y, z = (section.as_number("exit", item) for item in place)
+    x, y, z = (section.as_coordinate("exit", item) for item in place)
     costs, beyond = (of_kinds(section, key, required) for key, required in (("cost", True), ("beyond", False)))
     gradient = section.number("gradient")
     section.finish()

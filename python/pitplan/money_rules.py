@@ -119,7 +119,7 @@ def read_money(section: Section, has_processes: bool = False) -> Money:
         currency=section.text("currency", "USD"),
         mining_cost=section.by_rock("mining_cost"),
         mining_cost_per_level=section.number("mining_cost_per_level", Decimal(0), least=0),
-        mining_cost_reference=section.number("mining_cost_reference") if section.has("mining_cost_reference") else None,
+        mining_cost_reference=read_reference(section),
         mining_cost_by_elevation=read_by_elevation(section),
         processing_cost=Decimal(0) if has_processes else section.by_rock("processing_cost"),
         decimals=section.whole("decimals", 6, 0, 6),
@@ -139,6 +139,12 @@ def read_money(section: Section, has_processes: bool = False) -> Money:
     if money.royalty >= 1:
         raise section.wrong("royalty", f"{money.royalty} is a share of the revenue, such as 0.03 for 3 %")
     return money
+
+
+def read_reference(section: Section) -> Optional[Decimal]:
+    """The elevation from which on levels cost more, in metres; None where none is named."""
+    key = "mining_cost_reference"
+    return section.as_coordinate(key, section.get(key)) if section.has(key) else None
 
 
 def read_by_code(section: Section, key: str, default: Decimal, most: Optional[int] = None) -> ByCode:

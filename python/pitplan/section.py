@@ -9,6 +9,8 @@ from typing import Any, Optional, Union
 from .errors import PlanError
 
 Number = Union[int, Decimal]
+# Farther than any place on the ground, in metres along an axis of any system of coordinates.
+FARTHEST = 10**9
 
 
 class Section:
@@ -90,6 +92,13 @@ class Section:
             shown = repr(value) if isinstance(value, (bool, str, list, dict)) else str(value)
             raise self.wrong(key, f"{shown} is not a number")
         return Decimal(value)
+
+    def as_coordinate(self, key: str, value: Any) -> Decimal:
+        """A place along an axis, in metres."""
+        metres = self.as_number(key, value)
+        if abs(metres) > FARTHEST:
+            raise self.wrong(key, f"{metres} is no coordinate in metres: it is beyond {FARTHEST:,}")
+        return metres
 
     def whole(self, key: str, default: int, least: int, most: int) -> int:
         value = self.get(key) if self.has(key) else default

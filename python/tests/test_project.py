@@ -159,7 +159,7 @@ LEVEL = "mining_cost_per_level = 0.5\n"
         ("mining_cost = 2\n", "mining_cost = {}\n", ("0", "0.5"), ("-0.5",)),
         ("mining_cost = 2\n", "mining_cost = 2\ndecimals = {}\n", ("0", "6"), ("-1", "7", "true")),
         ("mining_cost = 2\n", "mining_cost = 2\nmining_cost_per_level = {}\n", ("0", "0.5"), ("-0.5",)),
-        ("mining_cost = 2\n", f"mining_cost = 2\n{LEVEL}mining_cost_reference = {{}}\n", ("-0.5", "0"), ("true",)),
+        ("mining_cost = 2\n", f"mining_cost = 2\n{LEVEL}mining_cost_reference = {{}}\n", ("-0.5", "0", "1e9"), ("true", "1.1e9", "-1e30")),
         ("mining_cost = 2\n", "mining_cost = 2\nmining_cost_by_elevation = [[-3, 0.5], [10, {}]]\n", ("0", "0.5"), ("-0.5",)),
         ("processing_cost = 10", "processing_cost = {}", ("0", "0.5"), ("-0.5",)),
         ("price = 8000", "price = {}", ("0", "0.5"), ("-0.5",)),
