@@ -9,6 +9,8 @@ from typing import Any, Optional, Union
 from .errors import PlanError
 
 Number = Union[int, Decimal]
+# Greater than any amount that a mine has.
+GREATEST = 10**18
 # Farther than any place on the ground, in metres along an axis of any system of coordinates.
 FARTHEST = 10**9
 
@@ -91,6 +93,8 @@ class Section:
             # Decimals and dates as they stand in the file.
             shown = repr(value) if isinstance(value, (bool, str, list, dict)) else str(value)
             raise self.wrong(key, f"{shown} is not a number")
+        if abs(value) > GREATEST:
+            raise self.wrong(key, f"{value} is beyond 10^18")
         return Decimal(value)
 
     def as_coordinate(self, key: str, value: Any) -> Decimal:

@@ -139,7 +139,7 @@ def test_scenarios_haul_too(plan_folder, tmp_path):
     ("old", "new", "said"),
     [
         ("exit = [15, 45, 30]", "exit = [15, 45]", r"\[haulage\] exit: must be a list of 3 numbers, x, y and z"),
-        ("exit = [15, 45, 30]", "exit = [1e300, 45, 30]", r"\[haulage\] exit: 1E\+300 is no coordinate in metres: it is beyond 1,000,000,000"),
+        ("exit = [15, 45, 30]", "exit = [1e10, 45, 30]", r"\[haulage\] exit: 1E\+10 is no coordinate in metres: it is beyond 1,000,000,000"),
         ("gradient = 0.1", "gradient = 10", r"\[haulage\] gradient: 10 is no rise for a metre in plan from above 0 to 0.5, such as 0.1"),
         ("waste = 0.4 }", "waste = -0.4 }", r"\[haulage.cost\] waste: -0.4 is below 0"),
         ("waste = 0.4 }", "dump = 0.4 }", r"\[haulage.cost\] waste: is missing"),

@@ -37,6 +37,12 @@ def test_a_byte_order_mark_is_passed_over_and_another_encoding_is_refused(plan_f
         ("mining_cost = 2", "mining_cost = nan", "[money] mining_cost: NaN is not a number"),
         ("mining_cost = 2", "mining_cost = 2026-11-27", "[money] mining_cost: 2026-11-27 is not a number"),
         ("mining_cost = 2", "mining_cost = -2", "[money] mining_cost: may not be negative"),
+        ("mining_cost = 2", "mining_cost = 1e300", "[money] mining_cost: 1E+300 is beyond 10^18"),
+        (
+            "mining_cost = 2",
+            "mining_cost = 2\nmining_cost_by_elevation = [[10, 1e30], [20, 0]]",
+            "[money] mining_cost_by_elevation: 1E+30 is beyond 10^18",
+        ),
         ("mining_cost = 2", "mining_cost = 2\ndecimals = 7", "[money] decimals: must be a whole number from 0 to 6"),
         ("mining_cost = 2", 'mining_cost = 2\ncutoff = "loose"', '[money] cutoff: "loose" is none of moving, fixed'),
         (
