@@ -198,6 +198,9 @@ def read_metal(section: Section, has_processes: bool = False) -> Metal:
         prices=section.amounts("prices", "of prices, one a year, such as [8000, 8200]; the last one stays"),
     )
     section.finish()
+    # A block without revenue at the price as given costs nothing to process.
+    if not metal.price and any(metal.prices):
+        raise section.wrong("price", "is 0, and by it is told what is ore: give one that is not, beside those of years")
     return metal
 
 
