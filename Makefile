@@ -33,8 +33,8 @@ demo:
 	head -n 8 build/pit.txt
 	cmp build/pit.txt $(SMALL_MINE)/pit.txt
 
-# Program, library, planner's layer, manual pages, completions, documents, examples and what was built, below PREFIX; where the library was not built, all
-# but that. DESTDIR stands before it, for whoever makes a package.
+# Program, library, planner's layer, manual pages, completions, documents, examples and what was built, below PREFIX; where the library was
+# not built, all but that. DESTDIR stands before it, for whoever makes a package.
 LAYER = $(DESTDIR)$(PREFIX)/lib/pitshell/python
 DOC = $(DESTDIR)$(PREFIX)/share/doc/pitshell
 DOCUMENTS = README.md CHANGELOG.md docs/*.md docs/*/* examples/*.ipynb examples/*/*.* examples/*/expected/* examples/*/models/*
