@@ -18,10 +18,6 @@ class Road:
     cost: Decimal
     beyond: Decimal
 
-    def cost_of(self, metres: Decimal) -> Decimal:
-        """What a tonne costs that is hauled so many metres to the exit and on from there."""
-        return self.cost * (metres + self.beyond) / 1000
-
 
 @dataclass(frozen=True)
 class Haulage:

@@ -11,7 +11,7 @@ import numpy as np
 from numpy.typing import ArrayLike, NDArray
 
 from . import _library
-from ._arrays import PLAIN, Rows, millionths_of, rows_of
+from ._arrays import PLAIN, millionths_of, rows_of
 from ._refusals import Refusal, refused
 
 FREE, FORCED, BARRED = 0, 1, 2

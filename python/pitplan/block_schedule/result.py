@@ -37,10 +37,6 @@ class ScheduledBlocks:
         year = self.found.schedule.year
         return int(year[year < self.planned.problem.years].max(initial=-1)) + 1
 
-    @property
-    def is_interrupted(self) -> bool:
-        return self.found.interrupted
-
     def beside(self, blocks: pd.DataFrame) -> pd.DataFrame:
         """Rows of blocks, by `id`, with the year of each, from 1, 0 where it is not dug; and of several processes share_NAME, the share of it
         that goes to each."""
