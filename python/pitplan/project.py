@@ -24,7 +24,8 @@ from .wall_rules import Slopes, read_slopes
 REFERENCE_FACTOR = 1000
 GREATEST_FACTOR = 100_000
 MOST_FACTORS = 1_000
-DISCOUNTINGS = ("continuous", "end_of_year", "mid_year")
+# The first one is taken where a project names none: as the function NPV of spreadsheets does it.
+DISCOUNTINGS = ("end_of_year", "mid_year", "continuous")
 
 
 @dataclass(frozen=True)

@@ -1,10 +1,10 @@
-"""When a pit is dug and when its cash flows, by the yearly capacities of mill and shovels.
+"""Pit-by-pit analysis: when a pit is mined and when its cash flows, by the yearly mining and processing capacities.
 
-Digging goes bench by bench. The best case digs shell by shell, by rising factor, and within each shell bench by bench
-from the top; the worst case digs the whole pit bench by bench. So the pieces, one after the other, are a shell's part of
-a bench, or a bench of the pit. A piece lasts as long as its ore needs the mill, or its rock the shovels, whichever is
-longer; its rock, ore, metal and cash flow evenly meanwhile. What the mill could have done while waste alone was dug is
-lost: ore that still lies under the waste cannot be fed to it.
+Mining goes bench by bench. The best case mines shell by shell, by rising factor, and within each shell bench by bench from the top; the
+worst case mines the whole pit bench by bench. The pieces, one after the other, are a shell's part of a bench, or a bench of the pit.
+Within a year all capacities apply together: a bench of waste does not wait for the mill while mining capacity is left. A year ends in the
+piece that needs a capacity which is used up; its total material, ore, metal and cash are cut there in proportion. The last year is as long
+as the share of its most used capacity.
 """
 
 from __future__ import annotations
@@ -21,9 +21,9 @@ from .project import Project, Schedule
 from .yearly_money import PLAIN, YearlyMoney
 
 ROCK, ORE, CASH = 0, 1, -1
-# Ends so near to a whole year are taken as that year's, since sums of fractions miss it by a hair.
+# Capacities are compared to this part of a year's, since sums of fractions miss them by a hair.
 HAIR = 1e-9
-# By how many years before a year's end its cash is taken to flow, where it does not flow as it is dug.
+# By how many years before a year's end its cash is taken to flow, where it does not flow evenly through the year.
 BEFORE_THE_END = {"end_of_year": 0.0, "mid_year": 0.5}
 
 
@@ -48,9 +48,8 @@ class Benches:
 
 @dataclass(frozen=True)
 class Years:
-    """A pit's years: when it is through, in years from the start, and a row a year of amounts, the last being discounted cash.
-
-    As a course gives them these are the benches' amounts, and behind them the same as they are worth at the start."""
+    """A pit's years: its life in years, and a row a year of amounts. As a course gives them these are the benches' amounts; as terms give
+    them, the last column is discounted cash."""
 
     end: float
     amounts: np.ndarray
@@ -63,43 +62,57 @@ class Years:
 
 @dataclass(frozen=True)
 class Course:
-    """Pieces that are dug one after the other: their amounts, and when each is through, in years from the start."""
+    """Pieces that are mined one after the other.
+
+    amounts  an array of pieces and the benches' names
+    used     years of each capacity that are used before each piece and after the last: an array of pieces + 1 and capacities
+    """
 
     amounts: np.ndarray
-    ends: np.ndarray
-    rate: float
-
-    @cached_property
-    def starts(self) -> np.ndarray:
-        return np.concatenate([[0.0], self.ends[:-1]])
+    used: np.ndarray
 
     @cached_property
     def sums(self) -> np.ndarray:
-        """All that has flowed before each piece and after the last: amounts, and the same discounted as they flow."""
-        flows = with_present(self.amounts, mean_discount(self.starts, self.ends, self.rate))
-        return np.concatenate([np.zeros((1, flows.shape[1])), np.cumsum(flows, axis=0)])
+        """The amounts that are mined before each piece and after the last."""
+        return np.concatenate([np.zeros((1, self.amounts.shape[1])), np.cumsum(self.amounts, axis=0)])
 
     @cached_property
-    def whole_years(self) -> np.ndarray:
-        """All that has flowed up to each whole year before the last end, that moment with it."""
-        moments = np.arange(1.0, np.ceil(self.ends[-1]))
-        through = np.searchsorted(self.ends, moments, side="right")
-        start = self.starts[through]
-        share = (moments - start) / (self.ends[through] - start)
-        part = self.amounts[through] * share[:, None]
-        return self.sums[through] + with_present(part, mean_discount(start, moments, self.rate))
+    def ends(self) -> np.ndarray:
+        """Where each full year ends: how many pieces are mined by then, the last of them in part. Stops after MOST_YEARS."""
+        found: list[float] = []
+        place, last = 0.0, float(len(self.amounts))
+        while place < last and len(found) <= MOST_YEARS:
+            place = self.after_a_year(place)
+            if place < last:
+                found.append(place)
+        return np.array(found)
+
+    def after_a_year(self, place: float) -> float:
+        """How many pieces are mined a year after so many: up to where the first capacity is used up."""
+        until = float(len(self.amounts))
+        for used, target in zip(self.used.T, at(self.used, np.array([place]))[0] + 1):
+            piece = int(np.searchsorted(used, target + HAIR, side="right")) - 1
+            if piece < len(self.amounts):
+                share = (target - used[piece]) / (used[piece + 1] - used[piece])
+                until = min(until, piece + max(share, 0.0))
+        return until
 
     def years(self, count: int) -> Years:
-        """The years of the first `count` pieces, which are some."""
-        end = float(self.ends[count - 1])
-        last = max(int(np.ceil(end)), 1)
-        flowed = np.vstack([np.zeros(self.sums.shape[1]), self.whole_years[: last - 1], self.sums[count]])
-        return Years(end, np.diff(flowed, axis=0))
+        """The years of the first `count` pieces, at least one."""
+        full = self.ends[: np.searchsorted(self.ends, count)]
+        before = at(self.used, full[-1:])[0] if len(full) else np.zeros(self.used.shape[1])
+        part = float((self.used[count] - before).max())
+        if part <= HAIR and len(full):
+            full, part = full[:-1], 1.0
+        flowed = at(self.sums, np.concatenate([[0.0], full, [float(count)]]))
+        return Years(len(full) + (1.0 if abs(part - 1) < HAIR else part), np.diff(flowed, axis=0))
 
 
-def with_present(amounts: np.ndarray, discounts: np.ndarray) -> np.ndarray:
-    """Rows of amounts, and behind them the same as they are worth at the start."""
-    return np.column_stack([amounts, amounts * discounts[:, None]])
+def at(sums: np.ndarray, places: np.ndarray) -> np.ndarray:
+    """Running sums of pieces between two of them: a row a place."""
+    piece = np.minimum(places.astype(np.int64), len(sums) - 2)
+    share = (places - piece)[:, None]
+    return np.asarray(sums[piece] + share * (sums[piece + 1] - sums[piece]))
 
 
 def mean_discount(start: np.ndarray, end: np.ndarray, rate: float) -> np.ndarray:
@@ -110,29 +123,30 @@ def mean_discount(start: np.ndarray, end: np.ndarray, rate: float) -> np.ndarray
     return np.exp(-force * start) * mean
 
 
-def lasting(amounts: np.ndarray, settings: Schedule) -> np.ndarray:
-    """How long pieces last, in years."""
-    years = amounts[..., ORE] / settings.ore_per_year
-    for number, capacity in enumerate(settings.per_process):
-        years = np.maximum(years, amounts[..., ORE + 1 + number] / capacity)
-    if settings.rock_per_year is not None:
-        years = np.maximum(years, amounts[..., ROCK] / settings.rock_per_year)
-    return years
+def capacity_years(amounts: np.ndarray, settings: Schedule) -> np.ndarray:
+    """Years of each capacity that pieces use: an array of pieces and capacities, of all ore first, then each process, then rock."""
+    capacities = [(ORE, settings.ore_per_year), *((ORE + 1 + k, capacity) for k, capacity in enumerate(settings.per_process))]
+    capacities += [] if settings.rock_per_year is None else [(ROCK, settings.rock_per_year)]
+    return np.stack([amounts[..., place] / capacity for place, capacity in capacities], axis=-1)
 
 
 def course_of(amounts: np.ndarray, settings: Schedule) -> Course:
-    """Pieces one after the other from the start on, each as long as its ore or its rock needs."""
-    ends = np.cumsum(lasting(amounts, settings))
-    nearest = np.rint(ends)
-    return Course(amounts, np.where(np.abs(ends - nearest) < HAIR, nearest, ends), settings.rate)
+    """Pieces one after the other, from the start."""
+    years = capacity_years(amounts, settings)
+    return Course(amounts, np.concatenate([np.zeros((1, years.shape[1])), np.cumsum(years, axis=0)]))
 
 
 def year_discounts(settings: Schedule, count: int) -> np.ndarray:
-    """By year what one of money that flows in it is worth at the start: evenly through the year, or at its end or its middle."""
+    """By year what one of money that flows in it is worth at the start: at its end, at its middle, or evenly through the year."""
     ends = np.arange(1.0, count + 1)
-    if settings.discounting not in BEFORE_THE_END:
-        return mean_discount(ends - 1, ends, settings.rate)
-    return (1 + settings.rate) ** -(ends - BEFORE_THE_END[settings.discounting])
+    return discounts_between(ends - 1, ends, settings)
+
+
+def discounts_between(starts: np.ndarray, ends: np.ndarray, settings: Schedule) -> np.ndarray:
+    """The same of parts of years that begin with the years."""
+    if settings.discounting in BEFORE_THE_END:
+        return np.asarray((1 + settings.rate) ** -(np.floor(starts) + 1 - BEFORE_THE_END[settings.discounting]))
+    return mean_discount(starts, ends, settings.rate)
 
 
 @dataclass(frozen=True)
@@ -150,19 +164,14 @@ class Terms:
 
     def earned(self, years: Years) -> Years:
         """The years of a course with all the money of each, discounted as the project asks. A pit without rock has none."""
-        amounts, present = np.hsplit(years.amounts, 2)
-        premiums = self.money.premium(self.names, len(amounts))
-        cash, worth = (flows[:, CASH] + (flows * premiums).sum(axis=1) for flows in (amounts, present))
+        amounts = years.amounts
+        cash = amounts[:, CASH] + (amounts * self.money.premium(self.names, len(amounts))).sum(axis=1)
         starts = np.arange(float(len(amounts)))
         ends = np.clip(years.end, starts, starts + 1)
-        fixed, rate = self.money.fixed_cost * (ends - starts), self.settings.rate
+        fixed = self.money.fixed_cost * (ends - starts)
         spent = self.money.spent(len(amounts)) * (amounts[:, ROCK].sum() > 0)
-        if self.settings.discounting in BEFORE_THE_END:
-            worth = (cash - fixed) * year_discounts(self.settings, len(amounts))
-        else:
-            worth = worth - fixed * mean_discount(starts, ends, rate)
+        worth = (cash - fixed) * discounts_between(starts, ends, self.settings) - spent * (1 + self.settings.rate) ** -starts
         of_years = [fixed, spent] if self.money.columns else []
-        worth = worth - spent * (1 + rate) ** -starts
         return Years(years.end, np.column_stack([amounts[:, :CASH], *of_years, cash - fixed - spent, worth]))
 
 
@@ -199,10 +208,12 @@ def table_of(benches: Benches, settings: Schedule, money: YearlyMoney = PLAIN) -
 
 
 def demand_few_years(benches: Benches, project: Project) -> None:
-    """Refuses capacities at which the years could not be counted. The best case of the greatest pit is the longest."""
-    years = lasting(benches.amounts, project.schedule).sum()
+    """Refuses capacities at which the years could not be counted. The best case of the greatest pit is counted."""
+    factors, levels, names = benches.amounts.shape
+    course = course_of(benches.amounts.reshape(factors * levels, names), project.schedule)
+    years = max(course.used[-1].max(), float(len(course.ends)))
     if years > MOST_YEARS:
         raise PlanError(
-            f"{project.path}: [shells] ore_per_year, rock_per_year: the greatest pit would take {years:,.0f} years, and "
+            f"{project.path}: [shells] ore_per_year, rock_per_year: the greatest pit would take at least {years:,.0f} years, and "
             f"at most {MOST_YEARS:,} are counted: are the capacities in tonnes a year?"
         )

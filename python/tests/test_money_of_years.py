@@ -63,14 +63,14 @@ def test_two_years_by_hand(mine):
 
 def test_as_cash_flows(mine):
     shell, _ = solved(mine(MONEY, PRICES, of_years("continuous")))
-    assert shell["npv_best"] == pytest.approx(-200 - 300 + 900 * mean(0, 1) + 1100 * mean(1, 2) - 50 / 1.1)
+    assert shell["npv_best"] == pytest.approx(-300 + 700 * mean(0, 1) + 1100 * mean(1, 2) - 50 / 1.1)
 
 
 def test_the_last_year_costs_what_is_left_of_it(mine):
     """100 t at 80 a year: a quarter of the second year."""
     shell, years = solved(mine(MONEY, of_years("continuous", 80)))
     assert years["fixed_cost"].tolist() == [100, 25] and years["capital"].tolist() == [300, 50]
-    assert shell["npv_best"] == pytest.approx(-200 - 300 + 2000 * mean(0, 1.25) - 100 * mean(0, 1) - 25 * mean(1, 1.25) - 50 / 1.1)
+    assert shell["npv_best"] == pytest.approx(-300 + 1300 * mean(0, 1) + 375 * mean(1, 1.25) - 50 / 1.1)
 
 
 def test_a_royalty_is_owed_on_the_years_prices_too(mine):

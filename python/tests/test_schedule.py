@@ -4,7 +4,7 @@ from collections import defaultdict
 from dataclasses import replace
 from decimal import Decimal
 from fractions import Fraction
-from math import ceil, floor, log
+from math import ceil, log
 from pathlib import Path
 
 import numpy as np
@@ -16,8 +16,9 @@ from hypothesis import strategies as st
 
 import pitplan
 from pitplan import PlanError, analyse, commands
-from pitplan.project import of_data
+from pitplan.project import of_data, read_schedule
 from pitplan.run import Solution
+from pitplan.section import Section
 
 FACTORS = (400, 700, 1000)
 BOX = (3, 2, 4)
@@ -30,7 +31,7 @@ def project_of(rate="0.1", ore=100, rock=None, discounting=None):
     metal = {"name": "copper", "column": "cu", "unit": "percent", "price": 8000, "recovery": Decimal("0.5")}
     shells = {"factors": list(FACTORS), "rate": Decimal(rate), "ore_per_year": ore}
     shells |= {} if rock is None else {"rock_per_year": rock}
-    shells |= {} if discounting is None else {"discounting": discounting}
+    shells |= {"discounting": discounting or "continuous"}
     data = {
         "table": {"file": "blocks.csv"},
         "grid": {"size": [10, 10, 10]},
@@ -90,27 +91,23 @@ def present(cash, start, end, rate):
 
 
 def walked(pieces, project):
-    """The end, and by year the amounts and the present worth: each piece is followed from year to year."""
+    """The life, and by year the amounts and the present worth: each piece fills what the years have left of both capacities."""
     settings = project.schedule
-    clock, years = Fraction(0), defaultdict(lambda: [Fraction(0)] * 4 + [Decimal(0)])
-
-    def flow(year, share, amounts, until):
-        years[year][:4] = [a + share * b for a, b in zip(years[year], amounts)]
-        years[year][4] += present(share * amounts[3], clock, until, str(settings.rate))
-
+    most = [Fraction(settings.ore_per_year), None if settings.rock_per_year is None else Fraction(settings.rock_per_year)]
+    years, used = [[Fraction(0)] * 4], [Fraction(0), Fraction(0)]
     for amounts in pieces:
-        rock, ore, _, _ = amounts
-        lasts = ore / Fraction(settings.ore_per_year)
-        if settings.rock_per_year is not None:
-            lasts = max(lasts, rock / Fraction(settings.rock_per_year))
-        end = clock + lasts
-        if lasts == 0:
-            flow(max(ceil(clock), 1), Fraction(1), amounts, clock)
-        while clock < end:
-            until = min(end, Fraction(floor(clock) + 1))
-            flow(floor(clock) + 1, (until - clock) / lasts, amounts, until)
-            clock = until
-    return clock, years
+        left = Fraction(1)
+        while left:
+            uses = [amounts[1] / most[0], Fraction(0) if most[1] is None else amounts[0] / most[1]]
+            share = min([left, *((1 - done) / use for done, use in zip(used, uses) if use)])
+            years[-1] = [a + share * b for a, b in zip(years[-1], amounts)]
+            used, left = [done + share * use for done, use in zip(used, uses)], left - share
+            if left:
+                years, used = [*years, [Fraction(0)] * 4], [Fraction(0), Fraction(0)]
+    life = len(years) - 1 + max(used)
+    ends = [min(Fraction(number), life) for number in range(1, len(years) + 1)]
+    discounted = [present(year[3], number, end, str(settings.rate)) for number, (year, end) in enumerate(zip(years, ends))]
+    return life, {number: [*year, worth] for number, (year, worth) in enumerate(zip(years, discounted), 1)}
 
 
 blocks = st.lists(
@@ -166,9 +163,10 @@ def test_years_keep_the_capacities_and_add_up_to_the_shell(mine, capacity, disco
         for column, name in named.items():
             assert years[column].sum() == pytest.approx(shells[name][factor], abs=1e-6)
         assert years["discounted"].sum() == pytest.approx(shells[f"npv_{case}"][factor], abs=0.01)
-    last = table.groupby(["factor", "case"])["year"].max().unstack()
-    # What the worst case digs of a bench at once, the best case digs by parts, each with its own waiting.
-    assert last.empty or (last["worst"] <= last["best"]).all()
+    # A year ends when a capacity is used up, so that all but the last of a pit use one of them whole.
+    is_full = table["ore_tonnes"] >= capacity[1] * (1 - 1e-6)
+    is_full |= False if capacity[2] is None else table["rock_tonnes"] >= capacity[2] * (1 - 1e-6)
+    assert (is_full | ~table.duplicated(["case", "factor"], keep="last")).all()
 
 
 def pillar(project, *shells):
@@ -196,21 +194,29 @@ def test_capacity_lost_while_stripping_is_not_caught_up():
 
 
 def test_a_year_of_several_pieces_by_hand():
-    """Rock at 200 t a year and ore at 100: a bench of waste takes half a year, and one of ore a whole."""
-    plan, solution = pillar(project_of(rock=200), [(0, 1000)], [(1, 1000)])
+    """Rock at 150 t a year and ore at 100: after 100 t of waste the first year takes 50 t of ore, and the mill is half used."""
+    plan, solution = pillar(project_of(rock=150), [(0, 1000)], [(1, 1000)])
     table = pitplan.years(plan, solution)
     best = table[table["case"] == "best"]
-    # The waste costs 200; the ore yields 4000 - 1000 - 200 from the middle of the first year to that of the second.
+    # The waste costs 200; the ore yields 4000 - 1000 - 200, half of it in each year. The second ends when the mill is half used.
     assert best["rock_tonnes"].tolist() == [150, 50] and best["ore_tonnes"].tolist() == [50, 50]
     assert best["metal_copper"].tolist() == [0.25, 0.25] and best["cash"].tolist() == [1200, 1400]
-    first = (-400 * (1 - 1.1**-0.5) + 2800 * (1.1**-0.5 - 1.1**-1)) / log(1.1)
-    second = 2800 * (1.1**-1 - 1.1**-1.5) / log(1.1)
+    assert pitplan.shells(plan, solution)["years"].tolist() == [0, 0, 1.5]
+    first, second = 1200 * (1 - 1.1**-1) / log(1.1), 1400 * (1.1**-1 - 1.1**-1.5) / (0.5 * log(1.1))
     assert best["discounted"].tolist() == pytest.approx([first, second])
+
+
+def test_waste_is_mined_in_the_years_in_which_the_mill_works():
+    """A bench of ore and one of waste: the shovels do both in the year in which the mill does the ore. No bench waits for the mill."""
+    plan, solution = pillar(project_of(rock=200), [(1, 1000)], [(0, 1000)])
+    years = pitplan.years(plan, solution)
+    assert years["rock_tonnes"].tolist() == [200, 200] and years["ore_tonnes"].tolist() == [100, 100]
+    assert pitplan.shells(plan, solution)["years"].tolist() == [0, 0, 1]
 
 
 @pytest.mark.parametrize("discounting, before", [("end_of_year", 0.0), ("mid_year", 0.5)])
 def test_years_discounted_as_spreadsheets_do(discounting, before):
-    plan, solution = pillar(project_of(rock=200, discounting=discounting), [(0, 1000)], [(1, 1000)])
+    plan, solution = pillar(project_of(rock=150, discounting=discounting), [(0, 1000)], [(1, 1000)])
     expected = [1200 / 1.1 ** (1 - before), 1400 / 1.1 ** (2 - before)]
     table, shells = pitplan.years(plan, solution), pitplan.shells(plan, solution).set_index("factor")
     for case in ("best", "worst"):
@@ -218,29 +224,35 @@ def test_years_discounted_as_spreadsheets_do(discounting, before):
         assert shells[f"npv_{case}"][1000] == pytest.approx(sum(expected))
 
 
+def test_cash_is_discounted_from_the_end_of_its_year_by_default():
+    """As the function NPV of spreadsheets does it."""
+    data = {"factors": [1000], "rate": Decimal("0.1"), "ore_per_year": 100}
+    assert read_schedule(Section("project.toml", "shells", data), ()).discounting == "end_of_year"
+
+
 def test_the_worst_case_can_be_worth_more_than_the_best():
-    """Ore of the first shell beside waste of the second: dug at once, the waste need not be waited for."""
+    """Ore of the first shell beside waste of the second: mined bench by bench, they share the years that the mill needs for the ore."""
     plan, solution = pillar(project_of(rock=100, ore=50), [(1, 700), (0, 1000)], [(0, 1000), (4, 1000)])
     shells = pitplan.shells(plan, solution).set_index("factor")
-    # Best: 2 years of ore, a year of waste, and 2 years with ore. Worst: each bench 200 t with 100 t of ore, 2 years.
-    assert shells["years"][1000] == pytest.approx(5)
-    years = pitplan.years(plan, solution).groupby(["case", "factor"])["year"].max()
-    assert years["best", 1000] == 5 and years["worst", 1000] == 4
-    poor, waste, rich = 2800, -200, 14800
-    best = poor / 2 * (1 - 1.1**-2) + waste * (1.1**-2 - 1.1**-3) + (rich + waste) / 2 * (1.1**-3 - 1.1**-5)
-    worst = (poor + waste) / 2 * (1 - 1.1**-2) + (rich + waste) / 2 * (1.1**-2 - 1.1**-4)
-    assert shells["npv_best"][1000] == pytest.approx(best / log(1.1))
-    assert shells["npv_worst"][1000] == pytest.approx(worst / log(1.1))
-    assert worst > best
+    # Best: the waste of the second shell fills the shovels of year 2, and the last bench begins in year 3.
+    assert shells["years"][1000] == pytest.approx(4.5)
+    years = pitplan.years(plan, solution).set_index(["case", "factor"])
+    best, worst = years.loc[("best", 1000)], years.loc[("worst", 1000)]
+    assert best["rock_tonnes"].tolist() == [50, 100, 100, 100, 50] and best["ore_tonnes"].tolist() == [50, 50, 25, 50, 25]
+    assert worst["rock_tonnes"].tolist() == [100] * 4 and worst["ore_tonnes"].tolist() == [50] * 4
+    # The benches earn 2800 and 14800, and each has 100 t of waste that costs 200.
+    assert best["cash"].tolist() == pytest.approx([1400, 1300, 3550, 7300, 3650])
+    assert worst["cash"].tolist() == pytest.approx([1300, 1300, 7300, 7300])
+    assert shells["npv_worst"][1000] > shells["npv_best"][1000]
 
 
 def test_waste_takes_no_time_where_rock_has_no_limit():
-    """Its cost counts at its moment, and in the year that ends then; at the very start in the first year."""
+    """It is mined in the year that the mill's capacity ends."""
     plan, solution = pillar(project_of(), [(0, 1000)], [(1, 1000)], [(0, 1000)], [(1, 1000)])
     years = pitplan.years(plan, solution)
     best = years[years["case"] == "best"]
     assert best["rock_tonnes"].tolist() == [300, 100] and best["cash"].tolist() == [2400, 2800]
-    npv = -200 - 200 / 1.1 + 2800 * (1 - 1.1**-2) / log(1.1)
+    npv = (2400 * (1 - 1.1**-1) + 2800 * (1.1**-1 - 1.1**-2)) / log(1.1)
     assert best["discounted"].sum() == pytest.approx(npv)
     # A pit of waste alone is dug in no time.
     plan, solution = pillar(project_of(), [(0, 1000)])
@@ -262,7 +274,7 @@ def test_years_that_could_not_be_counted_are_refused():
     with pytest.raises(PlanError) as said:
         pitplan.shells(plan, solution)
     assert str(said.value) == (
-        "project.toml: [shells] ore_per_year, rock_per_year: the greatest pit would take 1,100 years, and at most 1,000 "
+        "project.toml: [shells] ore_per_year, rock_per_year: the greatest pit would take at least 1,100 years, and at most 1,000 "
         "are counted: are the capacities in tonnes a year?"
     )
     plan.project = replace(plan.project, schedule=replace(plan.project.schedule, ore_per_year=1.1))
@@ -291,7 +303,7 @@ def test_the_file_of_years_stands_beside_the_shells(solved):
 
 def test_discounting_is_one_of_three(plan_folder):
     path = plan_folder(rows(2, 2, 2), PROJECT, ("rate = 0.1", 'rate = 0.1\ndiscounting = "yearly"'))
-    with pytest.raises(PlanError, match="discounting: \"yearly\" is none of continuous, end_of_year, mid_year"):
+    with pytest.raises(PlanError, match="discounting: \"yearly\" is none of end_of_year, mid_year, continuous"):
         pitplan.load(path)
 
 

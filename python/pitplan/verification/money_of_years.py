@@ -2,9 +2,6 @@
 
 from __future__ import annotations
 
-import math
-from collections.abc import Iterator
-
 import numpy as np
 import pandas as pd
 
@@ -41,20 +38,3 @@ def most_premium(project: Project) -> float:
 def capital(project: Project, year: int) -> float:
     """What is spent at the start of a year."""
     return sum(float(amount) for at, amount in project.money.capital if at == year)
-
-
-def last_year(end: float) -> int:
-    """The year in which a pit is through that lasts so many years."""
-    return max(1, math.ceil(end - HAIR))
-
-
-def years_cut(start: float, end: float) -> Iterator[tuple[int, float, float]]:
-    """The years, from 1, of a span of time in years, each with the start and the end of its part."""
-    if end - start < HAIR:
-        yield last_year(end), start, end
-        return
-    year = math.floor(start + HAIR) + 1
-    while start < end - HAIR:
-        until = min(end, float(year))
-        yield year, start, until
-        start, year = until, year + 1

@@ -1,4 +1,5 @@
-"""What flows in each year of a pit whose pieces are dug one after the other, anew: each is cut at the ends of years."""
+"""What flows in each year of a pit whose pieces are mined one after the other, recomputed by following the pieces: a year ends when one
+of its capacities is used up."""
 
 from __future__ import annotations
 
@@ -7,64 +8,75 @@ from dataclasses import dataclass
 import numpy as np
 import pandas as pd
 
+from ..money_rules import MOST_YEARS
 from ..project import Project
 from .money_of_years import HAIR, capital, premiums
 
 
 @dataclass(frozen=True)
 class Parts:
-    """Pieces cut at the ends of years, arrays of one a part: its piece, its year, from 1, its share of the piece, and since and until when
-    it is dug, in years from the start."""
+    """Pieces cut at the ends of years.
+
+    piece, year, share  one value a part: its piece, its year from 1, and its share of the piece
+    life                years from the start to the end of the last piece
+    """
 
     piece: np.ndarray
     year: np.ndarray
     share: np.ndarray
-    since: np.ndarray
-    until: np.ndarray
+    life: float
 
 
-def parts_of(lasting: np.ndarray) -> Parts:
-    """Of pieces that last so many years; one that takes no time is of the year that ends with that moment, or has it within."""
-    ends = np.cumsum(lasting)
-    starts, is_moment = np.concatenate([[0.0], ends[:-1]]), lasting < HAIR
-    last = np.maximum(np.ceil(ends - HAIR), 1).astype(np.int64)
-    first = np.where(is_moment, last, np.floor(starts + HAIR).astype(np.int64) + 1)
-    counts = np.maximum(last - first, 0) + 1
-    piece = np.repeat(np.arange(len(lasting)), counts)
-    year = first[piece] + np.arange(len(piece)) - (np.cumsum(counts) - counts)[piece]
-    since, until = np.maximum(starts[piece], year - 1), np.minimum(ends[piece], year)
-    share = np.where(is_moment[piece], 1.0, (until - since) / np.where(is_moment, 1.0, lasting)[piece])
-    return Parts(piece, year, share, since, until)
+def parts_of(uses: list[list[float]]) -> Parts:
+    """Follows pieces, of each of which it is given how many years of each capacity it uses."""
+    found: list[tuple[int, int, float]] = []
+    room, year = [1.0] * len(uses[0]), 1
+    for piece, use in enumerate(uses):
+        left = 1.0
+        while left > 0 and year <= MOST_YEARS:
+            fits = min([left, *(max(free, 0.0) / used for free, used in zip(room, use) if used > 0)])
+            if all(left * used <= free + HAIR for free, used in zip(room, use)):
+                fits = left
+            found.append((piece, year, fits))
+            room = [free - fits * used for free, used in zip(room, use)]
+            left -= fits
+            if left > 0:
+                room, year = [1.0] * len(room), year + 1
+    piece, year_of, share = (np.array(column) for column in zip(*found))
+    return Parts(piece, year_of, share, year - 1 + max(1 - free for free in room))
 
 
-def discounts(since: np.ndarray, until: np.ndarray, year: np.ndarray, project: Project) -> np.ndarray:
-    """What one of money is worth at the start of all that flows in these spans of time, each within a year."""
+def discounts(until: np.ndarray, years: np.ndarray, project: Project) -> np.ndarray:
+    """What one of money is worth at the start that flows in each year, which lasts until a moment."""
     rate, how = project.schedule.rate, project.schedule.discounting
     if how != "continuous":
-        return (1 + rate) ** -(year - (0.5 if how == "mid_year" else 0.0))
-    spans = until - since
-    is_moment = (spans < HAIR) | (rate == 0)
-    mean = ((1 + rate) ** -since - (1 + rate) ** -until) / np.where(is_moment, 1.0, np.log1p(rate) * spans)
+        return np.asarray((1 + rate) ** -(years - (0.5 if how == "mid_year" else 0.0)))
+    since = years - 1.0
+    is_moment = (until - since < HAIR) | (rate == 0)
+    mean = ((1 + rate) ** -since - (1 + rate) ** -until) / np.where(is_moment, 1.0, np.log1p(rate) * (until - since))
     return np.where(is_moment, (1 + rate) ** -until, mean)
 
 
-def years_of(pieces: pd.DataFrame, lasting: np.ndarray, project: Project) -> pd.DataFrame:
+def uses_of(pieces: pd.DataFrame, project: Project) -> list[list[float]]:
+    """How many years of each capacity each piece uses."""
+    schedule = project.schedule
+    capacities = {"ore": schedule.ore_per_year, **{f"ore_tonnes_{process.name}": process.per_year for process in project.processes}}
+    capacities |= {} if schedule.rock_per_year is None else {"rock": schedule.rock_per_year}
+    return np.column_stack([pieces[name] / capacity for name, capacity in capacities.items()]).tolist()
+
+
+def years_of(pieces: pd.DataFrame, project: Project) -> tuple[pd.DataFrame, float]:
     """A row a year, from 1: the amounts of the pieces, the last of which is cash at the price as given; fixed_cost and capital where the
-    project has such; cash after these, at the prices of the year; and that discounted."""
-    parts, end = parts_of(lasting), float(lasting.sum())
+    project has such; cash after these, at the prices of the year; and that discounted. With the years from the start to the end."""
+    parts = parts_of(uses_of(pieces, project))
     years = np.arange(1, int(parts.year.max()) + 1)
     flows = {name: amounts[parts.piece] * parts.share for name, amounts in zip(pieces, pieces.to_numpy().T)}
-    for name in premiums(project, 1):
-        by_year = np.array([premiums(project, int(year))[name] for year in years])
-        flows["cash"] = flows["cash"] + flows[name] * by_year[parts.year - 1]
-    flows["discounted"] = flows["cash"] * discounts(parts.since, parts.until, parts.year, project)
     sums = {name: np.bincount(parts.year, flow, minlength=len(years) + 1)[1:] for name, flow in flows.items()}
     found = pd.DataFrame(sums, index=pd.Index(years, name="year"))
-    money = project.money
-    if not money.fixed_cost_per_year and not money.capital:
-        return found
-    until = np.clip(end, years - 1.0, years)
+    for name in premiums(project, 1):
+        found["cash"] += found[name] * [premiums(project, int(year))[name] for year in years]
+    money, until = project.money, np.clip(parts.life, years - 1.0, years)
     fixed, spent = float(money.fixed_cost_per_year) * (until - (years - 1.0)), np.array([capital(project, int(year)) for year in years])
-    present = fixed * discounts(years - 1.0, until, years, project) + spent * (1 + project.schedule.rate) ** -(years - 1.0)
-    cash, discounted = found["cash"] - fixed - spent, found["discounted"] - present
-    return found.assign(fixed_cost=fixed, capital=spent, cash=cash, discounted=discounted)
+    present = (found["cash"] - fixed) * discounts(until, years, project) - spent * (1 + project.schedule.rate) ** -(years - 1.0)
+    of_years = {"fixed_cost": fixed, "capital": spent} if money.fixed_cost_per_year or money.capital else {}
+    return found.assign(**of_years, cash=found["cash"] - fixed - spent, discounted=present), parts.life

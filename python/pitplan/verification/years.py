@@ -1,4 +1,4 @@
-"""Years and net present values anew: benches are dug one after the other, each as long as the slower of mill and shovels needs."""
+"""Years and net present values recomputed: benches are mined one after the other, and a year ends when one of its capacities is used up."""
 
 from __future__ import annotations
 
@@ -10,7 +10,6 @@ import numpy as np
 import pandas as pd
 
 from .answer import Answer, Rule, rule
-from .money_of_years import capital, last_year, premiums, years_cut
 from .yearly_flows import years_of
 
 CENT = 0.01
@@ -52,7 +51,7 @@ def unlike_years(answer: Answer, years: pd.DataFrame, flows: pd.DataFrame) -> It
     for case, factor in due:
         pieces = flows[factors <= factor]
         pieces = pieces if case == "best" else pieces.groupby("level").sum()
-        expected = years_of(pieces.drop(columns="gross"), lasting(pieces, answer), answer.project).rename(columns=NAMES)
+        expected = years_of(pieces.drop(columns="gross"), answer.project)[0].rename(columns=NAMES)
         slack = CENT + 1e-12 * float(pieces["gross"].sum())
         if (case, factor) in groups:
             yield from (f"{case} case of factor {factor}{said}" for said in unlike_rows(groups[case, factor], expected, slack))
@@ -76,10 +75,9 @@ def verify_npv(answer: Answer, flows: pd.DataFrame) -> Rule:
     differences: list[str] = []
     for factor in answer.shells.index:
         best = flows[flows.index.get_level_values("factor") <= factor]
-        worst = best.groupby("level").sum()
         slack = CENT + 1e-12 * float(best["gross"].sum())
-        expected = {"npv_best": npv(best, answer), "npv_worst": npv(worst, answer), "years": lasting(best, answer).sum()}
-        for name, amount in expected.items():
+        (npv_best, life), (npv_worst, _) = (npv(pieces, answer) for pieces in (best, best.groupby("level").sum()))
+        for name, amount in {"npv_best": npv_best, "npv_worst": npv_worst, "years": life}.items():
             said = float(answer.shells[name][factor])
             if not abs(said - amount) <= (1e-5 if name == "years" else slack) + 1e-9 * abs(amount):
                 differences.append(f"factor {factor}: {name} {said:.12g} for {amount:.12g}")
@@ -95,67 +93,12 @@ def flows_of(answer: Answer) -> pd.DataFrame:
     return frame[frame["factor"] > 0].groupby(["factor", "level"]).sum()
 
 
-def lasting(pieces: pd.DataFrame, answer: Answer) -> np.ndarray:
-    schedule = answer.project.schedule
-    milled = (pieces["ore"] / schedule.ore_per_year).to_numpy()
-    for process in answer.project.processes:
-        milled = np.maximum(milled, pieces[f"ore_tonnes_{process.name}"].to_numpy() / process.per_year)
-    return milled if schedule.rock_per_year is None else np.maximum(milled, (pieces["rock"] / schedule.rock_per_year).to_numpy())
-
-
-def npv(pieces: pd.DataFrame, answer: Answer) -> float:
-    """What pieces dug one after the other earn, discounted as the project asks, with the money of years."""
+def npv(pieces: pd.DataFrame, answer: Answer) -> tuple[float, float]:
+    """What pieces mined one after the other earn, discounted as the project asks, with the money of years; and how many years that takes."""
     if not pieces["rock"].sum():
-        return 0.0
-    ends = np.cumsum(lasting(pieces, answer))
-    return plain_npv(pieces, answer) + more_npv(pieces, ends, answer) - npv_of_costs(float(ends[-1]), answer)
-
-
-def discount(start: float, end: float, year: int, answer: Answer) -> float:
-    """What one of money that flows from start to end, within a year, is worth at the start of all."""
-    schedule = answer.project.schedule
-    if schedule.discounting == "continuous":
-        return mean(start, end, schedule.rate)
-    return (1 + schedule.rate) ** -(year - (0.5 if schedule.discounting == "mid_year" else 0.0))
-
-
-def more_npv(pieces: pd.DataFrame, ends: np.ndarray, answer: Answer) -> float:
-    """What pieces earn more by the prices of the years in which they are dug."""
-    if not premiums(answer.project, 1):
-        return 0.0
-    total, start = 0.0, 0.0
-    for end, piece in zip(ends.tolist(), pieces.to_dict("records")):
-        for year, since, until in years_cut(start, end):
-            share = (until - since) / (end - start) if end > start else 1.0
-            more = sum(premium * piece[name] for name, premium in premiums(answer.project, year).items())
-            total += share * more * discount(since, until, year, answer)
-        start = end
-    return total
-
-
-def npv_of_costs(end: float, answer: Answer) -> float:
-    """Fixed costs and capital of a mine that lasts so many years."""
-    money, rate, total = answer.project.money, answer.project.schedule.rate, 0.0
-    for year in range(1, last_year(end) + 1):
-        until = min(end, float(year))
-        fixed = float(money.fixed_cost_per_year) * max(until - (year - 1), 0.0)
-        total += fixed * discount(year - 1.0, until, year, answer) + capital(answer.project, year) * (1 + rate) ** -(year - 1)
-    return total
-
-
-def plain_npv(pieces: pd.DataFrame, answer: Answer) -> float:
-    """The same at the price as given, without what years cost."""
-    schedule, last = answer.project.schedule, lasting(pieces, answer)
-    ends, cash = np.cumsum(last), pieces["cash"].to_numpy()
-    if schedule.discounting == "continuous":
-        return float(sum(amount * mean(end - years, end, schedule.rate) for amount, years, end in zip(cash, last, ends)))
-    if not len(ends):
-        return 0.0
-    moments = np.arange(1, max(math.ceil(ends[-1] - 1e-9), 1) + 1)
-    # What takes no time at the very start is the first year's too.
-    flowed = np.interp(moments, np.concatenate([[0.0], ends]), np.concatenate([[0.0], np.cumsum(cash)]))
-    when = moments - (0.5 if schedule.discounting == "mid_year" else 0.0)
-    return float((np.diff(flowed, prepend=0.0) / (1 + schedule.rate) ** when).sum())
+        return 0.0, 0.0
+    years, life = years_of(pieces.drop(columns="gross"), answer.project)
+    return float(years["discounted"].sum()), life
 
 
 def mean(start: float, end: float, rate: float) -> float:
