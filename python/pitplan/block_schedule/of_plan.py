@@ -24,7 +24,7 @@ from .whole_values import upward
 
 # A schedule may take this part of the years more that its limits ask for.
 MORE_YEARS = 0.2
-WASTE = "waste"
+WASTE, MILL = "waste", "mill"
 # How the names of sums of the table's columns begin.
 SUM = "sum_"
 # By block and destination.
@@ -36,7 +36,7 @@ class PlannedBlocks:
     """A plan's blocks that may be dug, as a problem.
 
     cells         the grid's number of each block of the problem, rising
-    destinations  where a block may go: of several processes waste, and each by its name; else one without a name
+    destinations  where a block may go: waste, and each process by its name
     limits        of a year, by the names of amounts
     flows         what each block holds of each name where it goes to a destination, and last cash at the price as given
     """
@@ -124,9 +124,7 @@ def owing(plan: Plan, flows: Flows, limits: Limits) -> NDArray[np.bool_]:
 
 
 def pays_of(plan: Plan) -> NDArray[np.bool_]:
-    """Whether a cell yields anything in each destination; of one alone, which is also waste's, always."""
-    if not plan.project.processes:
-        return np.ones((plan.grid.count, 1), dtype=bool)
+    """Whether a cell yields anything in each destination."""
     return np.stack([np.zeros(plan.grid.count, dtype=bool), *(way.revenue > 0 for way in plan.values.ways)], axis=1)
 
 
@@ -146,7 +144,8 @@ def demand_of_blocks(project: Project, rules: ScheduleRules) -> None:
 
 
 def destinations_of(project: Project) -> tuple[str, ...]:
-    return (WASTE, *(process.name for process in project.processes)) if project.processes else ("",)
+    """Waste, and the processes: of a project that names none, its mill."""
+    return (WASTE, *([process.name for process in project.processes] or [MILL]))
 
 
 def flows_of(plan: Plan) -> Flows:
@@ -158,32 +157,30 @@ def flows_of(plan: Plan) -> Flows:
 
 def sum_of(plan: Plan, asked: Sum) -> NDArray[np.float64]:
     """What each cell adds to a sum in each destination."""
-    values, processes = plan.values, [process.name for process in plan.project.processes]
+    values, (_, *processes) = plan.values, destinations_of(plan.project)
     amounts = plan.grid.spread(plan.table[asked.column].to_numpy())
     if asked.a_tonne:
         amounts = amounts * (values.tonnes if asked.of == "rock" else values.undiluted)
-    if not processes:
-        return (amounts if asked.of == "rock" else np.where(values.pays, amounts, 0.0))[:, None]
     counts = [asked.of == "rock", *(asked.of in ("rock", "ore", name) for name in processes)]
     return amounts[:, None] * np.array(counts, dtype=float)
 
 
 def of_money(plan: Plan) -> Flows:
-    """Tonnes, metals and cash."""
+    """Tonnes, metals and cash of each cell as waste, and in each process."""
     values, processes = plan.values, plan.project.processes
-    if not processes:
-        ore = values.pays
-        flows = {ROCK: values.tonnes, ORE: np.where(ore, values.feed, 0.0)}
-        flows |= {f"metal_{name}": np.where(ore, metal, 0.0) for name, metal in values.metal.items()}
-        flows[CASH] = (np.where(ore, values.revenue - values.processing, 0) - values.mining) / MILLION
-        return {name: amounts[:, None] for name, amounts in flows.items()}
-    nothing = np.zeros(plan.grid.count)
-    columns = {ROCK: [values.tonnes] * (1 + len(processes)), ORE: [nothing, *[values.feed] * len(processes)]}
+    nothing, columns = np.zeros(plan.grid.count), {ROCK: [plan.values.tonnes] * (1 + len(plan.values.ways))}
+    columns[ORE] = [nothing, *[values.feed] * len(values.ways)]
     for number, process in enumerate(processes, 1):
         columns[f"{ORE}_{process.name}"] = [values.feed if place == number else nothing for place in range(1 + len(processes))]
     columns |= {f"metal_{name}": [nothing, *(way.metal[name] for way in values.ways)] for name in values.metal}
     columns[CASH] = [-values.mining / MILLION, *((way.revenue - way.cost - values.mining) / MILLION for way in values.ways)]
     return {name: np.stack(amounts, axis=1) for name, amounts in columns.items()}
+
+
+def at_best(plan: Plan) -> dict[str, NDArray[np.float64]]:
+    """The same of each cell in the one process of a plan if it pays there at the price as given, and as waste otherwise."""
+    place = plan.values.pays.astype(np.int64)
+    return {name: amounts[np.arange(len(place)), place] for name, amounts in of_money(plan).items()}
 
 
 def cash_of(flows: Flows, money: YearlyMoney, years: int) -> NDArray[np.float64]:

@@ -38,12 +38,12 @@ class ScheduledBlocks:
         return int(year[year < self.planned.problem.years].max(initial=-1)) + 1
 
     def beside(self, blocks: pd.DataFrame) -> pd.DataFrame:
-        """Rows of blocks, by `id`, with the year of each, from 1, 0 where it is not dug; and of several processes share_NAME, the share of it
-        that goes to each."""
+        """Rows of blocks, by `id`, with the year of each, from 1, 0 where it is not mined; and share_NAME, the share of it that goes to each
+        process, share_mill where the project names none. The rest of it is waste."""
         problem, schedule = self.planned.problem, self.found.schedule
         columns = {"year": np.where(schedule.year < problem.years, schedule.year + 1, 0).astype(np.int16)}
         for number, name in enumerate(self.planned.destinations):
-            if name and number:
+            if number:
                 columns[SHARE + name] = schedule.share[:, number]
         grid, ids = self.planned.plan.grid, blocks["id"].to_numpy()
         found = {}

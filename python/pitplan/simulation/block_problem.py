@@ -14,7 +14,7 @@ import numpy as np
 from numpy.typing import NDArray
 
 from ..block_schedule import BlockProblem, Limit, Needs
-from ..block_schedule.of_plan import Flows, dues_of, limits_of_blocks, of_money, years_of
+from ..block_schedule.of_plan import Flows, at_best, dues_of, limits_of_blocks, years_of
 from ..errors import PlanError
 from ..phase_benches import CASH, ROCK
 from ..plan import MILLION, Plan
@@ -89,8 +89,8 @@ class Weights:
 
 def weights_of(plan: Plan, cells: NDArray[np.int64]) -> Weights:
     """Those of some cells of a plan with one process."""
-    flows = of_money(plan)
-    return Weights({name: amounts[cells, 0] for name, amounts in flows.items()}, plan.values.mining[cells] / MILLION)
+    flows = at_best(plan)
+    return Weights({name: amounts[cells] for name, amounts in flows.items()}, plan.values.mining[cells] / MILLION)
 
 
 def limits_of_scenarios(project: Project) -> Limits:

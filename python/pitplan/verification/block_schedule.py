@@ -89,11 +89,9 @@ def more_by_years(answer: Answer, flows: pd.DataFrame) -> np.ndarray:
 
 
 def shares_of(answer: Answer) -> Shares:
-    """The share of each block that goes to each process, by its name: what is ore to the only one, whole."""
-    names = [process.name for process in answer.project.processes]
-    if not names:
-        return [("", answer.ore.astype(float))]
-    return [(name, answer.said[SHARE + name].to_numpy()) for name in names]
+    """The share of each block that goes to each process, by its name; the mill of a project that names none has no name here."""
+    names = {process.name: process.name for process in answer.project.processes} or {"": "mill"}
+    return [(name, answer.said[SHARE + column].to_numpy()) for name, column in names.items()]
 
 
 def verify_order(answer: Answer, told: dict[str, Any]) -> Rule:
@@ -105,8 +103,7 @@ def verify_order(answer: Answer, told: dict[str, Any]) -> Rule:
     wrong = (year < 0) | (year > told["years"])
     whole = sum(share for _, share in shares_of(answer))
     wrong |= (whole > 1 + SLIGHT) | (np.minimum.reduce([share for _, share in shares_of(answer)]) < -SLIGHT)
-    if answer.project.processes:
-        wrong |= (year == 0) & (whole > SLIGHT)
+    wrong |= (year == 0) & (whole > SLIGHT)
     rows = np.flatnonzero(wrong)[:TOLD]
     differences += [f"{answer.called(row)}: year {year[row]}, of which {whole[row]:.6g} is processed" for row in rows]
     holds = "no block is dug before all of its own region's whole cone is"
