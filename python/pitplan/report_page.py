@@ -225,7 +225,8 @@ def of_way(ways: Written, shown: str, project: Project) -> list[Figure]:
     row = int(ways.frame.index[ways.frame["way"] == shown][0])
     only = ways.frame.loc[[row]]
     columns = {column[0]: column for column in (report.columns_by_block if shown == BY_BLOCK else report.columns_of_ways)(only, project)}
-    names = {"value": "Net present value", "bound": "No such schedule earns more than", "tonnes": "Rock", "ore_tonnes": "Ore"}
+    bound = "Upper bound, any schedule by block" if shown == BY_BLOCK else "Upper bound, these pushbacks and processes"
+    names = {"value": "Net present value", "bound": bound, "tonnes": "Rock", "ore_tonnes": "Ore"}
     names |= {"left_tonnes": "Rock that is left"} if "left_tonnes" in columns else {}
     found = [ways.figure(name, row, columns[column]) for column, name in names.items()]
     return [*found, *recovered(ways, row, columns, project), ways.figure("Life", row, ("years", "life, years", 1.0, 0))]

@@ -288,11 +288,13 @@ def notes(schedule: YearlySchedule) -> list[str]:
     if schedule.interrupted:
         found.append("WARNING: the run was interrupted before all ways were found: these are the best so far")
     if schedule.optimum is not None:
-        found.append(f"no schedule of up to {schedule.years} years that keeps these limits earns more than {schedule.optimum.bound:,.0f}")
+        how = "divides ore by these bins" if schedule.milling else "sends each block to its assigned process"
+        scope = f"no schedule of these pushbacks of up to {schedule.years} years that keeps these limits and {how}"
+        found.append(f"upper bound: {scope} earns more than {schedule.optimum.bound:,.0f}")
     if schedule.milp_bound is not None and MILP not in schedule.shares:
         found.append("WARNING: the integer programme found no schedule in its time")
     elif schedule.milp_bound is not None:
-        found.append(f"the integer programme had shown by its end that none earns more than {schedule.milp_bound:,.0f}")
+        found.append(f"upper bound of the integer programme, for the same schedules: {schedule.milp_bound:,.0f}")
     for way, made in schedule.milling.items():
         told = ", ".join("-" if worth is None else f"{worth:.2f}" for worth in made.cutoffs)
         found.append(f"{way} mills at once what a tonne of ore is worth in the mill from these amounts on, year by year: {told}")

@@ -160,7 +160,7 @@ def test_the_command_line_tells_value_bound_and_gap(plan_folder, capsys):
     said = capsys.readouterr()
     lines = [line.split() for line in said.out.splitlines()]
     assert lines[0][:3] == ["NPV", "bound", "below"] and lines[2][:4] == ["3,971.45", "3,971.45", "0.00", "3"]
-    assert "no schedule by block of up to 4 years that keeps these limits earns more than 3,971; this one earns 3,971, 0.00 %" in said.err
+    assert "no schedule by block of up to 4 years that keeps these limits earns more than 3,971, wherever it sends its blocks; this one earns 3,971, 0.00 %" in said.err
     assert "round 1: bound 3,971, relaxation 3,971 over" in said.err
     page = (path.parent / "plan" / "block_schedule" / "report.html").read_text()
     assert "in the ore of the pit of factor 1000</span>" in page and 'title="ways.csv row 2 column value"' in page

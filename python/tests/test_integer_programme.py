@@ -105,7 +105,7 @@ def test_it_is_written_as_a_way_of_its_own(plan_folder):
     assert told["milp_bound"] == pytest.approx(value, rel=1.1e-3) and set(pd.read_csv(folder / "years.csv")["case"]) == {"best", "worst", *told["ways"]}
     assert [rule.name for rule in verify(folder) if rule.differences] == []
     notes = files.read_record(folder)["notes"]
-    assert any("the integer programme had shown by its end" in note for note in notes)
+    assert any("upper bound of the integer programme, for the same schedules" in note for note in notes)
 
 
 @pytest.mark.usefixtures("blank_pictures")

@@ -110,7 +110,7 @@ def test_the_command_line_tells_the_ways(plan_folder, capsys):
     said = capsys.readouterr()
     lines = [line.split() for line in said.out.splitlines()]
     assert lines[0][:2] == ["way", "NPV"] and [line[:2] for line in lines[2:4]] == [["rule", "3,971.45"], ["lp", "3,971.45"]]
-    assert "the lead that earns most" in said.err and "no schedule of up to 4 years" in said.err
+    assert "the lead that earns most" in said.err and "no schedule of these pushbacks of up to 4 years that keeps these limits and sends each block to its assigned process earns more than" in said.err
     assert (path.parent / "plan" / "schedule" / "report.html").exists()
 
 

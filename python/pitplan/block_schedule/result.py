@@ -117,8 +117,8 @@ class ScheduledBlocks:
         """What a planner should know of the schedule."""
         found, years = self.found, self.planned.problem.years
         said = [
-            f"no schedule by block of up to {years} years that keeps these limits earns more than {found.bound:,.0f}; this one earns "
-            f"{found.value:,.0f}, {100 * found.gap:.2f} % less"
+            f"upper bound: no schedule by block of up to {years} years that keeps these limits earns more than {found.bound:,.0f}, wherever "
+            f"it sends its blocks; this one earns {found.value:,.0f}, {100 * found.gap:.2f} % less"
         ]
         if found.interrupted:
             said.append("WARNING: the run was interrupted before it was through: this is the best schedule so far, and the bound holds")
