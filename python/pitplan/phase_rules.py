@@ -19,7 +19,7 @@ class PhaseRules:
     count    so many phases of even tonnage
     tonnes   even phases of about so many tonnes of rock each
     factors  the factors of the phases' shells, per mille, rising
-    last     the factor of the last phase's shell, per mille; None: the project's chosen one, else 1000
+    last     the factor of the last phase's shell, per mille; None: the project's chosen one, else the one that `shells` selects
     width    metres that a phase is wide on each level at least; None: any
     bottom   metres that the pit up to a phase is wide on each level at least, its bottom with it; None: any
     mining_cost_added  of each phase what digging a tonne costs more there, in money; none: nothing

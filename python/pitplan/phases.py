@@ -21,7 +21,7 @@ from .mine import Mine
 from .phase_rules import MOST_PHASES, PhaseRules
 from .plan import Plan
 from .progress import Progress, silent
-from .project import REFERENCE_FACTOR, Project
+from .project import Project
 from .run import Solution
 
 LEAST_FACTOR = 1
@@ -69,14 +69,30 @@ def rules_of(project: Project) -> PhaseRules:
     return project.phases
 
 
-def ending(project: Project) -> Project:
-    """The project with the factors up to that of its last phase, which is the chosen one."""
+def named_last(project: Project) -> Optional[int]:
+    """The factor of the last phase's shell, per mille, where the project names one; None: the shell that `shells` selects."""
     rules = rules_of(project)
-    if rules.factors is not None:
-        last = rules.factors[-1]
-    else:
-        last = rules.last or project.schedule.chosen or REFERENCE_FACTOR
+    return rules.factors[-1] if rules.factors else rules.last or project.schedule.chosen
+
+
+def ending(project: Project) -> Project:
+    """The project with the factors up to that of its last phase, where it names that; else as it is, and `divide` selects a shell."""
+    last = named_last(project)
+    return project if last is None else ended(project, last)
+
+
+def ended(project: Project, last: int) -> Project:
     return with_factors(project, (*(factor for factor in project.schedule.factors if factor < last), last))
+
+
+def selected(plan: Plan, mine: Mine, progress: Progress) -> tuple[Plan, list[str]]:
+    """The plan with the factors up to the shell that `shells` selects, and a note of it, unless the project names the last phase's shell."""
+    if named_last(plan.project) is not None:
+        return plan, []
+    solution = mines.solve(plan, mine, progress)
+    last = analyse.chosen_factor(analyse.shells(plan, solution), plan.project.schedule)
+    note = f"the last phase ends with the shell of factor {last}, which shells selects: [pushbacks] last names another"
+    return replace(plan, project=ended(plan.project, last)), [note]
 
 
 def with_factors(project: Project, factors: tuple[int, ...]) -> Project:
@@ -84,7 +100,8 @@ def with_factors(project: Project, factors: tuple[int, ...]) -> Project:
 
 
 def divide(plan: Plan, mine: Optional[Mine] = None, progress: Progress = silent) -> Phases:
-    """Divides the pit of the plan's last factor as the project asks; the mine is that of the plan, which is else made for the time being.
+    """Divides the pit of the plan's last factor as the project asks, or of the shell that `shells` selects where the project names none; the
+    mine is that of the plan, which is else made for the time being.
 
     Raises PlanError where that pit is empty, more than a hundred phases are asked for, or there are not as many as mining costs are given,
     and ProgramError where the solver refuses.
@@ -92,6 +109,7 @@ def divide(plan: Plan, mine: Optional[Mine] = None, progress: Progress = silent)
     if mine is None:
         with mines.temporary(plan) as made:
             return divide(plan, made, progress)
+    plan, notes = selected(plan, mine, progress)
     rules, last = rules_of(plan.project), plan.project.schedule.factors[-1]
 
     def solved(factors: tuple[int, ...]) -> tuple[Plan, Solution]:
@@ -103,10 +121,11 @@ def divide(plan: Plan, mine: Optional[Mine] = None, progress: Progress = silent)
         return dict(zip(factors, analyse.within(part, solution.entry[: plan.grid.count], plan.values.tonnes).tolist()))
 
     if rules.factors is not None:
-        tonnes, notes = tonnes_at(rules.factors), []
+        tonnes, gaps = tonnes_at(rules.factors), []
     else:
-        tonnes, notes = even_shells(rules, last, tonnes_at, plan.project)
+        tonnes, gaps = even_shells(rules, last, tonnes_at, plan.project)
     factors, more = not_empty(tonnes, plan.project)
+    notes += gaps
     more += notes_of_added(rules, factors, plan.project)
     part, solution = solved(factors)
     entry = solution.entry[: plan.grid.count]
@@ -212,8 +231,9 @@ def table(phases: Phases) -> pd.DataFrame:
 
     phase from 1; factor, per mille, of the shell that ends it; blocks (with rock); tonnes, ore_tonnes, waste_tonnes; strip_ratio;
     grade_NAME of the ore in its column's unit, metal_NAME recovered of it (tonnes, or grams); worth in money; mining_cost_added, where
-    phases have mining costs of their own, which are not in the worth; cost_of_width, the shell's worth less that of the phases up to this
-    one; pieces that do not touch by a side; least_width in metres.
+    phases have mining costs of their own, which are not in the worth; deferred_value, what the shell that ends a phase is worth more than
+    the phases up to it, since blocks come in a later phase for the sake of width; cost_of_width, the same of the last phase, where it is lost;
+    pieces that do not touch by a side; least_width in metres.
     """
     plan, cells = phases.plan, analyse.cells_of(phases.plan, phases.solution)
     ore = np.where(cells.ore, phases.phase, 0)
@@ -234,7 +254,9 @@ def table(phases: Phases) -> pd.DataFrame:
     columns["worth"] = added(phases.phase, cells.worth, phases)
     if rules_of(plan.project).mining_cost_added:
         columns["mining_cost_added"] = added(phases.phase, phases.mining_cost_added, phases)
-    columns["cost_of_width"] = analyse.within(plan, cells.factor, cells.worth) - np.cumsum(columns["worth"])
+    lacking = analyse.within(plan, cells.factor, cells.worth) - np.cumsum(columns["worth"])
+    is_last = columns["phase"] == len(phases.factors)
+    columns["deferred_value"], columns["cost_of_width"] = np.where(is_last, 0.0, lacking), np.where(is_last, lacking, 0.0)
     return pd.DataFrame(columns | shapes(phases))
 
 

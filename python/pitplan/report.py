@@ -59,7 +59,8 @@ def columns_of_phases(table: pd.DataFrame, project: Project) -> Columns:
         *columns_of_rock(table, project),
         ("worth", f"worth, {currency}", money, 1),
         *([("mining_cost_added", f"mining cost of phases, {currency}", money, 2)] if "mining_cost_added" in table else []),
-        ("cost_of_width", f"cost of width, {currency}", money, 2),
+        ("deferred_value", f"value deferred by width, {currency}", money, 2),
+        ("cost_of_width", f"value lost to width, {currency}", money, 2),
         ("pieces", "pieces", 1.0, 0),
         ("least_width", "least width, m", 1.0, 0),
     ]

@@ -31,6 +31,8 @@ def square(west, south, side):
 
 
 def pushed(plan_folder, table, words, text=PROJECT):
+    """The phases, of the pit of factor 1000 unless the words name another, with each block's phase and the notes of widths."""
+    words += "" if "last" in words or "factors" in words else "\nlast = 1000"
     project = load(plan_folder(table, with_phases(words, text)))
     found = pitplan.pushbacks(project).set_index("phase")
     notes = [note for note in files.read_record(project.folder / "pushbacks")["notes"] if "blocks are dug" in note or "too small" in note]
@@ -80,7 +82,7 @@ def test_a_notch_between_two_phases_goes_to_the_first_with_its_cone(plan_folder)
     found, phase, notes = pushed(plan_folder, table, "factors = [400, 1500]\nwidth = 20")
     assert found["blocks"].tolist() == [30, 16] and phase["b5-3-0"] == phase["b6-3-1"] == 1
     # The ore of 0.6 % yields 2400 - 1000 - 200, and the block above it costs 200.
-    assert found["cost_of_width"].tolist() == [-(1200 - 200), 0]
+    assert found["deferred_value"].tolist() == [-(1200 - 200), 0] and found["cost_of_width"].tolist() == [0, 0]
     assert "2 earlier (200 t), 0 later" in notes[0]
 
 
@@ -89,9 +91,11 @@ def test_the_pit_before_shrinks_where_a_phase_is_too_thin(plan_folder):
     rich = square(2, 2, 4)
     table = rows(10, 10, 1, cu=lambda i, j, k: RICH if (i, j) in rich else 0.6 if (i, j) in square(1, 1, 6) else 0)
     found, phase, notes = pushed(plan_folder, table, "factors = [400, 1000]\nwidth = 20")
+    # Nothing is lost: the 12 blocks of 6800 come in phase 2.
+    assert found["cost_of_width"].tolist() == [0, 0]
     assert found["blocks"].tolist() == [4, 32] and found["least_width"].tolist() == [20, 20]
     assert {name for name, number in phase.items() if number == 1} == {f"b{i}-{j}-0" for i, j in square(3, 3, 2)}
-    assert found["cost_of_width"].tolist() == [12 * 6800, 0] and "0 earlier (0 t), 12 later (1,200 t)" in notes[0]
+    assert found["deferred_value"].tolist() == [12 * 6800, 0] and "0 earlier (0 t), 12 later (1,200 t)" in notes[0]
 
 
 def test_a_phase_that_hardly_keeps_anything_is_told(plan_folder):
@@ -225,7 +229,7 @@ def copied(divided, tmp_path):
     return shutil.copytree(divided, tmp_path / "mine") / "plan" / "pushbacks"
 
 
-@pytest.mark.parametrize(("column", "rule"), [("pieces", "phase widths"), ("least_width", "phase widths"), ("cost_of_width", "phases")])
+@pytest.mark.parametrize(("column", "rule"), [("pieces", "phase widths"), ("least_width", "phase widths"), ("cost_of_width", "phases"), ("deferred_value", "phases")])
 @pytest.mark.parametrize("more", [-10, 10, 0.4])
 def test_each_shape_that_is_bent_is_found(copied, column, rule, more):
     assert wrong(copied) == {}

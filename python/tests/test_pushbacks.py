@@ -122,6 +122,23 @@ def test_rows_without_rock_join_no_pieces(plan_folder):
     assert wrong(project.folder / "pushbacks") == {}
 
 
+def test_the_last_phase_ends_with_the_shell_that_is_selected(plan_folder):
+    """At factor 1000 the third pillar yields 1420 - 1000 - 2 x 200 = 20: 220 a year after its waste costs 200 at a rate of 10 %. So the mean
+    of best and worst case falls, and shells selects the two pillars of a lesser factor."""
+    table = rows(3, 1, 2, cu=lambda i, j, k: 0 if k else [1, 0.7, 0.355][i])
+    path = plan_folder(table, with_phases("count = 2", UPRIGHT.replace("[500, 1000, 1500]", "[500, 800, 1000, 1500]")))
+    commands.write_shells(path)
+    selected = files.read_record(path.parent / "plan")["shells"]["chosen"]
+    assert selected == 800
+    assert pitplan.pushbacks(path)["factor"].tolist() == [500, 800]
+    record = files.read_record(path.parent / "plan" / "pushbacks")
+    assert record["shells"]["chosen"] == 800
+    assert "the last phase ends with the shell of factor 800, which shells selects: [pushbacks] last names another" in record["notes"]
+    # The project may name another, by the phases' key or the shells'.
+    for change in (with_phases("count = 3\nlast = 1000"), with_phases("count = 3").replace("rate = 0.1", "rate = 0.1\nchosen = 1000")):
+        assert pitplan.pushbacks(plan_folder(table, change))["factor"].iloc[-1] == 1000
+
+
 def test_an_empty_pit_is_refused(plan_folder, capsys):
     path = plan_folder(pillars(), with_phases("count = 2\nlast = 300"))
     assert main(["pushbacks", str(path), "--quiet"]) == 1

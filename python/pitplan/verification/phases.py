@@ -79,8 +79,10 @@ def verify_sums(answer: Answer) -> Rule:
     for number, said in answer.phases.iterrows():
         mine, up_to = phase == number, (phase > 0) & (phase <= number)
         lost = answer.worths[sums.within(answer, int(said["factor"]))].sum() - answer.worths[up_to].sum()
-        if not np.isclose(said["cost_of_width"], lost, rtol=1e-9, atol=CENT):
-            differences.append(f"phase {number}: cost_of_width {said['cost_of_width']:.10g} for {lost:.10g}")
+        later = {"deferred_value": 0.0, "cost_of_width": lost} if number == answer.phases.index[-1] else {"deferred_value": lost, "cost_of_width": 0.0}
+        for name, amount in later.items():
+            if not np.isclose(said[name], amount, rtol=1e-9, atol=CENT):
+                differences.append(f"phase {number}: {name} {said[name]:.10g} for {amount:.10g}")
         if answer.project.phases and answer.project.phases.mining_cost_added:
             added, told = float((answer.worths - answer.earned)[mine].sum()), said.get("mining_cost_added", np.nan)
             if not abs(told - added) <= 1e-9 * abs(added) + CENT:
