@@ -1,5 +1,5 @@
-"""Blocks that must be dug and blocks that may not be, as planners know them: by columns of the table, by the surface as mined, and
-by areas on the map. Cells without rock are never among them.
+"""Blocks that must be dug and blocks that may not be, as planners know them: by columns of the table, by the as-mined surface, and
+by areas on the map. Cells without rock are never among them, except those that are mined out.
 
 All that a block needs which must be dug is dug with it, and all that needs a block which may not be dug is left with it. What is
 neither is the rest, and the best pit that keeps to the fixed blocks is the rest's own pit with what must be dug."""
@@ -13,13 +13,11 @@ from typing import Optional
 import numpy as np
 import pandas as pd
 
-from . import survey_files, terrain, text
+from . import as_mined, survey_files, terrain, text
 from .errors import PlanError
 from .fixed_rules import Area
 from .grid import Grid
 from .project import Project
-from .survey_files import Topography
-from .survey_rules import SurveyFile
 from .table import called
 from .trim import used_blocks, users_of
 from .walls import Walls
@@ -78,10 +76,7 @@ def of_table(frame: pd.DataFrame, grid: Grid, project: Project, source: str = "t
     rock = frame[project.table.tonnes].to_numpy() > 0
     forced, barred = marked(frame, rules.forced) & rock, marked(frame, rules.barred) & rock
     notes = []
-    if rules.surface is not None:
-        surface, told = read_surface(grid, rules.surface)
-        forced |= (grid.centres(grid.rows)[2] > surface.height[grid.rows % grid.per_level]) & rock
-        notes += told
+    forced |= as_mined.is_mined(frame)
     for area in rules.areas:
         inside, told = in_area(grid, area)
         barred |= inside & rock
@@ -96,50 +91,6 @@ def of_table(frame: pd.DataFrame, grid: Grid, project: Project, source: str = "t
 def marked(frame: pd.DataFrame, column: Optional[str]) -> np.ndarray:
     """Which rows have a number above 0 in a column."""
     return np.zeros(len(frame), dtype=bool) if column is None else frame[column].to_numpy() > 0
-
-
-@dataclass(frozen=True)
-class Surface:
-    """The ground as mined over each column of blocks: its height in metres, infinite where nothing is known of it; and whether the
-    height was told by points round the column, since none lies over it."""
-
-    height: np.ndarray
-    between: np.ndarray
-
-    def notes(self, file: Path, grid: Grid) -> list[str]:
-        """How many columns of the table's blocks have no point over them."""
-        over = np.unique(grid.rows % grid.per_level)
-        between, unknown = np.count_nonzero(self.between[over]), np.count_nonzero(np.isinf(self.height[over]))
-        found = [f"{file}: over {between:,} columns of blocks the surface was laid between the points round them"] if between else []
-        if unknown:
-            found.append(f"WARNING: {file}: {unknown:,} columns of blocks lie beyond all points and are taken as not mined")
-        return found
-
-
-def read_surface(grid: Grid, file: SurveyFile) -> tuple[Surface, list[str]]:
-    """The ground as mined, and notes. Raises PlanError where the file is not usable, or tells of no column of blocks."""
-    topography = survey_files.topography(file, terrain.box_of(grid))
-    surface = surface_of(grid, topography)
-    if np.isinf(surface.height[grid.rows % grid.per_level]).all():
-        raise PlanError(f"{file.path}: lies over no block: {terrain.beside(topography.points, grid)}")
-    return surface, [*topography.notes, *surface.notes(file.path, grid)]
-
-
-def surface_of(grid: Grid, topography: Topography) -> Surface:
-    """Of a topography of triangles the surface over a column of blocks is theirs at its middle. Of one of points it is the mean of those
-    that lie over the column, and where there is none that of the triangles between them."""
-    at_middle = terrain.heights(terrain.triangles_of(topography), grid)
-    if len(topography.faces):
-        return Surface(at_middle, np.zeros(grid.per_level, dtype=bool))
-    points = topography.points
-    _, rows, columns = grid.shape
-    column, row = (np.floor(steps + 0.5).astype(int) for steps in grid.steps(points[:, 0], points[:, 1]))
-    inside = (column >= 0) & (column < columns) & (row >= 0) & (row < rows)
-    place = row[inside] * columns + column[inside]
-    count = np.bincount(place, minlength=rows * columns)
-    total = np.bincount(place, weights=points[inside, 2], minlength=rows * columns)
-    height = np.where(count > 0, total / np.maximum(count, 1), at_middle)
-    return Surface(height, (count == 0) & np.isfinite(height))
 
 
 def in_area(grid: Grid, area: Area) -> tuple[np.ndarray, list[str]]:

@@ -25,7 +25,8 @@ class FixedRules:
 
     forced   a column of the table: blocks with a number above 0 must be dug
     barred   a column of the table: blocks with a number above 0 may not be dug
-    surface  heights of the ground as mined: the rock above it must be dug
+    surface  heights of the as-mined surface: blocks have the tonnes below it, and those that are mined must be dug
+    topography  heights of the original ground, by which the table's tonnes are cut already; None: [table] topography, or the blocks' tops
     areas    what may not be dug on the map
     """
 
@@ -33,6 +34,7 @@ class FixedRules:
     barred: Optional[str]
     surface: Optional[SurveyFile]
     areas: tuple[Area, ...]
+    topography: Optional[SurveyFile] = None
 
 
 def read_fixed(section: Section, folder: Path) -> FixedRules:
@@ -41,7 +43,10 @@ def read_fixed(section: Section, folder: Path) -> FixedRules:
         barred=section.optional_text("barred"),
         surface=read_survey(section, "surface", folder) if section.has("surface") else None,
         areas=tuple(read_area(area, folder) for area in section.sections("areas")) if section.has("areas") else (),
+        topography=read_survey(section, "topography", folder) if section.has("topography") else None,
     )
+    if rules.topography and not rules.surface:
+        raise section.wrong("topography", "is the original ground of an as-mined surface: give surface too")
     section.finish()
     return rules
 

@@ -10,7 +10,7 @@ from typing import Any, Optional, Union
 import numpy as np
 import pandas as pd
 
-from . import absent, files, fixed as fixing, grid as grids, haulage, money, reach, reblock, summary as summaries, table as tables
+from . import absent, as_mined, files, fixed as fixing, grid as grids, haulage, money, reach, reblock, summary as summaries, table as tables
 from . import topography, trim, walls as laying, yearly_money
 from .errors import PlanError
 from .files import MOST_PAIRS, Needs, Pairs
@@ -89,7 +89,7 @@ class Plan:
         processes those of the best at the price as given and those of each; with `[haulage]` the road in metres, and what of the costs it
         is."""
         ids = self.grid.rows
-        frame = self.table.rename(columns=shown_name)
+        frame = self.table.drop(columns=as_mined.MINED_SHARE, errors="ignore").rename(columns=shown_name)
         frame.insert(0, "id", ids)
         for name in ("mining", "revenue", "processing"):
             frame[name if name == "revenue" else f"{name}_cost"] = getattr(self.values, name)[ids] / MILLION
@@ -236,6 +236,8 @@ def prepare(
     if project.table.topography:
         with progress.step(f"cutting blocks by {project.table.topography.path}"):
             frame, cut = topography.cut(frame, grid, project, project.table.topography)
+    frame, told = as_mined.depleted(frame, grid, project)
+    cut += told
     with progress.step("laying the walls"):
         region = laying.regions_of(frame, grid, project.table.region)
         walls = laying.walls_of(region, grid, project.slopes)

@@ -158,9 +158,14 @@ class Project:
     def inputs(self) -> tuple[Path, ...]:
         """The project's own file, and those that a plan is made of: its table, a topography, a surface as mined, and areas."""
         rules = self.fixed
-        surfaces = (self.table.topography, rules.surface if rules else None)
+        surfaces = (self.table.topography, *((rules.topography, rules.surface) if rules else ()))
         areas = () if rules is None else (area.polygon for area in rules.areas)
         return (self.path, self.table.file, *(path for file in (*surfaces, *areas) if file for path in file.parts))
+
+    @property
+    def cuts_blocks(self) -> bool:
+        """Whether blocks have less than the table's tonnes, by a topography or an as-mined surface."""
+        return bool(self.table.topography or self.fixed and self.fixed.surface)
 
     def of_process(self, process: Process) -> Project:
         metals = tuple(replace(metal, recovery=process.recovery.get(metal.name, Decimal(0))) for metal in self.metals)
@@ -241,6 +246,10 @@ def demand_agreement(project: Project) -> None:
         raise PlanError(f"{path}: [table] reblock: is not done of [scenarios]: give a table that is reblocked")
     if project.table.topography and project.scenarios:
         raise PlanError(f"{path}: [table] topography: is not taken by [scenarios]: give a table of blocks that are cut")
+    if project.fixed and project.fixed.surface and project.scenarios:
+        raise PlanError(f"{path}: [fixed] surface: is not taken by [scenarios]: give a table of what remains, and forced")
+    if project.fixed and project.fixed.topography and project.table.topography:
+        raise PlanError(f"{path}: [fixed] topography: [table] topography is the original ground already: leave one of them out")
     demand_processes_agree(project)
     names = [metal.name for metal in project.metals]
     if len(set(names)) < len(names):

@@ -47,7 +47,7 @@ def cut(frame: pd.DataFrame, grid: Grid, project: Project, file: SurveyFile) -> 
     return frame.assign(**{project.table.tonnes: after}), notes
 
 
-@lru_cache(maxsize=1)
+@lru_cache(maxsize=2)
 def surveyed(file: SurveyFile, state: tuple[tuple[int, int], ...], box: Box) -> tuple[Topography, Below]:
     """A topography and what of the cells of a box lies below it; once for all plans of a run, since a sensitivity makes many. Raises as
     `cut`."""

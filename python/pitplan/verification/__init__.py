@@ -12,8 +12,10 @@ whether the answer does:
 - no shell leaves a block standing, or ground of which nothing is known, in the whole cone above a block that it digs, by that block's
   own region and over as many levels as its needs reach; where the project leaves the levels open, no wall comes out more than half a
   degree steeper than asked;
-- what must be dug is in every shell and what may not be is in none; the surface as mined over a column without points is there a
-  triangle of three points whose circle holds no other, and where several may be laid, as on a regular grid of points, the highest;
+- where an as-mined surface cuts blocks, their tonnes are those below it and below the original ground, in as many columns; without an
+  original ground by the centres of blocks, and over a column without points the surface is there a triangle of three points whose circle
+  holds no other, and where several may be laid, as on a regular grid of points, the highest;
+- what must be dug is in every shell and what may not be is in none;
 - each cost and each revenue is the product of the table's and the project's numbers: by floats for all blocks, and exactly, by
   decimals, for those at the edge of a shell and 10,000 others; with haulage each road is right to a millimetre, by geometry;
 - the table of shells adds up, and the program's worth of each shell is that of its blocks to the last digit that blocks.csv holds;
@@ -37,8 +39,8 @@ import pandas as pd
 
 from ..errors import PlanError
 from ..project import Project
-from . import absent, answer as answers, block_scenarios, block_schedule, fixed, haulage, money, phases, planned_table, reach, reblocked
-from . import scenarios, schedule, sensitivity, sums, topography, walls, years
+from . import absent, answer as answers, block_scenarios, block_schedule, depletion, fixed, haulage, money, phases, planned_table, reach, reblocked
+from . import scenarios, schedule, sensitivity, sums, walls, years
 from .answer import TOLD, Answer, Rule, rule
 
 OF_PITS = (walls.verify, sums.verify, sums.verify_worth, years.verify)
@@ -53,7 +55,7 @@ def verify(folder: Path, project: Optional[Project] = None, table: Optional[pd.D
     """
     answer = answers.read(folder, project, table)
     more = [reblocked.verify(answer)] if answer.parts is not None else []
-    more += [topography.verify(answer)] if answer.project.table.topography else []
+    more += depletion.verify_cuts(answer)
     more += [reach.verify(answer)] if answer.beyond is not None else []
     more += [haulage.verify(answer, money.sample(answer))] if answer.project.haulage else []
     more += [verify_free(answer, answer.free)] if answer.free else []

@@ -25,11 +25,11 @@ def verify(answer: Answer) -> Rule:
 
 
 def words(answer: Answer, rock: AbsentRock) -> dict[str, str | float]:
-    """What each column says of such a block: its tonnes, unless a topography cuts them, and codes, and 0 in every other but for its centre
+    """What each column says of such a block: its tonnes, unless a surface cuts them, and codes, and 0 in every other but for its centre
     and its id."""
     columns = answer.project.table
     told = {columns.tonnes: rock.tonnes, columns.rock: rock.rock, columns.region: rock.region}
-    passed = {columns.x, columns.y, columns.z, columns.id, *([columns.tonnes, UNCUT] if columns.topography else [])}
+    passed = {columns.x, columns.y, columns.z, columns.id, *([columns.tonnes, UNCUT] if answer.project.cuts_blocks else [])}
     return {name: told.get(name, 0.0) for name in answer.rows.columns if name not in passed}
 
 

@@ -35,7 +35,7 @@ HAULED = ("road", "haulage_cost", "ore_haulage_cost")
 FREE = ("free_factor", "free_process_factor")
 # Those that `pitplan pushbacks` and `pitplan schedule` write besides.
 PHASE, YEAR = "phase", "year"
-# With a topography what is read of a block's tonnes, of which the answer has those below it.
+# Where a surface cuts blocks what is read of a block's tonnes, of which the answer has those below it.
 UNCUT = "tonnes before the cut"
 # Of a schedule by block the share of each block that goes to each of several processes.
 SHARE = "share_"
@@ -307,7 +307,7 @@ def rows_of(project: Project, written: pd.DataFrame, grid: dict[str, Any], table
     found = written_rows(inside, own.loc[:, ~own.columns.duplicated(keep="last")], project, grid)
     # What is cut is what was put together.
     tonnes = project.table.tonnes
-    return found if project.table.topography is None else found.assign(**{tonnes: inside[tonnes].to_numpy().round(6)}), frame, beyond
+    return found if not project.cuts_blocks else found.assign(**{tonnes: inside[tonnes].to_numpy().round(6)}), frame, beyond
 
 
 def read_pits(folder: Path, record: dict[str, Any], project: Project, written: pd.DataFrame, table: TableRows) -> Answer:
@@ -333,7 +333,7 @@ def read_blocks(path: Path, project: Project, said: Optional[tuple[str, ...]] = 
     columns = project.table
     codes = {own_name(name): str for name in (columns.id, columns.rock, columns.region) if name}
     wanted = {*(said or ()), *(own_name(name) for name in (columns.x, columns.y, columns.z))}
-    is_whole = said is None or isinstance(columns.absent, AbsentRock) or bool(columns.reblock or columns.topography)
+    is_whole = said is None or isinstance(columns.absent, AbsentRock) or bool(columns.reblock or project.cuts_blocks)
     usecols = None if is_whole else wanted.__contains__
     found = pd.read_csv(path, dtype=codes, keep_default_na=False, na_values={}, float_precision="round_trip", usecols=usecols)
     demand_numbers(found, path.name, [*codes, PROCESS])
@@ -355,7 +355,7 @@ def beside(
     table: pd.DataFrame, written: pd.DataFrame, project: Project, grid: dict[str, Any], source: str
 ) -> tuple[pd.DataFrame, int, np.ndarray]:
     """The table's rows, with the answer's own behind them, which are of cells without a row; how many are the table's; and for each the
-    row of the answer. With a topography tonnes are the answer's, and UNCUT those of the table.
+    row of the answer. Where a surface cuts blocks tonnes are the answer's, and UNCUT those of the table.
 
     Raises PlanError, with `source`, the answer's file, where a block of either is not in the other.
     """
@@ -376,7 +376,7 @@ def beside(
         own = written.rename(columns={own_name(name): name for name in table.columns})
         own = own.loc[:, ~own.columns.duplicated(keep="last")]
         rows = pd.concat([table, own.iloc[more].reindex(columns=table.columns, fill_value=0.0)], ignore_index=True)
-    if columns.topography is not None:
+    if project.cuts_blocks:
         uncut = np.concatenate([table[columns.tonnes], np.full(len(more), getattr(columns.absent, "tonnes", 0.0))])
         rows = rows.assign(**{UNCUT: uncut, columns.tonnes: written[own_name(columns.tonnes)].to_numpy()[order]})
     return rows, known, order

@@ -6,7 +6,7 @@ import numpy as np
 from matplotlib.path import Path as Outline
 
 from ..fixed_rules import FixedRules
-from . import own_columns, surface, survey
+from . import depletion, own_columns, survey
 from .answer import TOLD, Answer, Rule, rule
 
 # Metres: of a centre that lies at the edge of an area to within so much nothing is demanded.
@@ -23,7 +23,7 @@ def verify(answer: Answer) -> Rule:
     dug = np.flatnonzero(never & (first > 0))
     differences = [f"{answer.called(row)} must be dug, and is so from factor {first[row]} on" for row in left[:TOLD]]
     differences += [f"{answer.called(row)} may not be dug, and is so from factor {first[row]} on" for row in dug[:TOLD]]
-    ground = ", with the rock above the surface as mined," if rules.surface else ""
+    ground = ", with the blocks that are mined," if rules.surface else ""
     holds = f"what must be dug{ground} is in every shell, and what may not be is in none"
     return rule("fixed", holds, differences, len(left) + len(dug))
 
@@ -32,12 +32,12 @@ def demanded(answer: Answer, rules: FixedRules) -> tuple[np.ndarray, np.ndarray]
     """Which blocks of rock must be dug, and which may not be; the same for all answers to one project and table."""
     if "fixed" not in answer.found:
         rock = answer.tonnes > 0
-        must, never = marked(answer, rules.forced), marked(answer, rules.barred)
+        must, never = marked(answer, rules.forced) & rock, marked(answer, rules.barred)
         if rules.surface is not None:
-            must = must | surface.above(answer, rules.surface)
+            must = must | depletion.surely_mined(answer, rules)
         for area in rules.areas:
             never = never | within(answer, survey.polygons(area.polygon), area.barred == "inside")
-        answer.found["fixed"] = must & rock, never & rock
+        answer.found["fixed"] = must, never & rock
     return answer.found["fixed"]
 
 

@@ -26,8 +26,8 @@ def verify(answer: Answer) -> Rule:
     columns, count = answer.project.table, len(differences)
     if len(expected) != answer.known:
         return rule("reblocked", "rows are put together", [f"{answer.known:,} blocks for {len(expected):,}"])
-    # What a topography leaves of tonnes is looked at by itself.
-    passed = (columns.x, columns.y, columns.z, *([columns.tonnes] if columns.topography else []))
+    # What a surface leaves of tonnes is looked at by itself.
+    passed = (columns.x, columns.y, columns.z, *([columns.tonnes] if answer.project.cuts_blocks else []))
     for name in [name for name in expected if name not in passed]:
         column = said[name].iloc[: answer.known].to_numpy()
         slack = TONNES if name == columns.tonnes else GRADE

@@ -18,7 +18,7 @@ import pandas as pd
 
 from ..errors import PlanError
 from ..project import Project, load, of_data
-from . import absent, fixed, haulage, money, sums, topography, walls, years
+from . import absent, depletion, fixed, haulage, money, sums, walls, years
 from .answer import TOLD, Answer, Rule, beside, own_columns, read_blocks, rows_of, rule, said_of
 from .weighing import gains, weighed
 from .written import read_table
@@ -102,7 +102,7 @@ class Told:
                 for name, it in self.of_case(case, self.rows.iloc[[number]]).items():
                     found[name].append(replace(it, differences=tuple(f"{case.label}: {said}" for said in it.differences)))
         of_ground = [fixed.verify_places(self.ground), absent.verify(self.ground), self.as_given(), listed, self.outside_skin()]
-        of_ground += [topography.verify(self.ground)] if self.ground.project.table.topography else []
+        of_ground += depletion.verify_cuts(self.ground)
         count = f"in {len(self.cases):,} cases: "
         return [*of_ground, *(joined(name, count + holds, found[name]) for name, holds in OF_EACH.items())]
 

@@ -1,0 +1,79 @@
+"""Blocks that an as-mined surface cuts, recomputed: their tonnes lie below the original ground and below the surface, and those that are
+mined must be dug. By volumes where the original ground is known, otherwise by centres."""
+
+from __future__ import annotations
+
+from typing import Optional
+
+import numpy as np
+
+from ..fixed_rules import FixedRules
+from ..survey_rules import SurveyFile
+from . import surface, topography
+from .answer import UNCUT, Answer, Rule, rule
+from .topography import ACROSS, EXACTLY, GRAM, HAIR, MANY, MISSED, Ground, some, told
+
+# From this share of its volume on a block counts as mined.
+MINED = 0.05
+
+
+def original_of(answer: Answer) -> Optional[SurveyFile]:
+    rules = answer.project.fixed
+    return answer.project.table.topography or (rules.topography if rules else None)
+
+
+def verify_cuts(answer: Answer) -> list[Rule]:
+    """What an as-mined surface, or otherwise a topography, leaves of blocks; nothing if the project has neither."""
+    if answer.project.fixed and answer.project.fixed.surface:
+        return [verify(answer)]
+    return [topography.verify(answer)] if answer.project.table.topography else []
+
+
+def verify(answer: Answer) -> Rule:
+    """Tonnes of the blocks of the columns that are looked at are those that remain."""
+    original, rules = original_of(answer), answer.project.fixed
+    assert rules is not None and rules.surface is not None
+    if original is None:
+        return verify_by_centres(answer, rules.surface)
+    before, after = answer.rows[UNCUT].to_numpy(), answer.tonnes
+    differences = told(answer, (after < 0) | (after > before + GRAM), before)
+    for exactly, missed in ((False, MISSED), (True, HAIR)):
+        whole, left = shares(answer, original, rules.surface, exactly)
+        # Tonnes of the table are whole blocks', or those below the original ground.
+        due, of = before * left, 1.0 if answer.project.table.topography else whole
+        differences += told(answer, np.abs(after * of - due) > 2 * GRAM + missed * before, due)
+    where = f"in {EXACTLY:,} columns of blocks at most exactly, in {MANY:,} at most by {ACROSS**2} heights to a tenth"
+    return rule("as mined", f"tonnes lie below the original ground and the as-mined surface, {where}", differences)
+
+
+def verify_by_centres(answer: Answer, file: SurveyFile) -> Rule:
+    """A block above the surface has no tonnes, and every other has the table's or none."""
+    before, after = answer.rows[UNCUT].to_numpy(), answer.tonnes
+    wrong = (surface.above(answer, file) & (after != 0)) | ((after != 0) & (np.abs(after - before) > GRAM))
+    differences = told(answer, wrong, np.where(surface.above(answer, file), 0.0, before))
+    return rule("as mined", "blocks with their centres above the as-mined surface have no tonnes, and others the table's", differences)
+
+
+def shares(answer: Answer, original: SurveyFile, mined: SurveyFile, exactly: bool) -> tuple[np.ndarray, np.ndarray]:
+    """By row the share of the block below the original ground, and below the as-mined surface too; not a number in columns that are not
+    looked at."""
+    level, row, column = answer.cells
+    places, place = np.unique(np.stack([row, column], axis=1), axis=0, return_inverse=True)
+    numbers = some(len(places), EXACTLY if exactly else MANY)
+    at = np.full(len(places), -1)
+    at[numbers] = np.arange(len(numbers))
+    grounds = (Ground.of(answer, file) for file in (original, mined))
+    whole, below = (ground.exactly(places[numbers]) if exactly else ground.quickly(places[numbers]) for ground in grounds)
+    up = answer.shape[0] - 1 - level
+    whole, left = (np.where(at[place] >= 0, share[at[place], up], np.nan) for share in (whole, np.minimum(whole, below)))
+    return whole, left
+
+
+def surely_mined(answer: Answer, rules: FixedRules) -> np.ndarray:
+    """A truth for each row: whether so much of the block is mined that it must be dug, however roughly its volumes are taken."""
+    assert rules.surface is not None
+    original, rock = original_of(answer), answer.rows[UNCUT].to_numpy() > 0
+    if original is None:
+        return np.asarray(surface.above(answer, rules.surface) & rock)
+    whole, left = shares(answer, original, rules.surface, exactly=False)
+    return np.asarray((np.nan_to_num(whole - left) > MINED + MISSED) & rock)
