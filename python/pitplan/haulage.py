@@ -32,8 +32,8 @@ class Roads:
 
     @staticmethod
     def of(grid: Grid, rules: Haulage) -> Roads:
-        flat, ramp = flat_lengths(grid, rules), ramp_lengths(grid, rules)
-        return Roads(Exact(flat[grid.rows % grid.per_level] + ramp[grid.rows // grid.per_level], LENGTH_PLACES), rules)
+        metres = flat_lengths(grid, rules)[grid.rows % grid.per_level] + ramp_lengths(grid, rules)[grid.rows // grid.per_level]
+        return Roads(Exact(np.rint(metres * 10**LENGTH_PLACES).astype(np.int64), LENGTH_PLACES), rules)
 
     @property
     def waste(self) -> Exact:
@@ -61,14 +61,13 @@ class Hauled:
 
 
 def flat_lengths(grid: Grid, rules: Haulage) -> np.ndarray:
-    """Whole millimetres in plan from the exit to the centre of each column of blocks; int64, shape (rows x columns,)."""
+    """Metres in plan from the exit to the centre of each column of blocks, shape (rows x columns,)."""
     x, y, _ = grid.centres(np.arange(grid.per_level))
-    away = np.hypot(x - float(rules.exit[0]), y - float(rules.exit[1]))
-    return np.rint(away * 10**LENGTH_PLACES).astype(np.int64)
+    return np.hypot(x - float(rules.exit[0]), y - float(rules.exit[1]))
 
 
 def ramp_lengths(grid: Grid, rules: Haulage) -> np.ndarray:
-    """Whole millimetres in plan of the ramp from each level's floor to the exit's elevation; int64, from the top."""
+    """Metres in plan of the ramp from each level's floor to the exit's elevation, from the top."""
     floors = Exact.of_floats((grid.elevations() - grid.size[2] / 2).round(ELEVATION_PLACES))
     rise = floors.minus(Exact.of(rules.exit[2], len(floors.whole))).floats()
-    return np.rint(np.abs(rise) / float(rules.gradient) * 10**LENGTH_PLACES).astype(np.int64)
+    return np.asarray(np.abs(rise) / float(rules.gradient))

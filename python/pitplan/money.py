@@ -365,9 +365,10 @@ def first_level(project: Project, grid: Grid, pays: np.ndarray, needed: Optional
 
 
 def added_cost(money: Money, elevation: float) -> Decimal:
-    """What mining a tonne costs more at an elevation: linear between two that are named, kept to a millionth, and the same beyond them."""
+    """What mining a tonne costs more at an elevation, to a micrometre: linear between two that are named, kept to a millionth, and the same
+    beyond them."""
     pairs = money.mining_cost_by_elevation
-    at = Decimal(repr(elevation))
+    at = Decimal(repr(round(float(elevation), 6)))
     if at <= pairs[0][0]:
         return pairs[0][1]
     for (low, cost), (high, then) in zip(pairs, pairs[1:]):

@@ -33,6 +33,17 @@ def recovery(rng):
     return pick(rng, "0.83", curve, "{ R = 0.87, S = 0.61 }", f"{{ R = {curve}, S = 0.61 }}")
 
 
+def by_elevation(rng):
+    """Costs whose interpolation at the levels' centres, 5, 15 .. m, ends in a half of a millionth now and then."""
+    return f"mining_cost_by_elevation = [[{rng.integers(-9, 9)}, {rng.integers(1, 99) / 100}], [{50 + rng.integers(0, 30)}, 0]]\n"
+
+
+def haulage(rng):
+    """A road with a ramp that is no whole number of millimetres long, or nothing."""
+    road = f"[haulage]\nexit = [{rng.integers(0, 200)}, {rng.integers(-50, 0)}, 60]\ngradient = {pick(rng, 0.07, 0.12, 0.083)}\ncost = 0.12\n"
+    return pick(rng, "", road)
+
+
 def processes(rng):
     """Several processes, or nothing where there is one."""
     names = ["leach", "mill", "fine"][: rng.integers(0, 4)]
@@ -46,7 +57,7 @@ def processes(rng):
 def project_of(rng):
     """The text of a project, and whether it has one process alone."""
     several = processes(rng)
-    money = "mining_cost = { R = 2, S = 2.3 }\n" + pick(rng, "", "mining_cost_per_level = 0.11\n", "mining_cost_by_elevation = [[10, 0.7], [50, 0]]\n")
+    money = "mining_cost = { R = 2, S = 2.3 }\n" + pick(rng, "", "mining_cost_per_level = 0.11\n", by_elevation(rng))
     money += pick(rng, "", "mining_recovery = 0.943\n", "mining_recovery = { region = { 1 = 0.91, 2 = 0.97 } }\n")
     money += pick(rng, "", "dilution = 0.057\n", "dilution = { R = 0.04, S = 0.11 }\n") + pick(rng, "", "royalty = 0.035\n")
     money += pick(rng, "", "royalty_per_tonne = 0.37\n") + pick(rng, "", "fixed_cost_per_year = 777.5\n") + pick(rng, "", "capital = [[1, 4000], [3, 990]]\n")
@@ -72,7 +83,7 @@ def test_what_is_written_is_right(plan_folder, blank_pictures, monkeypatch, seed
         # Of 1,440 cells what no shell can reach is left out: no cone above the ore goes beyond the 15th of 20 columns.
         monkeypatch.setattr(pitplan.grid, "MOST_BLOCKS", 1200)
     rules = "[schedule]\nlag = 1\nyears = 9\n" + (pick(rng, "", "bins = 3\n", "bins = 3\nstockpile = { rehandling_cost = 0.4 }\n") if is_one else "")
-    text = PROJECT + f'[pushbacks]\nfactors = [500, 1000]\n{rules}[fixed]\nforced = "must"\nbarred = "never"\n'
+    text = PROJECT + haulage(rng) + f'[pushbacks]\nfactors = [500, 1000]\n{rules}[fixed]\nforced = "must"\nbarred = "never"\n'
     path = plan_folder(table_of(rng), text, *changes)
     ways = [(commands.write_shells, "plan"), (pushbacks, "plan/pushbacks"), (write_schedule, "plan/schedule"), (commands.pit, "plan/pit")]
     command, folder = ways[seed % 4]

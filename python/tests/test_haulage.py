@@ -57,6 +57,14 @@ def test_roads_are_kept_to_a_millimetre_and_costs_are_exact(plan_folder):
     assert any("roads from blocks to the exit at 15, 45, 30 are" in note for note in plan.notes)
 
 
+def test_a_road_is_rounded_once_and_verified(plan_folder, blank_pictures):
+    """28.284271 m in plan and a ramp of 40 / 0.12 = 333.333333 m are 361.617604 m: 361.618, where each part alone would be cut down."""
+    section = "[haulage]\nexit = [25, 25, 40]\ngradient = 0.12\ncost = 0.12\n"
+    path = hauled(plan_folder, rows(6, 4, 4, cu=lambda i, j, k: 4.0), section)
+    commands.write_shells(path)
+    assert pitplan.prepare(path).blocks.set_index("name").loc["b0-0-0", "road"] == 361.618
+
+
 def test_blocks_above_the_exit_have_a_ramp_down(plan_folder):
     """The exit at -5 m, below all floors: the top level's floor is 25 m above it, its ramp 250 m."""
     section = "[haulage]\nexit = [5, 5, -5]\ngradient = 0.1\ncost = 1\n"

@@ -1,13 +1,16 @@
 """Revenue and cost of blocks against sums done by hand, and against Python's `decimal`."""
 
 from decimal import Decimal
+from fractions import Fraction
+from types import SimpleNamespace
 
 import pandas as pd
 import pytest
 from conftest import PROJECT, rows
 
 import pitplan
-from pitplan import PlanError, files
+from pitplan import PlanError, commands, files, money
+from pitplan.verification import money as verified_money
 
 MILLION = 10**6
 
@@ -90,6 +93,21 @@ def test_cost_by_elevation(plan_folder):
     text = "mining_cost = 2\nmining_cost_by_elevation = [[20, 0.1], [10, 0.5]]"
     plan = pitplan.prepare(plan_folder(rows(1, 1, 3), PROJECT, ("mining_cost = 2", text)))
     assert (plan.values.mining / MILLION).tolist() == [210, 230, 250]
+
+
+def test_cost_by_elevation_at_half_a_millionth(plan_folder, blank_pictures):
+    """1.5 m below 240 m it is 0.37 x 1.5 / 240 = 0.0023125, which is kept as 0.002312: halves go to the even one. Verification, which
+    interpolated floats, had 0.002313 for such levels."""
+    pairs = ((Decimal(0), Decimal("0.37")), (Decimal(240), Decimal(0)))
+    assert verified_money.between(pairs, Fraction("238.5")) == Decimal("0.002312")
+    for elevation in range(-3, 243, 3):
+        at = elevation / 2 + 0.75
+        money_rules = SimpleNamespace(mining_cost_by_elevation=pairs)
+        assert verified_money.between(pairs, Fraction(at)) == money.added_cost(money_rules, at)
+    text = "mining_cost = 2\nmining_cost_by_elevation = [[0, 0.37], [240, 0]]"
+    table = rows(2, 2, 8, cu=lambda i, j, k: 4.0, tonnes=lambda i, j, k: 15_900).assign(z=lambda it: it["z"] * 1.5 - 6)
+    changes = [("size = [10, 10, 10]", "size = [10, 10, 15]"), ("ore_per_year = 100", "ore_per_year = 100_000")]
+    commands.write_shells(plan_folder(table, PROJECT, ("mining_cost = 2", text), *changes))
 
 
 def test_two_metals_and_prices_by_rock(plan_folder):

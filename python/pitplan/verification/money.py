@@ -3,6 +3,7 @@
 from __future__ import annotations
 
 import math
+from bisect import bisect
 from dataclasses import dataclass, field, replace
 from decimal import ROUND_HALF_EVEN, Decimal
 from fractions import Fraction
@@ -95,9 +96,7 @@ def more_for_depth(answer: Answer, elevation: float) -> Decimal:
     """What mining a tonne costs more for the depth of a block's centre, in metres of elevation."""
     money = answer.project.money
     if money.mining_cost_by_elevation:
-        pairs = money.mining_cost_by_elevation
-        heights, costs = ([float(pair[k]) for pair in pairs] for k in (0, 1))
-        return Decimal(repr(round(float(np.interp(elevation, heights, costs)), 6)))
+        return between(money.mining_cost_by_elevation, Fraction(repr(round(float(elevation), 6))))
     if not money.mining_cost_per_level:
         return Decimal(0)
     reference = money.mining_cost_reference
@@ -105,6 +104,17 @@ def more_for_depth(answer: Answer, elevation: float) -> Decimal:
     at = float(highest_needed(answer) if reference is None else reference)
     top = elevation + height / 2
     return money.mining_cost_per_level * max(0, math.ceil((at - top) / height - 1e-9))
+
+
+def between(pairs: tuple[tuple[Decimal, Decimal], ...], elevation: Fraction) -> Decimal:
+    """The cost at an elevation, interpolated exactly and then rounded to a millionth, halves to the even one."""
+    heights, costs = ([Fraction(pair[k]) for pair in pairs] for k in (0, 1))
+    if len(pairs) == 1:
+        return pairs[0][1]
+    upper = min(max(bisect(heights, elevation), 1), len(pairs) - 1)
+    span = heights[upper] - heights[upper - 1]
+    share = min(max((elevation - heights[upper - 1]) / span, Fraction(0)), Fraction(1))
+    return Decimal(round((costs[upper - 1] + share * (costs[upper] - costs[upper - 1])) * 10**6)).scaleb(-6)
 
 
 @dataclass(frozen=True)
