@@ -77,7 +77,8 @@ def blocks(plan: Plan, solution: Solution) -> pd.DataFrame:
 def shells(plan: Plan, solution: Solution, more: Optional[np.ndarray] = None) -> pd.DataFrame:
     """One row a factor; `more` is for each cell what digging it costs in years besides its worth, in money.
 
-    factor per mille; blocks (with rock) in the pit; tonnes, ore_tonnes (that come to the mill), waste_tonnes (the rest); strip_ratio;
+    factor per mille; blocks (with rock) in the pit; tonnes; ore_tonnes, the mill feed, diluted and after ore loss; in_situ_ore_tonnes of
+    the blocks of ore; waste_tonnes, the tonnes that are not in-situ ore; strip_ratio of these two;
     processed_tonnes at the factor's own price; ore_tonnes_NAME of each of several processes; grade_NAME of the ore in its column's unit, metal_NAME recovered of it
     (tonnes, or grams); worth in money at the price as given; npv_best, npv_worst and years (of the best case), by the money of years;
     worth_at_factor, exact (Decimal), as the program answers it. Raises PlanError where it takes too many years.
@@ -136,13 +137,14 @@ def feeds_of(plan: Plan, cells: Cells) -> dict[str, np.ndarray]:
 def amounts(plan: Plan, cells: Cells) -> pd.DataFrame:
     """One row a factor: tonnes, grades and worth of its pit, without time."""
     pit, ore, content = cells.factor, np.where(cells.ore, cells.factor, 0), cells.content
-    tonnes, ore_tonnes = within(plan, pit, cells.tonnes), within(plan, ore, cells.feed)
+    tonnes, ore_tonnes, in_situ = within(plan, pit, cells.tonnes), within(plan, ore, cells.feed), within(plan, ore, cells.tonnes)
     columns = {
         "blocks": within(plan, pit, cells.tonnes > 0).astype(np.int64),
         "tonnes": tonnes,
         "ore_tonnes": ore_tonnes,
-        "waste_tonnes": tonnes - ore_tonnes,
-        "strip_ratio": ratio(tonnes - ore_tonnes, ore_tonnes),
+        "in_situ_ore_tonnes": in_situ,
+        "waste_tonnes": tonnes - in_situ,
+        "strip_ratio": ratio(tonnes - in_situ, in_situ),
         "processed_tonnes": within(plan, cells.processed, cells.feed),
     }
     columns |= {name: within(plan, pit, feed) for name, feed in feeds_of(plan, cells).items()}

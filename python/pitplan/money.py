@@ -415,7 +415,7 @@ def feed_notes(project: Project) -> list[str]:
             "grade 0 (dilution); ore tonnes, grades and processing cost are those of what comes to the mill"
         )
     if money.royalty:
-        notes.append(f"a royalty of {(100 * money.royalty).normalize():f} % is taken off the revenue of every block, at every factor")
+        notes.append(f"a royalty of {(100 * money.royalty).normalize():f} % is taken off the gross revenue of every block, before selling costs, at every factor")
     if money.royalty_per_tonne:
         notes.append(f"a royalty of {money.royalty_per_tonne:f} {money.currency} a tonne of ore is part of the processing cost")
     return notes

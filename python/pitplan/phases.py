@@ -229,7 +229,8 @@ def blocks(phases: Phases) -> pd.DataFrame:
 def table(phases: Phases) -> pd.DataFrame:
     """One row a phase, of what it adds to those before, at the price as given.
 
-    phase from 1; factor, per mille, of the shell that ends it; blocks (with rock); tonnes, ore_tonnes, waste_tonnes; strip_ratio;
+    phase from 1; factor, per mille, of the shell that ends it; blocks (with rock); tonnes, ore_tonnes, in_situ_ore_tonnes, waste_tonnes and
+    strip_ratio as of shells;
     grade_NAME of the ore in its column's unit, metal_NAME recovered of it (tonnes, or grams); worth in money; mining_cost_added, where
     phases have mining costs of their own, which are not in the worth; deferred_value, what the shell that ends a phase is worth more than
     the phases up to it, since blocks come in a later phase for the sake of width; cost_of_width, the same of the last phase, where it is lost;
@@ -237,15 +238,16 @@ def table(phases: Phases) -> pd.DataFrame:
     """
     plan, cells = phases.plan, analyse.cells_of(phases.plan, phases.solution)
     ore = np.where(cells.ore, phases.phase, 0)
-    tonnes, ore_tonnes = added(phases.phase, cells.tonnes, phases), added(ore, cells.feed, phases)
+    tonnes, ore_tonnes, in_situ = (added(of, amounts, phases) for of, amounts in ((phases.phase, cells.tonnes), (ore, cells.feed), (ore, cells.tonnes)))
     columns = {
         "phase": np.arange(1, len(phases.factors) + 1),
         "factor": np.array(phases.factors),
         "blocks": added(phases.phase, cells.tonnes > 0, phases).astype(np.int64),
         "tonnes": tonnes,
         "ore_tonnes": ore_tonnes,
-        "waste_tonnes": tonnes - ore_tonnes,
-        "strip_ratio": analyse.ratio(tonnes - ore_tonnes, ore_tonnes),
+        "in_situ_ore_tonnes": in_situ,
+        "waste_tonnes": tonnes - in_situ,
+        "strip_ratio": analyse.ratio(tonnes - in_situ, in_situ),
     }
     columns |= {name: added(phases.phase, feed, phases) for name, feed in analyse.feeds_of(plan, cells).items()}
     for metal in plan.project.metals:

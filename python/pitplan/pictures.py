@@ -205,7 +205,7 @@ def draw_tonnes(axis: Axes, table: pd.DataFrame, chosen: int) -> None:
     factors = table["factor"].to_numpy()
     wide = 0.75 * float(np.diff(factors).min()) if len(factors) > 1 else 20.0
     size, sign = scaled(float(table["tonnes"].max()))
-    ore, waste = table["ore_tonnes"] / size, table["waste_tonnes"] / size
+    ore, waste = table["in_situ_ore_tonnes"] / size, table["waste_tonnes"] / size
     axis.axvspan(chosen - 0.65 * wide, chosen + 0.65 * wide, color=CHOSEN, zorder=0, label=f"chosen: {chosen}")
     axis.bar(factors, ore, wide, color=ORE, label="ore", linewidth=0)
     axis.bar(factors, waste, wide, bottom=ore, color=WASTE, label="waste", linewidth=0)

@@ -34,10 +34,13 @@ def columns_of(table: pd.DataFrame, project: Project) -> Columns:
 def columns_of_rock(table: pd.DataFrame, project: Project) -> Columns:
     """Blocks, tonnes, strip ratio, grades and metals."""
     tonnes, sign = scaled(float(table["tonnes"].max()))
+    # Ore loss and dilution make the mill feed another amount than the ore in situ.
+    is_diluted = bool((table["ore_tonnes"] != table["in_situ_ore_tonnes"]).any())
     columns = [
         ("blocks", "blocks", 1.0, 0),
         ("tonnes", f"rock, {sign}t", tonnes, 2),
-        ("ore_tonnes", f"ore, {sign}t", tonnes, 2),
+        ("ore_tonnes", f"{'mill feed' if is_diluted else 'ore'}, {sign}t", tonnes, 2),
+        *([("in_situ_ore_tonnes", f"in-situ ore, {sign}t", tonnes, 2)] if is_diluted else []),
         ("waste_tonnes", f"waste, {sign}t", tonnes, 2),
         ("strip_ratio", "strip ratio", 1.0, 2),
     ]

@@ -200,8 +200,8 @@ def of_shell(shells: Written, chosen: int, project: Project) -> list[Figure]:
         "npv_worst": "Net present value, worst case",
         "worth": "Worth, not discounted",
         "tonnes": "Rock",
-        "ore_tonnes": "Ore",
-        "strip_ratio": "Waste a tonne of ore",
+        "ore_tonnes": "Mill feed",
+        "strip_ratio": "Strip ratio, waste to in-situ ore",
     }
     found = [shells.figure(name, row, columns[column]) for column, name in names.items()]
     found += [*grades(shells, chosen, project), *recovered(shells, row, columns, project)]
@@ -226,7 +226,7 @@ def of_way(ways: Written, shown: str, project: Project) -> list[Figure]:
     only = ways.frame.loc[[row]]
     columns = {column[0]: column for column in (report.columns_by_block if shown == BY_BLOCK else report.columns_of_ways)(only, project)}
     bound = "Upper bound, any schedule by block" if shown == BY_BLOCK else "Upper bound, these pushbacks and processes"
-    names = {"value": "Net present value", "bound": bound, "tonnes": "Rock", "ore_tonnes": "Ore"}
+    names = {"value": "Net present value", "bound": bound, "tonnes": "Rock", "ore_tonnes": "Mill feed"}
     names |= {"left_tonnes": "Rock that is left"} if "left_tonnes" in columns else {}
     found = [ways.figure(name, row, columns[column]) for column, name in names.items()]
     return [*found, *recovered(ways, row, columns, project), ways.figure("Life", row, ("years", "life, years", 1.0, 0))]

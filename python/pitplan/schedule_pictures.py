@@ -161,6 +161,7 @@ def draw_bars(ax: Axes, shown: pd.DataFrame, reclaimed: Optional[np.ndarray], si
     ax.bar(shown["year"], milled - from_stock, 0.8, color=ORE, label="ore", linewidth=0)
     if reclaimed is not None:
         ax.bar(shown["year"], from_stock, 0.8, bottom=milled - from_stock, color=STOCKED, label="ore from the stockpile", linewidth=0)
+    rest = rest.clip(lower=0)
     ax.bar(shown["year"], rest, 0.8, bottom=milled, color=WASTE, label="waste" if reclaimed is None else "waste or stocked", linewidth=0)
     ax.xaxis.set_major_locator(MaxNLocator(integer=True))
     ax.set_xlim(0.4, float(shown["year"].max()) + 0.6)

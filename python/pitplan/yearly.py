@@ -102,7 +102,8 @@ def draw(axes: list[Axes], years: pd.DataFrame, project: Project) -> None:
 def draw_tonnes(axis: Axes, years: pd.DataFrame, scale: Scale, settings: Schedule) -> None:
     """A bar a year of ore with waste on it, and a line across for each capacity."""
     size, sign = scale.tonnes
-    ore, waste = years["ore_tonnes"] / size, (years["rock_tonnes"] - years["ore_tonnes"]) / size
+    # Feed that holds more of dilution than ore was lost may be more than all that is mined.
+    ore, waste = years["ore_tonnes"] / size, (years["rock_tonnes"] - years["ore_tonnes"]).clip(lower=0) / size
     axis.bar(years["year"], ore, 0.8, color=ORE, label="ore", linewidth=0)
     axis.bar(years["year"], waste, 0.8, bottom=ore, color=WASTE, label="waste", linewidth=0)
     for name, capacity, colour in capacities_of(settings):

@@ -27,7 +27,7 @@ def test_a_block_by_hand(plan_folder):
     assert values.mining.tolist() == [200 * MILLION] * 2
     assert (values.undiluted[1], values.feed[1], values.metal["copper"][1]) == (90, 99, 0.36)
     assert any("there come to the mill 0.9 (mining recovery), and with each of these 0.1 of grade 0" in note for note in values.notes)
-    assert any("a royalty of 5 % is taken off the revenue" in note for note in values.notes)
+    assert any("a royalty of 5 % is taken off the gross revenue of every block, before selling costs" in note for note in values.notes)
     assert any("a royalty of 0.5 USD a tonne of ore is part of the processing cost" in note for note in values.notes)
 
 
@@ -84,12 +84,19 @@ def test_by_region_needs_a_column_of_regions(plan_folder):
 
 
 def test_a_shell_by_hand(plan_folder):
-    """Both blocks are dug: 200 t, of which 99 come to the mill, in 99 / 33 years; 90 t of 0.8 % in these."""
+    """Both blocks are dug: 200 t, of which one of 100 t is ore in situ, and 99 come to the mill, in 99 / 33 years; 90 t of 0.8 % in these."""
     path = plan_folder(one_block(), PROJECT, ("mining_cost = 2\n", TEXT), ("ore_per_year = 100", "ore_per_year = 33"))
     table = commands.write_shells(path).set_index("factor").loc[1000]
-    expected = {"tonnes": 200, "ore_tonnes": 99, "waste_tonnes": 101, "strip_ratio": 101 / 99, "processed_tonnes": 99, "years": 3}
+    expected = {"tonnes": 200, "ore_tonnes": 99, "in_situ_ore_tonnes": 100, "waste_tonnes": 100, "strip_ratio": 1, "processed_tonnes": 99, "years": 3}
     expected |= {"grade_copper": 72 / 99, "metal_copper": 0.36, "worth": 2736 - 1039.5 - 400}
     assert {name: table[name] for name in expected} == pytest.approx(expected)
+
+
+def test_waste_is_never_negative(plan_folder, blank_pictures):
+    """Ore alone, with a tenth of dilution: 110 t come to the mill of 100 t that are dug."""
+    path = plan_folder(rows(2, 2, 1, cu=lambda i, j, k: 3), PROJECT, ("mining_cost = 2\n", "mining_cost = 2\ndilution = 0.1\n"))
+    table = commands.write_shells(path).set_index("factor").loc[1000]
+    assert (table["ore_tonnes"], table["in_situ_ore_tonnes"], table["waste_tonnes"], table["strip_ratio"]) == (pytest.approx(440), 400, 0, 0)
 
 
 SCHEDULED = (

@@ -219,8 +219,8 @@ def test_other_processes_and_blocks_that_are_processed_twice_are_found(plan_fold
 
 
 def test_a_capacity_that_is_passed_over_is_found(plan_folder, monkeypatch, blank_pictures):
-    lasting = pitplan.schedule.lasting
-    monkeypatch.setattr(pitplan.schedule, "lasting", lambda amounts, settings: lasting(amounts, replace(settings, per_process=())))
+    years = pitplan.schedule.capacity_years
+    monkeypatch.setattr(pitplan.schedule, "capacity_years", lambda amounts, settings: years(amounts, replace(settings, per_process=())))
     assert "years" in wrong(solved(plan_folder))
 
 

@@ -3,7 +3,6 @@
 from dataclasses import replace
 from decimal import Decimal
 from itertools import product
-from math import log
 from pathlib import Path
 
 import numpy as np
@@ -127,9 +126,8 @@ def test_the_table_of_shells_by_hand(tmp_path):
     assert shells["grade_copper"][1000] == pytest.approx(0.95) and shells["metal_copper"][1000] == pytest.approx(0.95)
     assert shells["worth"].tolist() == [0, 5000, 5000]
     assert shells["worth_at_factor"].tolist() == [Decimal(0), Decimal(1400), Decimal(5000)]
-    # Waste takes no time where rock has no limit, so it costs 200 at once. At 100 t of ore a year 400 come evenly in the
-    # first year and 4800 in the second; the mean of 1.1^-t over a year is the fall of 1.1^-t in it, over ln 1.1.
-    npv = -200 + (400 * (1 - 1 / 1.1) + 4800 * (1 / 1.1 - 1 / 1.1**2)) / log(1.1)
+    # At 100 t of ore a year the waste and the poor block, -200 + 400, are the first year's and the rich one's 4800 the second's.
+    npv = 200 / 1.1 + 4800 / 1.1**2
     assert shells["npv_best"][1000] == pytest.approx(npv) and shells["npv_worst"][1000] == pytest.approx(npv)
     assert shells["years"].tolist() == [0, 2, 2]
 
@@ -145,7 +143,7 @@ def test_best_and_worst_case_by_hand(plan_folder):
     # The rich floor is worth 16000 - 1000 - 200, the poor one 1600 - 1000 - 200. In the best case each block takes a year;
     # in the worst case each level takes two.
     rich, poor, top = 14800, 400, -200
-    first, second, third, fourth = ((1.1**-year - 1.1 ** -(year + 1)) / log(1.1) for year in range(4))
+    first, second, third, fourth = (1.1**-year for year in (1, 2, 3, 4))
     best = top * first + rich * second + top * third + poor * fourth
     worst = top * (first + second) + (rich + poor) / 2 * (third + fourth)
     assert shells["npv_best"][500] == pytest.approx(top * first + rich * second)

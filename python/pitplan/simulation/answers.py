@@ -87,7 +87,7 @@ def heads_of(scenario: Scenario) -> dict[str, object]:
 def quantiles(table: pd.DataFrame) -> pd.DataFrame:
     """One row a set of prices and factor, over the models: mean, least, greatest and quantiles of each amount."""
     by = [name for name in table.columns if name.startswith("price_")] + ["factor"]
-    amounts = [name for name in ("blocks", "tonnes", "ore_tonnes", "waste_tonnes") if name in table.columns]
+    amounts = [name for name in ("blocks", "tonnes", "ore_tonnes", "in_situ_ore_tonnes", "waste_tonnes") if name in table.columns]
     amounts += [name for name in table.columns if name.startswith("metal_")] + ["worth", "worth_at_factor"]
     return spread_of(table.assign(worth_at_factor=table["worth_at_factor"].astype(float)), by, amounts)
 

@@ -98,13 +98,14 @@ def verify_sums(answer: Answer) -> Rule:
 def of_blocks(answer: Answer, mine: np.ndarray, ore: np.ndarray) -> dict[str, float]:
     """What the blocks of a phase add up to; `ore` are those that pay for their processing."""
     tonnes = answer.tonnes
-    of_ore, of_all = answer.feed[ore].sum(), tonnes[mine].sum()
+    of_ore, of_all, in_situ = answer.feed[ore].sum(), tonnes[mine].sum(), tonnes[ore].sum()
     found = {
         "blocks": np.count_nonzero(tonnes[mine] > 0),
         "tonnes": of_all,
         "ore_tonnes": of_ore,
-        "waste_tonnes": tonnes[mine & ~answer.ore].sum() + (tonnes - answer.feed)[ore].sum(),
-        "strip_ratio": (of_all - of_ore) / of_ore if of_ore else np.nan,
+        "in_situ_ore_tonnes": in_situ,
+        "waste_tonnes": tonnes[mine & ~answer.ore].sum(),
+        "strip_ratio": (of_all - in_situ) / in_situ if in_situ else np.nan,
         "worth": answer.worths[mine].sum(),
     }
     found |= {name: feed[mine].sum() for name, feed in answer.feeds.items()}

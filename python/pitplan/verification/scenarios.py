@@ -33,7 +33,7 @@ OF_EACH = {
     "shells": "tonnes, grades, metal and worth of each shell are the sums of its blocks",
     "worth": "the program's worth of each shell is that of its blocks, by the scenario's own grades and prices",
 }
-AMOUNTS = ("blocks", "tonnes", "ore_tonnes", "waste_tonnes", "worth", "worth_at_factor")
+AMOUNTS = ("blocks", "tonnes", "ore_tonnes", "in_situ_ore_tonnes", "waste_tonnes", "worth", "worth_at_factor")
 
 
 def verify(folder: Path, written: Optional[Path] = None) -> list[Rule]:

@@ -41,13 +41,14 @@ def sums(answer: Answer, factor: int) -> dict[str, float]:
     inside = within(answer, factor)
     ore, tonnes = inside & answer.ore, answer.tonnes
     processed = answer.said["process_factor"].to_numpy()
-    of_ore, of_all = answer.feed[ore].sum(), tonnes[inside].sum()
+    of_ore, of_all, in_situ = answer.feed[ore].sum(), tonnes[inside].sum(), tonnes[ore].sum()
     found = {
         "blocks": np.count_nonzero(inside & (tonnes > 0)),
         "tonnes": of_all,
         "ore_tonnes": of_ore,
-        "waste_tonnes": tonnes[inside & ~answer.ore].sum() + (tonnes - answer.feed)[ore].sum(),
-        "strip_ratio": (of_all - of_ore) / of_ore if of_ore else np.nan,
+        "in_situ_ore_tonnes": in_situ,
+        "waste_tonnes": tonnes[inside & ~answer.ore].sum(),
+        "strip_ratio": (of_all - in_situ) / in_situ if in_situ else np.nan,
         "processed_tonnes": answer.feed[(processed > 0) & (processed <= factor)].sum(),
         "worth": answer.worths[inside].sum(),
     }
