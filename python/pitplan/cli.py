@@ -13,6 +13,7 @@ from minelib.__main__ import add_arguments as add_minelib
 from minelib.ending import ended, tell
 
 from . import __version__, block_commands, commands, exports, files, init, report, sensitivity_files, simulation, stages
+from .doubts import WARNING
 from .errors import PlanError
 from .progress import Progress, on_standard_error, silent
 from .project import REFERENCE_FACTOR, Project, load
@@ -262,7 +263,10 @@ def run_scenarios(options: argparse.Namespace, progress: Progress) -> None:
 
 
 def tell_notes(notes: list[str]) -> None:
-    for note in notes:
+    """Notes, and apart from them all warnings."""
+    warnings = [note for note in notes if note.startswith(WARNING)]
+    plain = [note for note in notes if note not in warnings]
+    for note in [*plain, *([""] if plain and warnings else []), *warnings]:
         tell(note)
 
 

@@ -14,6 +14,7 @@ import pandas as pd
 from . import absent, analyse, auditing, block_pictures, csv_file, exports, files, mine as mines, page, phase_pictures, phases as phasing, pictures
 from . import planned_table, report_page
 from . import schedule_pictures, sensitivity_files, sensitivity_pictures, simulation, varied_cases, verification, workbook, yearly, yearly_schedule as scheduling
+from .conventions import with_discounting, with_outline
 from .errors import PlanError
 from .mine import Mine
 from .phases import Phases
@@ -115,7 +116,7 @@ def pit(
         table.insert(0, "fixed_blocks", ["kept", "free"])
         of_free = analyse.blocks(plan, free)[["factor", "process_factor"]].add_prefix("free_")
         write_table(pd.concat([analyse.blocks(plan, keeping), of_free], axis=1), stage)
-        shown(table).to_csv(stage / PITS, index=False)
+        write_csv(shown(table), stage / PITS, project)
         note_verified(plan, record, stage, verifies, progress)
         finish(plan, record, [*mine.files, files.TABLE, PITS], stage)
     return table
@@ -266,14 +267,16 @@ def tables_of(answered: Answered) -> list[str]:
 def sheets_of(answered: Answered, table: pd.DataFrame, years: pd.DataFrame) -> dict[str, pd.DataFrame]:
     """The tables of a schedule's workbook, by sheet."""
     assert answered.phases is not None and answered.schedule is not None
+    project = answered.plan.project
     bins = {"milling": shown(scheduling.milling(answered.schedule))} if answered.schedule.milling else {}
-    return bins | {
+    sheets = {
         "ways": scheduling.ways(answered.schedule),
         "schedule": shown(scheduling.table(answered.schedule)),
-        "years": shown(years[years["factor"] == answered.schedule.factor]),
+        "years": shown(with_outline(years[years["factor"] == answered.schedule.factor], project)),
         "phases": shown(phasing.table(answered.phases)),
-        "shells": shown(table),
+        "shells": shown(with_outline(table, project)),
     }
+    return bins | {name: with_discounting(sheet, project) for name, sheet in sheets.items()}
 
 
 def write_tables(answered: Answered, stage: Path) -> tuple[pd.DataFrame, pd.DataFrame]:
@@ -288,21 +291,26 @@ def write_tables(answered: Answered, stage: Path) -> tuple[pd.DataFrame, pd.Data
     if schedule is not None:
         blocks["year"] = scheduling.blocks_year(schedule)[blocks["id"].to_numpy()]
         years = pd.concat([years, scheduling.years(schedule)], ignore_index=True)
-        shown(scheduling.table(schedule)).to_csv(stage / files.SCHEDULE, index=False)
-        shown(scheduling.ways(schedule)).to_csv(stage / files.WAYS, index=False)
+        write_csv(shown(scheduling.table(schedule)), stage / files.SCHEDULE, plan.project)
+        write_csv(shown(scheduling.ways(schedule)), stage / files.WAYS, plan.project)
         files.write_json(stage / files.SCHEDULE_RECORD, scheduling.record(schedule))
         if schedule.milling:
             shown(scheduling.milling(schedule)).to_csv(stage / files.MILLING, index=False)
     if answered.blocks is not None:
         blocks, years = answered.blocks.beside(blocks), pd.concat([years, answered.blocks.years], ignore_index=True)
         files.write_json(stage / files.BLOCK_SCHEDULE, answered.blocks.record)
-        shown(answered.blocks.ways).to_csv(stage / files.WAYS, index=False)
+        write_csv(shown(answered.blocks.ways), stage / files.WAYS, plan.project)
     write_table(blocks, stage)
-    shown(table).to_csv(stage / files.SHELLS, index=False)
-    shown(years).to_csv(stage / files.YEARS, index=False)
+    for found, name in ((table, files.SHELLS), (years, files.YEARS)):
+        write_csv(shown(found if phases is None else with_outline(found, plan.project)), stage / name, plan.project)
     if phases is not None:
         shown(phasing.table(phases)).to_csv(stage / files.PHASES, index=False)
     return table, years
+
+
+def write_csv(table: pd.DataFrame, path: Path, project: Project) -> None:
+    """A table with the convention by which its amounts are discounted."""
+    with_discounting(table, project).to_csv(path, index=False)
 
 
 def demand_apart(project: Project, folder: Path) -> None:

@@ -12,6 +12,7 @@ from typing import Optional
 import numpy as np
 import pandas as pd
 
+from .doubts import of_codes
 from .errors import PlanError
 from .files import staged_file
 from .guesses import PRECIOUS, Columns, MetalGuess, columns_of
@@ -287,7 +288,8 @@ def summary(model: Model) -> list[str]:
         values = np.nan_to_num(model.frame[metal.column].to_numpy(dtype=np.float64))
         grades.append(Grade(metal.metal, metal.column, metal.unit, mean_of(values, tonnes), float(values.max())))
         said.append(f"{grades[-1].line}, {metal.why}")
-    return [*said, *(doubt for grade in grades for doubt in grade.doubts), *doubts(model)]
+    codes = [line for metal in columns.metals for line in of_codes(metal.column, model.frame[metal.column].to_numpy(dtype=np.float64))]
+    return [*said, *(doubt for grade in grades for doubt in grade.doubts), *codes, *of_codes("tonnes", tonnes), *doubts(model)]
 
 
 def step_along(model: Model, axis: str) -> Optional[float]:

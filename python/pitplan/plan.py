@@ -10,8 +10,9 @@ from typing import Any, Optional, Union
 import numpy as np
 import pandas as pd
 
-from . import absent, as_mined, files, fixed as fixing, grid as grids, haulage, money, reach, reblock, summary as summaries, table as tables
+from . import absent, as_mined, doubts, files, fixed as fixing, grid as grids, haulage, money, reach, reblock, summary as summaries, table as tables
 from . import topography, trim, walls as laying, yearly_money
+from .conventions import IN_WORDS
 from .errors import PlanError
 from .files import MOST_PAIRS, Needs, Pairs
 from .fixed import NOTHING, FixedBlocks, Settled
@@ -231,6 +232,9 @@ def prepare(
         bare = grids.of_table(frame, laid, source, any_size=True)
         summary = summaries.of_table(checked, bare, project)
         frame, grid = absent.with_rows(frame, bare, project)
+    # Warnings come last, with the notes.
+    warnings = [*(line for line in summary if line.startswith(doubts.WARNING)), *doubts.of_tonnes(frame[project.table.tonnes].to_numpy(), grid)]
+    summary = [line for line in summary if not line.startswith(doubts.WARNING)]
     progress.lines(summary)
     cut: list[str] = []
     if project.table.topography:
@@ -250,7 +254,7 @@ def prepare(
     with progress.step("weighing the blocks"):
         plan = plan_of(project, model.frame, model.grid, walls, model.source)
     plan.filled, plan.summary, plan.left_out, plan.read = checked.filled, summary, whole.known - model.known, read
-    plan.notes = [*checked.notes, *cut, *dropped, *notes_of(plan)]
+    plan.notes = [*checked.notes, *cut, *dropped, *notes_of(plan), *warnings]
     return plan
 
 
@@ -300,6 +304,8 @@ def notes_of(plan: Plan) -> list[str]:
         notes.append(f"{plan.filled:,} empty fields were taken as 0")
     notes += [pattern.sentence() for pattern in plan.walls.patterns]
     notes += plan.values.notes
+    grades = [plan.table[metal.column].to_numpy() for metal in plan.project.metals]
+    notes += doubts.of_prices(plan.values.pays, plan.project.metals, grades, plan.project.money.currency)
     if plan.project.money.mining_cost_per_level and plan.project.money.mining_cost_reference is None:
         notes.append(
             f"mining costs more for each level below that of {plan.reference - grid.size[2]:.10g} to {plan.reference:.10g} m, the "
@@ -313,6 +319,8 @@ def notes_of(plan: Plan) -> list[str]:
     if plan.project.schedule.reference_added:
         notes.append("factor 1000, the price as given, was added to the factors")
     notes += yearly_money.notes(plan.project)
+    settings = plan.project.schedule
+    notes.append(f"net present values: {100 * settings.rate:.10g} % a year, cash discounted {IN_WORDS[settings.discounting]}")
     for name, rounding in plan.values.roundings.items():
         if rounding.changed:
             notes.append(

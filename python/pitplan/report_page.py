@@ -14,17 +14,13 @@ from typing import Any, Callable, Optional
 import pandas as pd
 
 from . import files, report, schedule_pictures
+from .conventions import IN_WORDS
 from .errors import PlanError
 from .files import hash_of
 from .project import REFERENCE_FACTOR, Project
 from .report import TEMPLATES, Columns
 
 SENSITIVITY, SENSITIVITY_RECORD, TORNADO = "sensitivity.csv", "sensitivity.json", "tornado.png"
-DISCOUNTED = {
-    "continuous": "from the moment when cash flows",
-    "end_of_year": "from the end of each year",
-    "mid_year": "from the middle of each year",
-}
 BY_BLOCK = "block"
 # What is told in words of a column.
 NAMED = {(SENSITIVITY, "case"): "number"}
@@ -112,7 +108,7 @@ def write(path: Path, folder: Path, project: Project, sensitivity: Optional[Path
         notes=[note for note in record["notes"] if note not in warnings],
         pictures={Path(name).stem: picture(folder / name) for name in record["files"] if name.endswith(".png")},
         rate=project.schedule.rate,
-        discounting=DISCOUNTED[project.schedule.discounting],
+        discounting=IN_WORDS[project.schedule.discounting],
         has_fixed=project.fixed is not None,
         project_file=project.path.name,
         project_text=without_comments(project.path.read_text(encoding="utf-8")),

@@ -11,6 +11,7 @@ import numpy as np
 import pandas as pd
 
 from . import csv_file, files, sensitivity_pictures, verification
+from .conventions import with_discounting
 from .pictures import also_as
 from .progress import Progress
 from .varied_cases import SKIN_WORTH, Case, Sensitivity, rules_of, table
@@ -73,7 +74,7 @@ def write_tables(found: Sensitivity, cases: pd.DataFrame, stage: Path) -> None:
     blocks = found.plan.blocks
     blocks["factor"] = found.answers[Case()].entry[blocks["id"].to_numpy()]
     csv_file.write(stage / files.TABLE, blocks)
-    shown(cases).to_csv(stage / TABLE, index=False)
+    with_discounting(shown(cases), found.project).to_csv(stage / TABLE, index=False)
 
 
 def shown(cases: pd.DataFrame) -> pd.DataFrame:

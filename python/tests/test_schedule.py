@@ -293,7 +293,7 @@ def test_the_file_of_years_stands_beside_the_shells(solved):
     table = pd.read_csv(folder / "years.csv")
     assert "years.csv" in commands.files.read_folder(folder).record["files"]
     plan = pitplan.prepare(project)
-    expected = commands.shown(analyse.years(plan, pitplan.solve(plan)))
+    expected = commands.shown(analyse.years(plan, pitplan.solve(plan))).assign(discounting="end_of_year")
     pd.testing.assert_frame_equal(table, expected, check_dtype=False)
     shells = pd.read_csv(folder / "shells.csv").set_index("factor")
     sums = table.groupby(["case", "factor"])["discounted"].sum()

@@ -96,14 +96,19 @@ def test_tonnes_of_a_density_name_their_columns(plan_folder, words, said):
     assert prepare(path).summary[0].endswith(said)
 
 
+def told(plan):
+    """The table's lines, and the notes with all warnings."""
+    return [*plan.summary, *plan.notes]
+
+
 def test_metals_in_grams_and_grades_that_cannot_be(plan_folder):
     """Two metals: the one weighs more than its block, the other all but as much."""
     more = {"au": lambda i, j, k: 1e6 if k else 0, "cu": lambda i, j, k: 100.5 if i + j + k == 0 else 0}
-    lines = prepare(box(plan_folder, ("[slopes]\nlevels", GOLD + "\nlevels"), **more)).summary
+    lines = told(prepare(box(plan_folder, ("[slopes]\nlevels", GOLD + "\nlevels"), **more)))
     # 1,200 of 4,800 t, and 300 of 4,800 t with 100.5 %.
     assert "gold: au, mean 2.5e+05 and at most 1e+06 g/t, priced by the gram" in lines
     assert "copper: cu, mean 6.281 and at most 100.5 %, priced by the tonne" in lines
-    assert [line for line in lines if "WARNING" in line] == [
+    assert [line for line in lines if "more than the block" in line] == [
         "WARNING: copper: 100.5 % is more than the block: the unit may be another"
     ]
 
@@ -112,7 +117,7 @@ def test_metals_in_grams_and_grades_that_cannot_be(plan_folder):
 def test_each_unit_has_its_limit(plan_folder, unit, most, whole):
     changes = [('unit = "percent"', f'unit = "{unit}"'), ("price = 8000", "price = 1")]
     for greatest, count in ((whole, 0), (most, 1)):
-        lines = prepare(box(plan_folder, *changes, cu=lambda i, j, k: greatest)).summary
+        lines = told(prepare(box(plan_folder, *changes, cu=lambda i, j, k: greatest)))
         assert sum("is more than the block" in line for line in lines) == count
 
 
@@ -120,7 +125,7 @@ def test_empty_fields_and_the_text_are_told(plan_folder):
     table = rows(4, 3, 2, cu=lambda i, j, k: None if i == 0 else 2.0)
     path = plan_folder(table, PROJECT, ('file = "blocks.csv"', 'file = "blocks.csv"\nempty = "zero"'))
     table.to_csv(path.parent / "blocks.csv", index=False, sep=";")
-    lines = prepare(path).summary
+    lines = told(prepare(path))
     assert "the table's fields are parted by semicolons: [table] separator names another sign" in lines
     assert "WARNING: 6 tonnes or grades are empty, and taken as 0" in lines
 

@@ -11,6 +11,7 @@ import pandas as pd
 from numpy.typing import NDArray
 
 from .. import csv_file, files
+from ..conventions import with_discounting
 from ..errors import PlanError
 from ..phase_benches import ORE
 from ..plan import codes_of
@@ -111,7 +112,7 @@ def write(schedules: Schedules, shared: Shared, stage: Path) -> None:
     csv_file.write(stage / ONE, schedules.by_block(shared, blocks))
     tables = {SCHEDULES: schedules.table, ONE_YEARS: schedules.years, QUANTILES: quantiles(schedules)}
     for name, table in tables.items():
-        table.to_csv(stage / name, index=False, float_format="%.12g")
+        with_discounting(table, shared.project).to_csv(stage / name, index=False, float_format="%.12g")
     files.write_json(stage / ONE_RECORD, schedules.record(shared))
 
 

@@ -40,11 +40,11 @@ import pandas as pd
 from ..errors import PlanError
 from ..project import Project
 from . import absent, answer as answers, block_scenarios, block_schedule, depletion, fixed, haulage, money, phases, planned_table, reach, reblocked
-from . import scenarios, schedule, sensitivity, sums, walls, years
+from . import scenarios, schedule, sensitivity, sums, walls, words, years
 from .answer import TOLD, Answer, Rule, rule
 
 OF_PITS = (walls.verify, sums.verify, sums.verify_worth, years.verify)
-CHECKS = (fixed.verify_places, absent.verify, walls.verify, walls.verify_steepness, fixed.verify, money.verify, *OF_PITS[1:])
+CHECKS = (fixed.verify_places, absent.verify, walls.verify, walls.verify_steepness, fixed.verify, money.verify, *OF_PITS[1:], words.verify)
 
 
 def verify(folder: Path, project: Optional[Project] = None, table: Optional[pd.DataFrame] = None) -> list[Rule]:

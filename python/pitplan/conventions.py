@@ -1,0 +1,30 @@
+"""Columns of words that say by which conventions the amounts of a written table hold: how cash is discounted, and of which outline they are."""
+
+from __future__ import annotations
+
+import numpy as np
+import pandas as pd
+
+from .project import Project
+
+IN_WORDS = {"end_of_year": "from the end of each year", "mid_year": "from the middle of each year", "continuous": "evenly through each year"}
+DISCOUNTING, OUTLINE = "discounting", "outline"
+SHELL, PUSHBACK = "shell", "pushback"
+# The columns of discounted amounts.
+DISCOUNTED = {"npv_best", "npv", "discounted", "value", "one_value"}
+# The cases of years that mine shell by shell or bench by bench.
+OF_SHELLS = ("best", "worst")
+
+
+def with_discounting(table: pd.DataFrame, project: Project) -> pd.DataFrame:
+    """A table with `discounting` behind its discounted amounts, as the project names it; another table as it is."""
+    return table.assign(**{DISCOUNTING: project.schedule.discounting}) if DISCOUNTED & set(table.columns) else table
+
+
+def with_outline(table: pd.DataFrame, project: Project) -> pd.DataFrame:
+    """A table of shells or of years with `outline`, where pushbacks are wider than shells: "shell" of rows that describe the shells before they
+    are widened, and "pushback" of those of a schedule."""
+    if project.phases is None or not (project.phases.width or project.phases.bottom):
+        return table
+    is_shell = table["case"].isin(OF_SHELLS) if "case" in table else True
+    return table.assign(**{OUTLINE: np.where(is_shell, SHELL, PUSHBACK)})

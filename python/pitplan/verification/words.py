@@ -1,0 +1,39 @@
+"""What tables say in words of their amounts: how cash is discounted, and whether a row describes shells or pushbacks."""
+
+from __future__ import annotations
+
+import pandas as pd
+
+from .answer import Answer, Rule, rule
+from .written import WORDS
+
+TABLES = ("shells.csv", "pits.csv", "years.csv", "schedule.csv", "ways.csv")
+DISCOUNTED = {"npv_best", "discounted", "value"}
+
+
+def verify(answer: Answer) -> Rule:
+    """Each table with discounted amounts names the project's convention."""
+    differences, due = [], answer.project.schedule.discounting
+    for name in TABLES:
+        path = answer.folder / name
+        if not path.is_file():
+            continue
+        header = set(pd.read_csv(path, nrows=0).columns)
+        table = pd.read_csv(path, usecols=sorted(header & {*WORDS, "case"}), dtype=str) if header & {*WORDS} else pd.DataFrame()
+        said = set(table.get("discounting", pd.Series(dtype=str)))
+        if DISCOUNTED & header and (said - {due} or "discounting" not in header):
+            differences.append(f"{name}: discounting {', '.join(sorted(map(str, said))) or 'is missing'} for {due}")
+        if name in ("shells.csv", "years.csv") and answer.phases is not None:
+            differences += unlike_outline(answer, name, table)
+    return rule("conventions", "each table of discounted amounts names how they are discounted", differences)
+
+
+def unlike_outline(answer: Answer, name: str, table: pd.DataFrame) -> list[str]:
+    """Rows of shells and of schedules say which they are where pushbacks are wider than shells."""
+    rules = answer.project.phases
+    if rules is None or not (rules.width or rules.bottom):
+        return [f"{name}: has a column outline, and pushbacks are shells"] if "outline" in table else []
+    if "outline" not in table:
+        return [f"{name}: has no column outline"]
+    is_shell = table["case"].isin(["best", "worst"]) if "case" in table else pd.Series(True, index=table.index)
+    return [] if (table["outline"] == is_shell.map({True: "shell", False: "pushback"})).all() else [f"{name}: outline is wrong in some row"]
