@@ -18,9 +18,9 @@ from . import survey_files, terrain, topography
 from .errors import PlanError
 from .grid import Grid
 from .project import Project
-from .reblock import TONNES_PLACES
 from .survey_files import Topography
 from .survey_rules import SurveyFile
+from .table import TONNES_PLACES
 from .terrain import HAIR
 
 # The share of a block's volume from which on it counts as mined.

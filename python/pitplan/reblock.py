@@ -9,18 +9,20 @@ from __future__ import annotations
 
 from collections.abc import Sequence
 from dataclasses import dataclass, replace
+from functools import cached_property
 
 import numpy as np
 import pandas as pd
 
 from . import grid as grids
+from .exact import MOST_WHOLE, Exact, greatest, nearest, product
 from .frame import Frame
 from .project import GridRules, Project, Reblock
 from .schedule_rules import ScheduleRules
-from .table import Table, at_row
+from .table import TONNES_PLACES, Table, at_row
 
-# Kept of tonnes (a gram) and of grades, so that they have an end of decimals; at the half to the even one.
-TONNES_PLACES, GRADE_PLACES = 6, 9
+# Kept of grades, so that they have an end of decimals; halves to the even one.
+GRADE_PLACES = 9
 
 
 @dataclass(frozen=True)
@@ -121,7 +123,7 @@ def put_together(frame: pd.DataFrame, lattice: Lattice, project: Project) -> tup
         result[columns.id] = [f"{east + 1}-{north + 1}-{up + 1}" for east, north, up in places.tolist()]
     for name, centre in zip((columns.x, columns.y, columns.z), lattice.centres(places)):
         result[name] = centre
-    result = result.assign(**{columns.tonnes: parts.whole.round(TONNES_PLACES)}, **amounts(frame, parts, project))
+    result = result.assign(**{columns.tonnes: parts.sums(parts.tonnes, TONNES_PLACES)}, **amounts(frame, parts, project))
     for name in (columns.rock, columns.region):
         if name:
             result[name], other = parts.most(frame[name].to_numpy())
@@ -137,8 +139,8 @@ def amounts(frame: pd.DataFrame, parts: Parts, project: Project) -> dict[str, np
     rules = project.schedule_rules or ScheduleRules()
     means = {*(metal.column for metal in project.metals), *rules.columns_of(a_tonne=True)}
     whole = rules.columns_of(a_tonne=False)
-    found = {name: parts.mean if name in means else parts.total for name in frame.columns if name in (*means, *whole)}
-    return {name: of_parts(frame[name].to_numpy()).round(GRADE_PLACES) for name, of_parts in found.items()}
+    found = {name: parts.means if name in means else parts.sums for name in frame.columns if name in (*means, *whole)}
+    return {name: of_parts(frame[name].to_numpy(), GRADE_PLACES) for name, of_parts in found.items()}
 
 
 @dataclass(frozen=True)
@@ -149,18 +151,34 @@ class Parts:
     count: int
     tonnes: np.ndarray
 
-    @property
+    @cached_property
     def whole(self) -> np.ndarray:
-        """Tonnes of each block."""
-        return self.total(self.tonnes)
+        """Tonnes of each block, as floats."""
+        return np.bincount(self.block, self.tonnes, minlength=self.count)
 
-    def total(self, values: np.ndarray) -> np.ndarray:
-        return np.bincount(self.block, values, minlength=self.count)
+    @cached_property
+    def order(self) -> np.ndarray:
+        """The rows block by block."""
+        return np.argsort(self.block, kind="stable")
 
-    def mean(self, values: np.ndarray) -> np.ndarray:
-        """The mean by tonnes; 0 where a block weighs nothing."""
-        whole, sums = self.whole, self.total(self.tonnes * values)
-        return np.divide(sums, whole, out=np.zeros(self.count), where=whole > 0)
+    def total(self, values: Exact) -> Exact:
+        """The exact sum of each block, of which each has a row."""
+        rows, starts = values.whole[self.order], np.searchsorted(self.block[self.order], np.arange(self.count))
+        rows = rows if greatest(rows) * len(rows) <= MOST_WHOLE else rows.astype(object)
+        return Exact(np.add.reduceat(rows, starts), values.places)
+
+    def sums(self, values: np.ndarray, places: int) -> np.ndarray:
+        """The sum of each block, rounded to so many decimals."""
+        return Exact(self.total(Exact.of_floats(values)).rounded(places)[0], places).floats()
+
+    def means(self, values: np.ndarray, places: int) -> np.ndarray:
+        """The mean of each block by tonnes, rounded to so many decimals; 0 where a block weighs nothing."""
+        tonnes, values_of = Exact.of_floats(self.tonnes), Exact.of_floats(values)
+        content, whole = self.total(tonnes.times(values_of)), self.total(tonnes).whole
+        some = np.array(whole > 0, dtype=bool)
+        unit = product(np.where(some, whole, 1), 10**values_of.places)
+        means = nearest(product(content.whole, 10**places), unit)
+        return Exact(np.where(some, means, 0), places).floats()
 
     def most(self, codes: np.ndarray) -> tuple[np.ndarray, float]:
         """The code of most tonnes of each block, of several the first by name, and how many tonnes are of another. In a block that weighs

@@ -7,6 +7,8 @@ from __future__ import annotations
 
 import warnings
 from dataclasses import dataclass, replace
+from decimal import Decimal
+from math import prod
 from pathlib import Path
 from typing import Optional
 
@@ -15,10 +17,13 @@ import pandas as pd
 
 from . import parquet
 from .errors import PlanError
+from .exact import Exact
 from .project import Project, TableColumns
 from .table_format import NAMES, UNREADABLE, TableFormat, format_of, names_in_header, opened, unreadable, wrong_encoding
 
 HEADER_ROWS = 2
+# Tonnes that are computed are kept to a gram, halves to the even one.
+TONNES_PLACES = 6
 # Rows that are read at a time: the reader holds several times what it has read.
 PIECE = 500_000
 
@@ -256,9 +261,13 @@ def numbers_of(column: pd.Series, source: str, name: str) -> np.ndarray:
 
 
 def tonnes_by_density(frame: pd.DataFrame, project: Project) -> np.ndarray:
-    """The density of each block times its volume, or that of the grid's blocks."""
-    volume = frame[project.table.volume].to_numpy() if project.table.volume else np.prod(project.grid.size or ())
-    return frame[project.table.density].to_numpy() * volume
+    """The density of each block times its volume, or that of the grid's blocks: the exact product of the decimals, to a gram."""
+    density = Exact.of_floats(frame[project.table.density].to_numpy())
+    if project.table.volume:
+        volume = Exact.of_floats(frame[project.table.volume].to_numpy())
+    else:
+        volume = Exact.of(prod(Decimal(repr(float(side))) for side in project.grid.size or ()), len(frame))
+    return Exact(density.times(volume).rounded(TONNES_PLACES)[0], TONNES_PLACES).floats()
 
 
 def demand_not_negative(frame: pd.DataFrame, project: Project, source: str) -> None:

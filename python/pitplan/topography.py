@@ -16,9 +16,9 @@ from . import survey_files, terrain
 from .errors import PlanError
 from .grid import Grid, metres
 from .project import Project
-from .reblock import TONNES_PLACES
 from .survey_files import Topography
 from .survey_rules import SurveyFile
+from .table import TONNES_PLACES
 from .terrain import HAIR, Below
 
 # Of a grid the shape, the origin, the size and the azimuth.

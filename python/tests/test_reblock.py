@@ -1,5 +1,7 @@
 """Rows that are put together to blocks: by hand, and against pandas' own sums."""
 
+from decimal import Decimal
+
 import numpy as np
 import pandas as pd
 import pytest
@@ -141,11 +143,11 @@ def by_first(self, codes):
     return codes[first], 0.0
 
 
-def by_rows(self, values):
+def by_rows(self, values, places):
     return np.bincount(self.block, values) / np.bincount(self.block)
 
 
-@pytest.mark.parametrize(("name", "planted"), [("most", by_first), ("mean", by_rows)])
+@pytest.mark.parametrize(("name", "planted"), [("most", by_first), ("means", by_rows)])
 def test_rows_that_are_put_together_otherwise_are_found(solved_hill, monkeypatch, name, planted):
     monkeypatch.setattr(reblock.Parts, name, planted)
     assert "reblocked" in wrong(solved_hill())
@@ -179,3 +181,30 @@ def test_a_corner_that_is_no_multiple_of_the_size_is_right(plan_folder, blank_pi
     commands.write_shells(path)
     assert pd.read_csv(path.parent / "plan" / "blocks.csv")["x"].tolist() == [115, 135]
     assert [rule.name for rule in verify(path.parent / "plan") if rule.differences] == []
+
+
+def test_sums_and_means_are_exact_and_rounded_once(plan_folder):
+    """Against Python's decimals: tonnes to a gram, grades to nine decimals, halves to the even one."""
+    rng = np.random.default_rng(7)
+    table = rows(6, 4, 2, tonnes=lambda i, j, k: float(f"{rng.integers(1, 10**9) / 10**6:.6f}"), cu=lambda i, j, k: rng.integers(0, 10**5) / 10**4)
+    # A block of two rows of 1 t, whose mean of 2 and 3 billionths is a half above the even 2; the other two rows weigh nothing.
+    table.loc[:1, "tonnes"], table.loc[:1, "cu"] = 1.0, [0.000000002, 0.000000003]
+    table.loc[[6, 7], "tonnes"] = 0.0
+    path = plan_folder(table, PROJECT, ('file = "blocks.csv"', 'file = "blocks.csv"\nreblock = [2, 2, 1]'), ('id = "name"\n', ""))
+    found = pitplan.prepare(path).table.set_index(["x", "y", "z"])
+    parts = table.assign(x=table["x"] // 20 * 20 + 10, y=table["y"] // 20 * 20 + 10).groupby(["x", "y", "z"])
+    assert len(parts) == len(found) == 12
+    for centre, block in parts:
+        tonnes, grades = ([Decimal(repr(value)) for value in block[name]] for name in ("tonnes", "cu"))
+        whole = sum(tonnes)
+        mean = sum(weight * grade for weight, grade in zip(tonnes, grades)) / whole
+        assert Decimal(repr(float(found.loc[centre, "tonnes"]))) == whole
+        assert found.loc[centre, "cu"] == float(round(mean, 9))
+    assert found.loc[(10.0, 10.0, 5.0), "cu"] == 2e-9
+
+
+def test_tonnes_by_density_are_the_exact_product(plan_folder):
+    """0.1 x 3 is 0.3, and 2.655 x 1000 is 2655; products of floats are 0.30000000000000004 and 2654.9999999999995."""
+    table = rows(2, 1, 1, cu=lambda i, j, k: 1).drop(columns="tonnes").assign(sg=[0.1, 2.655], volume=[3.0, 1000.0])
+    change = ('file = "blocks.csv"', 'file = "blocks.csv"\ndensity = "sg"\nvolume = "volume"')
+    assert pitplan.prepare(plan_folder(table, PROJECT, change)).values.tonnes.tolist() == [0.3, 2655.0]
