@@ -222,9 +222,21 @@ class MillingProblem:
         if not pays.all():
             less = dug * pays[:, None]
             dug, milling = max((less, self.milling(less)), (dug, milling), key=lambda pair: self.value(*pair))
+        dug, milling = self.ended(dug, milling)
         last = np.flatnonzero(dug.any(axis=0) | milling.milled.any(axis=0))
         some = slice(last[-1] + 1 if len(last) else 0)
         return dug[:, some], replace(milling, straight=milling.straight[:, some], reclaimed=milling.reclaimed[:, some])
+
+    def ended(self, dug: np.ndarray, milling: Milling) -> tuple[np.ndarray, Milling]:
+        """The schedule up to the year with whose end it is worth most: the last, unless years cost more than they earn."""
+        if not self.problem.costs_of_years(self.years).any():
+            return dug, milling
+
+        def until(year: int) -> tuple[np.ndarray, Milling]:
+            runs = np.arange(self.years) < year
+            return dug * runs, replace(milling, straight=milling.straight * runs, reclaimed=milling.reclaimed * runs)
+
+        return max((until(year) for year in range(self.years, -1, -1)), key=lambda pair: self.value(*pair))
 
     def dug_by_rule(self) -> Iterator[np.ndarray]:
         """What is dug in all years by rule, as if the mill took more than it does."""

@@ -74,6 +74,8 @@ def draw_gantt(schedule: YearlySchedule, way: str, ax: Axes) -> None:
     ax.spines["right"].set_visible(False)
     ax.set_title(f"{TITLES.get(way, way)}: NPV {money(schedule.value(way), schedule)}")
     name_benches(schedule, row, longest, ax)
+    if not shares.any():
+        ax.text(0.5, 0.5, "nothing is mined", transform=ax.transAxes, ha="center", va="center")
 
 
 def rows_of(schedule: YearlySchedule) -> np.ndarray:
@@ -118,7 +120,7 @@ def plot_tonnes(schedule: YearlySchedule, axes: Any) -> list[Axes]:
     metal = schedule.phases.plan.project.metals[0]
     size, sign = scaled(float(table["rock_tonnes"].max()))
     rights = [ax.twinx() for ax in found]
-    most = max(recovered(table, metal).max(), 0.0)
+    most = recovered(table, metal).max() if table["ore_tonnes"].any() else 0.0
     for left, right, way in zip(found, rights, schedule.shares):
         shown = table[table["case"] == way]
         draw_bars(left, shown, reclaimed_of(schedule, way), size)
@@ -127,15 +129,16 @@ def plot_tonnes(schedule: YearlySchedule, axes: Any) -> list[Axes]:
         right.plot(shown["year"], recovered(shown, metal), color=GRADE, marker="o", markersize=3.5, linewidth=1.4, label=f"{metal.name} recovered")
         right.set_ylim(0, 1.25 * most or 1.0)
         right.spines["top"].set_visible(False)
-    top = max(bar.get_y() + bar.get_height() for ax in found for bars in ax.containers for bar in bars)
+    top = max((bar.get_y() + bar.get_height() for ax in found for bars in ax.containers for bar in bars), default=0.0)
     near = [line.get_ydata().max() for line in found[0].lines if line.get_ydata().max() <= FAR_ABOVE * top]
     for ax in found:
         ax.set_ylim(0, MARGIN * max(top, *near, 0.0) or 1.0)
     what = "rock" if not schedule.milling else "rock and reclaimed ore"
     found[0].set_ylabel(f"{what} in the year, {sign}t")
     rights[-1].set_ylabel(f"{metal.name} recovered of the ore, {metal.sign}")
-    # The last way's bars name a stockpile where there is one.
-    drawn = [*found[-1].containers, *found[-1].lines, *rights[-1].lines]
+    # The bars of the last way that mines anything name a stockpile where there is one.
+    last = max((place for place, ax in enumerate(found) if ax.containers), default=-1)
+    drawn = [*found[last].containers, *found[last].lines, *rights[last].lines]
     names = [str(handle.get_label()) for handle in drawn]
     found[-1].figure.legend(drawn, names, ncol=len(names), loc="upper center", frameon=False)
     return found
@@ -154,7 +157,13 @@ def reclaimed_of(schedule: YearlySchedule, way: str) -> Optional[np.ndarray]:
 
 
 def draw_bars(ax: Axes, shown: pd.DataFrame, reclaimed: Optional[np.ndarray], size: float) -> None:
-    """Ore that is milled as it is dug, that from the stockpile, and what else is dug."""
+    """Ore that is milled as it is mined, that from the stockpile, and what else is mined; a sentence where nothing is."""
+    ax.set_xlabel("year")
+    if shown.empty:
+        ax.text(0.5, 0.5, "nothing is mined", transform=ax.transAxes, ha="center", va="center")
+        ax.set_xlim(0.4, 1.6)
+        ax.set_xticks([])
+        return
     from_stock = np.zeros(len(shown)) if reclaimed is None else reclaimed / size
     milled = shown["ore_tonnes"] / size
     rest = shown["rock_tonnes"] / size - (milled - from_stock)
@@ -165,7 +174,6 @@ def draw_bars(ax: Axes, shown: pd.DataFrame, reclaimed: Optional[np.ndarray], si
     ax.bar(shown["year"], rest, 0.8, bottom=milled, color=WASTE, label="waste" if reclaimed is None else "waste or stocked", linewidth=0)
     ax.xaxis.set_major_locator(MaxNLocator(integer=True))
     ax.set_xlim(0.4, float(shown["year"].max()) + 0.6)
-    ax.set_xlabel("year")
 
 
 def draw_limits(ax: Axes, schedule: YearlySchedule, count: int, unit: tuple[float, str]) -> None:

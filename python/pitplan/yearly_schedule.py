@@ -295,11 +295,13 @@ def notes(schedule: YearlySchedule) -> list[str]:
         found.append("WARNING: the integer programme found no schedule in its time")
     elif schedule.milp_bound is not None:
         found.append(f"upper bound of the integer programme, for the same schedules: {schedule.milp_bound:,.0f}")
-    for way, made in schedule.milling.items():
+    for way, made in [pair for pair in schedule.milling.items() if pair[1].cutoffs]:
         told = ", ".join("-" if worth is None else f"{worth:.2f}" for worth in made.cutoffs)
         found.append(f"{way} mills at once what a tonne of ore is worth in the mill from these amounts on, year by year: {told}")
     for way in schedule.shares:
         rock = schedule.left(way)
-        if rock > 0.5:
+        if not schedule.shares[way].any():
+            found.append(f"{way} mines nothing: at these prices and costs no schedule that it finds earns more than it spends")
+        elif rock > 0.5:
             found.append(f"{way} leaves {rock:,.0f} t of the phases undug")
     return found

@@ -293,3 +293,26 @@ def test_a_pit_without_ore_has_an_empty_schedule(plan_folder, capsys):
     assert capsys.readouterr().out.splitlines()[2].split()[:4] == ["0.00", "0.00", "0.00", "0"]
     folder = path.parent / "plan" / "block_schedule"
     assert (pd.read_csv(folder / "blocks.csv")["year"] == 0).all() and years_of(folder).empty
+
+
+@pytest.mark.parametrize(("change", "said"), [("ore_per_year = 99", "100 of ore_tonnes, and a year at most 99"), ("rock_per_year = 90", "100 of rock_tonnes, and a year at most 90")])
+def test_a_block_that_a_year_cannot_hold_is_refused(plan_folder, change, said):
+    """Each block has 100 t. It would never be mined whole, and what lies below it neither."""
+    text = YEARLY.replace("ore_per_year = 100", change) if "ore" in change else YEARLY.replace("rock_per_year = 200", change)
+    with pytest.raises(PlanError, match=rf"b\d-0-\d \(row \d\) holds {said}; by block each is mined in one year: give smaller blocks"):
+        scheduled(plan_folder, text=text)
+
+
+def test_both_notations_of_one_mine_have_the_same_value_and_bound(plan_folder):
+    """Of two blocks of ore with a limit on what lies in the mill's feed one goes to waste, whether the mill is named or not. The second
+    pillar's ore holds so much of it that the year takes none of the first then."""
+    table = pillars(as_ppm=lambda i, j, k: [10, 90, 20][i])
+    sums = '[[schedule.sums]]\ncolumn = "as_ppm"\na_tonne = true\nof = "ore"\nmost = 4000\n[schedule]\nyears = 3\n'
+    plain, folder = scheduled(plan_folder, sums, table=table)
+    named = YEARLY.replace("processing_cost = 10\n", "").replace("recovery = 0.5\n", "").replace("ore_per_year = 100\n", "")
+    named += '[[processes]]\nname = "mill"\ncost = 10\nper_year = 100\nrecovery = { copper = 0.5 }\n'
+    other, _ = scheduled(plan_folder, sums, text=named, table=table)
+    assert plain["value"] == pytest.approx(other["value"]) and plain["bound"] == pytest.approx(other["bound"])
+    # The ore of the second pillar holds 9,000 in 100 t: 4,000 of it go to the mill, and 1,400 + 1,000 for 0.444 of its ore do not pay.
+    blocks = pd.read_csv(folder / "blocks.csv").set_index("name")
+    assert blocks.loc["b1-0-0", "share_mill"] < 1

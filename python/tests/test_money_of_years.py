@@ -146,6 +146,16 @@ def test_a_mine_that_costs_more_than_it_earns_is_left():
     assert problem.value(linear_programme.diggable(optimum, problem)) == 0
 
 
+def test_bins_end_before_capital_that_does_not_pay(plan_folder, blank_pictures):
+    """Capital of year 4 is more than all ore that is left then: the mine ends with year 3, worth as much as where there are no more years."""
+    table = rows(5, 4, 3, cu=lambda i, j, k: [[0.5, 1.4, 0.9, 2.0, 0.7], [1.1, 0.4, 1.9, 0.8, 1.3]][(j + k) % 2][i])
+    changes = [("ore_per_year = 100", "ore_per_year = 900\nrock_per_year = 1200"), ("mining_cost = 2\n", "mining_cost = 2\ncapital = [[4, 200_000]]\n")]
+    text = "[pushbacks]\nfactors = [600, 1000]\n[schedule]\nyears = {}\nbins = 3\nstockpile = {{ rehandling_cost = 1 }}\n[shells]"
+    ended, short = (write_schedule(plan_folder(table, PROJECT, *changes, ("[shells]", text.format(years)))) for years in (7, 3))
+    found = ended.set_index("way").loc["lp"]
+    assert found["years"] == 3 and found["value"] >= short.set_index("way").loc["lp", "value"] * (1 - 1e-9)
+
+
 @pytest.mark.parametrize(("money", "best"), [(COSTS, 65), (replace(COSTS, premiums={"metal_copper": (0, 10)}), 87)])
 def test_a_schedule_of_bins_by_hand(money, best):
     """The ore of each bench is one bin, and digging costs nothing."""

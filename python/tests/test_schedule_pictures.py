@@ -161,3 +161,19 @@ def test_the_page_has_a_colour_a_year(solved):
 @pytest.mark.parametrize(("bound", "told"), [(1234.56789, 1234.568), (np.inf, None), (None, None)])
 def test_a_bound_is_told_to_a_thousandth_where_there_is_one(schedule, bound, told):
     assert yearly_schedule.record(replace(schedule, milp_bound=bound))["milp_bound"] == told
+
+
+@pytest.mark.parametrize("way", ["rule", "lp"])
+def test_a_way_that_mines_nothing_is_drawn_with_a_sentence(schedule, way):
+    """In any place; the other way keeps its bars, and the legend names them."""
+    empty = replace(schedule, shares=schedule.shares | {way: np.zeros((3, 0))})
+    place = list(empty.shares).index(way)
+    axes = pictures.plot_tonnes(empty, Figure().subplots(1, 2))
+    assert [text.get_text() for text in axes[place].texts] == ["nothing is mined"] and not axes[place].containers
+    assert len(axes[1 - place].containers) == 2
+    (legend,) = axes[0].figure.legends
+    assert [text.get_text() for text in legend.get_texts()][:2] == ["ore", "waste"]
+    axes = pictures.plot_gantt(empty, Figure().subplots(1, 2))
+    assert "nothing is mined" in [text.get_text() for text in axes[place].texts]
+    (note,) = [note for note in yearly_schedule.notes(empty) if "mines nothing" in note]
+    assert note.startswith(f"{way} mines nothing: at these prices and costs")

@@ -25,6 +25,8 @@ from .whole_values import upward
 # A schedule may take this part of the years more that its limits ask for.
 MORE_YEARS = 0.2
 WASTE, MILL = "waste", "mill"
+# Sums of floats may be above a limit by a hair.
+HAIR = 1e-9
 # How the names of sums of the table's columns begin.
 SUM = "sum_"
 # By block and destination.
@@ -59,6 +61,7 @@ def of_plan(plan: Plan) -> PlannedBlocks:
     pays, forced = pays_of(plan)[cells], np.isin(cells, plan.fixed.forced)
     flows = {name: amounts[cells] for name, amounts in flows.items()}
     pit = pit_of(best[cells], needs, forced)
+    demand_small(plan, cells[pit], {name: amounts[pit] for name, amounts in flows.items()}, limits)
     years = rules.years or years_of({name: amounts[pit].max(axis=1).sum() for name, amounts in flows.items()}, limits, project)
     above = [Limit(name, flows[name], most) for name, most in zip(limits.most, limits.of_years(years).T)]
     # What yields nothing there is not sent to a process for the sake of a least amount.
@@ -87,6 +90,19 @@ def pit_of(cash: NDArray[np.float64], needs: Needs, forced: NDArray[np.bool_]) -
     """The blocks of the pit of greatest worth that holds what is forced."""
     fixed = np.where(forced, pitshell.FORCED, pitshell.FREE).astype(np.uint8)
     return pitshell.solve(upward(cash).amounts, (needs.starts, needs.needed), fixed, millionths=True).in_pit
+
+
+def demand_small(plan: Plan, cells: NDArray[np.int64], flows: Flows, limits: Limits) -> None:
+    """Raises PlanError where a block holds more than a year may: it is mined in one year, so it never could be, or part of its ore would go
+    to waste."""
+    best = flows[CASH].argmax(axis=1)
+    for name, most in [pair for pair in limits.most.items() if pair[0].startswith((ORE, ROCK))]:
+        held = flows[name][np.arange(len(cells)), best]
+        if (held > most * (1 + HAIR)).any():
+            row = int(held.argmax())
+            why = f"{plan.called(int(cells[row]))} holds {held[row]:,.10g} of {name}, and a year at most {most:,.10g}"
+            remedy = "by block each is mined in one year: give smaller blocks or a greater limit, or schedule by phase"
+            raise PlanError(f"{plan.source}: {why}; {remedy}")
 
 
 def dues_of(forced: NDArray[np.bool_], destinations: int) -> tuple[Due, ...]:
