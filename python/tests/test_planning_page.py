@@ -85,7 +85,7 @@ def test_the_net_present_values_of_the_page_are_those_of_the_example():
 
 def test_the_phases_of_the_page_are_those_of_the_example():
     project = pitplan.load(EXAMPLE)
-    plan = pitplan.prepare(pitplan.phases.ending(replace(project, phases=PhaseRules(4, None, None, None))))
+    plan = pitplan.prepare(pitplan.phases.ending(replace(project, phases=PhaseRules(4, None, None, 1000))))
     table = pitplan.phases.table(pitplan.phases.divide(plan)).set_index("phase")
     rows = re.findall(r"^\| (\d) \| (\d+) \| (\d+) \| ([\d,.]+) \| ([\d,.]+) \| ([\d.]+) \| ([\d.]+) \| ([\d.]+) \|$", PAGE, re.MULTILINE)
     assert [int(row[0]) for row in rows] == table.index.tolist()
@@ -102,7 +102,7 @@ def test_the_schedule_of_the_page_is_that_of_the_example():
     plain, binned = (
         yearly_schedule.make(
             pitplan.phases.divide(
-                pitplan.prepare(pitplan.phases.ending(replace(project, phases=PhaseRules(4, None, None, None), schedule_rules=asked)))
+                pitplan.prepare(pitplan.phases.ending(replace(project, phases=PhaseRules(4, None, None, 1000), schedule_rules=asked)))
             )
         )
         for asked in (rules, replace(rules, bins=8, rehandling=1.0))
@@ -110,7 +110,7 @@ def test_the_schedule_of_the_page_is_that_of_the_example():
     ways = yearly_schedule.ways(plain).set_index("way")
     assert f"earn {ways['value']['rule'] / 1e6:.2f} M USD by rule in {ways['years']['rule']} years" in PAGE
     assert f"each phase {plain.lead} benches behind the one before" in PAGE and ways["value"]["lp"] == pytest.approx(ways["value"]["rule"])
-    assert f"No schedule of up to {plain.years} years earns more than {plain.optimum.bound / 1e6:.2f}, and" in PAGE
+    assert f"The upper bound over {plain.years} years is {plain.optimum.bound / 1e6:.2f}, and" in PAGE
     assert f"it finds one of {binned.value('lp') / 1e6:.2f}, below a bound of {binned.optimum.bound / 1e6:.2f}:" in PAGE
     milling = binned.milling["lp"]
     assert f"in year 2 it mills at once only ore of {milling.cutoffs[1]:.2f} USD a tonne or more" in PAGE
@@ -130,7 +130,7 @@ def test_the_widths_of_the_page_are_those_of_the_example():
         plan = pitplan.prepare(pitplan.phases.ending(replace(project, phases=PhaseRules(*rules))))
         return pitplan.phases.divide(plan)
 
-    shells, wide, four = divided(2, None, None, None), divided(2, None, None, None, 40, 40), divided(4, None, None, None, 40, 40)
+    shells, wide, four = divided(2, None, None, 1000), divided(2, None, None, 1000, 40, 40), divided(4, None, None, 1000, 40, 40)
     before, after, many = (pitplan.phases.table(it) for it in (shells, wide, four))
     (note,) = [note for note in wide.notes if "blocks are dug" in note]
     later, more = (int(re.search(rf"([\d,]+) {word}", note)[1]) for word in ("later", "besides"))
