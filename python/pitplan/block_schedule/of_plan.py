@@ -61,8 +61,9 @@ def of_plan(plan: Plan) -> PlannedBlocks:
     pays, forced = pays_of(plan)[cells], np.isin(cells, plan.fixed.forced)
     flows = {name: amounts[cells] for name, amounts in flows.items()}
     pit = pit_of(best[cells], needs, forced)
-    demand_small(plan, cells[pit], {name: amounts[pit] for name, amounts in flows.items()}, limits)
-    years = rules.years or years_of({name: amounts[pit].max(axis=1).sum() for name, amounts in flows.items()}, limits, project)
+    held = {name: amounts[pit, flows[CASH][pit].argmax(axis=1)] for name, amounts in flows.items()}
+    demand_small(plan, cells[pit], held, limits)
+    years = rules.years or years_of({name: amounts.sum() for name, amounts in held.items()}, limits, project)
     above = [Limit(name, flows[name], most) for name, most in zip(limits.most, limits.of_years(years).T)]
     # What yields nothing there is not sent to a process for the sake of a least amount.
     below = [
@@ -92,17 +93,15 @@ def pit_of(cash: NDArray[np.float64], needs: Needs, forced: NDArray[np.bool_]) -
     return pitshell.solve(upward(cash).amounts, (needs.starts, needs.needed), fixed, millionths=True).in_pit
 
 
-def demand_small(plan: Plan, cells: NDArray[np.int64], flows: Flows, limits: Limits) -> None:
-    """Raises PlanError where a block holds more than a year may: it is mined in one year, so it never could be, or part of its ore would go
-    to waste."""
-    best = flows[CASH].argmax(axis=1)
+def demand_small(plan: Plan, cells: NDArray[np.int64], held: dict[str, NDArray[np.float64]], limits: Limits) -> None:
+    """Raises PlanError where a cell holds more than a year may, where it goes to what is best for it: it is mined in one year, so it never
+    could be, or part of its ore would go to waste."""
     for name, most in [pair for pair in limits.most.items() if pair[0].startswith((ORE, ROCK))]:
-        held = flows[name][np.arange(len(cells)), best]
-        if (held > most * (1 + HAIR)).any():
-            row = int(held.argmax())
-            why = f"{plan.called(int(cells[row]))} holds {held[row]:,.10g} of {name}, and a year at most {most:,.10g}"
-            remedy = "by block each is mined in one year: give smaller blocks or a greater limit, or schedule by phase"
-            raise PlanError(f"{plan.source}: {why}; {remedy}")
+        if (held[name] > most * (1 + HAIR)).any():
+            row = int(held[name].argmax())
+            block = f"{plan.source}: {plan.called(int(cells[row]))} holds {held[name][row]:,.10g} of {name}, and a year at most {most:,.10g}"
+            why = "by block each is mined in one year: give smaller blocks or a greater limit, or schedule by phase"
+            raise PlanError(f"{plan.project.path}: {why}; {block}")
 
 
 def dues_of(forced: NDArray[np.bool_], destinations: int) -> tuple[Due, ...]:

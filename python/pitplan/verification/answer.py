@@ -264,8 +264,9 @@ def read(folder: Path, project: Optional[Project] = None, table: Optional[pd.Dat
 
 
 def shares_of(project: Project) -> list[str]:
-    """Of a schedule by block the columns of blocks.csv that say which share of a block goes to each of several processes."""
-    return [f"{SHARE}{process.name}" for process in project.processes]
+    """Of a schedule by block the columns of blocks.csv that say which share of a block goes to each process; of a project that names none to its
+    mill."""
+    return [f"{SHARE}{name}" for name in [process.name for process in project.processes] or ["mill"]]
 
 
 def said_of(project: Project) -> tuple[str, ...]:
