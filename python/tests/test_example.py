@@ -15,6 +15,7 @@ from conftest import ROOT
 
 import pitplan
 from pitplan import analyse, commands
+from pitplan.conventions import with_discounting
 
 EXAMPLE = ROOT / "examples" / "plan"
 
@@ -34,7 +35,8 @@ def test_the_program_s_own_text_is_the_expected_one():
 def test_the_table_of_shells_is_the_expected_one(solved_example):
     _, _, table = solved_example
     expected = pd.read_csv(EXAMPLE / "expected" / "shells.csv", dtype={"worth_at_factor": str})
-    pd.testing.assert_frame_equal(commands.shown(table), expected, check_dtype=False, rtol=1e-9)
+    written = with_discounting(commands.shown(table), pitplan.load(EXAMPLE / "project.toml"))
+    pd.testing.assert_frame_equal(written, expected, check_dtype=False, rtol=1e-9)
 
 
 def amounts_of(row, project, top):
