@@ -126,8 +126,8 @@ def scheduled(tmp_path_factory):
 
 
 ORE, YEARS, MINING = 200_000, 4, Decimal("2.4")
-# Cash flows evenly through a year, at 8 % a year.
-DISCOUNTS = [(1.08 ** (1 - year) - 1.08**-year) / math.log(1.08) for year in range(1, YEARS + 1)]
+# Cash of a year is discounted from its end, at 8 % a year.
+DISCOUNTS = [1.08**-year for year in range(1, YEARS + 1)]
 
 
 def worths(path, price):

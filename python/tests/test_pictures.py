@@ -261,7 +261,7 @@ SHELLS = pd.DataFrame(
     {
         "factor": [500, 1000, 1500],
         "tonnes": [20e6, 40e6, 60e6],
-        "ore_tonnes": [12e6, 15e6, 20e6],
+        "in_situ_ore_tonnes": [12e6, 15e6, 20e6],
         "waste_tonnes": [8e6, 25e6, 40e6],
         "worth": [100.0, 300.0, 200.0],
         "npv_best": [90.0, 250.0, 180.0],

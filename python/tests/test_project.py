@@ -217,7 +217,7 @@ def test_what_is_left_out(tmp_path):
     assert (money.mining_cost_per_level, money.mining_cost_reference, money.mining_cost_by_elevation) == (0, None, ())
     assert project.metals[0].selling_cost == 0
     assert (slopes.levels, slopes.never_steeper, slopes.walls[0].regions, slopes.walls[0].angles) == (None, False, None, ((0, 45),))
-    assert (schedule.chosen, schedule.rock_per_year, schedule.discounting) == (None, None, "continuous")
+    assert (schedule.chosen, schedule.rock_per_year, schedule.discounting) == (None, None, "end_of_year")
     assert (schedule.factors, schedule.reference_added) == ((1000,), False)
 
 

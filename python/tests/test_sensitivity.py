@@ -40,7 +40,7 @@ def small(plan_folder):
     """Writes the project with a section of its own; gives its path."""
 
     def write(words="", *changes):
-        text = PROJECT.replace("ore_per_year = 100", "ore_per_year = 100\nchosen = 1000")
+        text = PROJECT.replace("ore_per_year = 100", "ore_per_year = 100\nchosen = 1000\ndiscounting = \"continuous\"")
         return plan_folder(rows(5, 3, 1, **ORE), f"{text}\n[sensitivity]\n{words}\n", *changes)
 
     return write
@@ -151,7 +151,7 @@ def demand_as_written(path, other, number, changes):
 def test_recovery_by_grade_and_prices_of_years_vary(plan_folder, tmp_path, number, share, changes):
     by_grade = ("recovery = 0.5\n", "recovery = [[0.2, 0.4], [1.0, 0.9]]\nprices = [6000, 10000]\n")
     project = PROJECT + f'\n[sensitivity]\nby = [{share}]\nvary = ["{number}"]\n'
-    path = plan_folder(rows(9, 8, 4, **RICH), project, by_grade, ("ore_per_year = 100", "ore_per_year = 100\nchosen = 1000"))
+    path = plan_folder(rows(9, 8, 4, **RICH), project, by_grade, ("ore_per_year = 100", "ore_per_year = 100\nchosen = 1000\ndiscounting = \"continuous\""))
     demand_as_written(path, tmp_path / "other", number, changes)
 
 

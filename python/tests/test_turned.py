@@ -271,7 +271,7 @@ def test_surfaces_and_areas_are_the_planners(plan_folder, tmp_path):
 
 @pytest.mark.usefixtures("blank_pictures")
 def test_phases_widths_and_schedules_are_those_of_the_straight_model(plan_folder):
-    text = PROJECT + "[pushbacks]\ncount = 2\nwidth = 20\n[schedule]\nore_per_year = 100\nyears = 8\n"
+    text = PROJECT + "[pushbacks]\ncount = 2\nlast = 1000\nwidth = 20\n[schedule]\nore_per_year = 100\nyears = 8\n"
     ore = hill().assign(cu=lambda it: it["cu"] + 0.3 * (it["z"] < 40))
     tables = []
     for degrees in (0, -12.5):

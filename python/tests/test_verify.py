@@ -75,8 +75,9 @@ def test_what_is_right_is_told_rule_by_rule(answered, copied, capsys):
         "shells",
         "worth",
         "years",
+        "conventions",
     ]
-    assert len(answered[1]["verified"]) == 9
+    assert len(answered[1]["verified"]) == 10
     assert "no block of any shell leaves one standing" in (copied / "report.html").read_text()
 
 
@@ -319,7 +320,7 @@ def test_cost_by_elevation_is_looked_at(plan_folder, monkeypatch):
     """Levels with centres 5, 15, .., 45 m, of which the lowest and the highest lie beyond the elevations that are named."""
     change = ("mining_cost_per_level = 0.25", "mining_cost_by_elevation = [[10, 0.7], [20, 0.3], [40, 0.1]]")
     path = plan_folder(deposit(), TEXT, change)
-    assert [rule.differences for rule in looked_at(prepare(path))] == [()] * 9
+    assert [rule.differences for rule in looked_at(prepare(path))] == [()] * 10
     monkeypatch.setattr(money, "added_cost", lambda *_: Decimal(0))
     differences = {rule.name: rule.differences for rule in looked_at(prepare(path)) if rule.differences}
     # 99.7 t, of which each costs 0.7 more.
@@ -329,7 +330,7 @@ def test_cost_by_elevation_is_looked_at(plan_folder, monkeypatch):
 @pytest.mark.parametrize("discounting", ["continuous", "mid_year", "end_of_year"])
 def test_a_mine_in_which_nothing_pays_is_right(plan_folder, discounting):
     plan = prepare(plan_folder(rows(3, 3, 2), PROJECT, ("rate = 0.1", f'rate = 0.1\ndiscounting = "{discounting}"')))
-    assert [rule.differences for rule in looked_at(plan)] == [()] * 9
+    assert [rule.differences for rule in looked_at(plan)] == [()] * 10
 
 
 @pytest.mark.parametrize(("discounting", "npv"), [("continuous", -200), ("mid_year", -200 / 1.1**0.5), ("end_of_year", -200 / 1.1)])
@@ -338,16 +339,16 @@ def test_waste_that_takes_no_time_is_the_first_years(plan_folder, discounting, n
     changes = ("rate = 0.1", f'rate = 0.1\ndiscounting = "{discounting}"')
     table = rows(3, 3, 2, must=lambda i, j, k: int((i, j, k) == (1, 1, 1)))
     plan = prepare(plan_folder(table, PROJECT + '\n[fixed]\nforced = "must"\n', changes))
-    assert [rule.differences for rule in looked_at(plan)] == [()] * 9
+    assert [rule.differences for rule in looked_at(plan)] == [()] * 10
     shells = pd.read_csv(plan.project.folder / "shells.csv")
     assert shells["npv_best"].tolist() == shells["npv_worst"].tolist() == [pytest.approx(npv, abs=1e-3)] * 3
     plan = prepare(plan_folder(deposit(), TEXT, changes, ("rock_per_year = 1000\n", "")))
-    assert [rule.differences for rule in looked_at(plan)] == [()] * 9
+    assert [rule.differences for rule in looked_at(plan)] == [()] * 10
 
 
 def test_a_block_without_an_id_is_called_by_its_centre(plan_folder):
     plan = prepare(plan_folder(ore_everywhere().drop(columns="name"), PROJECT, ('id = "name"\n', "")))
-    assert [rule.differences for rule in looked_at(plan)] == [()] * 9
+    assert [rule.differences for rule in looked_at(plan)] == [()] * 10
     path = plan.project.folder / "blocks.csv"
     plus_one(pd.read_csv(path), "mining_cost").to_csv(path, index=False)
     (rule,) = [rule for rule in verify(plan.project.folder, plan.project) if rule.name == "money"]
@@ -371,7 +372,7 @@ def test_rows_without_rock_are_no_blocks_that_are_left_standing(plan_folder):
     """Ore below rock, and over it two levels of rows that hold nothing."""
     table = rows(9, 9, 5, tonnes=lambda i, j, k: 100 * (k < 3), cu=lambda i, j, k: 9 * ((i, j, k) == (4, 4, 0)))
     plan = prepare(plan_folder(table, PROJECT))
-    assert [rule.differences for rule in looked_at(plan)] == [()] * 9
+    assert [rule.differences for rule in looked_at(plan)] == [()] * 10
     blocks = pd.read_csv(plan.project.folder / "blocks.csv")
     assert (blocks.loc[blocks["tonnes"] == 0, "factor"] == 0).any() and (blocks["factor"] == 500).sum() > 13
 
@@ -416,7 +417,7 @@ def test_amounts_with_more_digits_than_floats_have_are_no_difference(plan_folder
         ("decimals = 2", f"decimals = {decimals}"),
     ]
     plan = prepare(plan_folder(deposit(), TEXT, *changes))
-    assert [rule.differences for rule in looked_at(plan)] == [()] * 9
+    assert [rule.differences for rule in looked_at(plan)] == [()] * 10
 
 
 @pytest.mark.parametrize(("more", "differs"), [("0.01", False), ("0.05", True)])
@@ -440,7 +441,7 @@ def test_capacity_that_is_caught_up_is_found(plan_folder, monkeypatch):
     def cumulative(amounts, settings_):
         ore, rock = np.cumsum(amounts[:, schedule.ORE]), np.cumsum(amounts[:, schedule.ROCK])
         ends = np.maximum(ore / settings_.ore_per_year, rock / settings_.rock_per_year)
-        return schedule.Course(amounts, ends, settings_.rate)
+        return schedule.Course(amounts, np.concatenate([[0.0], ends])[:, None])
 
     monkeypatch.setattr(schedule, "course_of", cumulative)
     assert "years: " in refused(plan_folder)
@@ -473,7 +474,7 @@ AREA = '[[fixed.areas]]\npolygon = "map.csv"\nbarred = '
 def test_areas_that_are_passed_over_are_found(plan_folder, tmp_path, monkeypatch, section, corners, first, count):
     pd.DataFrame(np.array(corners) + [600_000, 6_512_000], columns=["x", "y"]).to_csv(tmp_path / "map.csv", index=False)
     path = plan_folder(ore_everywhere(), PROJECT + "\n" + section)
-    assert [rule.differences for rule in looked_at(prepare(path))] == [()] * 9
+    assert [rule.differences for rule in looked_at(prepare(path))] == [()] * 10
     monkeypatch.setattr(fixed, "of_table", lambda *_: fixed.NOTHING)
     (rule,) = [rule for rule in looked_at(prepare(path)) if rule.differences]
     assert (rule.name, rule.count, len(rule.differences)) == ("fixed", count, min(count, 10))
@@ -487,7 +488,8 @@ def test_a_surface_that_is_passed_over_is_found(plan_folder, tmp_path, monkeypat
     path = plan_folder(ore_everywhere().assign(cu=0), PROJECT + '\n[fixed]\nsurface = "mined.csv"\n')
     plan = prepare(path)
     assert len(plan.fixed.forced) == 7 + 2 * 7
-    assert [rule.differences for rule in looked_at(plan)] == [()] * 9
+    # With the rule of the surface itself.
+    assert [rule.differences for rule in looked_at(plan)] == [()] * 11
     monkeypatch.setattr(fixed, "of_table", lambda *_: fixed.NOTHING)
     (rule,) = [rule for rule in looked_at(prepare(path)) if rule.differences]
     assert (rule.name, rule.count, len(rule.differences)) == ("fixed", 7 + 2 * 7, 10)
@@ -542,7 +544,7 @@ def test_random_plans_are_right(plan_folder, seed, cutoff, discounting, shovels)
         ("rock_per_year = 1000\n", shovels),
     ]
     plan = prepare(plan_folder(table, TEXT, *changes))
-    assert [rule.differences for rule in looked_at(plan)] == [()] * 9
+    assert [rule.differences for rule in looked_at(plan)] == [()] * 10
 
 
 @pytest.mark.parametrize("amounts", [[2**62] * 5, [-(2**62)] * 3 + [1], [2**32, 2**32 - 1, -1, -(2**32)], [], [10**30, -1]])

@@ -39,7 +39,7 @@ def absent_rule(path):
 
 def test_rock_of_cells_without_rows_is_that_of_the_project(plan_folder):
     path = plan_folder(holed(), PROJECT, ROCK)
-    assert [rule.differences for rule in looked_at(prepare(path))] == [()] * 9
+    assert [rule.differences for rule in looked_at(prepare(path))] == [()] * 10
     assert "is a block of 100 t of the project's rock" in absent_rule(path).holds
     assert prepare(path).blocks.query("name.str.startswith('absent')")["id"].tolist() == CELLS
 
@@ -119,7 +119,7 @@ def test_a_surface_that_is_not_laid_between_its_points_is_found(plan_folder, tmp
     and the lower, at 5 m, from x = 55 on."""
     path = surfaced(plan_folder, tmp_path, [(x, y, 20 - 0.3 * x) for x in (-90, 160) for y in (-70, 120)])
     assert fixed_rule(path).differences == ()
-    assert "with the rock above the surface as mined" in fixed_rule(path).holds
+    assert "with the blocks that are mined" in fixed_rule(path).holds
     monkeypatch.setattr(terrain, "heights", lambda triangles, grid: np.full(grid.per_level, 1000.0))
     rule = fixed_rule(path)
     assert (rule.count, rule.differences[0]) == (3 * 5 + 3 * 2, "block b5-0-0 must be dug, and is so from factor 0 on")
@@ -193,7 +193,7 @@ def pits(plan_folder):
     project = load(plan_folder(ores_and_fixed(), with_section(FIXED_SECTION)))
     commands.pit(project, 1500)
     verified = files.read_record(project.folder / "pit")["verified"]
-    assert [line.split(":")[0] for line in verified][-2:] == ["years", "free"]
+    assert [line.split(":")[0] for line in verified][-3:] == ["years", "conventions", "free"]
     return project.folder / "pit"
 
 
