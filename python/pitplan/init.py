@@ -14,6 +14,7 @@ import pandas as pd
 
 from .doubts import of_codes
 from .errors import PlanError
+from .fields import holds_texts
 from .files import staged_file
 from .guesses import PRECIOUS, Columns, MetalGuess, columns_of
 from .project import GridRules
@@ -81,7 +82,7 @@ def read(file: Path) -> Model:
 def numbers_where_all_are(frame: pd.DataFrame) -> pd.DataFrame:
     """The same with columns of numbers and empty fields as numbers."""
     result = frame.copy()
-    for name in frame.columns[frame.dtypes == object]:
+    for name in [name for name in frame.columns if holds_texts(frame[name])]:
         numbers = pd.to_numeric(frame[name], errors="coerce")
         if (numbers.notna() | (frame[name].astype(str).str.strip() == "")).all():
             result[name] = numbers

@@ -18,10 +18,10 @@ import pandas as pd
 from . import parquet
 from .errors import PlanError
 from .exact import Exact
+from .fields import HEADER_ROWS, at_row, holds_texts, numbers_of, without_truths
 from .project import Project, TableColumns
-from .table_format import NAMES, UNREADABLE, TableFormat, format_of, names_in_header, opened, unreadable, wrong_encoding
+from .table_format import NAMES, UNREADABLE, NulByte, TableFormat, WholeText, format_of, names_in_header, nul_byte, opened, unreadable, wrong_encoding
 
-HEADER_ROWS = 2
 # Tonnes that are computed are kept to a gram, halves to the even one.
 TONNES_PLACES = 6
 # Rows that are read at a time: the reader holds several times what it has read.
@@ -92,7 +92,7 @@ def notes_of(form: TableFormat, columns: TableColumns) -> list[str]:
 def has_decimal_commas(frame: pd.DataFrame, names: list[str]) -> bool:
     """Whether some column is no numbers as it stands, and numbers once its commas are points."""
     for name in names:
-        if name in frame and frame[name].dtype == object:
+        if name in frame and holds_texts(frame[name]):
             # A piece that was read as numbers has whole ones as 5.0 where a field is empty.
             texts = frame[name].dropna().map(lambda it: it if isinstance(it, str) else f"{it:.15g}").str.strip()
             texts = texts[texts != ""]
@@ -110,9 +110,9 @@ def read_columns(file: Path, form: TableFormat, codes: list[str], wanted: list[s
         with warnings.catch_warnings():
             # All columns are read, and a line with more fields than the header is an error: pandas would drop the rest.
             warnings.simplefilter("error", pd.errors.ParserWarning)
-            with opened(file) as data:
+            with opened(file) as data, WholeText(data, encoding=form.encoding, newline="") as text:
                 pieces = pd.read_csv(
-                    data,
+                    text,
                     sep=form.separator,
                     decimal=form.decimal,
                     index_col=False,
@@ -120,11 +120,12 @@ def read_columns(file: Path, form: TableFormat, codes: list[str], wanted: list[s
                     keep_default_na=False,
                     na_values={name: [""] for name in wanted if name not in codes},
                     float_precision="round_trip",
-                    encoding=form.encoding,
                     low_memory=False,
                     chunksize=PIECE,
                 )
-                return joined(list(pieces))
+                return joined([without_truths(piece) for piece in pieces])
+    except NulByte as error:
+        raise nul_byte(file, form) from error
     except UnicodeError as error:
         raise wrong_encoding(file, form.encoding) from error
     except (pd.errors.ParserError, pd.errors.EmptyDataError, pd.errors.ParserWarning) as error:
@@ -205,6 +206,7 @@ def checked(frame: pd.DataFrame, project: Project, source: str = "table") -> Tab
     for name in names_of(project):
         if name in codes:
             result[name] = stripped(frame[name])
+            demand_no_nul(result[name], source, name)
             continue
         may_fill = columns.empty == "zero" and name not in (columns.x, columns.y, columns.z)
         result[name], empty = filled_numbers(frame[name], source, name, may_fill)
@@ -220,9 +222,19 @@ def checked(frame: pd.DataFrame, project: Project, source: str = "table") -> Tab
 
 
 def stripped(codes: pd.Series) -> np.ndarray:
-    """Codes as texts without blanks at either end; by Python's own strip, since that of pandas takes several times as long."""
-    texts = codes if pd.api.types.infer_dtype(codes, skipna=False) == "string" else codes.astype(str)
-    return np.array(list(map(str.strip, texts.to_numpy())), dtype=object)
+    """Codes as texts without blanks at either end, empty where none is; by Python's own strip, since that of pandas takes several times as
+    long."""
+    if codes.isna().any() or pd.api.types.infer_dtype(codes, skipna=False) != "string":
+        # A missing one would be called nan, None or <NA>.
+        codes = codes.astype(object).where(codes.notna(), "").astype(str)
+    return np.array(list(map(str.strip, codes.to_numpy(dtype=object))), dtype=object)
+
+
+def demand_no_nul(codes: pd.Series, source: str, name: str) -> None:
+    """Raises PlanError where a code holds a NUL byte, at which it would end where the answer is read."""
+    if "\0" in "".join(codes):
+        row = next(row for row, code in enumerate(codes) if "\0" in code)
+        raise at_row(source, row, name, "holds a NUL byte, which no text has")
 
 
 def filled_numbers(column: pd.Series, source: str, name: str, may_fill: bool) -> tuple[np.ndarray, int]:
@@ -243,21 +255,6 @@ def demand_codes(frame: pd.DataFrame, project: Project, source: str) -> None:
             empty = ((frame[name] == "") & (frame[columns.tonnes] > 0)).to_numpy()
             if empty.any():
                 raise at_row(source, int(empty.argmax()), name, "is empty")
-
-
-def numbers_of(column: pd.Series, source: str, name: str) -> np.ndarray:
-    """float64, nan where the field is empty."""
-    numbers = pd.to_numeric(column, errors="coerce").to_numpy(dtype=np.float64)
-    texts = column.astype(str).str.strip() if column.dtype == object else None
-    if texts is not None:
-        bad = np.isnan(numbers) & ~column.isna().to_numpy() & (texts != "").to_numpy()
-        if bad.any():
-            row = int(bad.argmax())
-            raise at_row(source, row, name, f'"{texts.iloc[row]}" is not a number')
-    infinite = np.isinf(numbers)
-    if infinite.any():
-        raise at_row(source, int(infinite.argmax()), name, "is infinite")
-    return numbers
 
 
 def tonnes_by_density(frame: pd.DataFrame, project: Project) -> np.ndarray:
@@ -303,8 +300,3 @@ def called(frame: pd.DataFrame, project: Project, row: int) -> str:
         x, y, z = (f"{frame[axis].iloc[row]:.10g}" for axis in (project.table.x, project.table.y, project.table.z))
         return f"the block at {x}, {y}, {z}"
     return f"block {frame[name].iloc[row]} (row {place})" if name else f"the block of row {place}"
-
-
-def at_row(source: str, row: int, column: str, why: str) -> PlanError:
-    """`row` counts the blocks from 0."""
-    return PlanError(f"{source} row {row + HEADER_ROWS} column {column}: {why}")

@@ -12,7 +12,7 @@ from collections.abc import Iterator
 from contextlib import contextmanager
 from dataclasses import dataclass
 from pathlib import Path
-from typing import IO
+from typing import IO, Optional
 
 from .errors import PlanError
 from .parquet import is_parquet
@@ -62,6 +62,31 @@ def first_line(file: Path, encoding: str) -> str:
         raise wrong_encoding(file, encoding) from error
     except UNREADABLE as error:
         raise unreadable(file, error) from error
+
+
+class WholeText(io.TextIOWrapper):
+    """A table's text. Raises NulByte where it holds one, at which pandas would end the field without a word."""
+
+    def read(self, size: Optional[int] = -1, /) -> str:
+        piece = super().read(size)
+        if "\0" in piece:
+            raise NulByte
+        return piece
+
+
+class NulByte(Exception):
+    """A text holds a NUL byte."""
+
+
+def nul_byte(file: Path, form: TableFormat) -> PlanError:
+    """Names the row and the column of the first NUL byte of a table."""
+    remedy = 'export it again as text, or name its encoding by [table] encoding, such as "utf-16"'
+    with opened(file) as data, io.TextIOWrapper(data, encoding=form.encoding) as text:
+        row, line = next(((number, line) for number, line in enumerate(text, 1) if "\0" in line), (1, ""))
+    number = len(next(csv.reader([line.partition("\0")[0]], delimiter=form.separator), [""]))
+    names = names_in_header(file, form) if row > 1 else []
+    column = f" column {names[number - 1]}" if number <= len(names) else ""
+    return PlanError(f"{file} row {row}{column}: holds a NUL byte, which no text has: {remedy}")
 
 
 @contextmanager

@@ -8,7 +8,7 @@ from pathlib import Path
 import pandas as pd
 
 from ..errors import PlanError
-from ..table import at_row
+from ..fields import at_row, is_numeric
 
 # How the names of columns begin that are empty where there is no such amount: a ratio to no ore, a width of nothing, a bound that was not
 # sought, what is of other cases alone.
@@ -33,9 +33,9 @@ def demand_numbers(frame: pd.DataFrame, source: str, texts: Iterable[str]) -> No
     """Raises PlanError as `read_table` does."""
     for name in frame.columns.difference([*texts], sort=False):
         column = frame[name]
-        if column.dtype != object and not column.isna().any():
+        if is_numeric(column) and not column.isna().any():
             continue
-        lacking = pd.to_numeric(column, errors="coerce").isna()
+        lacking = pd.to_numeric(column.astype(str), errors="coerce").isna()
         if name.startswith(MAY_LACK):
             lacking &= column.notna()
         if lacking.any():

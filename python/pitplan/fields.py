@@ -1,0 +1,67 @@
+"""The fields of a table's columns as numbers, whatever pandas makes of a column that holds a text."""
+
+from __future__ import annotations
+
+import numpy as np
+import pandas as pd
+from pandas.api import types
+
+from .errors import PlanError
+
+HEADER_ROWS = 2
+# Kinds of fields among which are no truths, dates and the like.
+PLAIN = ("string", "empty", "integer", "floating", "mixed-integer-float", "decimal")
+NO_NUMBERS = (bool, np.bool_, complex, np.complexfloating)
+WRITTEN_AS = "True and False are no numbers: write 1 and 0"
+
+
+def at_row(source: str, row: int, column: str, why: str) -> PlanError:
+    """`row` counts the blocks from 0."""
+    return PlanError(f"{source} row {row + HEADER_ROWS} column {column}: {why}")
+
+
+def is_numeric(column: pd.Series) -> bool:
+    """Whether pandas holds each field as a number or as missing. Truths are no numbers."""
+    dtype = column.dtype
+    return types.is_numeric_dtype(dtype) and not types.is_bool_dtype(dtype) and not types.is_complex_dtype(dtype)
+
+
+def holds_texts(column: pd.Series) -> bool:
+    """Whether pandas holds the fields as texts or as objects, by whatever name of a dtype."""
+    return not is_numeric(column) and not types.is_bool_dtype(column.dtype)
+
+
+def without_truths(frame: pd.DataFrame) -> pd.DataFrame:
+    """A frame that was read, whose columns of True and False are texts again: a table has no such fields."""
+    for name in frame.columns[frame.dtypes == bool]:
+        frame[name] = frame[name].astype(str)
+    return frame
+
+
+def numbers_of(column: pd.Series, source: str, name: str) -> np.ndarray:
+    """float64, nan where the field is empty. Raises PlanError, by the row, where a field is no number or is infinite."""
+    if not is_numeric(column):
+        numbers = numbers_of_fields(column.astype(object), source, name)
+    elif isinstance(column.dtype, np.dtype):
+        numbers = column.to_numpy(dtype=np.float64)
+    else:
+        numbers = column.to_numpy(dtype=np.float64, na_value=np.nan)
+    infinite = np.isinf(numbers)
+    if infinite.any():
+        raise at_row(source, int(infinite.argmax()), name, "is infinite")
+    return numbers
+
+
+def numbers_of_fields(fields: pd.Series, source: str, name: str) -> np.ndarray:
+    """As `numbers_of`, of fields that may be anything."""
+    texts = fields.astype(str).str.strip()
+    is_other = np.zeros(len(fields), dtype=bool)
+    if types.infer_dtype(fields, skipna=True) not in PLAIN:
+        is_other = np.array([isinstance(field, NO_NUMBERS) for field in fields], dtype=bool)
+    numbers = pd.to_numeric(fields.where(~is_other), errors="coerce").to_numpy(dtype=np.float64)
+    bad = is_other | (np.isnan(numbers) & ~fields.isna().to_numpy() & (texts != "").to_numpy())
+    if bad.any():
+        row = int(bad.argmax())
+        remedy = f" ({WRITTEN_AS})" if texts.iloc[row].lower() in ("true", "false") else ""
+        raise at_row(source, row, name, f'"{texts.iloc[row]}" is not a number{remedy}')
+    return numbers
