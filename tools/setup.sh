@@ -22,6 +22,7 @@ python3-pulp          tests    the test of a bound by another solver
 coinor-cbc            tests    the same: that solver
 python3-dask          tests    pitplan scenarios --on local, or on a cluster
 python3-distributed   tests    the same
+parallel              tests    the test of pitplan scenarios --on parallel
 python3-pytest        tests    make test
 python3-pytest-xdist  tests    make test-plan, as many processes as processors
 python3-hypothesis    tests    the same: properties

@@ -44,7 +44,8 @@ echo "hashes: yes"
 printf 'pitshell check: '
 "$program" check --model {model} --prec {prec} --certificate {certificate}{fixed}
 printf 'check_certificate.py: '
-"${{PYTHON:-python3}}" check_certificate.py {model} {prec} {certificate}{fixed}
+# As python -P, which Python before 3.11 does not know: no module is taken from this folder.
+PYTHONSAFEPATH=1 "${{PYTHON:-python3}}" check_certificate.py {model} {prec} {certificate}{fixed}
 """
 
 

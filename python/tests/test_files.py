@@ -104,6 +104,8 @@ def test_an_audit_is_confirmed_by_the_program_and_by_the_short_checker(solved, f
     _, folder = solved
     target = commands.audit(folder, factor, silent)
     environment = {**os.environ, "PITSHELL": str(run.program()), "PYTHON": sys.executable}
+    # No module is taken from the folder that is checked.
+    (target / "argparse.py").write_text("raise SystemExit('a module of the folder was run')\n")
     ran = subprocess.run(["sh", str(target / "check.sh")], capture_output=True, text=True, env=environment, check=True)
     assert ran.stdout.split("\n") == ["hashes: yes", "pitshell check: yes", "check_certificate.py: yes", ""]
     record = json.loads((target / "audit.json").read_text())

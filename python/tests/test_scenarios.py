@@ -529,7 +529,7 @@ def test_a_broken_folder_of_scenarios_is_named(plan_folder, tmp_path):
 
 def test_a_folder_of_jobs_whose_name_no_script_can_hold_is_refused(plan_folder, tmp_path):
     shared = prepared(plan_folder(pillar(), COLUMNS))
-    with pytest.raises(PlanError, match="may not have a line's end or a % in its name"):
+    with pytest.raises(PlanError, match="may not have a line's end, a % or a backslash in its name"):
         job_lists.write("slurm", tmp_path / "50 %", shared.scenarios, shared.solver)
 
 

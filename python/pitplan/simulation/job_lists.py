@@ -2,6 +2,10 @@
 
 Both run `scenario.sh NUMBER`. It ends with the status of `pitplan scenario`: 0 to 5 are final, and any other means that
 the program or its process was killed, so that the scenario is tried again.
+
+A folder may have any name that the scheduler's own patterns leave alone. The scripts quote it for the one shell that reads them. GNU
+parallel hands its words to a second shell, so the folder reaches that one by the environment alone. Python is run with -P, without which
+it would take its modules from the folder where the script was started.
 """
 
 from __future__ import annotations
@@ -32,7 +36,7 @@ MOST_TASKS = 1000
 ONE = """#!/bin/sh
 # Solves one scenario of this folder, by its number.
 # 0: its answer stands. 1 to 4: the solver's own status. 5: pitplan refused. Others: killed, to be tried again.
-{variable}={solver} PYTHONPATH={packages} exec {python} -m pitplan scenario {folder} "$1"
+{variable}={solver} PYTHONPATH={packages} exec {python} -P -m pitplan scenario {folder} "$1"
 """
 
 SLURM = """#!/bin/sh
@@ -42,7 +46,7 @@ SLURM = """#!/bin/sh
 #SBATCH --cpus-per-task=1
 #SBATCH --requeue
 #SBATCH --open-mode=append
-#SBATCH --output={folder_plain}/slurm-%a.log
+#SBATCH --output={slurm_log}
 # Of the {count} lines of {jobs} a task takes that of its own number and each {tasks}th after it. A node that dies gives its
 # tasks back to Slurm (--requeue); a task of which a program was killed gives itself back, {tries} times at most.
 status=0
@@ -63,8 +67,8 @@ exit "$status"
 SLURM_GATHER = """#!/bin/sh
 #SBATCH --job-name=pitplan-gather
 #SBATCH --ntasks=1
-#SBATCH --output={folder_plain}/gather.log
-PYTHONPATH={packages} exec {python} -m pitplan gather {folder}
+#SBATCH --output={gather_log}
+PYTHONPATH={packages} exec {python} -P -m pitplan gather {folder}
 """
 
 SLURM_START = """#!/bin/sh
@@ -78,15 +82,17 @@ PARALLEL = """#!/bin/sh
 # Solves the scenarios of {jobs}, as many at once as there are processors; options of GNU parallel may follow, such as
 # --jobs 8 or --sshloginfile FILE. Run again, it does those alone that {log} does not name as done.
 set -u
+PITPLAN_SCENARIO={script}
+export PITPLAN_SCENARIO
 try() {{
-    parallel --joblog {log} --resume-failed "$@" sh {script} {{}} :::: {jobs}
+    parallel -q --env PITPLAN_SCENARIO --joblog {log} --resume-failed "$@" sh -c 'exec sh "$PITPLAN_SCENARIO" "$1"' - {{}} :::: {jobs}
 }}
 for round in $(seq {tries}); do
     try "$@"
     # Columns 7 and 8 are the exit status and the signal. Statuses 1 to 5 would come again.
     awk 'NR > 1 {{ ends[$1] = $7 > 5 || $8 > 0 }} END {{ for (job in ends) killed += ends[job]; exit killed > 0 }}' {log} && break
 done
-PYTHONPATH={packages} exec {python} -m pitplan gather {folder}
+PYTHONPATH={packages} exec {python} -P -m pitplan gather {folder}
 """
 
 
@@ -94,8 +100,7 @@ def write(kind: str, folder: Path, scenarios: list[Scenario], solver: Solver) ->
     """Writes the scripts of `slurm` or `parallel`; gives the one to start. Raises PlanError where there is nothing to do
     or a name would not stand in a script."""
     folder = folder.resolve()
-    if any(sign in str(folder) for sign in "\n%"):
-        raise PlanError(f"{folder}: a folder of jobs may not have a line's end or a % in its name")
+    demand_writable(kind, str(folder))
     words = words_of(folder, len(scenarios), solver)
     texts = {JOBS: "".join(f"{scenario.number}\n" for scenario in scenarios), SCRIPT: ONE.format(**words)}
     if kind == "slurm":
@@ -113,8 +118,24 @@ def write(kind: str, folder: Path, scenarios: list[Scenario], solver: Solver) ->
     return folder / START
 
 
+def demand_writable(kind: str, folder: str) -> None:
+    """Raises PlanError where a script cannot name the folder, or Slurm would take a sign of it for one of its own patterns."""
+    if "\n" in folder or (kind == "slurm" and any(sign in folder for sign in "%\\")):
+        others = ", a % or a backslash" if kind == "slurm" else ""
+        raise PlanError(f"{folder!r}: a folder of jobs may not have a line's end{others} in its name: name another by --out")
+    try:
+        folder.encode()
+    except UnicodeEncodeError as error:
+        raise PlanError(f"{folder!r}: a folder of jobs must have a name in UTF-8: name another by --out") from error
+
+
+def slurm_word(text: str) -> str:
+    """A word of an #SBATCH line, in double quotes, within which Slurm takes a backslash as quoting the next sign."""
+    return '"' + text.replace("\\", "\\\\").replace('"', '\\"') + '"'
+
+
 def words_of(folder: Path, count: int, solver: Solver) -> dict[str, object]:
-    """What the scripts are filled with: paths, quoted for the shell."""
+    """What the scripts are filled with: paths, quoted for the shell, and those of Slurm's lines for Slurm."""
     variable, file = solvers.place_of(solver)
     paths = {
         "python": Path(sys.executable),
@@ -128,4 +149,5 @@ def words_of(folder: Path, count: int, solver: Solver) -> dict[str, object]:
         "gather": folder / GATHER,
     }
     quoted: dict[str, object] = {name: shlex.quote(str(path)) for name, path in paths.items()}
-    return {**quoted, "variable": variable, "count": count, "tasks": min(count, MOST_TASKS), "tries": TRIES, "folder_plain": str(folder)}
+    logs = {"slurm_log": slurm_word(f"{folder}/slurm-%a.log"), "gather_log": slurm_word(f"{folder}/gather.log")}
+    return {**quoted, **logs, "variable": variable, "count": count, "tasks": min(count, MOST_TASKS), "tries": TRIES}

@@ -3,7 +3,7 @@
 #
 #     python/tests/cluster/parallel.sh [MODELS]
 #
-# Needs the Debian package parallel.
+# Needs the Debian package parallel, which tools/setup.sh tests installs.
 . "$(dirname "$0")/common.sh"
 models=${1:-8}
 make_mine "$models" 26 22 15
