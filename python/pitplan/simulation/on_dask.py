@@ -22,6 +22,8 @@ PACKAGE = "python3-distributed"
 RETRIES = 2
 # A worker that is lost takes its tasks' count of deaths up by one; from here on a task is held to be the cause.
 DEATHS = 5
+# What listens on it can be reached from this machine alone.
+LOOPBACK = "127.0.0.1"
 
 
 class Killed(Exception):
@@ -64,9 +66,10 @@ def run(where: Where, folder: Path, scenarios: list[Scenario], progress: Progres
 def client_of(distributed: Any, where: Where) -> Any:
     load("dask", "python3-dask", "scenarios over Dask").config.set({"distributed.scheduler.allowed-failures": DEATHS})
     if where.address == "local":
-        # No dashboard: nothing is to be seen from outside, and a port may be taken.
-        cluster = {"n_workers": where.processes, "threads_per_worker": 1, "dashboard_address": None}
-        return distributed.Client(processes=True, **cluster)
+        cluster = {"n_workers": where.processes, "threads_per_worker": 1, "host": LOOPBACK}
+        # Left out, or None, a dashboard is an HTTP server on all addresses of the machine.
+        pages = {"dashboard_address": f"{LOOPBACK}:0", "worker_dashboard_address": f"{LOOPBACK}:0"}
+        return distributed.Client(processes=True, **cluster, **pages)
     try:
         return distributed.Client(where.address, timeout="10s")
     except (OSError, ValueError) as error:

@@ -16,7 +16,7 @@ dask-scheduler --host 127.0.0.1 --port 8798 --no-dashboard --dashboard-address 1
 started="$started $!"
 wait_for 30 grep -q "Scheduler at" "$work/scheduler.log"
 for name in first second; do
-    dask-worker "$address" --host 127.0.0.1 --name "$name" --nthreads 1 --no-nanny --no-dashboard \
+    dask-worker "$address" --host 127.0.0.1 --name "$name" --nthreads 1 --no-nanny --dashboard-address 127.0.0.1:0 \
         --local-directory "$work" > "$work/$name.log" 2>&1 &
     started="$started $!"
     victim=$!
