@@ -254,7 +254,7 @@ def prepare(
     with progress.step("weighing the blocks"):
         plan = plan_of(project, model.frame, model.grid, walls, model.source)
     plan.filled, plan.summary, plan.left_out, plan.read = checked.filled, summary, whole.known - model.known, read
-    plan.notes = [*checked.notes, *cut, *dropped, *notes_of(plan), *warnings]
+    plan.notes = [*checked.notes, *cut, *dropped, *notes_of(plan), *checked.warned, *warnings]
     return plan
 
 

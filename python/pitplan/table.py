@@ -15,7 +15,7 @@ from typing import Optional
 import numpy as np
 import pandas as pd
 
-from . import parquet
+from . import formulas, parquet
 from .errors import PlanError
 from .exact import Exact
 from .fields import HEADER_ROWS, at_row, holds_texts, numbers_of, without_truths
@@ -37,6 +37,7 @@ class Table:
     filled  how many empty fields were taken as 0
     notes   what was told of the text by looking at it
     unused  columns that the project does not name
+    warned  what spreadsheets may take for formulas
     """
 
     frame: pd.DataFrame
@@ -44,6 +45,7 @@ class Table:
     filled: int
     notes: tuple[str, ...] = ()
     unused: tuple[str, ...] = ()
+    warned: tuple[str, ...] = ()
 
 
 def read(project: Project) -> Table:
@@ -218,7 +220,7 @@ def checked(frame: pd.DataFrame, project: Project, source: str = "table") -> Tab
         raise PlanError(f"{source} column {columns.tonnes}: all are 0, so there is no rock")
     demand_codes(result, project, source)
     unused = tuple(str(name) for name in frame.columns if name not in names_of(project))
-    return Table(result, source, filled, unused=unused)
+    return Table(result, source, filled, unused=unused, warned=tuple(formulas.warnings_of(frame, codes, source)))
 
 
 def stripped(codes: pd.Series) -> np.ndarray:

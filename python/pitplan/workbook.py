@@ -31,6 +31,9 @@ def write(path: Path, sheets: dict[str, pd.DataFrame]) -> None:
         sheet.append(list(table.columns))
         for row in table.itertuples(index=False):
             sheet.append([cell(value) for value in row])
+        for text in (it for row in sheet.iter_rows() for it in row if isinstance(it.value, str)):
+            # openpyxl takes a text that begins with = for a formula, and one such as #N/A for an error.
+            text.data_type = "s"
         for number, column in enumerate(table.columns, 1):
             letter = sheet.cell(1, number).column_letter
             sheet.column_dimensions[letter].width = min(WIDEST, max(12, len(column) + 2))

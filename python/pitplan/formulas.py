@@ -1,0 +1,52 @@
+"""Texts of the planner's table that a spreadsheet may take for formulas, since they begin with =, +, - or @."""
+
+from __future__ import annotations
+
+from collections.abc import Iterator, Sequence
+from itertools import chain
+
+import pandas as pd
+
+from .fields import HEADER_ROWS, holds_texts
+
+SIGNS = frozenset("=+-@")
+# Of a longer text the beginning is shown.
+MOST_SHOWN = 40
+
+
+def warnings_of(frame: pd.DataFrame, codes: Sequence[str], source: str) -> list[str]:
+    """One warning that names the first such text by its row and column, and counts the others; none where there is no such text.
+
+    Among the columns that are no codes a number written as a text is none: a spreadsheet reads it as the same number.
+    """
+    found = list(chain.from_iterable(in_column(frame.iloc[:, place], codes) for place in range(frame.shape[1])))
+    if not found:
+        return []
+    row, column, text = min(found, key=lambda it: it[0])
+    shown = text if len(text) <= MOST_SHOWN else f"{text[:MOST_SHOWN]}.."
+    more = f", as {len(found) - 1:,} other texts do" if len(found) > 1 else ""
+    kept = "CSV files keep it, and a spreadsheet that opens them may compute it; workbooks have it as text"
+    return [f"WARNING: {source} row {row} column {column!r}: {shown!r} begins with =, +, - or @{more}: {kept}"]
+
+
+def in_column(column: pd.Series, codes: Sequence[str]) -> Iterator[tuple[int, str, str]]:
+    """The row, the column's name and the text of each, the header being row 1."""
+    name = str(column.name)
+    if name[:1] in SIGNS:
+        yield 1, name, name
+    if not holds_texts(column):
+        return
+    fields = column.tolist()
+    if SIGNS.isdisjoint({field[:1] for field in fields if isinstance(field, str)}):
+        return
+    for row, field in enumerate(fields, HEADER_ROWS):
+        if isinstance(field, str) and field[:1] in SIGNS and (column.name in codes or not is_number(field)):
+            yield row, name, field
+
+
+def is_number(text: str) -> bool:
+    try:
+        float(text.replace(",", "."))
+    except ValueError:
+        return False
+    return True
