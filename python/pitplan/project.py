@@ -3,12 +3,12 @@
 from __future__ import annotations
 
 import codecs
-import tomllib
 from dataclasses import dataclass, replace
 from decimal import Decimal
 from pathlib import Path
 from typing import Optional, Union
 
+from . import toml_text
 from .errors import PlanError
 from .fixed_rules import FixedRules, read_fixed
 from .haulage_rules import Haulage, read_haulage
@@ -16,7 +16,7 @@ from .money_rules import ByRegion, Metal, Money, Process, read_metal, read_money
 from .phase_rules import PhaseRules, read_phases
 from .picture_rules import PictureRules, read_pictures
 from .schedule_rules import ScheduleRules, read_schedule_rules
-from .section import Section
+from .section import Section, cut, shown
 from .sensitivity_rules import SensitivityRules, read_sensitivity
 from .survey_rules import SurveyFile, read_survey
 from .wall_rules import Slopes, read_slopes
@@ -178,15 +178,7 @@ def load(path: Union[str, Path], original: Optional[Path] = None) -> Project:
     Raises PlanError, with the file, the section and the key, where something is missing or wrong.
     """
     path = Path(path)
-    try:
-        data = tomllib.loads(path.read_text(encoding="utf-8-sig"), parse_float=Decimal)
-    except OSError as error:
-        raise PlanError(f"{path}: cannot be read: {error.strerror}") from error
-    except UnicodeDecodeError as error:
-        raise PlanError(f"{path}: is not written in UTF-8: save it so") from error
-    except tomllib.TOMLDecodeError as error:
-        raise PlanError(f"{path}: {error}") from error
-    return of_data(data, original or path)
+    return of_data(toml_text.read(path), original or path)
 
 
 def of_data(data: dict, path: Path) -> Project:
@@ -333,7 +325,7 @@ def read_table(section: Section, folder: Path) -> TableColumns:
         id=section.optional_text("id"),
         rock=section.optional_text("rock"),
         region=section.optional_text("region"),
-        separator=section.optional_text("separator"),
+        separator=read_separator(section),
         decimal=section.choice("decimal", (".", ","), None) if section.has("decimal") else None,
         encoding=read_encoding(section),
         empty=section.choice("empty", ("refuse", "zero"), "refuse"),
@@ -357,9 +349,19 @@ def read_encoding(section: Section) -> str:
     name = section.text("encoding", "utf-8")
     try:
         known = codecs.lookup(name).name
-    except LookupError as error:
-        raise section.wrong("encoding", f'"{name}" is no encoding: such are utf-8, cp1252 and utf-16') from error
+        # Codecs such as base64 and rot13 are known too, and are none of texts.
+        "".encode(known)
+    except (LookupError, ValueError) as error:
+        raise section.wrong("encoding", f'"{cut(name)}" is no encoding: such are utf-8, cp1252 and utf-16') from error
     return "utf-8-sig" if known == "utf-8" else known
+
+
+def read_separator(section: Section) -> Optional[str]:
+    """One sign of ASCII that is no part of a number or a name."""
+    sign = section.optional_text("separator")
+    if sign is not None and (len(sign) != 1 or not sign.isascii() or sign.isalnum() or sign in '".+-_' or not (sign.isprintable() or sign == "\t")):
+        raise section.wrong("separator", f'{shown(sign)} parts no fields: give one sign, such as ",", ";", "|" or "\\t"')
+    return sign
 
 
 def read_absent(section: Section) -> Union[str, AbsentRock]:

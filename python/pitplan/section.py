@@ -7,12 +7,27 @@ from decimal import Decimal
 from typing import Any, Optional, Union
 
 from .errors import PlanError
+from .toml_text import LEAST_POWER, Absurd
 
 Number = Union[int, Decimal]
 # Greater than any amount that a mine has.
 GREATEST = 10**18
 # Farther than any place on the ground, in metres along an axis of any system of coordinates.
 FARTHEST = 10**9
+# Letters of a value that an error shows.
+MOST_SHOWN = 80
+
+
+def shown(value: Any) -> str:
+    """A value as the file has it, cut if it is long."""
+    if isinstance(value, int) and abs(value) > GREATEST**3:
+        return f"a whole number of more than {len(str(GREATEST**3)) - 1} digits"
+    # Decimals and dates without the words of Python around them.
+    return cut(repr(value) if isinstance(value, (bool, str, list, dict)) else str(value))
+
+
+def cut(text: str) -> str:
+    return text if len(text) <= MOST_SHOWN else f"{text[:MOST_SHOWN]}.."
 
 
 class Section:
@@ -63,6 +78,8 @@ class Section:
         value = self.get(key)
         if not isinstance(value, str) or not value:
             raise self.wrong(key, "must be a text in quotes")
+        if "\0" in value:
+            raise self.wrong(key, f"{shown(value)} has a NUL byte, which no name has")
         return value
 
     def optional_text(self, key: str) -> Optional[str]:
@@ -71,7 +88,7 @@ class Section:
     def choice(self, key: str, options: tuple[str, ...], default: Optional[str]) -> str:
         value = self.text(key, default)
         if value not in options:
-            raise self.wrong(key, f'"{value}" is none of {", ".join(options)}')
+            raise self.wrong(key, f'"{cut(value)}" is none of {", ".join(options)}')
         return value
 
     def truth(self, key: str, default: bool) -> bool:
@@ -89,13 +106,14 @@ class Section:
         return value
 
     def as_number(self, key: str, value: Any) -> Decimal:
-        if isinstance(value, bool) or not isinstance(value, (int, Decimal)) or not Decimal(value).is_finite():
-            # Decimals and dates as they stand in the file.
-            shown = repr(value) if isinstance(value, (bool, str, list, dict)) else str(value)
-            raise self.wrong(key, f"{shown} is not a number")
-        if abs(value) > GREATEST:
-            raise self.wrong(key, f"{value} is beyond 10^18")
-        return Decimal(value)
+        if isinstance(value, Absurd):
+            raise self.wrong(key, f"{value!r} is no amount: amounts end at 10^18 and have at most {-LEAST_POWER} decimals")
+        is_number = value.is_finite() if isinstance(value, Decimal) else isinstance(value, int) and not isinstance(value, bool)
+        if not is_number:
+            raise self.wrong(key, f"{shown(value)} is not a number")
+        if not -GREATEST <= value <= GREATEST:
+            raise self.wrong(key, f"{shown(value)} is beyond 10^18")
+        return Decimal(value) if value else Decimal(0)
 
     def as_coordinate(self, key: str, value: Any) -> Decimal:
         """A place along an axis, in metres."""
@@ -145,6 +163,8 @@ class Section:
         items = value if isinstance(value, list) else [value]
         if not items or any(isinstance(item, bool) or not isinstance(item, (str, int)) for item in items):
             raise self.wrong(key, "must be a code or a list of codes")
+        if any(item == "" or "\0" in str(item) for item in items):
+            raise self.wrong(key, "a code may not be empty, nor have a NUL byte")
         return tuple(str(item) for item in items)
 
     def by_rock(self, key: str, most: Optional[int] = None) -> Union[Decimal, dict[str, Decimal]]:
@@ -180,8 +200,8 @@ class Section:
 
     def no_factor(self, item: Any, most: int) -> str:
         """Why an item is no factor; of a share of the price, such as 0.3, what it is in per mille."""
+        said = f"{shown(item)} is not a whole number of per mille from 0 to {most:,}"
         if not isinstance(item, (int, Decimal)) or isinstance(item, bool):
-            return f"{item!r} is not a whole number of per mille from 0 to {most:,}"
-        said = f"{item} is not a whole number of per mille from 0 to {most:,}"
+            return said
         is_share = Decimal(item).is_finite() and 0 < item < 100 and 1000 * item % 1 == 0
         return f"{said}: 1000 is the price as given, and {1000 * item:.0f} is {item} of it" if is_share else said

@@ -5,7 +5,6 @@ from __future__ import annotations
 
 import json
 import math
-import tomllib
 from collections.abc import Iterator
 from dataclasses import dataclass, replace
 from decimal import Decimal
@@ -16,6 +15,7 @@ from typing import Any, Optional
 import numpy as np
 import pandas as pd
 
+from .. import toml_text
 from ..errors import PlanError
 from ..project import Project, load, of_data
 from . import absent, depletion, fixed, haulage, money, sums, walls, years
@@ -240,7 +240,7 @@ def is_given(project: Project, name: str) -> bool:
 
 
 def text_of(path: Path) -> Data:
-    return tomllib.loads(path.read_text(encoding="utf-8-sig"), parse_float=Decimal)
+    return toml_text.read(path)
 
 
 def changed(project: Project, changes: tuple[tuple[str, Decimal], ...]) -> Project:
