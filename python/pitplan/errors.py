@@ -1,10 +1,24 @@
 """What the planner's layer answers where it cannot go on: one sentence that a person can act on."""
 
+import re
+from collections.abc import Sequence
 from typing import Optional
+
+# Whatever ends a line, by str.splitlines.
+LINE_ENDS = re.compile("[\n\r\v\f\x1c\x1d\x1e\x85\u2028\u2029]")
+
+
+def on_one_line(text: str) -> str:
+    """A sentence on one line, though a name in it has a line's end, which is shown as Python writes it."""
+    return LINE_ENDS.sub(lambda end: end[0].encode("unicode_escape").decode(), text)
 
 
 class PlanError(Exception):
-    """Input that cannot be planned with. Its text names the file, and where it can the row and the column."""
+    """Input that cannot be planned with. Its text is one line that names the file, and where it can the row and the column; `details` follow,
+    a line each."""
+
+    def __init__(self, text: str, details: Sequence[str] = ()) -> None:
+        super().__init__("\n  ".join(map(on_one_line, (text, *details))))
 
 
 class MissingPackage(PlanError):

@@ -7,6 +7,8 @@ import time
 from contextlib import contextmanager, suppress
 from typing import Iterable, Iterator, Optional, TextIO
 
+from .errors import on_one_line
+
 
 class Progress:
     """Tells each step when it begins and when it ends; with no stream it tells nothing. The line of a step that has others within it is ended
@@ -18,7 +20,7 @@ class Progress:
 
     @contextmanager
     def step(self, what: str) -> Iterator[None]:
-        began = time.perf_counter()
+        began, what = time.perf_counter(), on_one_line(what)
         self.say(("\n" if self.is_open else "") + f"{what} ..", end="")
         self.is_open = True
         try:
@@ -32,7 +34,7 @@ class Progress:
 
     def lines(self, lines: Iterable[str]) -> None:
         for line in lines:
-            self.say(line)
+            self.say(on_one_line(line))
 
     def say(self, words: str, end: str = "\n") -> None:
         if self.stream is not None:

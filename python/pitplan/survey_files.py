@@ -6,6 +6,8 @@ transformed.
 
 from __future__ import annotations
 
+from collections.abc import Iterator
+from contextlib import contextmanager
 from dataclasses import dataclass
 from pathlib import Path
 
@@ -14,6 +16,7 @@ import numpy as np
 from . import survey_dxf, survey_gdal, survey_strings
 from .errors import PlanError
 from .survey_layers import Layer, chosen, named
+from .section import FARTHEST
 from .survey_rules import SurveyFile
 from .table import at_row, demand_columns, numbers_of, read_columns
 from .table_format import TableFormat, guessed_separator
@@ -62,7 +65,8 @@ def topography(file: SurveyFile, around: Box) -> Topography:
     if ending in TABLES:
         return demand_points(Topography(numbers_in(file.path, ("x", "y", "z")), NO_FACES), file)
     if ending in survey_gdal.RASTERS:
-        points, faces = survey_gdal.raster(file.path, around)
+        with reading(file.path):
+            points, faces = survey_gdal.raster(file.path, around)
         return demand_points(Topography(points, faces, (told(file, f"{len(points):,} cells of the raster"),)), file)
     layers, notes = layers_of(file)
     if any(layer.faces for layer in named(layers, file).values()):
@@ -71,9 +75,11 @@ def topography(file: SurveyFile, around: Box) -> Topography:
         points, faces = np.unique(corners.reshape(-1, 3), axis=0, return_inverse=True)
         # Drawings often have a face twice.
         faces = np.unique(np.sort(faces.reshape(-1, 3), axis=1), axis=0)
+        demand_near(points, file.path)
         return Topography(points, faces, (told(file, f"{len(faces):,} triangles of {in_layers(some)}"), *notes))
     some = chosen(layers, file, "points", HEIGHTS)
     points = np.concatenate([part for layer in some.values() for part in layer.points])
+    demand_near(points, file.path)
     return Topography(points, NO_FACES, (told(file, f"{len(points):,} points of {in_layers(some)}"), *notes))
 
 
@@ -83,10 +89,13 @@ def areas(file: SurveyFile) -> Areas:
         corners = numbers_in(file.path, ("x", "y"))
         if len(corners) < 3:
             raise PlanError(f"{file.path}: a polygon has three corners or more")
+        demand_near(corners, file.path)
         return Areas([[corners]])
     layers, notes = layers_of(file)
     some = chosen(layers, file, "polygons", CLOSED)
     polygons = [polygon for layer in some.values() for polygon in layer.polygons]
+    for ring in (ring for polygon in polygons for ring in polygon):
+        demand_near(ring, file.path)
     count = sum(number for layer in some.values() for kind, number in layer.kinds.items() if kind.endswith("(open)"))
     passed = [f"WARNING: {file.path}: {count:,} open lines of {in_layers(some)} are passed over: close them"] if count else []
     return Areas(polygons, (told(file, f"{len(polygons):,} polygons of {in_layers(some)}"), *notes, *passed))
@@ -109,19 +118,45 @@ def ending_of(file: SurveyFile, by_gdal: tuple[str, ...]) -> str:
 def layers_of(file: SurveyFile) -> tuple[dict[str, Layer], list[str]]:
     """The layers of a drawing, of strings or of a map, and notes."""
     ending = file.path.suffix.lower()
-    if ending == DRAWING:
-        return survey_dxf.layers_of(file)
-    return (survey_strings.layers_of(file.path) if ending == STRINGS else survey_gdal.layers_of(file)), []
+    with reading(file.path):
+        if ending == DRAWING:
+            return survey_dxf.layers_of(file)
+        return (survey_strings.layers_of(file.path) if ending == STRINGS else survey_gdal.layers_of(file)), []
+
+
+@contextmanager
+def reading(path: Path) -> Iterator[None]:
+    """Raises PlanError in the place of whatever a reader of others raises in the middle of a file that is cut short or bent."""
+    try:
+        yield
+    except (PlanError, MemoryError):
+        raise
+    except Exception as error:
+        said = " ".join(f"{type(error).__name__} {error}".split())
+        raise PlanError(f"{path}: cannot be read to its end by {reader_of(path)} ({said}): it is cut short or bent: export it again") from error
+
+
+def demand_near(places: np.ndarray, path: Path) -> None:
+    """Raises PlanError where a place is none on the ground."""
+    far = ~(np.abs(places) <= FARTHEST).all(axis=1)
+    if far.any():
+        place = ", ".join(f"{number:g}" for number in places[int(far.argmax())])
+        raise PlanError(f"{path}: has a point at {place}: expected metres, none beyond {FARTHEST:,}: export it again")
 
 
 def demand_points(found: Topography, file: SurveyFile) -> Topography:
     if not len(found.points):
         raise PlanError(f"{file.path}: has no heights, or none where the model lies")
+    demand_near(found.points, file.path)
     return found
 
 
 def told(file: SurveyFile, what: str) -> str:
-    return f"{file.path}: {what} were read by {READERS.get(file.path.suffix.lower(), 'GDAL')}; no coordinates are transformed"
+    return f"{file.path}: {what} were read by {reader_of(file.path)}; no coordinates are transformed"
+
+
+def reader_of(path: Path) -> str:
+    return READERS.get(path.suffix.lower(), "GDAL")
 
 
 def in_layers(layers: dict[str, Layer]) -> str:

@@ -20,6 +20,7 @@ from .errors import PlanError
 from .exact import Exact
 from .fields import HEADER_ROWS, at_row, holds_texts, numbers_of, without_truths
 from .project import Project, TableColumns
+from .section import FARTHEST
 from .table_format import NAMES, UNREADABLE, NulByte, TableFormat, WholeText, format_of, names_in_header, nul_byte, opened, unreadable, wrong_encoding
 
 # Tonnes that are computed are kept to a gram, halves to the even one.
@@ -213,6 +214,7 @@ def checked(frame: pd.DataFrame, project: Project, source: str = "table") -> Tab
         may_fill = columns.empty == "zero" and name not in (columns.x, columns.y, columns.z)
         result[name], empty = filled_numbers(frame[name], source, name, may_fill)
         filled += empty
+    demand_near(result, project, source)
     demand_not_negative(result, project, source)
     if columns.density:
         result[columns.tonnes] = tonnes_by_density(result, project)
@@ -267,6 +269,15 @@ def tonnes_by_density(frame: pd.DataFrame, project: Project) -> np.ndarray:
     else:
         volume = Exact.of(prod(Decimal(repr(float(side))) for side in project.grid.size or ()), len(frame))
     return Exact(density.times(volume).rounded(TONNES_PLACES)[0], TONNES_PLACES).floats()
+
+
+def demand_near(frame: pd.DataFrame, project: Project, source: str) -> None:
+    """Raises PlanError where a centre lies where no ground is."""
+    for name in (project.table.x, project.table.y, project.table.z):
+        far = np.abs(frame[name].to_numpy()) > FARTHEST
+        if far.any():
+            row = int(far.argmax())
+            raise at_row(source, row, name, f"{frame[name].iloc[row]:g} is no coordinate in metres: it is beyond {FARTHEST:,}")
 
 
 def demand_not_negative(frame: pd.DataFrame, project: Project, source: str) -> None:

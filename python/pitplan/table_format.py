@@ -5,6 +5,7 @@ from __future__ import annotations
 import csv
 import gzip
 import io
+import lzma
 import re
 import zipfile
 import zlib
@@ -21,7 +22,9 @@ from .project import TableColumns
 SEPARATORS = (",", ";", "\t", "|")
 NAMES = {",": "commas", ";": "semicolons", "\t": "tabs", "|": "bars"}
 # What a packed or plain file raises that cannot be read.
-UNREADABLE = (OSError, EOFError, zipfile.BadZipFile, zlib.error)
+UNREADABLE = (OSError, EOFError, zipfile.BadZipFile, zlib.error, lzma.LZMAError)
+# Of the flags of a packed file that which says that it is locked.
+LOCKED = 1
 # How files begin that Excel writes, new and old.
 PACKED = (b"PK\x03\x04", b"\xd0\xcf\x11\xe0")
 QUOTED = re.compile(r'"[^"]*"')
@@ -51,7 +54,10 @@ def guessed_separator(file: Path, encoding: str) -> str:
 
 def names_in_header(file: Path, form: TableFormat) -> list[str]:
     """The names of the columns, as they stand there."""
-    return next(csv.reader([first_line(file, form.encoding)], delimiter=form.separator), [])
+    try:
+        return next(csv.reader([first_line(file, form.encoding)], delimiter=form.separator), [])
+    except csv.Error as error:
+        raise PlanError(f"{file} row 1: is no header of a table: {error}") from error
 
 
 def first_line(file: Path, encoding: str) -> str:
@@ -83,7 +89,8 @@ def nul_byte(file: Path, form: TableFormat) -> PlanError:
     remedy = 'export it again as text, or name its encoding by [table] encoding, such as "utf-16"'
     with opened(file) as data, io.TextIOWrapper(data, encoding=form.encoding) as text:
         row, line = next(((number, line) for number, line in enumerate(text, 1) if "\0" in line), (1, ""))
-    number = len(next(csv.reader([line.partition("\0")[0]], delimiter=form.separator), [""]))
+    # As many fields as begin before it; a quote that is open may hold the separator.
+    number = max(1, len(next(csv.reader([line.partition("\0")[0]], delimiter=form.separator), [])))
     names = names_in_header(file, form) if row > 1 else []
     column = f" column {names[number - 1]}" if number <= len(names) else ""
     return PlanError(f"{file} row {row}{column}: holds a NUL byte, which no text has: {remedy}")
@@ -97,17 +104,26 @@ def opened(file: Path) -> Iterator[IO[bytes]]:
         with gzip.open(file) as data:
             yield data
     elif file.suffix == ".zip":
-        with zipfile.ZipFile(file) as packed:
-            names = [name for name in packed.namelist() if not name.endswith("/")]
-            if len(names) != 1:
-                raise PlanError(f"{file}: packs {len(names)} files, and must pack one table")
-            with packed.open(names[0]) as data:
-                yield data
+        with zipfile.ZipFile(file) as packed, unpacked(file, packed) as data:
+            yield data
     else:
         with open(file, "rb") as data:
             if data.peek()[: len(PACKED[0])] in PACKED:
                 raise PlanError(f"{file}: is a workbook or another packed file: save the sheet, or what it packs, as CSV")
             yield data
+
+
+def unpacked(file: Path, packed: zipfile.ZipFile) -> IO[bytes]:
+    """The one file that is packed. Raises PlanError where there are several or none, or where it cannot be unpacked here."""
+    there = [member for member in packed.infolist() if not member.is_dir()]
+    if len(there) != 1:
+        raise PlanError(f"{file}: packs {len(there)} files, and must pack one table")
+    if there[0].flag_bits & LOCKED:
+        raise PlanError(f"{file}: is locked by a password: unpack it, and name the table that it packs")
+    try:
+        return packed.open(there[0])
+    except NotImplementedError as error:
+        raise PlanError(f"{file}: is packed in a way that is not read here ({error}): pack it by deflate, or unpack it") from error
 
 
 def demand_text(file: Path, purpose: str) -> None:

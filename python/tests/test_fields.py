@@ -30,7 +30,7 @@ def text_with(row, column, field):
 
 @pytest.mark.parametrize(
     ("column", "field"),
-    [("tonnes", "159\x0000"), ("cu", "0\x00.668"), ("rock", "O\x00X"), ("name", "B\x00-1"), ("x", "25\x00"), ("cu", "\x00"), ("region", "1\x00")],
+    [("tonnes", "159\x0000"), ("cu", "0\x00.668"), ("rock", "O\x00X"), ("name", "B\x00-1"), ("x", "25\x00"), ("cu", "\x00"), ("name", "\x00b"), ("region", "1\x00")],
 )
 def test_a_nul_byte_in_a_field_is_named_by_row_and_column(plan_folder, column, field):
     path = plan_folder(text_with(5, column, field))

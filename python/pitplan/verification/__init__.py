@@ -108,4 +108,4 @@ def demand(rules: list[Rule]) -> None:
     if told:
         count = sum(rule.count for rule in rules)
         places = "1 place" if count == 1 else f"{count:,} places"
-        raise PlanError("\n  ".join([f"what was written is not right in {places}:", *told[:TOLD]]))
+        raise PlanError(f"what was written is not right in {places}:", told[:TOLD])
