@@ -16,7 +16,7 @@ from typing import Any
 import numpy as np
 import pandas as pd
 
-from . import analyse, files, mine, solver, table as tables
+from . import analyse, files, kept_arrays, mine, solver, table as tables
 from .errors import PlanError
 from .packages import load
 from .plan import Plan, prepare
@@ -134,7 +134,7 @@ def solve(project: Project, folder: Path, where: on_dask.Where | None, progress:
     paths = {case: folder / CASES / f"{keys[case]}.npz" for case in cases}
     if not paths[Case()].is_file():
         answer(Case(), asked, paths[Case()])
-    asked = replace(asked, as_given=read(paths[Case()]))
+    asked = replace(asked, as_given=read(paths[Case()], plan.grid.count))
     missing = {case: path for case, path in paths.items() if not path.is_file()}
     if where is None:
         for number, (case, path) in enumerate(missing.items(), 1):
@@ -142,7 +142,7 @@ def solve(project: Project, folder: Path, where: on_dask.Where | None, progress:
                 answer(case, asked, path)
     elif missing:
         over_dask(missing, asked, where, progress)
-    return Sensitivity(asked.project, plan, factor, {case: read(path) for case, path in paths.items()}, keys, found_by)
+    return Sensitivity(asked.project, plan, factor, {case: read(path, plan.grid.count) for case, path in paths.items()}, keys, found_by)
 
 
 def answer(case: Case, asked: Asked, path: Path) -> None:
@@ -195,19 +195,26 @@ def of_last(table: pd.DataFrame) -> dict[str, Any]:
 
 
 def write(path: Path, found: Found) -> None:
+    """Keeps an answer under the name that is its key."""
     numbers = {name: float(amount) for name, amount in found.row.items() if name != "worth_at_factor"}
-    with files.staged_file(path) as place, open(place, "wb") as file:
-        texts = {"worth_at_factor": f"{found.row['worth_at_factor']:f}", "walls": json.dumps(found.walls)}
-        skin = {} if found.skin is None else {"skin": found.skin.cells, "skin_factor": found.skin.factor}
-        np.savez_compressed(file, entry=found.entry, names=list(numbers), amounts=list(numbers.values()), **texts, **skin)
+    texts = {"worth_at_factor": f"{found.row['worth_at_factor']:f}", "walls": json.dumps(found.walls)}
+    skin = {} if found.skin is None else {"skin": found.skin.cells, "skin_factor": found.skin.factor}
+    with files.staged_file(path) as place:
+        kept_arrays.write(place, path.stem, entry=found.entry, names=list(numbers), amounts=list(numbers.values()), **texts, **skin)
 
 
-def read(path: Path) -> Found:
-    with np.load(path, allow_pickle=False) as said:
+def read(path: Path, cells: int) -> Found:
+    """The answer of a case on a grid with this number of cells. Raises PlanError if the file is none."""
+    try:
+        said = kept_arrays.read(path, path.stem)
         row: dict[str, Any] = dict(zip(said["names"].tolist(), said["amounts"].tolist()))
         row |= {name: int(row[name]) for name in ("factor", *WHOLE)}
         skin = Skin(int(said["skin_factor"]), said["skin"]) if "skin" in said else None
+        if said["entry"].shape != (cells,):
+            raise kept_arrays.NoAnswer("it holds other blocks")
         return Found(row | {"worth_at_factor": str(said["worth_at_factor"])}, said["entry"], json.loads(str(said["walls"])), skin)
+    except (OSError, ValueError, KeyError, TypeError) as error:
+        raise PlanError(f"{path}: is no answer: remove it, and run pitplan sensitivity again: {error}") from error
 
 
 def table(found: Sensitivity) -> pd.DataFrame:

@@ -136,8 +136,10 @@ def test_a_fixed_block_that_is_not_kept_is_found(copied, column, year):
 
 
 def test_the_schedule_of_another_scenario_is_found(copied):
-    """That of the same model at other prices."""
-    shutil.copyfile(answer_of(copied, 2), answer_of(copied, 1))
+    """That of the same model at other prices, under the key of the one."""
+    with np.load(answer_of(copied, 2)) as answer:
+        arrays = {**answer, "key": answer_of(copied, 1).stem}
+    np.savez_compressed(answer_of(copied, 1), **arrays)
     assert "block value" in wrong(copied)
 
 

@@ -126,8 +126,10 @@ def test_a_block_that_comes_in_at_no_factor_is_found(copied, capsys):
 
 @pytest.mark.parametrize(("one", "other"), [(1, 2), (1, 3), (4, 6)])
 def test_the_answer_of_another_scenario_is_found(copied, one, other):
-    """That of the same model at other prices, and that of another model at the same prices."""
-    shutil.copyfile(answer_of(copied, other), answer_of(copied, one))
+    """That of the same model at other prices, and that of another model at the same prices, under the key of the one."""
+    with np.load(answer_of(copied, other)) as answer:
+        arrays = {**answer, "key": answer_of(copied, one).stem}
+    np.savez_compressed(answer_of(copied, one), **arrays)
     assert main(["gather", str(copied), "--quiet", "--no-verify"]) == 0
     assert "worth" in wrong(copied)
 

@@ -10,7 +10,7 @@ from typing import Any
 import numpy as np
 from numpy.typing import NDArray
 
-from .. import absent, solver
+from .. import absent, kept_arrays, solver
 from ..block_schedule import Scheduled, solve
 from ..errors import PlanError
 from ..files import staged_file
@@ -51,8 +51,8 @@ def write_answer(shared: Shared, job: Scenario) -> None:
     absent.demand_known(made.entry, shared.grid, shared.project, shared.project.table.file.name)
     row = made.row | {"seconds": time.perf_counter() - began}
     year, share = made.by_row
-    with staged_file(shared.answer(job)) as path, open(path, "wb") as file:
-        np.savez_compressed(file, year=year, share=share, names=list(row), amounts=list(row.values()))
+    with staged_file(shared.answer(job)) as path:
+        kept_arrays.write(path, job.key, year=year, share=share, names=list(row), amounts=list(row.values()))
 
 
 @dataclass(frozen=True)
@@ -125,12 +125,13 @@ def read_answer(shared: Shared, job: Scenario) -> Kept:
     """Raises PlanError where the answer cannot be read, or is of other blocks."""
     path = shared.answer(job)
     try:
-        with np.load(path, allow_pickle=False) as kept:
-            row = dict(zip(kept["names"].tolist(), kept["amounts"].tolist()))
-            year, share = kept["year"].astype(np.int64), kept["share"]
-        if year.shape != (len(shared.frame),) or share.shape != year.shape or year.max(initial=0) > shared.record["years"]:
-            raise ValueError("it tells of other blocks or years")
+        kept = kept_arrays.read(path, job.key)
+        row = dict(zip(kept["names"].tolist(), kept["amounts"].tolist()))
+        year, share = kept["year"].astype(np.int64), kept["share"]
+        is_of_these = year.shape == share.shape == (len(shared.frame),) and 0 <= year.min(initial=0) <= year.max(initial=0) <= shared.record["years"]
+        if not is_of_these:
+            raise kept_arrays.NoAnswer("it holds other blocks or years")
         row |= {name: int(row[name]) for name in WHOLE}
-    except (OSError, ValueError, KeyError, EOFError) as error:
+    except (OSError, ValueError, KeyError, TypeError) as error:
         raise PlanError(f"{path}: is no answer: remove it, and run pitplan scenarios again: {error}") from error
     return Kept(year, share, row)

@@ -42,6 +42,8 @@ RECORD, PROJECT, BASE = "scenarios.json", "project.toml", "base.npz"
 STARTS, NEEDS = "starts.npy", "needs.npy"
 DIGGABLE, MEAN = "diggable.npz", "mean.npz"
 MODELS, DONE, FAILED = "models", "done", "failed"
+# Of the files of answers: since 2 they hold their own key.
+FORM = 2
 # The sources of what searches for schedules.
 SEARCH = Path(__file__).parents[1] / "block_schedule"
 # What is found of each scenario: its pits, or a schedule of its blocks.
@@ -129,7 +131,15 @@ class Shared:
         return [job for job in self.jobs if not self.answer(job).is_file()]
 
     def grades(self, scenario: Scenario) -> np.ndarray:
-        return np.load(self.folder / MODELS / f"{scenario.grades}.npy", allow_pickle=False)
+        """Raises PlanError where the file is not the one that was written."""
+        path = self.folder / MODELS / f"{scenario.grades}.npy"
+        try:
+            grades: np.ndarray = np.load(path, allow_pickle=False)
+        except (OSError, EOFError, ValueError, SyntaxError) as error:
+            raise PlanError(f"{path}: cannot be read as grades: remove it, and run pitplan scenarios again: {error}") from error
+        if hash_of_arrays({"grades": grades}) != scenario.grades:
+            raise PlanError(f"{path}: has changed since it was written: remove it, and run pitplan scenarios again")
+        return grades
 
 
 def demand_same_kind(folder: Path, by: str) -> None:
@@ -164,8 +174,8 @@ def read_shared(folder: Path) -> Shared:
 
 
 def key_of(parts: dict[str, Any]) -> str:
-    """A name for an answer, told by all that it depends on."""
-    return hashlib.sha256(json.dumps(parts, sort_keys=True, default=repr).encode()).hexdigest()[:20]
+    """The name of an answer: a hash of all that it depends on, and of the form in which answers are kept."""
+    return hashlib.sha256(json.dumps({"form": FORM, **parts}, sort_keys=True, default=repr).encode()).hexdigest()[:20]
 
 
 def referred(project: Project, reference: float) -> Project:

@@ -11,7 +11,7 @@ from pathlib import Path
 
 import numpy as np
 
-from .. import absent, analyse, files, library, mine, money, run, solver
+from .. import absent, analyse, files, kept_arrays, library, mine, money, run, solver
 from ..errors import PlanError, ProgramError
 from ..files import staged_file
 from ..packages import by_library
@@ -123,7 +123,7 @@ def write_answer(shared: Shared, scenario: Scenario) -> None:
     factors = np.array(plan.project.schedule.factors)
     entry = cells.factor[plan.grid.rows]
     texts = {"worth_at_factor": np.array([f"{worth:f}" for worth in solution.worth], dtype=str)}
-    with staged_file(shared.answer(scenario)) as path, open(path, "wb") as file:
+    with staged_file(shared.answer(scenario)) as path:
         # The place of a block's least factor in the list, from 1; 0: in no pit.
         places = np.where(entry > 0, np.searchsorted(factors, entry) + 1, 0).astype(np.uint16)
-        np.savez_compressed(file, places=places, columns=table.columns.to_numpy().astype(str), table=table, **texts)
+        kept_arrays.write(path, scenario.key, places=places, columns=table.columns.to_numpy().astype(str), table=table, **texts)

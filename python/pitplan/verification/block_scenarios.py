@@ -18,6 +18,8 @@ from typing import Any, Optional
 import numpy as np
 import pandas as pd
 
+from .. import kept_arrays
+from ..errors import PlanError
 from . import absent, fixed, walls
 from .answer import TOLD, Answer, Rule, rule
 from .best_ore import most_earned
@@ -57,9 +59,12 @@ class Kept:
 
     @staticmethod
     def of(file: Path) -> Kept:
-        with np.load(file, allow_pickle=False) as said:
+        try:
+            said = kept_arrays.read(file, file.stem)
             row = dict(zip(said["names"].tolist(), said["amounts"].tolist()))
             return Kept(said["year"].astype(np.int64), said["share"], row)
+        except (ValueError, KeyError, TypeError) as error:
+            raise PlanError(f"{file}: is no answer: run pitplan scenarios again: {error}") from error
 
 
 @dataclass(frozen=True)

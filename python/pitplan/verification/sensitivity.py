@@ -15,7 +15,7 @@ from typing import Any, Optional
 import numpy as np
 import pandas as pd
 
-from .. import toml_text
+from .. import kept_arrays, toml_text
 from ..errors import PlanError
 from ..project import Project, load, of_data
 from . import absent, depletion, fixed, haulage, money, sums, walls, years
@@ -205,9 +205,13 @@ def joined(name: str, holds: str, found: list[Rule]) -> Rule:
 
 def cases_in(folder: Path, record: Data) -> Iterator[Case]:
     for entry in record["cases"]:
-        with np.load(folder / "cases" / f"{entry['key']}.npz", allow_pickle=False) as said:
-            skin = said["skin"] if "skin" in said else None
-            yield Case(tuple((name, Decimal(share)) for name, share in entry["changes"]), said["entry"], entry["walls"], skin)
+        path = folder / "cases" / f"{entry['key']}.npz"
+        try:
+            said = kept_arrays.read(path, entry["key"])
+            case = Case(tuple((name, Decimal(share)) for name, share in entry["changes"]), said["entry"], entry["walls"], said.get("skin"))
+        except (ValueError, KeyError, TypeError) as error:
+            raise PlanError(f"{path}: is no answer of a case: run pitplan sensitivity again: {error}") from error
+        yield case
 
 
 def padded(changes: list[tuple[str, float]]) -> tuple[str, float, str, float]:

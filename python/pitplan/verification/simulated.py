@@ -14,7 +14,7 @@ from typing import Any, Iterator, Optional
 import numpy as np
 import pandas as pd
 
-from .. import table as tables
+from .. import kept_arrays, table as tables
 from ..errors import PlanError
 from ..project import Project, Scenarios, load
 from ..table_format import format_of
@@ -143,10 +143,10 @@ class Simulated:
 
     def answer(self, scenario: Scenario) -> Told:
         try:
-            with np.load(scenario.file, allow_pickle=False) as said:
-                table = pd.DataFrame(said["table"], columns=said["columns"], index=pd.Index(self.factors, name="factor"))
-                told = Told(said["places"].astype(np.int64), table.assign(worth_at_factor=said["worth_at_factor"]))
-        except (OSError, ValueError, KeyError, EOFError) as error:
+            said = kept_arrays.read(scenario.file, scenario.file.stem)
+            table = pd.DataFrame(said["table"], columns=said["columns"], index=pd.Index(self.factors, name="factor"))
+            told = Told(said["places"].astype(np.int64), table.assign(worth_at_factor=said["worth_at_factor"]))
+        except (ValueError, KeyError, TypeError) as error:
             raise PlanError(f"{scenario.file}: is no answer of {scenario.label}: {error}") from error
         if len(told.places) != len(self.rows):
             raise PlanError(f"{scenario.file}: tells of {len(told.places):,} blocks, and the table has {len(self.rows):,}")

@@ -1,0 +1,45 @@
+"""Arrays of an answer that is kept in a file (.npz), with the key of what it answers, so that it cannot stand for another."""
+
+from __future__ import annotations
+
+import struct
+import zipfile
+import zlib
+from pathlib import Path
+from typing import Any
+
+import numpy as np
+
+KEY = "key"
+# What Python and numpy raise of a file that is cut short or bent.
+BENT = (OSError, EOFError, ValueError, LookupError, TypeError, ArithmeticError, RuntimeError, SyntaxError, zipfile.BadZipFile, zlib.error, struct.error)
+
+
+class NoAnswer(ValueError):
+    """A file is not the answer that is expected there; why, in a few words."""
+
+
+def write(path: Path, key: str, **arrays: Any) -> None:
+    with open(path, "wb") as file:
+        np.savez_compressed(file, **{KEY: key}, **arrays)
+
+
+def read(path: Path, key: str) -> dict[str, np.ndarray]:
+    """All arrays. Raises NoAnswer where the file is cut short or bent, or answers something else, and OSError where it cannot be opened."""
+    try:
+        with zipfile.ZipFile(path) as packed:
+            # Before numpy takes memory for as much as a bent head says.
+            wrong = packed.testzip()
+        if wrong is not None:
+            raise NoAnswer(f"{wrong} in it is bent")
+        with np.load(path, allow_pickle=False) as kept:
+            arrays = {name: kept[name] for name in kept.files}
+    except NoAnswer:
+        raise
+    except BENT as error:
+        if isinstance(error, OSError) and error.filename:
+            raise
+        raise NoAnswer(" ".join(f"{error or type(error).__name__}".split())) from error
+    if str(arrays.pop(KEY, "")) != key:
+        raise NoAnswer("it answers something else: has a file been copied here?")
+    return arrays
