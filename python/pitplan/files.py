@@ -15,7 +15,7 @@ from typing import Any, Iterator, Optional
 import numpy as np
 import pandas as pd
 
-from . import text
+from . import records, text
 from .errors import PlanError
 from .fixed import Settled
 from .grid import Grid
@@ -185,8 +185,8 @@ def grid_of(box: dict[str, Any], rows: np.ndarray) -> Grid:
 
 
 def read_record(folder: Path) -> dict[str, Any]:
-    """What prepare.json says."""
-    return read_json(folder / RECORD)
+    """What prepare.json says. Raises PlanError where a part of it is missing or of another kind, and OSError where it cannot be opened."""
+    return records.read_plan(folder / RECORD)
 
 
 def read_json(path: Path) -> dict[str, Any]:
@@ -234,6 +234,23 @@ def read_folder(path: Path) -> Folder:
         blocks = pd.read_csv(path / TABLE, dtype=codes, keep_default_na=False, na_values={})
     except OSError as error:
         raise PlanError(f"{error.filename}: cannot be read: run pitplan shells first") from error
-    except (ValueError, KeyError) as error:
-        raise PlanError(f"{path / RECORD}: is no record of a plan: {error}") from error
+    except ValueError as error:
+        raise PlanError(f"{path / TABLE}: is no table of blocks: run pitplan shells again: {error}") from error
+    demand_blocks(blocks, record, path)
     return Folder(path, blocks, record)
+
+
+def demand_blocks(blocks: pd.DataFrame, record: dict[str, Any], path: Path) -> None:
+    """Raises PlanError where blocks.csv and prepare.json do not fit each other."""
+    wrong = f"{path / RECORD}: does not fit {TABLE}"
+    numbers = ["id", "factor", record["tonnes"], *(metal["column"] for metal in record["metals"])]
+    for name in [*numbers, *record["codes"]]:
+        if name not in blocks:
+            raise PlanError(f"{wrong}, which has no column {name}: run pitplan shells again")
+    for name in numbers:
+        if not pd.api.types.is_numeric_dtype(blocks[name]):
+            raise PlanError(f"{wrong}, whose column {name} has no numbers: run pitplan shells again")
+    cells = int(np.prod(record["grid"]["shape"]))
+    ids = blocks["id"]
+    if not pd.api.types.is_integer_dtype(ids) or ids.duplicated().any() or not ids.between(0, cells - 1).all():
+        raise PlanError(f"{wrong}, whose ids are none of {cells:,} cells, each once: run pitplan shells again")

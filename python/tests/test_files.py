@@ -416,7 +416,7 @@ def test_the_command_line_writes_a_page_and_an_audit(solved, capsys):
 
 def test_a_folder_with_another_record_is_no_plan(solved):
     (solved[1] / "prepare.json").write_text("{}")
-    with pytest.raises(PlanError, match="prepare.json: is no record of a plan"):
+    with pytest.raises(PlanError, match="prepare.json: title: is missing: run pitplan shells again"):
         files.read_folder(solved[1])
 
 

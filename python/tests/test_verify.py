@@ -364,7 +364,7 @@ def test_a_folder_without_an_answer_is_named(copied, tmp_path):
     with pytest.raises(PlanError, match="1 blocks of the table are not in it: has the table changed since?"):
         verify(copied)
     (copied / "prepare.json").write_text("{}")
-    with pytest.raises(PlanError, match="is no folder that pitplan shells or pit has written"):
+    with pytest.raises(PlanError, match="prepare.json: grid: is missing: run pitplan shells again"):
         verify(copied)
 
 

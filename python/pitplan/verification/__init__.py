@@ -30,6 +30,7 @@ whether the answer does:
 
 from __future__ import annotations
 
+from collections.abc import Callable
 from decimal import Decimal
 from itertools import zip_longest
 from pathlib import Path
@@ -61,8 +62,20 @@ def verify(folder: Path, project: Optional[Project] = None, table: Optional[pd.D
     more += [verify_free(answer, answer.free)] if answer.free else []
     more += phases.verify(answer) if answer.phases is not None else []
     more += [planned_table.verify(answer, folder / planned_table.NAME)] if (folder / planned_table.NAME).exists() else []
-    more += block_schedule.verify(answer) if answer.is_by_block else []
-    return [*(check(answer) for check in CHECKS), *more, *(schedule.verify(answer) if answer.schedule is not None else [])]
+    more += by_record(block_schedule.verify, answer, block_schedule.FILE) if answer.is_by_block else []
+    more += by_record(schedule.verify, answer, schedule.FILE) if answer.schedule is not None else []
+    return [*(check(answer) for check in CHECKS), *more]
+
+
+def by_record(check: Callable[[Answer], list[Rule]], answer: Answer, name: str) -> list[Rule]:
+    """Rules that read a record of their own. Raises PlanError where it lacks a part, or has one of another kind."""
+    try:
+        return check(answer)
+    except OSError as error:
+        raise PlanError(f"{error.filename}: cannot be read: run pitplan schedule first") from error
+    except (LookupError, ValueError, TypeError, AttributeError) as error:
+        why = f"{type(error).__name__} {error}"
+        raise PlanError(f"{answer.folder / name}: does not fit the tables beside it ({why}): run pitplan schedule again") from error
 
 
 def verify_table(folder: Path, path: Path) -> Rule:

@@ -2,7 +2,6 @@
 
 from __future__ import annotations
 
-import json
 from dataclasses import dataclass, field, replace
 from functools import cached_property
 from pathlib import Path
@@ -11,7 +10,7 @@ from typing import Any, Optional
 import numpy as np
 import pandas as pd
 
-from .. import table as tables
+from .. import records, table as tables
 from ..errors import PlanError
 from ..money_rules import GRADE_UNITS
 from ..project import AbsentRock, Project, load
@@ -251,8 +250,11 @@ def read(folder: Path, project: Optional[Project] = None, table: Optional[pd.Dat
     Raises PlanError where the folder has no answer of `pitplan shells` or `pit`, or the project is not where it was.
     """
     try:
-        record = json.loads((folder / "prepare.json").read_text(encoding="utf-8"))
+        record = records.read_plan(folder / "prepare.json", is_whole=False)
         project = project or load(folder / record["project"])
+        found, expected = len(record.get("walls", project.slopes.walls)), len(project.slopes.walls)
+        if found < expected:
+            raise PlanError(f"{folder / 'prepare.json'}: walls: found {found}, expected {expected} as in the project: run pitplan shells again")
         own = [own_name(name) for name in (*tables.names_of(project), project.table.tonnes)]
         written = read_blocks(folder / "blocks.csv", project, (*said_of(project), *FREE, PHASE, YEAR, *shares_of(project), *own))
         rows = rows_of(project, written, record["grid"], table)

@@ -16,6 +16,7 @@ from . import milling, ways_table, years
 from .answer import TOLD, Answer, Rule, rule
 from .money_of_years import capital, more_by_prices, most_premium
 
+FILE = "schedule.json"
 CENT, SLIGHT = 0.01, 1e-6
 # The last places that schedule.csv keeps of amounts and of shares.
 AMOUNT, SHARE = 0.6e-3, 0.6e-9
@@ -54,7 +55,7 @@ class Way:
 
 def verify(answer: Answer) -> list[Rule]:
     """Five rules."""
-    told = json.loads((answer.folder / "schedule.json").read_text(encoding="utf-8"))
+    told = json.loads((answer.folder / FILE).read_text(encoding="utf-8"))
     sums = sums_of_benches(answer)
     misplaced, ways = ways_of(answer, told)
     return [
