@@ -1,7 +1,9 @@
 /* The proved pit solver for C: link with libpitshell.so, or with libpitshell.a.
  *
- * Each function tests whatever it needs, and answers 0 or the number of a refusal (docs/FORMATS.md). It needs no thread, keeps
- * nothing between calls, and may be called by several threads at once. What no proof can see is owed by the caller:
+ * Each function tests whatever it needs, and answers 0 or the number of a refusal (docs/FORMATS.md). On a refusal no output array
+ * changes, and single outputs are set: found->worth_high, found->worth_low and *count to 0, *yes to false, the place to that of the
+ * refusal, or to 0 if it has none. A function needs no thread, keeps nothing between calls, and may be called by several threads at
+ * the same time. What no proof can see is owed by the caller:
  *
  * - each pointer is not NULL, not even where its length is 0, and stands before as many elements as its length says;
  * - what is written to (marks, found, ..) overlaps with nothing else that is passed;
@@ -41,7 +43,7 @@ enum pitshell_refusal {
 struct pitshell_found {
     int64_t worth_high;
     uint64_t worth_low;
-    uint32_t place; /* of a refusal; else 0 */
+    uint32_t place; /* of a refusal; otherwise 0 */
 };
 
 /* The ultimate pit of a mine in arrays: block u is worth values[u] millionths and needs the blocks needs[k] for each k from

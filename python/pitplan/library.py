@@ -72,7 +72,8 @@ def pit(values: np.ndarray, rows: Rows, fixed: np.ndarray, factor: int) -> Solut
     where the library refuses, as where a block must be dug and may not be."""
     found = called("solve", values, (rows.starts, rows.needs), fixed, millionths=True)
     nodes = pd.Series([int(np.count_nonzero(found.in_pit))], index=[factor])
-    worth = pd.Series([Decimal(found.worth).scaleb(-3)], index=[factor], dtype=object)
+    # From a text, which no decimal context rounds.
+    worth = pd.Series([Decimal(f"{found.worth}E-3")], index=[factor], dtype=object)
     return Solution(worth, nodes, np.where(found.in_pit, factor, 0).astype(np.int32))
 
 

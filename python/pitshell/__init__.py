@@ -4,7 +4,7 @@
     found = pitshell.solve(values, needs)
     found.in_pit        which blocks are in the pit: bool, shape (blocks,)
     found.worth         their summed value, exact
-    found.rounded       how many values had to be rounded to millionths
+    found.rounded       how many values changed by being rounded to millionths
 
     nested = pitshell.shells(revenues, costs, needs, factors=range(300, 1001, 50))
     nested.first        for each block the number of the first factor whose pit holds it

@@ -12,7 +12,9 @@ import numpy as np
 from numpy.typing import ArrayLike, NDArray
 
 from . import _library
-from ._arrays import PLAIN, millionths_of, rising, rows_of
+from ._amounts import millionths_of
+from ._arrays import PLAIN, array_of, rising, rows_of
+from ._decimals import PLACES, scaled
 from ._refusals import Refusal, refused
 
 MASK = 2**64 - 1
@@ -22,7 +24,7 @@ MASK = 2**64 - 1
 class Certificate:
     """in_pit: bool, shape (blocks,). worth: the summed value, exact. flow: an amount for each need, in the order in which the needs
     were handed in, in whole millionths; int64, or Python's whole numbers where one does not fit; shape (pairs,). rounded: how many
-    values were rounded to millionths."""
+    values changed by being rounded to millionths."""
 
     in_pit: NDArray[np.bool_]
     worth: Decimal
@@ -50,30 +52,29 @@ def certificate(values: ArrayLike, needs: Any, *, millionths: bool = False) -> C
     number = _library.certificate(*(part for array in arrays for part in (array, len(array))), ctypes.byref(found))
     if number:
         raise refused(number, found.place, rows, blocks)
-    return Certificate(marks.view(np.bool_), Decimal(found.worth).scaleb(-6), rows.back(_joined(high, low)), amounts.rounded)
+    return Certificate(marks.view(np.bool_), scaled(found.worth, PLACES), rows.back(_joined(high, low)), amounts.rounded)
 
 
 def check(values: ArrayLike, needs: Any, in_pit: ArrayLike, flow: Sequence[int] | NDArray[Any], *, millionths: bool = False) -> bool:
     """Whether a flow shows that the blocks in the pit are the smallest closed set of greatest worth.
 
     in_pit: truth for each block, or 0 and 1, shape (blocks,). flow: whole millionths for each need, in the order in which the needs are
-    handed in, shape (pairs,), from 0 to 10^30.
+    handed in, shape (pairs,), from 0 to 10^30; an array, or a sequence of Python's integers.
     values, needs, millionths: as of `solve`. Raises what `solve` raises, and Refusal by the first amount that is not as said.
     """
     amounts = millionths_of(values, "values", millionths)
     blocks = len(amounts.amounts)
     rows = rising(rows_of(needs, blocks))
-    listed = np.asarray(flow)
+    listed = array_of(flow, "flow")
     if listed.ndim != 1 or len(listed) != len(rows.needs):
         raise Refusal(17)
-    parts = rows.forth(listed)
-    high, low = _parted(parts)
+    high, low = (rows.forth(part) for part in _parted(listed))
     marks = _marks(in_pit)
     yes, place = ctypes.c_bool(), ctypes.c_uint32()
     arrays = (amounts.amounts, rows.starts, rows.needs, marks, high, low)
     words = [part for array in arrays for part in (array, len(array))]
     number = _library.check(*words, ctypes.byref(yes), ctypes.byref(place))
-    if number in (4, 15) and len(listed) and not 0 <= int(parts[place.value]) <= 10**30:
+    if number in (4, 15) and len(listed) and not 0 <= int(listed[rows.need(place.value)]) <= 10**30:
         raise Refusal(number, need=rows.need(place.value))
     if number:
         raise refused(number, place.value, rows, blocks)
@@ -90,16 +91,23 @@ def _joined(high: NDArray[np.int64], low: NDArray[np.uint64]) -> NDArray[Any]:
 def _parted(numbers: NDArray[Any]) -> tuple[NDArray[np.int64], NDArray[np.uint64]]:
     """The two parts of whole numbers. What does not fit 128 bits becomes the largest that does, or the least, which is refused as well.
 
-    Raises TypeError where one is no whole number."""
+    Raises TypeError, by the need, where one is no whole number."""
     if np.issubdtype(numbers.dtype, np.integer):
         return np.where(numbers < 0, -1, 0).astype(np.int64), numbers.astype(np.uint64)
-    whole = [operator.index(number) for number in numbers]
+    whole = [_whole(number, need) for need, number in enumerate(numbers)]
     high = [max(-(2**63), min(number >> 64, 2**63 - 1)) for number in whole]
     return np.array(high, dtype=np.int64), np.array([number & MASK for number in whole], dtype=np.uint64)
 
 
+def _whole(number: Any, need: int) -> int:
+    try:
+        return operator.index(number)
+    except TypeError as error:
+        raise TypeError(f"flow: that of need {need} is {number!r}, and not a whole number of millionths") from error
+
+
 def _marks(in_pit: ArrayLike) -> NDArray[np.uint8]:
-    array = np.asarray(in_pit)
+    array = array_of(in_pit, "in_pit")
     if array.ndim != 1 or (array.size and array.dtype != np.bool_ and not np.issubdtype(array.dtype, np.integer)):
         raise ValueError(f"in_pit is {array.dtype} of shape {array.shape}: hand in a truth for each block, shape (blocks,)")
     if array.dtype != np.bool_:

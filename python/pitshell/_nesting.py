@@ -13,15 +13,21 @@ import numpy as np
 from numpy.typing import ArrayLike, NDArray
 
 from . import _library
-from ._arrays import MOST_WHOLE, millionths_of, rows_of
+from ._amounts import millionths_of
+from ._arrays import MOST_WHOLE, demand_unmasked, rows_of
+from ._decimals import scaled
 from ._refusals import refused
+
+
+# A factor in per mille times millionths.
+WORTH_PLACES = 9
 
 
 @dataclass(frozen=True)
 class Shells:
     """first: for each block the number, from 0, of the first factor whose pit holds it, or how many factors there are where none
-    does; int32, shape (blocks,). worths: of each pit, in its own factor's values, exact. rounded: how many amounts were rounded to
-    millionths."""
+    does; int32, shape (blocks,). worths: of each pit, in its own factor's values, exact. rounded: how many amounts changed by
+    being rounded to millionths."""
 
     first: NDArray[np.int32]
     worths: list[Decimal]
@@ -50,12 +56,12 @@ def shells(revenues: ArrayLike, costs: ArrayLike, needs: Any, factors: Iterable[
     number = _library.shells(*(part for array in arrays for part in (array, len(array))), ctypes.byref(place))
     if number:
         raise refused(number, place.value, rows, blocks)
-    # From a text, since arithmetic on decimals keeps 28 digits.
-    worths = [Decimal(f"{(int(upper) << 64) + int(lower)}E-9") for upper, lower in zip(high, low)]
+    worths = [scaled((int(upper) << 64) + int(lower), WORTH_PLACES) for upper, lower in zip(high, low)]
     return Shells(first.view(np.int32), worths, revenue.rounded + cost.rounded)
 
 
 def _factors(factors: Iterable[int]) -> NDArray[np.uint32]:
+    demand_unmasked(factors, "factors")
     # What is no number of 32 bits becomes the largest, which is over the limit and is refused.
     numbers = (operator.index(factor) for factor in factors)
     return np.array([number if 0 <= number <= MOST_WHOLE else MOST_WHOLE for number in numbers], dtype=np.uint32)

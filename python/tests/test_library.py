@@ -74,8 +74,7 @@ def test_values_in_each_form():
         assert pitshell.solve(values, NEEDS).worth == 2
     assert pitshell.solve(TWO, NEEDS, millionths=True).worth == Decimal("0.000002")
     assert pitshell.solve([-1.5, 2.000001], NEEDS).worth == Decimal("0.500001")
-    assert pitshell.solve([0.1, 0.2], NEEDS).rounded == 0
-    assert pitshell.solve([0.1234567, 0.2], NEEDS).rounded == 1
+    assert pitshell.solve([0.125, 0.2], NEEDS).rounded == 1
     assert pitshell.solve([Decimal("0.1234567"), Decimal("0.2")], NEEDS).rounded == 1
 
 
