@@ -2,8 +2,8 @@
 
 The mined volume lies between the original topography and the as-mined surface. A block has the share of its tonnes that lies below both,
 exactly for their triangles. It counts as mined if at least MINED of its volume is, since two surveys of the same ground differ by a few
-decimetres. Without an original topography the model's own blocks are the original ground: a block with its centre above the surface is mined
-as a whole, and every other block is whole.
+decimetres. Where the project says that the model's own blocks are the original ground, a block with its centre above the surface is mined as
+a whole, and every other block is whole.
 """
 
 from __future__ import annotations

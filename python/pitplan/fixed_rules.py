@@ -10,6 +10,10 @@ from .section import Section
 from .survey_rules import SurveyFile, read_survey
 
 
+# The original ground is the tops of the blocks.
+BLOCKS = "blocks"
+
+
 @dataclass(frozen=True)
 class Area:
     """Polygons on the map, by a table of the corners x and y of one in order, or of a drawing or a map, of which the inside or the outside
@@ -27,6 +31,7 @@ class FixedRules:
     barred   a column of the table: blocks with a number above 0 may not be dug
     surface  heights of the as-mined surface: blocks have the tonnes below it, and those that are mined must be dug
     topography  heights of the original ground, by which the table's tonnes are cut already; None: [table] topography, or the blocks' tops
+    by_blocks   whether the original ground of the as-mined surface is the blocks' tops, since they are whole
     areas    what may not be dug on the map
     """
 
@@ -35,6 +40,7 @@ class FixedRules:
     surface: Optional[SurveyFile]
     areas: tuple[Area, ...]
     topography: Optional[SurveyFile] = None
+    by_blocks: bool = False
 
 
 def read_fixed(section: Section, folder: Path) -> FixedRules:
@@ -43,9 +49,10 @@ def read_fixed(section: Section, folder: Path) -> FixedRules:
         barred=section.optional_text("barred"),
         surface=read_survey(section, "surface", folder) if section.has("surface") else None,
         areas=tuple(read_area(area, folder) for area in section.sections("areas")) if section.has("areas") else (),
-        topography=read_survey(section, "topography", folder) if section.has("topography") else None,
+        by_blocks=section.has("topography") and section.get("topography") == BLOCKS,
+        topography=read_survey(section, "topography", folder) if section.has("topography") and section.get("topography") != BLOCKS else None,
     )
-    if rules.topography and not rules.surface:
+    if (rules.topography or rules.by_blocks) and not rules.surface:
         raise section.wrong("topography", "is the original ground of an as-mined surface: give surface too")
     section.finish()
     return rules

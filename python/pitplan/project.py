@@ -240,8 +240,7 @@ def demand_agreement(project: Project) -> None:
         raise PlanError(f"{path}: [table] topography: is not taken by [scenarios]: give a table of blocks that are cut")
     if project.fixed and project.fixed.surface and project.scenarios:
         raise PlanError(f"{path}: [fixed] surface: is not taken by [scenarios]: give a table of what remains, and forced")
-    if project.fixed and project.fixed.topography and project.table.topography:
-        raise PlanError(f"{path}: [fixed] topography: [table] topography is the original ground already: leave one of them out")
+    demand_ground(project)
     demand_processes_agree(project)
     names = [metal.name for metal in project.metals]
     if len(set(names)) < len(names):
@@ -258,6 +257,21 @@ def demand_agreement(project: Project) -> None:
         for name in named:
             if name not in names:
                 raise PlanError(f"{path}: [scenarios] names {name}, which is none of the [[metals]] {', '.join(names)}")
+
+
+def demand_ground(project: Project) -> None:
+    """Refuses an as-mined surface of which the original ground is not known, or named twice."""
+    rules, path = project.fixed, project.path
+    if rules is None or rules.surface is None:
+        return
+    named = bool(rules.topography or rules.by_blocks)
+    if named and project.table.topography:
+        raise PlanError(f"{path}: [fixed] topography: [table] topography is the original ground already: leave one of them out")
+    if not named and not project.table.topography:
+        raise PlanError(
+            f"{path}: [fixed] topography: is missing: the mined volume lies between the original ground and the as-mined surface. Give the file "
+            'of the original ground if the tonnes of the table are cut by it, or "blocks" if all blocks are whole'
+        )
 
 
 def demand_sums_agree(project: Project) -> None:

@@ -114,8 +114,15 @@ def test_what_a_run_writes_of_it_is_verified(plan_folder, tmp_path, blank_pictur
     [
         ('[fixed]\ntopography = "ground.csv"\n', r"\[fixed\] topography: is the original ground of an as-mined surface: give surface too"),
         ('[fixed]\nsurface = "mined.csv"\ntopography = "ground.csv"\n', r"\[table\] topography is the original ground already"),
+        ('[fixed]\nsurface = "mined.csv"\ntopography = "blocks"\n', r"\[table\] topography is the original ground already"),
     ],
 )
 def test_two_original_grounds_or_none_to_mine_are_refused(plan_folder, text, said):
     with pytest.raises(PlanError, match=said):
         load(plan_folder(rows(1, 1, 1), PROJECT + "\n" + text, TOPOGRAPHY))
+
+
+def test_a_survey_without_the_original_ground_is_refused(plan_folder):
+    """Blocks that the original ground cuts would be taken as mined by their centres, all over the property."""
+    with pytest.raises(PlanError, match=r'\[fixed\] topography: is missing: .* or "blocks" if all blocks are whole'):
+        load(plan_folder(rows(1, 1, 1), SURFACE))

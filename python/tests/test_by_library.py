@@ -286,7 +286,7 @@ def test_an_audit_of_what_the_library_solved_writes_the_mine_itself(tmp_path):
 
 @pytest.fixture
 def solved_by_library(plan_folder):
-    path = plan_folder(ores_and_fixed(), with_section(FIXED_SECTION + 'surface = "mined.csv"\n'))
+    path = plan_folder(ores_and_fixed(), with_section(FIXED_SECTION + 'surface = "mined.csv"\ntopography = "blocks"\n'))
     (path.parent / "mined.csv").write_text("x,y,z\n0,0,900\n")
     commands.write_shells(replace(load(path), solver="library"), verifies=False)
     return path.parent

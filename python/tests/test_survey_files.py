@@ -122,7 +122,7 @@ def plane_by_lines(space):
         space.add_line(one, other, **layer("TOPO"))
 
 
-SURFACE = '\n[fixed]\nsurface = '
+SURFACE = '\n[fixed]\ntopography = "blocks"\nsurface = '
 
 
 @pytest.mark.parametrize("shape", [faces_of_plane, plane_by_mesh, plane_by_polyface, plane_by_points, plane_by_polylines, plane_by_lines])

@@ -258,7 +258,7 @@ def test_surfaces_and_areas_are_the_planners(plan_folder, tmp_path):
     """A cut of two blocks to 40 m, and a lease whose edge leaves out what lies in the east; each turned along."""
     surface = [(x, y, 40 if x < 30 and y < 20 else 70) for x in range(5, 120, 10) for y in range(5, 110, 10)]
     lease = [(-1, -1), (91, -1), (91, 111), (-1, 111)]
-    text = PROJECT + '[fixed]\nsurface = "mined.csv"\n[[fixed.areas]]\npolygon = "lease.csv"\nbarred = "outside"\n'
+    text = PROJECT + '[fixed]\nsurface = "mined.csv"\ntopography = "blocks"\n[[fixed.areas]]\npolygon = "lease.csv"\nbarred = "outside"\n'
     found = []
     for degrees in (0, 30):
         (tmp_path / "mined.csv").write_text(turned_points(surface, degrees))

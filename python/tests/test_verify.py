@@ -485,7 +485,7 @@ def test_a_surface_that_is_passed_over_is_found(plan_folder, tmp_path, monkeypat
     """Over the second row of columns the points lie at 14 m on the mean, over the third at 3, and over the first there are none."""
     points = [(600_000 + 10 * i + a, 6_512_000 + y + a, z + a / 2) for i in range(7) for y, z in ((12, 14), (22, 3)) for a in (1, 5)]
     pd.DataFrame(points, columns=["x", "y", "z"]).assign(z=lambda it: it["z"] - 1.5).to_csv(tmp_path / "mined.csv", index=False)
-    path = plan_folder(ore_everywhere().assign(cu=0), PROJECT + '\n[fixed]\nsurface = "mined.csv"\n')
+    path = plan_folder(ore_everywhere().assign(cu=0), PROJECT + '\n[fixed]\nsurface = "mined.csv"\ntopography = "blocks"\n')
     plan = prepare(path)
     assert len(plan.fixed.forced) == 7 + 2 * 7
     # With the rule of the surface itself.

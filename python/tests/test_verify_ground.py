@@ -106,7 +106,7 @@ def with_absent(project, changed):
 def surfaced(plan_folder, tmp_path, points):
     """A project of seven by three columns of two levels, whose surface as mined these points tell."""
     pd.DataFrame(np.add(points, [600_000, 6_512_000, 0]), columns=["x", "y", "z"]).to_csv(tmp_path / "mined.csv", index=False)
-    return plan_folder(ore_everywhere().assign(cu=0), PROJECT + '\n[fixed]\nsurface = "mined.csv"\n')
+    return plan_folder(ore_everywhere().assign(cu=0), PROJECT + '\n[fixed]\nsurface = "mined.csv"\ntopography = "blocks"\n')
 
 
 def fixed_rule(path):
