@@ -12,13 +12,16 @@ DISCOUNTING, OUTLINE = "discounting", "outline"
 SHELL, PUSHBACK = "shell", "pushback"
 # The columns of discounted amounts.
 DISCOUNTED = {"npv_best", "npv", "discounted", "value", "one_value"}
+# How the columns of their means and quantiles begin.
+SPREAD = ("value_", "one_value_")
 # The cases of years that mine shell by shell or bench by bench.
 OF_SHELLS = ("best", "worst")
 
 
 def with_discounting(table: pd.DataFrame, project: Project) -> pd.DataFrame:
     """A table with `discounting` behind its discounted amounts, as the project names it; another table as it is."""
-    return table.assign(**{DISCOUNTING: project.schedule.discounting}) if DISCOUNTED & set(table.columns) else table
+    is_discounted = any(name in DISCOUNTED or str(name).startswith(SPREAD) for name in table.columns)
+    return table.assign(**{DISCOUNTING: project.schedule.discounting}) if is_discounted else table
 
 
 def with_outline(table: pd.DataFrame, project: Project) -> pd.DataFrame:

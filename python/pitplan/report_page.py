@@ -110,6 +110,7 @@ def write(path: Path, folder: Path, project: Project, sensitivity: Optional[Path
         rate=project.schedule.rate,
         discounting=IN_WORDS[project.schedule.discounting],
         has_fixed=project.fixed is not None,
+        bins=files.MILLING in record["files"],
         project_file=project.path.name,
         project_text=without_comments(project.path.read_text(encoding="utf-8")),
         files={**record["inputs"], **record["files"]},

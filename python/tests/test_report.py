@@ -272,3 +272,16 @@ def test_the_way_of_a_schedule_is_told_in_words(written):
     told = [report_page.of_answer(folder, project, record | {"schedule": way})["way"] for way in ("rule", "lp")]
     assert told == ["rule", "linear programme"]
     assert f"A yearly schedule, by {told[record['schedule'] == 'lp']}, of the phases" in (folder / "report.html").read_text()
+
+
+def test_the_bound_of_a_schedule_names_its_premise(written):
+    """Each block goes to the process that is assigned to it, or ore is divided by bins: the page says which."""
+    folder, project = written / "plan" / "schedule", pitplan.load(written / "project.toml")
+    page = " ".join((folder / "report.html").read_text().split())
+    assert "that sends each block to its assigned process earns more" in page and "divides ore by these bins" not in page
+    assert "Upper bound, these pushbacks and processes" in page
+    record = pitplan.files.read_record(folder)
+    (folder / pitplan.files.MILLING).write_text("")
+    pitplan.files.write_json(folder / pitplan.files.RECORD, record | {"files": record["files"] | {pitplan.files.MILLING: "0" * 64}})
+    report_page.write(written / "binned.html", folder, project)
+    assert "that divides ore by these bins earns more" in " ".join((written / "binned.html").read_text().split())
