@@ -121,7 +121,7 @@ def test_a_block_that_comes_in_at_no_factor_is_found(copied, capsys):
     (rule,) = [rule for rule in verify(copied) if rule.name == "tables"]
     assert rule.differences[0] == "scenario 1, cu_a at copper 8000, gold 60: a block comes in at no factor"
     assert main(["gather", str(copied), "--quiet"]) == 1
-    assert "is no answer: remove it, and run pitplan scenarios again: it tells of other blocks or factors" in capsys.readouterr().err
+    assert "is no answer: remove it, and run pitplan scenarios again: it holds other blocks or factors" in capsys.readouterr().err
 
 
 @pytest.mark.parametrize(("one", "other"), [(1, 2), (1, 3), (4, 6)])
