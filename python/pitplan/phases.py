@@ -16,12 +16,13 @@ import pandas as pd
 from scipy import ndimage
 
 from . import analyse, mine as mines, widths
+from .doubts import WARNING
 from .errors import PlanError
 from .mine import Mine
 from .phase_rules import MOST_PHASES, PhaseRules
 from .plan import Plan
 from .progress import Progress, silent
-from .project import Project
+from .project import REFERENCE_FACTOR, Project
 from .run import Solution
 
 LEAST_FACTOR = 1
@@ -86,12 +87,18 @@ def ended(project: Project, last: int) -> Project:
 
 
 def selected(plan: Plan, mine: Mine, progress: Progress) -> tuple[Plan, list[str]]:
-    """The plan with the factors up to the shell that `shells` selects, and a note of it, unless the project names the last phase's shell."""
+    """The plan with the factors up to the shell that `shells` selects, and a note of it, unless the project names the last phase's shell.
+
+    Where an empty shell is selected, since no other has a net present value above 0, that of the price as given is taken, with a warning.
+    """
     if named_last(plan.project) is not None:
         return plan, []
-    solution = mines.solve(plan, mine, progress)
-    last = analyse.chosen_factor(analyse.shells(plan, solution), plan.project.schedule)
+    table = analyse.shells(plan, mines.solve(plan, mine, progress))
+    last = analyse.chosen_factor(table, plan.project.schedule)
     note = f"the last phase ends with the shell of factor {last}, which shells selects: [pushbacks] last names another"
+    if not table["tonnes"][table["factor"] == last].any():
+        last = REFERENCE_FACTOR
+        note = f"{WARNING}no shell has a net present value above 0: the last phase ends with the shell of factor {last}"
     return replace(plan, project=ended(plan.project, last)), [note]
 
 

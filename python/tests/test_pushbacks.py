@@ -139,6 +139,17 @@ def test_the_last_phase_ends_with_the_shell_that_is_selected(plan_folder):
         assert pitplan.pushbacks(plan_folder(table, change))["factor"].iloc[-1] == 1000
 
 
+def test_where_no_shell_pays_the_last_phase_is_that_of_the_price_as_given(plan_folder):
+    """Each year costs more than all ore earns. A schedule that mines nothing is then the best, and an answer."""
+    costs = UPRIGHT.replace("mining_cost = 2\n", "mining_cost = 2\nfixed_cost_per_year = 100_000\n").replace("[500, 1000, 1500]", "[100, 500, 1000, 1500]")
+    path = plan_folder(pillars(), with_phases("count = 2", costs))
+    assert pitplan.pushbacks(path)["factor"].iloc[-1] == 1000
+    told = "WARNING: no shell has a net present value above 0: the last phase ends with the shell of factor 1000"
+    assert told in files.read_record(path.parent / "plan" / "pushbacks")["notes"]
+    ways = pitplan.write_schedule(path).set_index("way")
+    assert ways.loc["lp", ["value", "tonnes", "years"]].tolist() == [0, 0, 0]
+
+
 def test_an_empty_pit_is_refused(plan_folder, capsys):
     path = plan_folder(pillars(), with_phases("count = 2\nlast = 300"))
     assert main(["pushbacks", str(path), "--quiet"]) == 1
