@@ -3,6 +3,7 @@
 import os
 import pathlib
 import subprocess
+import time
 import types
 
 import pytest
@@ -46,6 +47,15 @@ class Mine:
         model, prec, fixed, text = ((self.folder / file).read_bytes() for file in ("mine.upit", "mine.prec", "mine.fixed", name))
         out, err, status = tool.answer(model, prec, text, fixed)
         return status, out, err
+
+
+def wait_for(file: pathlib.Path) -> bool:
+    """Whether the file is there within ten seconds."""
+    for _ in range(1000):
+        if file.exists():
+            return True
+        time.sleep(0.01)
+    return False
 
 
 @pytest.fixture

@@ -4,6 +4,8 @@
    SHORT_READ=N   the Nth read gives one byte at most            SHORT_WRITE=N               the Nth write takes one byte at most
                   (-1: each of them)
    FAIL_THREAD=N  the Nth start of a thread is refused (-1: each of them)
+   FAIL_SYNC=N    the Nth fsync fails                            FAIL_OWNER=1                no file can be given another owner or group
+   TELL_NAMES=FILE  a line for each fsync and each rename, in their order
    INTERRUPT_READ=N  INTERRUPT_WRITE=N   each read or write is interrupted N times before it is made (-1: always)
    COUNT_CALLS=FILE  tells how often memory was asked for, how many reads and writes were made, and how many threads were to start. */
 #define _GNU_SOURCE
@@ -13,9 +15,10 @@
 #include <pthread.h>
 #include <stdio.h>
 #include <stdlib.h>
+#include <string.h>
 #include <unistd.h>
 
-static long allocs, reads, writes, threads, interrupted_reads, interrupted_writes;
+static long allocs, reads, writes, threads, syncs, interrupted_reads, interrupted_writes;
 
 static long wanted(const char *name) {
     const char *text = getenv(name);
@@ -113,4 +116,43 @@ int pthread_create(pthread_t *thread, const pthread_attr_t *how, void *(*start)(
     if (!real) real = (int (*)(pthread_t *, const pthread_attr_t *, void *(*)(void *), void *))dlsym(RTLD_NEXT, "pthread_create");
     long number = one_more(&threads), which = wanted("FAIL_THREAD");
     return which < 0 || which == number ? EAGAIN : real(thread, how, start, with);
+}
+
+static void tell(const char *line) {
+    const char *name = getenv("TELL_NAMES");
+    int file = name ? open(name, O_WRONLY | O_CREAT | O_APPEND, 0600) : -1;
+    if (file >= 0) {
+        static ssize_t (*real)(int, const void *, size_t);
+        if (!real) real = (ssize_t (*)(int, const void *, size_t))dlsym(RTLD_NEXT, "write");
+        (void)!real(file, line, strlen(line));
+        close(file);
+    }
+}
+
+int fsync(int fd) {
+    static int (*real)(int);
+    if (!real) real = (int (*)(int))dlsym(RTLD_NEXT, "fsync");
+    tell("fsync\n");
+    if (__atomic_add_fetch(&syncs, 1, __ATOMIC_RELAXED) == wanted("FAIL_SYNC")) {
+        errno = EIO;
+        return -1;
+    }
+    return real(fd);
+}
+
+int rename(const char *from, const char *to) {
+    static int (*real)(const char *, const char *);
+    if (!real) real = (int (*)(const char *, const char *))dlsym(RTLD_NEXT, "rename");
+    tell("rename\n");
+    return real(from, to);
+}
+
+int fchown(int fd, uid_t owner, gid_t group) {
+    static int (*real)(int, uid_t, gid_t);
+    if (!real) real = (int (*)(int, uid_t, gid_t))dlsym(RTLD_NEXT, "fchown");
+    if (wanted("FAIL_OWNER")) {
+        errno = EPERM;
+        return -1;
+    }
+    return real(fd, owner, group);
 }

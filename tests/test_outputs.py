@@ -6,7 +6,7 @@ import subprocess
 
 import pytest
 
-from conftest import CERTIFICATE, PROGRAM, TWO_BLOCKS, Mine
+from conftest import CERTIFICATE, PROGRAM, TWO_BLOCKS, Mine, wait_for
 
 PIT = "PIT\nBLOCKS: 2\nIN: 2\nWORTH: 2.000000\n0\n1\n"
 SOLVE = ["solve", "--model", "mine.upit", "--prec", "mine.prec", "--certificate"]
@@ -132,3 +132,90 @@ def test_a_certificate_takes_nothing_from_standard_output(mine: Mine, name: str)
     text = mine.read("both.txt")
     refused = (ran.returncode, text, ran.stderr) == (1, "", b"error 18: write failed\n")
     assert refused or (ran.returncode == 0 and text.startswith("PITCERT 1\n") and text.endswith(PIT))
+
+
+JOURNALED = [*SOLVE[:-1], "--mode", "shared", "--certificate", "made.cert", "--journal", "made.journal", "--stats"]
+
+
+def test_a_stats_file_that_cannot_be_written_leaves_the_other_outputs(mine: Mine) -> None:
+    if not pathlib.Path("/dev/full").exists():
+        pytest.skip("this system has no /dev/full")
+    mine.write("made.cert", OLD)
+    mine.write("made.journal", OLD)
+    before = names(mine)
+    assert mine.run(*JOURNALED, "/dev/full") == (1, PIT, "error 18: write failed\n")
+    assert (mine.read("made.cert"), mine.read("made.journal")) == (OLD, OLD)
+    assert names(mine) == before
+
+
+@pytest.mark.parametrize("number", [1, 2, 3])
+def test_an_output_that_is_not_on_disk_leaves_the_other_outputs(mine: Mine, shim: pathlib.Path, number: int) -> None:
+    """The journal, the certificate and the stats file are put on disk in this order, before any of them takes its name."""
+    for name in ("made.cert", "made.journal", "made.stats"):
+        mine.write(name, OLD)
+    before = names(mine)
+    env = {"LD_PRELOAD": str(shim), "FAIL_SYNC": str(number)}
+    ran = subprocess.run([PROGRAM, *JOURNALED, "made.stats"], cwd=mine.folder, env=env, capture_output=True, text=True, timeout=60)
+    assert (ran.returncode, ran.stdout, ran.stderr) == (1, PIT, "error 18: write failed\n")
+    assert {mine.read(name) for name in ("made.cert", "made.journal", "made.stats")} == {OLD}
+    assert names(mine) == before
+
+
+def test_each_output_is_on_disk_before_one_takes_its_name(mine: Mine, shim: pathlib.Path) -> None:
+    told = mine.folder / "told"
+    env = {"LD_PRELOAD": str(shim), "TELL_NAMES": str(told)}
+    subprocess.run([PROGRAM, *JOURNALED, "made.stats"], cwd=mine.folder, env=env, check=True, capture_output=True, timeout=60)
+    assert told.read_text().split() == ["fsync"] * 3 + ["rename"] * 3
+
+
+@pytest.mark.parametrize("mode", [0o600, 0o640, 0o664, 0o755])
+def test_an_output_keeps_the_permissions_of_what_it_replaces(mine: Mine, mode: int) -> None:
+    made = [mine.folder / name for name in ("made.cert", "made.journal", "made.stats")]
+    for file in made:
+        file.write_text(OLD)
+        file.chmod(mode)
+    assert mine.run(*JOURNALED, "made.stats") == (0, PIT, "")
+    assert {file.stat().st_mode & 0o7777 for file in made} == {mode}
+    assert OLD not in {file.read_text() for file in made}
+
+
+@pytest.mark.parametrize(("mask", "mode"), [(0o022, 0o644), (0o077, 0o600)])
+def test_a_new_output_has_the_permissions_that_the_system_gives(mine: Mine, mask: int, mode: int) -> None:
+    ran = subprocess.run([PROGRAM, *JOURNALED, "made.stats"], cwd=mine.folder, umask=mask, capture_output=True, timeout=60)
+    assert ran.returncode == 0
+    assert {(mine.folder / name).stat().st_mode & 0o7777 for name in ("made.cert", "made.journal", "made.stats")} == {mode}
+
+
+def test_an_output_is_private_from_its_start_where_it_replaces_a_private_file(mine: Mine) -> None:
+    mine.write("made.cert", OLD)
+    (mine.folder / "made.cert").chmod(0o600)
+    words = [PROGRAM, "solve", "--model", "/dev/stdin", *SOLVE[3:], "made.cert"]
+    with subprocess.Popen(words, cwd=mine.folder, stdin=subprocess.PIPE, stdout=subprocess.PIPE) as ran:
+        assert wait_for(mine.folder / "made.cert.0.part")
+        mode = (mine.folder / "made.cert.0.part").stat().st_mode & 0o7777
+        out, _ = ran.communicate(TWO_BLOCKS.encode(), timeout=60)
+    assert (mode, out.decode()) == (0o600, PIT)
+    assert (mine.folder / "made.cert").stat().st_mode & 0o7777 == 0o600
+
+
+@pytest.mark.skipif(os.getuid() != 0, reason="root alone can give a file to another group")
+def test_an_output_keeps_the_owner_and_the_group_of_what_it_replaces(mine: Mine) -> None:
+    mine.write("made.cert", OLD)
+    (mine.folder / "made.cert").chmod(0o640)
+    os.chown(mine.folder / "made.cert", 1234, 4321)
+    assert mine.run(*SOLVE, "made.cert") == (0, PIT, "")
+    found = (mine.folder / "made.cert").stat()
+    assert (found.st_mode & 0o7777, found.st_uid, found.st_gid) == (0o640, 1234, 4321)
+
+
+@pytest.mark.skipif(os.getuid() != 0, reason="root alone can give a file to another group")
+@pytest.mark.parametrize(("mode", "kept"), [(0o660, 0o600), (0o664, 0o644), (0o646, 0o646)])
+def test_another_group_gets_no_more_than_others_had(mine: Mine, shim: pathlib.Path, mode: int, kept: int) -> None:
+    """Neither owner nor group can be kept, as by a user who may write the file and is not of its group."""
+    mine.write("made.cert", OLD)
+    (mine.folder / "made.cert").chmod(mode)
+    os.chown(mine.folder / "made.cert", 1234, 4321)
+    env = {"LD_PRELOAD": str(shim), "FAIL_OWNER": "1"}
+    subprocess.run([PROGRAM, *SOLVE, "made.cert"], cwd=mine.folder, env=env, check=True, capture_output=True, timeout=60)
+    found = (mine.folder / "made.cert").stat()
+    assert (found.st_mode & 0o7777, found.st_uid, found.st_gid) == (kept, os.getuid(), os.getgid())

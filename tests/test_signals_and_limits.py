@@ -11,7 +11,7 @@ import time
 
 import pytest
 
-from conftest import PROGRAM, Mine
+from conftest import PROGRAM, Mine, wait_for
 from rows import MODES, model_of, pit_of
 
 SOLVE = ["solve", "--model", "mine.upit", "--prec", "mine.prec"]
@@ -45,15 +45,6 @@ def write_pairs(mine: Mine, blocks: int) -> None:
     """A mine of so many blocks, in which each second one pays for the one before it."""
     mine.write("mine.upit", model_of(["3" if block % 2 else "-2" for block in range(blocks)]))
     mine.write("mine.prec", "".join(f"{block} 1 {block - 1}\n" for block in range(1, blocks, 2)))
-
-
-def wait_for(file: pathlib.Path) -> bool:
-    """Whether the file is there within ten seconds."""
-    for _ in range(1000):
-        if file.exists():
-            return True
-        time.sleep(0.01)
-    return False
 
 
 @pytest.mark.parametrize("sent", [signal.SIGINT, signal.SIGTERM, signal.SIGHUP, signal.SIGKILL], ids=lambda it: it.name)

@@ -1,19 +1,28 @@
-//! A file that is written takes its name only when it is whole and on disk: until then it stands beside its place, under a
-//! name of its own. So a run that is refused, interrupted or killed leaves what stood there. What is no regular file, as a
-//! pipe or a device, is written as it is.
+//! Output files. An output has a temporary name next to its final one until all outputs of the call are on disk. So a run that is
+//! refused, interrupted or killed leaves the file that has the final name. An output that replaces a file keeps that file's
+//! permissions. A pipe or a device is written as it is.
 ghost use Rattle.std.specs.Prelude.{◌≡◌, IfErr};
 ghost use Rattle.faults.specs.Refused.{write_failed};
 ghost use Rattle.file_runs.specs.Faults.{IsUnmade};
 
 use faults::Fault;
-use std::fs::{File, Metadata, OpenOptions};
+use std::fs::{File, Metadata, OpenOptions, Permissions};
 use std::io::Write;
-use std::os::unix::fs::MetadataExt;
+use std::os::unix::fs::{MetadataExt, OpenOptionsExt, PermissionsExt, fchown};
 use std::path::PathBuf;
 use std::{fs, io};
 
 /// How many names are tried for a file beside its place.
 const MOST_NAMES: u32 = 1000;
+
+/// Permissions of a file that replaces none, before the umask.
+const NEW_FILE: u32 = 0o666;
+
+/// Permissions of the owner alone.
+const OWNER: u32 = 0o700;
+
+/// Permissions of owner, group and others.
+const ALL: u32 = 0o777;
 
 /// The place that a file takes when it is whole, and where it stands until then.
 #[derive(Drop)]
@@ -58,18 +67,56 @@ fn is_taken(rt: &HostRuntime, path: &str, files: &[Option<&File>]) -> bool {
     }
 }
 
+/// The permissions for a file of another group than the replaced file's: its group gets no more than others had.
+fn for_another_group(mode: u32) -> u32 {
+    mode & !0o070 | mode & mode << 3 & 0o070
+}
+
+/// Copies owner, group and permissions from the replaced file. If the group cannot be kept, the new group gets no more than
+/// others had.
+fn take_permissions(file: &File, replaced: &Metadata) {
+    let _ = fchown(file, Some(replaced.uid()), Some(replaced.gid()));
+    let mode = replaced.mode() & ALL;
+    let is_same_group = match file.metadata() {
+        Ok(found) => found.gid() == replaced.gid(),
+        Err(_) => false,
+    };
+    let mode = if is_same_group {
+        mode
+    } else {
+        for_another_group(mode)
+    };
+    let _ = file.set_permissions(Permissions::from_mode(mode));
+}
+
+/// Creates a file under a name that does not exist yet, with the permissions of the file that it replaces. Until these are set,
+/// only the owner has access.
+fn create_new(rt: &HostRuntime, partial: &str, replaced: Option<&Metadata>) -> io::Result<File> {
+    let mode = replaced.map_or(NEW_FILE, |found| found.mode() & OWNER);
+    let file = OpenOptions::new()
+        .write(true)
+        .create_new(true)
+        .mode(mode)
+        .open(rt, partial)?;
+    if let Some(found) = replaced {
+        take_permissions(&file, found);
+    }
+    Ok(file)
+}
+
 /// A file beside this path, under a name that nothing has yet: the path with a number and `.part` behind it. Refused where
 /// one of these files stands there, which then waits for the same place.
-fn create_beside(rt: &HostRuntime, path: PathBuf, taken: &[Option<&File>]) -> Result<Output, Fault>
+fn create_beside(
+    rt: &HostRuntime,
+    path: PathBuf,
+    replaced: Option<&Metadata>,
+    taken: &[Option<&File>],
+) -> Result<Output, Fault>
     ensures refused { IfErr result IsUnmade }
 {
     for number in 0..MOST_NAMES {
         let partial = format!(in rt.alloc(); "{}.{number}.part", path.display())?;
-        match OpenOptions::new()
-            .write(true)
-            .create_new(true)
-            .open(rt, partial.as_str())
-        {
+        match create_new(rt, partial.as_str(), replaced) {
             Ok(file) => {
                 return Ok(Output {
                     file,
@@ -101,48 +148,46 @@ impl Output {
                 if found.permissions().readonly()
                     || is_among(&found, taken)
                     || is_standard_output(rt, &found) => { Err(Fault::write_failed()) }
-            Ok(_) => match fs::canonicalize(rt, path) {
-                Ok(path) => create_beside(rt, path, taken),
+            Ok(found) => match fs::canonicalize(rt, path) {
+                Ok(path) => create_beside(rt, path, Some(&found), taken),
                 Err(_) => Err(Fault::write_failed()),
             },
             Err(_) if path.is_empty() => Err(Fault::write_failed()),
-            Err(_) => create_beside(rt, PathBuf::from_str(rt.alloc(), path)?, taken),
+            Err(_) => create_beside(rt, PathBuf::from_str(rt.alloc(), path)?, None, taken),
         }
     }
 
-    /// The file takes its name, once it is on disk. One that cannot goes, which is a write that failed.
-    fn keep(self, rt: &HostRuntime) -> Result<(), Fault>
+    /// Flushes the file to disk. Does nothing for a pipe or a device.
+    pub fn sync(&self) -> Result<(), Fault>
         ensures refused { IfErr result (λ e. e ≡ write_failed) }
     {
-        let Output { file, place } = self;
+        if self.place.is_some() && self.file.sync_all().is_err() {
+            return Err(Fault::write_failed());
+        }
+        Ok(())
+    }
+
+    /// Renames the file to its final name. If that fails, removes it.
+    pub fn take_name(self, rt: &HostRuntime) -> Result<(), Fault>
+        ensures refused { IfErr result (λ e. e ≡ write_failed) }
+    {
+        let Output { file: _, place } = self;
         let Some(place) = place else {
             return Ok(());
         };
-        let on_disk = file.sync_all().is_ok();
-        if on_disk && fs::rename(rt, place.partial.as_str(), place.path.as_path()).is_ok() {
+        if fs::rename(rt, place.partial.as_str(), place.path.as_path()).is_ok() {
             return Ok(());
         }
         let _ = fs::remove_file(rt, place.partial.as_str());
         Err(Fault::write_failed())
     }
 
-    /// The file goes, and what stood at its place stays.
-    fn discard(self, rt: &HostRuntime) {
+    /// Removes the file. The file that has the final name stays.
+    pub fn discard(self, rt: &HostRuntime) {
         let Output { file: _, place } = self;
         if let Some(place) = place {
             let _ = fs::remove_file(rt, place.partial.as_str());
         }
-    }
-
-    /// Ends it after a run: it is kept, or it goes.
-    pub fn end(self, rt: &HostRuntime, is_kept: bool) -> Result<(), Fault>
-        ensures refused { IfErr result (λ e. e ≡ write_failed) }
-    {
-        if is_kept {
-            return self.keep(rt);
-        }
-        self.discard(rt);
-        Ok(())
     }
 }
 

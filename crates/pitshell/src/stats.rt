@@ -1,5 +1,5 @@
 //! The file of what a run did and how long it took. It is made before the inputs are opened, may be none of them, and takes its
-//! name as the other outputs do.
+//! name with the other outputs.
 
 use crate::output::Output;
 use crate::watch::Times;
@@ -98,8 +98,8 @@ fn text_of(rt: &HostRuntime, times: &Times, counted: &Stats) -> Result<String, A
     Ok(text)
 }
 
-/// Writes the text of the file.
-fn write_stats(
+/// Writes the text of the file and flushes it to disk.
+pub fn write_stats(
     rt: &HostRuntime,
     output: &mut Output,
     times: &Times,
@@ -107,25 +107,7 @@ fn write_stats(
 ) -> Result<(), Fault> {
     let text = text_of(rt, times, counted)?;
     match output.write_all(text.as_bytes()) {
-        Ok(()) => Ok(()),
+        Ok(()) => output.sync(),
         Err(_) => Err(Fault::write_failed()),
     }
-}
-
-/// Ends the file after a run: it is written and kept where the run was done, with whatever answer, or ended at its budget.
-pub fn end_stats(
-    rt: &HostRuntime,
-    output: Output,
-    is_kept: bool,
-    times: &Times,
-    counted: &Stats,
-) -> Result<(), Fault> {
-    let mut output = output;
-    let written = if is_kept {
-        write_stats(rt, &mut output, times, counted)
-    } else {
-        Ok(())
-    };
-    output.end(rt, is_kept && written.is_ok())?;
-    written
 }

@@ -1,22 +1,88 @@
 //! The files of the system, as the calls of the program open, make and end them.
 //! What a file of the system holds and where its name leads no clause can say: each call may lead to any state.
 
-ghost use Rattle.std.specs.Prelude.{IfErr};
+ghost use Rattle.std.specs.Prelude.{◌≡◌, IfErr};
+ghost use Rattle.faults.specs.Refused.{write_failed};
 ghost use Rattle.file_runs.specs.Faults.{IsUnopened};
 
 use crate::output::Output;
+use crate::stats::write_stats;
+use crate::watch::Times;
 use counters::Counters;
 use faults::{Fault, Refusal, Source};
 use file_runs::{InputFiles, OutputFiles};
 use runs::MineFiles;
 use std::fs::File;
 
-/// The files of the system, what counts over the run that reads them, and the file of what it did, where one is wanted.
+/// The files of the system: the counters of the run that reads them, the stats file if one is wanted, and the outputs that are on
+/// disk and wait for their final names.
 #[derive(Drop)]
 pub struct SystemFiles<'a> {
-    pub rt: &'a HostRuntime,
+    rt: &'a HostRuntime,
     pub counters: Counters,
-    pub stats: Option<Output>,
+    stats: Option<Output>,
+    journal: Option<Output>,
+    certificate: Option<Output>,
+}
+
+/// Flushes an output that is to be kept, and returns it. Removes one that is not kept or cannot be flushed.
+fn kept(rt: &HostRuntime, output: Output, is_kept: bool) -> Result<Option<Output>, Fault>
+    ensures refused { IfErr result (λ e. e ≡ write_failed) }
+{
+    let synced = if is_kept { output.sync() } else { Ok(()) };
+    if is_kept && synced.is_ok() {
+        return Ok(Some(output));
+    }
+    output.discard(rt);
+    synced?;
+    Ok(None)
+}
+
+/// Renames these outputs in this order, or removes them all. After a failed rename it removes the rest.
+fn end_all(rt: &HostRuntime, outputs: [Option<Output>; 3], is_kept: bool) -> Result<(), Fault> {
+    let mut outcome = Ok(());
+    for output in outputs.into_iter().flatten() {
+        if is_kept && outcome.is_ok() {
+            outcome = output.take_name(rt);
+        } else {
+            output.discard(rt);
+        }
+    }
+    outcome
+}
+
+impl<'a> SystemFiles<'a> {
+    /// The files for one call.
+    pub fn new(rt: &'a HostRuntime, counters: Counters, stats: Option<Output>) -> SystemFiles<'a> {
+        SystemFiles {
+            rt,
+            counters,
+            stats,
+            journal: None,
+            certificate: None,
+        }
+    }
+
+    /// Ends the outputs after the call. If they are kept, it writes the stats file first and then renames all outputs. If the stats
+    /// file cannot be written, it renames none.
+    pub fn end(self, is_kept: bool, times: &Times) -> Result<(), Fault> {
+        let SystemFiles {
+            rt,
+            counters,
+            stats,
+            journal,
+            certificate,
+        } = self;
+        let mut stats = stats;
+        let written = match (&mut stats, counters.stats()) {
+            (Some(output), Some(counted)) if is_kept => write_stats(rt, output, times, &counted),
+            _ => Ok(()),
+        };
+        let is_kept = is_kept && written.is_ok();
+        let ended = end_all(rt, [journal, certificate, stats], is_kept);
+        written?;
+        ended
+    }
 }
 
 /// Opens an input; one that cannot be opened is a read that failed.
@@ -119,10 +185,12 @@ impl OutputFiles for SystemFiles<'_> {
     }
 
     fn end_journal(&mut self, output: Output, is_kept: bool) -> Result<(), Fault> {
-        output.end(self.rt, is_kept)
+        self.journal = kept(self.rt, output, is_kept)?;
+        Ok(())
     }
 
     fn end_certificate(&mut self, output: Output, is_kept: bool) -> Result<(), Fault> {
-        output.end(self.rt, is_kept)
+        self.certificate = kept(self.rt, output, is_kept)?;
+        Ok(())
     }
 }

@@ -4,7 +4,7 @@
 
 use crate::options::{Options, WatchOptions};
 use crate::output::Output;
-use crate::stats::{end_stats, make_stats, shells_inputs, solve_inputs};
+use crate::stats::{make_stats, shells_inputs, solve_inputs};
 use crate::system_files::SystemFiles;
 use crate::watch::{Times, watch};
 use counters::{Counters, Phase};
@@ -70,6 +70,11 @@ fn stats_of(
     }
 }
 
+/// Whether a call with this exit status keeps its outputs: it was done, or used up its budget.
+fn keeps_outputs(status: u8) -> bool {
+    status == 0 || status == 3
+}
+
 /// Does what is asked for, and tells of it as is asked for.
 fn watched<R: AllocGlobal + Threads + Wait + Clock + Eprint + Sync>(
     rt: &HostRuntime,
@@ -77,27 +82,16 @@ fn watched<R: AllocGlobal + Threads + Wait + Clock + Eprint + Sync>(
     options: &Options<'_>,
     asked: &WatchOptions<'_>,
 ) -> Result<u8, Fault> {
-    let mut files = SystemFiles {
-        rt,
-        counters: Counters::new(rt.alloc())?,
-        stats: stats_of(rt, options, asked.stats)?,
-    };
+    let counters = Counters::new(rt.alloc())?;
+    let mut files = SystemFiles::new(rt, counters, stats_of(rt, options, asked.stats)?);
     let every = asked.every.map(Duration::from_secs);
     let (status, times) = timed_call(rt, threads, options, every, &mut files);
-    let SystemFiles {
-        counters,
-        stats,
-        ..
-    } = files;
-    if let (Some(output), Some(counted)) = (stats, counters.stats()) {
-        let is_kept = status == 0 || status == 3;
-        end_stats(rt, output, is_kept, &times, &counted)?;
-    }
+    files.end(keeps_outputs(status), &times)?;
     Ok(status)
 }
 
-/// Does what is asked for, tells of it as is asked for, and answers the exit status. A fault of the file of what the run did is
-/// told as one of the call.
+/// Does what is asked for, tells of it as is asked for, and answers the exit status. If an output cannot be renamed or the stats
+/// file cannot be written, that is a fault of the call.
 pub fn watched_call<R: AllocGlobal + Threads + Wait + Clock + Eprint + Sync>(
     rt: &HostRuntime,
     threads: &R,
@@ -105,12 +99,10 @@ pub fn watched_call<R: AllocGlobal + Threads + Wait + Clock + Eprint + Sync>(
     asked: &WatchOptions<'_>,
 ) -> Result<u8, Fault> {
     if asked.is_nothing() {
-        let mut files = SystemFiles {
-            rt,
-            counters: Counters::none(),
-            stats: None,
-        };
-        return Ok(call(rt, threads, options, &mut files));
+        let mut files = SystemFiles::new(rt, Counters::none(), None);
+        let status = call(rt, threads, options, &mut files);
+        files.end(keeps_outputs(status), &Times::none())?;
+        return Ok(status);
     }
     watched(rt, threads, options, asked)
 }
