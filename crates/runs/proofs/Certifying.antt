@@ -24,7 +24,7 @@ puts task shown before after text (Ok x) spelled certifies w refused = inr (text
 puts task shown before after text (Err e) spelled certifies w refused = ((text, answered task text shown spelled certifies, w), refused)
 
 answered_yes : (files : Files) (task : FixedMine) (text : List ℕ) → HoldsMine files task → AnswersText task text true → IsAnsweredYes files text
-answered_yes files task text holds answers = record { task = task; given = record { holds = holds; ordered = holds.instance.graph }; yes = answers }
+answered_yes files task text holds answers = record { task = task; given = record { holds = holds; ordered = holds.gave.instance.graph }; yes = answers }
 
 written : (files : Files) (task : FixedMine) → HoldsMine files task → (before after : Progress) → WritesCertificate {E = Fault} task (Ok tt) before after → IsCertified files before after
 written files task holds before after w = record { text = w.0; answered = answered_yes files task w.0 holds w.1; written = w.2.0; no_failure = w.2.1 }

@@ -37,11 +37,11 @@ shown_moves fixed blocks n values vs ps qs pit same_n same_v same s =
     (record { set = s.set; listed = s.listed; is_pit = fixed_pit_knows_no_order Least blocks values ps qs fixed s.set same s.is_pit }))
 
 checks : (files : Files) (certificate : Reading) (task : FixedMine) (answer : Bool) → HoldsMine files task → IsInstance task.mine → IsAnswered task certificate answer → Checks files certificate answer
-checks files certificate task answer holds is a = record {
+checks files certificate task answer holds is a = let gave = holds.gave in record {
   task = task;
   given = record { holds = holds; ordered = is.graph };
   answered = a;
-  shows_pit = λ e. shown_moves (fixed_in task) task.mine.blocks holds.upit.n task.mine.values holds.upit.values task.mine.pairs holds.pairs a.answers.shown.pit holds.blocks holds.values (turned holds.pairs task.mine.pairs holds.same)
+  shows_pit = λ e. shown_moves (fixed_in task) task.mine.blocks gave.upit.n task.mine.values gave.upit.values task.mine.pairs gave.pairs a.answers.shown.pit gave.blocks gave.values (turned gave.pairs task.mine.pairs gave.same)
       (shows_fixed task.mine (fixed_in task) a.answers.shown.pit a.answers.shown.flow (instance_is_simple task.mine is).in_range (a.answers.exact.0 e));
 }
 

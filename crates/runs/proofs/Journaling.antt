@@ -24,7 +24,7 @@ use Rattle.solver.specs.declared.mode.Mode.TheVariants.{Single, Parts, Shared}
 use Rattle.solver.specs.Modes.{EndsIn}
 use Rattle.solver.specs.Searched.{EndsFixed, IsLifted}
 use Rattle.solver.proofs.Searching.{named_block}
-use Rattle.runs.specs.Solve.{Files, FixedMine, HasNoClash, HoldsMine, fixed_in}
+use Rattle.runs.specs.Solve.{Files, FixedMine, HoldsMine, fixed_in}
 use Rattle.runs.specs.Chosen.{Chosen, OfWriter, OfWriterIfAny}
 use Rattle.runs.specs.Journaled.{JournalEnd, AtBudget, EndOf, AtAnyEnd, MayPutEntries, PutsEntries, RefusesEntries, SaysJournal, WritesJournal, PutsJournal, IsJournaled, IsJournalCut}
 use Rattle.runs.specs.Run.{RefusesOutcome}
@@ -133,11 +133,10 @@ journal_put task workers chunk budget outcome entries written before after (Err 
     (tt, entries_refused task workers chunk budget outcome entries ended e.refusal e before after (subst (λ es. RefusesEntries task budget es e.refusal e before after) same refused))
 
 -- of the mine that the readers gave
-journaled_of : (Ends : JournalEnd) (mode : Mode) (files : Files) (task : FixedMine) → HoldsMine files task → HasNoClash task → (before after : Progress) → WritesJournal {E = Fault} Ends mode task (Ok tt) before after → IsJournaled Ends mode files before after
-journaled_of Ends mode files task holds free before after w = record {
+journaled_of : (Ends : JournalEnd) (mode : Mode) (files : Files) (task : FixedMine) → HoldsMine files task → (before after : Progress) → WritesJournal {E = Fault} Ends mode task (Ok tt) before after → IsJournaled Ends mode files before after
+journaled_of Ends mode files task holds before after w = record {
   rest = w.rest;
-  given = (task, record { holds = holds; ordered = holds.instance.graph }, w.is_rest);
-  no_clash = free;
+  given = (task, record { holds = holds; ordered = holds.gave.instance.graph }, w.is_rest);
   text = w.text;
   says = w.says;
   written = w.writes.0;
@@ -147,7 +146,7 @@ journaled_of Ends mode files task holds free before after w = record {
 cut_of : (mode : Mode) (files : Files) (task : FixedMine) (e : Fault) → HoldsMine files task → (before after : Progress) → WritesJournal {E = Fault} AtAnyEnd mode task (Err e) before after → IsJournalCut mode files before after
 cut_of mode files task e holds before after w = record {
   rest = w.rest;
-  given = (task, record { holds = holds; ordered = holds.instance.graph }, w.is_rest);
+  given = (task, record { holds = holds; ordered = holds.gave.instance.graph }, w.is_rest);
   text = w.text;
   says = w.says;
   front = w.writes.0.0;
@@ -157,11 +156,11 @@ cut_of mode files task e holds before after w = record {
 }
 
 pub journaled :
-    (Ends : JournalEnd) (mode : Mode) (files : Files) (task : FixedMine) (c : Chosen) → HoldsMine files task → HasNoClash task
+    (Ends : JournalEnd) (mode : Mode) (files : Files) (task : FixedMine) (c : Chosen) → HoldsMine files task
     → OfWriterIfAny c (WritesJournal {E = Fault} Ends mode task (Ok tt)) → OfWriterIfAny c (IsJournaled Ends mode files)
-journaled Ends mode files task c holds free w = ⊎_elim
+journaled Ends mode files task c holds w = ⊎_elim
     (λ none. inl none)
-    (λ wrote. inr (of_states (WritesJournal {E = Fault} Ends mode task (Ok tt)) (IsJournaled Ends mode files) (journaled_of Ends mode files task holds free) c.before c.after wrote))
+    (λ wrote. inr (of_states (WritesJournal {E = Fault} Ends mode task (Ok tt)) (IsJournaled Ends mode files) (journaled_of Ends mode files task holds) c.before c.after wrote))
     w
 
 pub journal_cut :

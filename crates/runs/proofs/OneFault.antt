@@ -38,7 +38,7 @@ use Rattle.pit_model.proofs.Fixed.{allowed_exists_unless_clash, closure_is_one}
 use Rattle.pit_model.proofs.SamePairs.{fixed_pit_knows_no_order}
 use Rattle.pit_model.proofs.OneCycle.{cycle_is_one, least_once}
 use Rattle.report.specs.FaultText.{fault_text, detail_of, place_text, cycle_block}
-use Rattle.runs.specs.Solve.{Choice, no_reader, one_reader, gone, Files, FixedMine, Gave, GaveFixed, GaveMine, IsPitText, OfChoice, FirstFault, in_model, in_prec, in_fixed, in_pairs, in_blocks, GaveInOrder, HasNoClash, RefusesMine, fixed_in, mine_of}
+use Rattle.runs.specs.Solve.{Choice, no_reader, one_reader, gone, Files, FixedMine, Gave, GaveFixed, GaveMine, IsPitText, OfChoice, FirstFault, in_model, in_prec, in_fixed, in_pairs, in_blocks, GaveInOrder, GaveTask, HasNoClash, RefusesMine, fixed_in, mine_of}
 use Rattle.runs.specs.Uniqueness.{ChoseAlike, IsUnread, ReadAlike, NeverFaulty, FaultsOnce}
 use Rattle.runs.proofs.Uniqueness.{model_once, one_lists, one_model, one_precedence, mine_in_order}
 
@@ -96,9 +96,8 @@ no_clash direction mine fixed pit block is clash =
 module _ (files other : Files) (same : ReadAlike files other)
     (u : Upit) (ps : List (ℕ × ℕ)) (lists : FixedLists) (one : GaveMine files.model files.prec u ps) (fixed_one : GaveFixed files.fixed u.n lists)
     (direction : Direction) (text_of : List ℕ) (solved : IsPitText direction (mine_of u ps lists) text_of) where
-  pit_has_no_clash : (task : FixedMine) → GaveInOrder other task → HasNoClash task
-  pit_has_no_clash task gave block named =
-      let h = gave.holds in
+  pit_has_no_clash : (task : FixedMine) → GaveTask other task → HasNoClash task
+  pit_has_no_clash task h block named =
       let upit = one_model files.model files.prec other.model other.prec same.model same.prec u h.upit ps h.pairs one h.given in
       let pairs = one_precedence files.model files.prec other.model other.prec same.model same.prec u h.upit ps h.pairs one h.given in
       let same_lists = one_lists files.fixed other.fixed u.n h.upit.n lists task.lists same.fixed (ap (λ (w : Upit). w.n) upit) fixed_one h.fixed_given in
@@ -113,7 +112,7 @@ module _ (files other : Files) (same : ReadAlike files other)
 -- where the readers gave a mine without a cycle and without a clash, no run over the same texts finds a fault in them
 module _ (files other : Files) (same : ReadAlike files other)
     (u : Upit) (ps : List (ℕ × ℕ)) (lists : FixedLists) (one : GaveMine files.model files.prec u ps) (fixed_one : GaveFixed files.fixed u.n lists) (acyclic : IsAcyclic ps)
-    (clash_free : (task : FixedMine) → GaveInOrder other task → HasNoClash task) where
+    (clash_free : (task : FixedMine) → GaveTask other task → HasNoClash task) where
   no_fault : (fault : Fault) → FirstFault fault other → fault ≡ no_memory
   no_fault fault (in_model text given is) =
       absurd (sound_model text u fault (subst (λ t. SpellsUpit t u) (same.model one.model_text text one.model_given given) one.model_spelled) is)
@@ -143,10 +142,10 @@ never_faulty files other direction before after status fault same done h =
     only_passing files other same a.upit a.pairs a.lists a.given a.fixed_given a.acyclic clash_free fault.refusal fault refl h
 
 -- and so where they gave a mine in order
-pub given_is_faultless : (files other : Files) (task : FixedMine) (fault : Fault) → ReadAlike files other → GaveInOrder files task → HasNoClash task → RefusesMine fault.refusal fault other → IsUnread fault.refusal
-given_is_faultless files other task fault same gave free h =
-    let a = gave.holds in
-    let clash_free = λ (there : FixedMine) (given : GaveInOrder other there). subst HasNoClash (mine_in_order files other same task there gave given) free in
+pub given_is_faultless : (files other : Files) (task : FixedMine) (fault : Fault) → ReadAlike files other → GaveInOrder files task → RefusesMine fault.refusal fault other → IsUnread fault.refusal
+given_is_faultless files other task fault same gave h =
+    let a = gave.holds.gave in
+    let clash_free = λ (there : FixedMine) (given : GaveTask other there). subst HasNoClash (mine_in_order files other same task there a given) gave.holds.no_clash in
     only_passing files other same a.upit a.pairs task.lists a.given a.fixed_given a.acyclic clash_free fault.refusal fault refl h
 
 -- the text of a cycle's fault is that of its blocks
@@ -237,20 +236,19 @@ module _ (files other : Files) (same : ReadAlike files other) (f g : Fault)
   one_fault (in_model text given is) (in_fixed v qs gave two) = absurd (model_sound files other same f g text gave.model_text v given gave.model_given is gave.model_spelled)
   one_fault (in_model text given is) (in_pairs v qs lists gave fixed_gave two) = absurd (model_sound files other same f g text gave.model_text v given gave.model_given is gave.model_spelled)
   one_fault (in_model text given is) (in_blocks task block gave named two) =
-      let h = gave.holds.given in absurd (model_sound files other same f g text h.model_text gave.holds.upit given h.model_given is h.model_spelled)
+      let h = gave.given in absurd (model_sound files other same f g text h.model_text gave.upit given h.model_given is h.model_spelled)
   one_fault (in_prec text ps u given spelled here is) (in_model behind gave two) = absurd (sound_too files other same f g text behind u given gave spelled two)
   one_fault (in_prec text ps u given spelled here is) (in_prec behind qs v gave spelled_too there two) = prec_prec files other same f g text behind ps qs u v given gave spelled spelled_too here there is two
   one_fault (in_prec text ps u given spelled here is) (in_fixed v qs gave two) = absurd (prec_sound files other same f g text ps u v qs given spelled here is gave)
   one_fault (in_prec text ps u given spelled here is) (in_pairs v qs lists gave fixed_gave two) = absurd (prec_sound files other same f g text ps u v qs given spelled here is gave)
   one_fault (in_prec text ps u given spelled here is) (in_blocks task block gave named two) =
-      absurd (prec_sound files other same f g text ps u gave.holds.upit gave.holds.pairs given spelled here is gave.holds.given)
+      absurd (prec_sound files other same f g text ps u gave.upit gave.pairs given spelled here is gave.given)
   one_fault (in_fixed u ps one is) (in_model behind gave two) = absurd (sound_too files other same f g one.model_text behind u one.model_given gave one.model_spelled two)
   one_fault (in_fixed u ps one is) (in_prec behind qs v gave spelled there two) = absurd (sound_prec files other same f g behind qs u v ps one gave spelled there two)
   one_fault (in_fixed u ps one is) (in_fixed v qs gave two) = same_fixed_fault files.fixed other.fixed u.n v.n f g same.fixed (same_count files other same f g u v ps qs one gave) is two
   one_fault (in_fixed u ps one is) (in_pairs v qs lists gave fixed_gave two) =
       absurd (no_fixed_fault other.fixed files.fixed v.n u.n lists f (alike_back files.fixed other.fixed same.fixed) (sym (same_count files other same f g u v ps qs one gave)) fixed_gave is)
-  one_fault (in_fixed u ps one is) (in_blocks task block gave named two) =
-      let h = gave.holds in
+  one_fault (in_fixed u ps one is) (in_blocks task block h named two) =
       absurd (no_fixed_fault other.fixed files.fixed h.upit.n u.n task.lists f (alike_back files.fixed other.fixed same.fixed) (sym (same_count files other same f g u h.upit ps h.pairs one h.given)) h.fixed_given is)
   one_fault (in_pairs u ps lists one fixed_one is) (in_model behind gave two) = absurd (sound_too files other same f g one.model_text behind u one.model_given gave one.model_spelled two)
   one_fault (in_pairs u ps lists one fixed_one is) (in_prec behind qs v gave spelled there two) = absurd (sound_prec files other same f g behind qs u v ps one gave spelled there two)
@@ -260,19 +258,16 @@ module _ (files other : Files) (same : ReadAlike files other) (f g : Fault)
       let m = one_model files.model files.prec other.model other.prec same.model same.prec u v ps qs one gave in
       let p = one_precedence files.model files.prec other.model other.prec same.model same.prec u v ps qs one gave in
       one_cycle qs v.n f g some some_too (subst (λ rs. IsGraphFault rs v.n f) p (subst (λ (w : Upit). IsGraphFault ps w.n f) m is)) two
-  one_fault (in_pairs u ps lists one fixed_one is) (in_blocks task block gave named two) =
-      let h = gave.holds in
+  one_fault (in_pairs u ps lists one fixed_one is) (in_blocks task block h named two) =
       let p = one_precedence files.model files.prec other.model other.prec same.model same.prec u h.upit ps h.pairs one h.given in
       absurd (some (only_memory acyclic_has_no_needy ps u.n f.refusal f (subst IsAcyclic (sym p) h.acyclic) is))
   one_fault (in_blocks task block one named is) (in_model behind gave two) =
-      let h = one.holds.given in absurd (sound_too files other same f g h.model_text behind one.holds.upit h.model_given gave h.model_spelled two)
+      let h = one.given in absurd (sound_too files other same f g h.model_text behind one.upit h.model_given gave h.model_spelled two)
   one_fault (in_blocks task block one named is) (in_prec behind qs v gave spelled there two) =
-      absurd (sound_prec files other same f g behind qs one.holds.upit v one.holds.pairs one.holds.given gave spelled there two)
-  one_fault (in_blocks task block one named is) (in_fixed v qs gave two) =
-      let h = one.holds in
+      absurd (sound_prec files other same f g behind qs one.upit v one.pairs one.given gave spelled there two)
+  one_fault (in_blocks task block h named is) (in_fixed v qs gave two) =
       absurd (no_fixed_fault files.fixed other.fixed h.upit.n v.n task.lists g same.fixed (same_count files other same f g h.upit v h.pairs qs h.given gave) h.fixed_given two)
-  one_fault (in_blocks task block one named is) (in_pairs v qs others gave fixed_gave two) =
-      let h = one.holds in
+  one_fault (in_blocks task block h named is) (in_pairs v qs others gave fixed_gave two) =
       let p = one_precedence files.model files.prec other.model other.prec same.model same.prec h.upit v h.pairs qs h.given gave in
       absurd (some_too (only_memory acyclic_has_no_needy qs v.n g.refusal g (subst IsAcyclic p h.acyclic) two))
   one_fault (in_blocks task block one named is) (in_blocks task_too block_too gave named_too two) =

@@ -20,7 +20,7 @@ use Rattle.pit_model.proofs.Fixed.{closure_is_one}
 use Rattle.pit_model.specs.declared.direction.Direction.{Direction}
 use Rattle.solver.specs.declared.mode.Mode.{Mode}
 use Rattle.solver.specs.Searched.{RefusesSearch}
-use Rattle.runs.specs.Solve.{Choice, no_reader, one_reader, gone, choice, Files, FixedMine, GaveFixed, GaveInOrder, HasNoClash, HoldsMine, OfChoice, OfChoiceIfAny, Gave, NeverFailed, GaveMine, in_model, in_prec, in_fixed, in_pairs, in_blocks, RefusesFixedText, RefusesMine, fixed_in, task_of}
+use Rattle.runs.specs.Solve.{Choice, no_reader, one_reader, gone, choice, Files, FixedMine, GaveFixed, GaveTask, HasNoClash, HoldsMine, OfChoice, OfChoiceIfAny, Gave, NeverFailed, GaveMine, in_model, in_prec, in_fixed, in_pairs, in_blocks, RefusesFixedText, RefusesMine, fixed_in, task_of}
 use Rattle.runs.specs.declared.mine.Task.{Task}
 use Rattle.runs.specs.declared.asked.Asked.{Asked}
 use Rattle.pit_model.specs.Replay.{IsSettled}
@@ -100,9 +100,9 @@ pub memory_refused : (files : Files) (upit : Upit) (pairs : List (ℕ × ℕ)) (
 memory_refused files upit pairs lists given fixed = (refl, given.model_given.failures, given.prec_given.failures, given_fixed files.fixed upit.n lists fixed)
 
 pub blocks_refused :
-    (r : Refusal) (e : Fault) (files : Files) (task : FixedMine) → GaveInOrder files task
+    (r : Refusal) (e : Fault) (files : Files) (task : FixedMine) → GaveTask files task
     → RefusesFixed (graph_of_mine task.mine) task.lists r e → RefusesMine r e files
-blocks_refused NoMemory e files task given h = (h, given.holds.given.model_given.failures, given.holds.given.prec_given.failures, given_fixed files.fixed given.holds.upit.n task.lists given.holds.fixed_given)
+blocks_refused NoMemory e files task given h = (h, given.given.model_given.failures, given.given.prec_given.failures, given_fixed files.fixed given.upit.n task.lists given.fixed_given)
 blocks_refused (FixedClash block) e files task given h = in_blocks task block given h.1 h.0
 blocks_refused _ e files task given h = absurd h
 
@@ -131,22 +131,22 @@ search_refused mode direction task _ e journal certificate none left same h = (h
 
 -- and so is a refusal to find the pit
 pub pit_refused :
-    (asked : Asked) (r : Refusal) (e : Fault) (files : Files) (task : FixedMine) (journal certificate : Chosen) (out : Progress) → HoldsMine files task → HasNoClash task
+    (asked : Asked) (r : Refusal) (e : Fault) (files : Files) (task : FixedMine) (journal certificate : Chosen) (out : Progress) → HoldsMine files task
     → RefusesPit asked.mode asked.pit task r e journal certificate → RefusesRun asked r e files journal certificate out out
-pit_refused asked WriteFailed e files task journal certificate out holds free h = ⊎_elim
+pit_refused asked WriteFailed e files task journal certificate out holds h = ⊎_elim
     (λ of_journal. (of_journal.0.1, in_journal (journal_cut asked.mode files task e journal holds of_journal.0.0) of_journal.1 refl))
     (λ behind. (
       behind.2.1,
-      in_certificate (record { within = (task, holds, behind.0); journaled = journaled IsSettled asked.mode files task journal holds free behind.1 })
+      in_certificate (record { within = (task, holds, behind.0); journaled = journaled IsSettled asked.mode files task journal holds behind.1 })
           (certificate_cut files task e certificate holds behind.2.0) refl,
     ))
     h
-pit_refused asked NoMemory e files task journal certificate out holds free h =
-    ((h.0, holds.given.model_given.failures, holds.given.prec_given.failures, given_fixed files.fixed holds.upit.n task.lists holds.fixed_given), record { no_journal = h.1; no_certificate = h.2; no_pit = refl })
-pit_refused asked NoSeat e files task journal certificate out holds free h = (h.0.0, h.0.1, (task, holds), record { no_journal = h.1; no_certificate = h.2; no_pit = refl })
-pit_refused asked (Exhausted count) e files task journal certificate out holds free h =
-    (h.0.0, (task, holds, h.0.1), journaled (AtBudget count) asked.mode files task journal holds free h.1, h.2, refl)
-pit_refused asked _ e files task journal certificate out holds free h = absurd h.0
+pit_refused asked NoMemory e files task journal certificate out holds h = let gave = holds.gave in
+    ((h.0, gave.given.model_given.failures, gave.given.prec_given.failures, given_fixed files.fixed gave.upit.n task.lists gave.fixed_given), record { no_journal = h.1; no_certificate = h.2; no_pit = refl })
+pit_refused asked NoSeat e files task journal certificate out holds h = (h.0.0, h.0.1, (task, holds), record { no_journal = h.1; no_certificate = h.2; no_pit = refl })
+pit_refused asked (Exhausted count) e files task journal certificate out holds h =
+    (h.0.0, (task, holds, h.0.1), journaled (AtBudget count) asked.mode files task journal holds h.1, h.2, refl)
+pit_refused asked _ e files task journal certificate out holds h = absurd h.0
 
 pub write_refused :
     (asked : Asked) (e : Fault) (files : Files) (journal certificate : Chosen) (before after : Progress) → e ≡ write_failed → WasCutShort asked files journal certificate before after

@@ -46,7 +46,7 @@ module _ (files other : Files) (journal : Reading) (same : ReadAlike files other
   -- the rest is one
   pub rest_once : (m n : Instance) → GaveRest files m → GaveRest other n → m ≡ n
   rest_once m n one two =
-      let task = mine_in_order files other same one.0 two.0 one.1 two.1 in
+      let task = mine_in_order files other same one.0 two.0 one.1.holds.gave two.1.holds.gave in
       rest_is_one two.0.mine (fixed_in two.0) m n (subst (λ (t : FixedMine). IsRestOf t.mine (fixed_in t) m) task one.2) two.2
 
   said_so :

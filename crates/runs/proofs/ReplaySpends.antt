@@ -43,7 +43,7 @@ module _ (files other : Files) (journal : Reading) (same : ReadAlike files other
       sym used.spent.made ∙ s.made
 
   unread : (fault : Fault) → NotReplayed fault other journal → IsUnread fault.refusal
-  unread fault (no_mine refused left) = given_is_faultless files other wrote.given.0 fault same wrote.given.1 wrote.no_clash refused
+  unread fault (no_mine refused left) = given_is_faultless files other wrote.given.0 fault same wrote.given.1 refused
   unread fault (no_journal task given refused) = faultless files other journal same (AtBudget count) mode before after task fault.refusal fault taken wrote given refused
 
   refused : (r : Refusal) (fault : Fault) (other_before other_after : Progress) → fault.refusal ≡ r → RefusesReplay r fault other journal other_before other_after → (r ≡ Exhausted count) ⊎ IsUnread r

@@ -49,14 +49,14 @@ text_moves direction lists blocks n values vs ps qs text same_n same_v same t =
     (record { pit = t.pit; is_pit = fixed_pit_knows_no_order direction blocks values ps qs (fixed_of lists) t.pit same t.is_pit; is_text = t.is_text }))
 
 pub solves : (direction : Direction) (files : Files) (task : FixedMine) (text : List ℕ) → HoldsMine files task → IsPitText direction task text → Solves direction files text
-solves direction files task text holds t = record {
-  upit = holds.upit;
-  pairs = holds.pairs;
+solves direction files task text holds t = let gave = holds.gave in record {
+  upit = gave.upit;
+  pairs = gave.pairs;
   lists = task.lists;
-  given = holds.given;
-  fixed_given = holds.fixed_given;
-  acyclic = holds.acyclic;
-  solved = text_moves direction task.lists task.mine.blocks holds.upit.n task.mine.values holds.upit.values task.mine.pairs holds.pairs text holds.blocks holds.values (turned holds.pairs task.mine.pairs holds.same) t;
+  given = gave.given;
+  fixed_given = gave.fixed_given;
+  acyclic = gave.acyclic;
+  solved = text_moves direction task.lists task.mine.blocks gave.upit.n task.mine.values gave.upit.values task.mine.pairs gave.pairs text gave.blocks gave.values (turned gave.pairs task.mine.pairs gave.same) t;
 }
 
 pub done :

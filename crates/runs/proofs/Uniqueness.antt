@@ -37,7 +37,7 @@ use Rattle.certificate.proofs.TextRead as certificates
 use Rattle.merging.specs.Parts.{graph_of}
 use Rattle.shells.specs.Prices.{Prices}
 use Rattle.report.specs.AnswerText.{answer_text}
-use Rattle.runs.specs.Solve.{Choice, no_reader, one_reader, gone, Files, FixedMine, Reading, Gave, GaveFixed, GaveInOrder, GaveMine, IsPitText, fixed_in, mine_of}
+use Rattle.runs.specs.Solve.{Choice, no_reader, one_reader, gone, Files, FixedMine, Reading, Gave, GaveFixed, GaveInOrder, GaveMine, GaveTask, IsPitText, fixed_in, mine_of}
 use Rattle.runs.specs.Check.{AnswersText, Checks, status_of_answer}
 use Rattle.runs.specs.Deposit.{GaveTable, GaveDeposit, deposit_in, rows}
 use Rattle.runs.specs.ShellsRun.{IsShellsText}
@@ -109,16 +109,14 @@ same_task : (m n : FixedMine) → m.mine ≡ n.mine → m.lists ≡ n.lists → 
 same_task m n mine lists = ap (λ x. record { mine = x; lists = m.lists }) mine ∙ ap (λ l. record { mine = n.mine; lists = l }) lists
 
 -- the mine with its fixed blocks and its pairs in order is one
-pub mine_in_order : (files other : Files) → ReadAlike files other → (m n : FixedMine) → GaveInOrder files m → GaveInOrder other n → m ≡ n
-mine_in_order files other same m n one two =
-    let x = one.holds in
-    let y = two.holds in
+pub mine_in_order : (files other : Files) → ReadAlike files other → (m n : FixedMine) → GaveTask files m → GaveTask other n → m ≡ n
+mine_in_order files other same m n x y =
     let u = one_model files.model files.prec other.model other.prec same.model same.prec x.upit y.upit x.pairs y.pairs x.given y.given in
     let p = one_precedence files.model files.prec other.model other.prec same.model same.prec x.upit y.upit x.pairs y.pairs x.given y.given in
     let l = one_lists files.fixed other.fixed x.upit.n y.upit.n m.lists n.lists same.fixed (ap (λ (w : Upit). w.n) u) x.fixed_given y.fixed_given in
     let pairs : AreSamePairs m.mine.pairs n.mine.pairs = through m.mine.pairs x.pairs n.mine.pairs (turned x.pairs m.mine.pairs x.same) (subst (λ ps. AreSamePairs ps n.mine.pairs) (sym p) y.same) in
     let mine = same_mine m.mine n.mine (x.blocks ∙ ap (λ (w : Upit). w.n) u ∙ sym y.blocks) (x.values ∙ ap (λ (w : Upit). w.values) u ∙ sym y.values)
-    (pairs_have_one_order m.mine.pairs n.mine.pairs pairs one.ordered.rising two.ordered.rising) in
+    (pairs_have_one_order m.mine.pairs n.mine.pairs pairs x.instance.graph.rising y.instance.graph.rising) in
     same_task m n mine l
 
 -- ---- `solve`
@@ -202,7 +200,7 @@ module _ (files other : Files) (same : ReadAlike files other) where
   text_answers : (m n : FixedMine) (s t : List ℕ) (answer second : Bool) → GaveInOrder files m → GaveInOrder other n → s ≡ t
       → AnswersText m s answer → AnswersText n t second → answer ≡ second
   text_answers m n s t answer second one two text a b =
-      let task = mine_in_order files other same m n one two in
+      let task = mine_in_order files other same m n one.holds.gave two.holds.gave in
       answer_is_one n t answer second two.ordered (subst (λ x. AnswersText x t answer) task (subst (λ x. AnswersText m x answer) text a)) b
 
   one_answer : (certificate other_certificate : Reading) (answer second : Bool) → GaveAlike certificate other_certificate

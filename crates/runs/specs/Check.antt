@@ -36,7 +36,7 @@ pub record Checks (files : Files) (certificate : Reading) (answer : Bool) : Type
   pub task : FixedMine
   pub given : GaveInOrder files task
   pub answered : IsAnswered task certificate answer
-  pub shows_pit : IsTrue answer → ListsPit Least (mine_of given.holds.upit given.holds.pairs task.lists).mine (fixed_in task) answered.answers.shown.pit
+  pub shows_pit : IsTrue answer → ListsPit Least (mine_of given.holds.gave.upit given.holds.gave.pairs task.lists).mine (fixed_in task) answered.answers.shown.pit
 
 abbrev pub status_of_answer : Bool → Status
 status_of_answer true = Done

@@ -19,7 +19,7 @@ use Rattle.merging.specs.declared.outcome.Outcome.TheVariants.{Pit, Exhausted}
 use Rattle.solver.specs.declared.mode.Mode.{Mode}
 use Rattle.solver.specs.declared.mode.Mode.TheVariants.{Shared}
 use Rattle.solver.specs.Modes.{IsShared}
-use Rattle.runs.specs.Solve.{Files, FixedMine, GaveInOrder, HasNoClash, fixed_in}
+use Rattle.runs.specs.Solve.{Files, FixedMine, GaveInOrder, fixed_in}
 use Rattle.runs.specs.Chosen.{Chosen, OfWriter, OfWriterIfAny}
 
 -- the rest of the mine that the readers gave: the instance that a journal is of
@@ -70,7 +70,6 @@ PutsJournal Ends mode task c (Err e) = OfWriter c (WritesJournal {E = Fault} End
 pub record IsJournaled (Ends : JournalEnd) (mode : Mode) (files : Files) (before after : Progress) : Type 0 where
   pub rest : Instance
   pub given : GaveRest files rest
-  pub no_clash : HasNoClash given.0
   pub text : List ℕ
   pub says : SaysJournal Ends mode rest text
   pub written : after.bytes ≡ before.bytes ++ text

@@ -128,8 +128,8 @@ GaveFixed c n lists = OfChoice c (λ r. (text : List ℕ) × Gave r text × Spel
 abbrev pub mine_of : Upit → List (ℕ × ℕ) → FixedLists → FixedMine
 mine_of upit pairs lists = record { mine = instance_of upit.n upit.values pairs; lists = lists }
 
--- the mine that the readers gave, with its pairs in the order of (block, needed block)
-pub record HoldsMine (files : Files) (task : FixedMine) : Type 0 where
+-- the readers gave texts that spell this mine, with its pairs in the order of (block, needed block); its fixed blocks may clash
+pub record GaveTask (files : Files) (task : FixedMine) : Type 0 where
   pub upit : Upit
   pub pairs : List (ℕ × ℕ)
   pub given : GaveMine files.model files.prec upit pairs
@@ -140,14 +140,19 @@ pub record HoldsMine (files : Files) (task : FixedMine) : Type 0 where
   pub acyclic : IsAcyclic pairs
   pub instance : IsInstance task.mine
 
--- and by that order its arcs are numbered
-pub record GaveInOrder (files : Files) (task : FixedMine) : Type 0 where
-  pub holds : HoldsMine files task
-  pub ordered : IsGraph task.mine.blocks task.mine.pairs
-
 -- no barred block of the mine must be dug
 abbrev pub HasNoClash : FixedMine → Type 0
 HasNoClash task = (block : ℕ) → IsClash task.mine.pairs (fixed_in task) block → ⊥
+
+-- and in that mine no barred block must be dug
+pub record HoldsMine (files : Files) (task : FixedMine) : Type 0 where
+  pub gave : GaveTask files task
+  pub no_clash : HasNoClash task
+
+-- and by the order of its pairs its arcs are numbered
+pub record GaveInOrder (files : Files) (task : FixedMine) : Type 0 where
+  pub holds : HoldsMine files task
+  pub ordered : IsGraph task.mine.blocks task.mine.pairs
 
 -- a text is the text of the pit of a mine: toward `Least`, of the smallest closed set of greatest worth that holds each block
 -- forced in and none that is barred
@@ -197,7 +202,7 @@ pub data FirstFault (fault : Fault) (files : Files) : Type 0 where
       → OfChoice files.fixed (λ r. (text : List ℕ) × Gave r text × IsFirstFixedFault upit.n text fault) → FirstFault fault files
   in_pairs : (upit : Upit) (pairs : List (ℕ × ℕ)) (lists : FixedLists) → GaveMine files.model files.prec upit pairs → GaveFixed files.fixed upit.n lists
       → IsGraphFault pairs upit.n fault → FirstFault fault files
-  in_blocks : (task : FixedMine) (block : ℕ) → GaveInOrder files task → IsClash task.mine.pairs (fixed_in task) block → fault ≡ clash block → FirstFault fault files
+  in_blocks : (task : FixedMine) (block : ℕ) → GaveTask files task → IsClash task.mine.pairs (fixed_in task) block → fault ≡ clash block → FirstFault fault files
 
 -- why no mine was read
 abbrev pub RefusesMine : Refusal → Fault → Files → Type 0

@@ -12,7 +12,7 @@ use Rattle.runs.specs.Run.{in_pit}
 use Rattle.runs.specs.Solve.{files_of, task_of}
 use Rattle.runs.proofs.Certifying.{certified}
 use Rattle.runs.proofs.Journaling.{journaled}
-use Rattle.runs.proofs.Refusing.{has_no_clash, read_refused, pit_refused, write_refused}
+use Rattle.runs.proofs.Refusing.{read_refused, pit_refused, write_refused}
 use Rattle.runs.proofs.Solving.{done, cut_short, found_text}
 use Rattle.runs.proofs.solve.run_solve.Goals as goal
 
@@ -36,7 +36,7 @@ returns-in_err-pit-clause-refused g c =
     let journal = chosen g.J.OutBytes.progress outputs.journal after.journal in
     let certificate = chosen g.C.OutBytes.progress outputs.certificate after.certificate in
     rw (p.1, p.2, c.solve_mine.ensures.no_pit)
-    (pit_refused c.args.asked e.refusal e files (task_of c.in_ok-task.task) journal certificate (g.W.OutBytes.progress outputs.out) c.in_ok-task.ensures.mine (has_no_clash c.in_ok-task.task c.in_ok-task.ensures.fixed) c.in_err-pit.ensures.refused)
+    (pit_refused c.args.asked e.refusal e files (task_of c.in_ok-task.task) journal certificate (g.W.OutBytes.progress outputs.out) c.in_ok-task.ensures.mine c.in_err-pit.ensures.refused)
 
 pub returns-in_err-write_pit-clause-refused : goal.returns-in_err-write_pit-clause-refused
 returns-in_err-write_pit-clause-refused g c =
@@ -56,7 +56,7 @@ returns-in_err-write_pit-clause-refused g c =
     let count : c.n-n.result ≡ task.mine.blocks = c.n-n.ensures ∙ ap (λ (g : Graph). g.blocks) c.deref.ensures ∙ c.graph.ensures.blocks in
     let fits : SFits w128 found.worth = search rules in
     rw (p.1, p.2, sym c.solve_mine.ensures.no_pit) (write_refused asked e files journal certificate old new c.in_err-write_pit.ensures.refused
-    (in_pit (record { within = (task, holds, c.in_ok-pit.ensures.within); journaled = journaled IsSettled asked.mode files task journal holds (has_no_clash c.in_ok-task.task c.in_ok-task.ensures.fixed) c.in_ok-pit.ensures.journaled })
+    (in_pit (record { within = (task, holds, c.in_ok-pit.ensures.within); journaled = journaled IsSettled asked.mode files task journal holds c.in_ok-pit.ensures.journaled })
     (certified files task certificate holds c.in_ok-pit.ensures.certified)
     (cut_short asked.pit files task old new e holds (pit_text c.n-n.result c.deref-2.result.now found.worth)
     (found_text asked.pit task found c.deref-2.result.now c.n-n.result count c.deref-2.ensures.value c.in_ok-pit.ensures.found) (simp to_z-of_z at c.in_err-write_pit.ensures.text))))
@@ -78,4 +78,4 @@ returns-clause-journaled g c =
     let task = c.in_ok-task.task in
     let files = files_of g.M.InBytes.progress g.M.InBytes.IsAtEnd g.P.InBytes.progress g.P.InBytes.IsAtEnd g.F.InBytes.progress g.F.InBytes.IsAtEnd c.args.files.now c.read_mine.new.files in
     let journal = chosen g.J.OutBytes.progress c.args.outputs.now.journal c.solve_mine.new.outputs.journal in
-    journaled IsSettled c.args.asked.mode files (task_of task) journal c.in_ok-task.ensures.mine (has_no_clash task c.in_ok-task.ensures.fixed) c.in_ok-pit.ensures.journaled
+    journaled IsSettled c.args.asked.mode files (task_of task) journal c.in_ok-task.ensures.mine c.in_ok-pit.ensures.journaled
