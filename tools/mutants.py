@@ -9,7 +9,12 @@
 
 bench/results/mutants.md says of each mutant by what it was refused, and of each crate in which state: the SHA-256 over its sources,
 definitions, proofs and mutants, and over the files of definitions of other crates that these cite, directly or through others. The
-status is 1 where a mutant can't be planted, has no row or is not refused, and that of the proofs where these fail.
+status is 1 where a mutant can't be planted, has no row, is not refused or is refused at another clause than its line `clause:` names,
+and that of the proofs where these fail.
+
+A line `clause:` names a function and a clause of it. `find_pit shown` is the clause `shown` that `find_pit` ensures, `find_pit returns`
+the only one that has no name. `find_pit loop-k` is the invariant of a loop, `find_pit invariant` that of a type, and `find_pit join-few`
+what `find_pit` owes when it calls `join`.
 """
 import argparse
 import datetime
@@ -33,6 +38,12 @@ What the prover said of each wrong body or definition in `crates/*/mutants/`, an
 SHA-256 over the crate's sources, definitions, proofs and mutants, and over the files of definitions of other crates that these cite.
 `tools/mutants.py` writes this; the gate tries the mutants of each crate that is in another state, and of one crate more, another each day.
 """
+BY_NAME = "(only because a proof file names"
+# The goal in a refusal, of which the toolchain tells so much that its end may be missing.
+GOAL = re.compile(r"error: `([^`]+)(`?)|\(`([^`]+)(`?)")
+CUT = ".."
+PLACE = re.compile(r"(?:^|\s)(?:\./)?(src|proofs)/(\S+?):(\d+):")
+FUNCTION = re.compile(r"^\s*(?:pub(?:\([a-z]+\))? |unsafe |extern \S+ |const )*fn (\w+)", re.MULTILINE)
 CITES = re.compile(r"\buse Rattle\.(\w+)\.specs\.([\w.-]+)")
 
 
@@ -66,6 +77,73 @@ def misplanted(mutant: pathlib.Path) -> str:
     return "" if texts else "it changes nothing"
 
 
+def changed_files(mutant: pathlib.Path) -> dict[str, str]:
+    """The files that the mutant changes, by their names in the crate, as it makes them."""
+    texts: dict[str, str] = {}
+    name, old = "", ""
+    for line in mutant.read_text().splitlines():
+        if line.startswith("file: "):
+            name = line.removeprefix("file: ").strip()
+            texts.setdefault(name, (mutant.parent.parent / name).read_text())
+        elif line.startswith("old: "):
+            old = line.removeprefix("old: ")
+        elif line.startswith("new:"):
+            texts[name] = texts[name].replace(old, line.removeprefix("new:").removeprefix(" "))
+    return texts
+
+
+def function_at(mutant: pathlib.Path, said: str) -> str:
+    """The function that a refusal lies in: the folder of its proof; or the one that the line begins or an attribute on it is of, or else
+    the last one that begins before the line. Empty for a law."""
+    found = PLACE.search(said)
+    if not found:
+        return ""
+    if found[1] == "proofs":
+        return pathlib.Path(found[2]).parent.name
+    name = f"src/{found[2]}"
+    lines = (changed_files(mutant).get(name) or (mutant.parent.parent / name).read_text()).splitlines()
+    at = int(found[3]) - 1
+    if lines[at].lstrip().startswith("#["):
+        return "".join(FUNCTION.findall("\n".join(lines[at:]))[:1])
+    return "".join(FUNCTION.findall("\n".join(lines[: at + 1]))[-1:])
+
+
+def clause_in(goal: str) -> str:
+    """The clause that a goal is of."""
+    owed, required, rest = re.sub(r"-\d+$", "", goal).partition("-requires")
+    clause = rest.rpartition("-clause-")[2] if "-clause-" in rest else ""
+    if required:
+        return f"{owed}-{clause or 'requires'}"
+    if goal.startswith("returns"):
+        return owed.rpartition("-clause-")[2] if "-clause-" in owed else "returns"
+    if goal.startswith("invariant_of"):
+        return "invariant"
+    return re.sub(r"-(init|preserved).*$", "", goal)
+
+
+def refused_at(mutant: pathlib.Path, said: str) -> str:
+    """The function and the clause that a mutant was refused at, in the words of a line `clause:`, cut off where the goal is; empty where
+    none was told."""
+    found = None if said.startswith(BY_NAME) else GOAL.search(said)
+    if not found:
+        return ""
+    end = "" if found[2] or found[4] else CUT
+    return f"{function_at(mutant, said)} {clause_in(found[1] or found[3])}{end}".strip()
+
+
+def clause_of(mutant: pathlib.Path) -> str:
+    """The clause that the mutant is to be refused at."""
+    found = re.search(r"^clause: (.*)$", mutant.read_text(), re.MULTILINE)
+    return found[1].strip() if found else ""
+
+
+def beside(mutant: pathlib.Path, said: str) -> str:
+    """What is wrong with a refusal: empty where it names the mutant's clause."""
+    wanted, found = clause_of(mutant), refused_at(mutant, said)
+    is_begun = found.endswith(CUT) and wanted.startswith(found.removesuffix(CUT))
+    return "" if is_begun or wanted == found else f"is refused at `{found or 'no clause'}`, not at `{wanted}`"
+
+
 def cited_in(file: pathlib.Path) -> set[pathlib.Path]:
     """The files of definitions that a file names; what the toolchain declares of a crate's types has none."""
     found = set()
@@ -81,6 +159,12 @@ def own_files(crate: str) -> list[pathlib.Path]:
     return [it for folder in folders for it in folder.rglob("*") if it.is_file()]
 
 
+def bytes_of(file: pathlib.Path) -> bytes:
+    """What a file is to the prover: a mutant without the clause that it is to be refused at."""
+    text = file.read_bytes()
+    return re.sub(rb"^clause: .*\n", b"", text, flags=re.MULTILINE) if file.suffix == ".edit" else text
+
+
 def state_of(crate: str) -> str:
     """The SHA-256 over all that decides what becomes of a crate's mutants."""
     files = set(own_files(crate))
@@ -89,7 +173,7 @@ def state_of(crate: str) -> str:
         files |= new
     digest = hashlib.sha256()
     for file in sorted(files):
-        digest.update(f"{file.relative_to(TOP)} {hashlib.sha256(file.read_bytes()).hexdigest()}\n".encode())
+        digest.update(f"{file.relative_to(TOP)} {hashlib.sha256(bytes_of(file)).hexdigest()}\n".encode())
     return digest.hexdigest()
 
 
@@ -112,14 +196,21 @@ def write_table(table: Table) -> None:
 
 
 def mistakes(named: list[str], table: Table, needs_row: bool) -> list[str]:
-    """Mutants that can't be planted, and, where it is asked for, those that have no row."""
+    """Mutants that can't be planted or name no clause; where it is asked for, those that have no row; and those whose row names another
+    clause, in crates that are as they were when it was written."""
     found = []
     for crate in named:
+        is_same = table.states.get(crate) == state_of(crate)
         for mutant in mutants_of(crate):
+            said = table.told.get((crate, mutant.stem))
             if why := misplanted(mutant):
                 found.append(f"{mutant.relative_to(TOP)}: {why}")
-            elif needs_row and (crate, mutant.stem) not in table.told:
+            elif not clause_of(mutant):
+                found.append(f"{mutant.relative_to(TOP)}: has no line `clause:`")
+            elif said is None and needs_row:
                 found.append(f"{mutant.relative_to(TOP)}: has no row in {TABLE.relative_to(TOP)}: run tools/mutants.py {crate}")
+            elif said is not None and is_same and (why := beside(mutant, said)):
+                found.append(f"{mutant.relative_to(TOP)}: {why}")
     return found
 
 
@@ -154,8 +245,12 @@ def tried(chosen: list[str], alone: bool) -> tuple[int, Table, list[str]]:
                 if crate != build.LIBRARY or build.has_libraries(copy):
                     build.take(copy, crate)
     refused = {it: said.removeprefix(REFUSED).removeprefix(": ").replace("|", "\\|") for it, said in told.items() if said.startswith(REFUSED)}
-    all_told = ((crate, mutant.stem) for crate, mutant in mutants)
-    wrong = [f"{crate}/{name}: {told.get((crate, name), 'nothing was told')}" for crate, name in all_told if (crate, name) not in refused]
+    wrong = []
+    for crate, mutant in mutants:
+        said = refused.get((crate, mutant.stem))
+        why = told.get((crate, mutant.stem), "nothing was told") if said is None else beside(mutant, said)
+        if why:
+            wrong.append(f"{crate}/{mutant.stem}: {why}")
     return status, Table(states if status == 0 and not wrong else {}, refused), wrong
 
 
@@ -175,7 +270,7 @@ def main() -> int:
     status, gained, wrong = tried(chosen, bool(given.crates))
     before = read_table()
     write_table(Table(before.states | gained.states, before.told | gained.told))
-    print("".join(f"not refused: {mutant}\n" for mutant in wrong), end="")
+    print("".join(f"not refused at its clause: {mutant}\n" for mutant in wrong), end="")
     return status or bool(wrong)
 
 
