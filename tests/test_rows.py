@@ -62,3 +62,13 @@ def test_many_factors_have_the_shells_of_each_alone(mine: Mine) -> None:
     assert lines[-1].startswith("3000 6 ")
     for factor, line in zip(factors, lines):
         assert mine.run(*SHELLS, factor)[1].splitlines()[3] == line
+
+
+def test_as_many_factors_as_there_may_be(mine: Mine) -> None:
+    factors = [str(3 * k) for k in range(1001)]
+    status, out, err = mine.run(*SHELLS, ",".join(factors[:1000]))
+    assert (status, err) == (0, "")
+    lines = out.splitlines()
+    assert lines[:3] == ["SHELLS", "BLOCKS: 2", "FACTORS: 1000"]
+    assert [line.split()[0] for line in lines[3:1003]] == factors[:1000]
+    assert mine.run(*SHELLS, ",".join(factors)) == (1, "", "error 4: over the limit in factors item 1001\n")
