@@ -41,8 +41,7 @@ def plot_tonnes(made: ScheduledBlocks, ax: Axes) -> None:
     years, limits = made.years, made.planned.limits
     top = max(float(years["rock_tonnes"].max()), 1.0) if len(years) else 1.0
     size, sign = scaled(top)
-    if len(years):
-        draw_bars(ax, years, None, size)
+    draw_bars(ax, years, None, size)
     edges = np.arange(max(len(years), 1) + 1) + 0.5
     for name, label, colour in (("ore_tonnes", "mill", MILL), ("rock_tonnes", "shovels", SHOVELS)):
         if name in limits.most and limits.most[name] <= FAR_ABOVE * top:

@@ -9,11 +9,12 @@ import sys
 import pandas as pd
 import pytest
 from conftest import PROJECT, ROOT, rows
+from matplotlib.figure import Figure
 from test_processes import WITH
 from test_pushbacks import UPRIGHT, pillars
 
-from pitplan import PlanError, block_commands, files, load
-from pitplan.block_schedule import of_plan
+from pitplan import PlanError, block_commands, block_pictures, files, load, prepare
+from pitplan.block_schedule import of_plan, result
 from pitplan.cli import main
 from pitplan.verification import verify
 
@@ -324,3 +325,15 @@ def test_both_notations_of_one_mine_have_the_same_value_and_bound(plan_folder):
     # The ore of the second pillar holds 9,000 in 100 t: 4,000 of it go to the mill, and 1,400 + 1,000 for 0.444 of its ore do not pay.
     blocks = pd.read_csv(folder / "blocks.csv").set_index("name")
     assert blocks.loc["b1-0-0", "share_mill"] < 1
+
+
+def test_where_no_block_pays_nothing_is_mined_which_is_an_answer(plan_folder):
+    """Copper at a hundredth of its price: a table, a sentence and a picture with one."""
+    project = load(plan_folder(pillars(), YEARLY, ("price = 8000", "price = 80")))
+    row = block_commands.write_block_schedule(project).iloc[0]
+    assert row[["value", "bound", "years", "blocks"]].tolist() == [0, 0, 0, 0]
+    notes = files.read_record(project.folder / "block_schedule")["notes"]
+    assert "nothing is mined: at these prices and costs no block pays for itself and what it needs" in notes
+    made = result.make(prepare(project))
+    axes = block_pictures.plot(made, Figure().subplots(1, 2))
+    assert [text.get_text() for text in axes[0].texts] == ["nothing is mined"]

@@ -120,6 +120,8 @@ class ScheduledBlocks:
             f"upper bound: no schedule by block of up to {years} years that keeps these limits earns more than {found.bound:,.0f}, wherever "
             f"it sends its blocks; this one earns {found.value:,.0f}, {100 * found.gap:.2f} % less"
         ]
+        if not self.count:
+            said.append("nothing is mined: at these prices and costs no block pays for itself and what it needs")
         if found.interrupted:
             said.append("WARNING: the run was interrupted before it was through: this is the best schedule so far, and the bound holds")
         return said
