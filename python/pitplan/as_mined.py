@@ -31,7 +31,7 @@ MINED_SHARE = "share of the block that is mined"
 
 @dataclass(frozen=True)
 class Ground:
-    """Shares by row: of its volume that lies below the original ground, and of its volume that remains below the as-mined surface too."""
+    """For each row the share of its volume below the original ground, and the share below the original ground and the as-mined surface."""
 
     original: np.ndarray
     left: np.ndarray
@@ -39,8 +39,8 @@ class Ground:
 
 
 def depleted(frame: pd.DataFrame, grid: Grid, project: Project) -> tuple[pd.DataFrame, list[str]]:
-    """The rows of a grid with the tonnes that remain, to a gram, and the column MINED_SHARE; and notes. The same rows where the project has
-    no as-mined surface.
+    """Adds the column MINED_SHARE to the rows of a grid, cuts their tonnes to those that remain (to a gram), and gives notes. Returns the
+    same rows if the project has no as-mined surface.
 
     Raises PlanError if a file is not usable or lies over no block; MissingPackage if what reads it is not installed.
     """
@@ -54,11 +54,11 @@ def depleted(frame: pd.DataFrame, grid: Grid, project: Project) -> tuple[pd.Data
     after = np.where(share < 1, (before * share).round(TONNES_PLACES), before)
     mined = np.where(before > 0, found.original - found.left, 0.0)
     columns = {project.table.tonnes: after, MINED_SHARE: mined}
-    return frame.assign(**columns), [*found.notes, told(rules.surface.path, before, after, mined)]
+    return frame.assign(**columns), [*found.notes, sentence_of(rules.surface.path, before, after, mined)]
 
 
-def told(file: Path, before: np.ndarray, after: np.ndarray, mined: np.ndarray) -> str:
-    """How many blocks are mined, wholly and in part, and the tonnes before and after."""
+def sentence_of(file: Path, before: np.ndarray, after: np.ndarray, mined: np.ndarray) -> str:
+    """Numbers of blocks mined wholly and in part, and the tonnes before and after."""
     whole, part = (np.count_nonzero((mined >= MINED) & some) for some in (after == 0, after > 0))
     return (
         f"{file}: {whole:,} blocks are mined out and {part:,} in part, at least {100 * MINED:g} % of each: of {before.sum():,.0f} t "
@@ -67,12 +67,12 @@ def told(file: Path, before: np.ndarray, after: np.ndarray, mined: np.ndarray) -
 
 
 def is_mined(frame: pd.DataFrame) -> np.ndarray:
-    """Which rows are mined, as `depleted` tells it; none where there is no as-mined surface."""
+    """Mask of the mined rows, from the column that `depleted` adds; all false without an as-mined surface."""
     return frame[MINED_SHARE].to_numpy() >= MINED if MINED_SHARE in frame else np.zeros(len(frame), dtype=bool)
 
 
 def by_volumes(grid: Grid, original: SurveyFile, surface: SurveyFile) -> Ground:
-    """By the volumes below both surfaces; what one of them does not cover is whole below it."""
+    """Shares by the volumes below both surfaces. Columns that a surface does not cover are whole below it."""
     box = (grid.shape, grid.origin, grid.size, grid.azimuth)
     (_, ground), (read, mined) = (topography.surveyed(file, file.state, box) for file in (original, surface))
     level, place = grid.shape[0] - 1 - grid.rows // grid.per_level, grid.rows % grid.per_level
@@ -84,7 +84,7 @@ def by_volumes(grid: Grid, original: SurveyFile, surface: SurveyFile) -> Ground:
 
 
 def by_centres(grid: Grid, file: SurveyFile) -> Ground:
-    """By the centres of blocks: what lies above the surface is mined as a whole."""
+    """Shares by the centres of blocks: a block with its centre above the surface is mined as a whole."""
     read = survey_files.topography(file, terrain.box_of(grid))
     surface = surface_of(grid, read)
     height = surface.height[grid.rows % grid.per_level]
@@ -113,8 +113,8 @@ class Surface:
 
 
 def surface_of(grid: Grid, survey: Topography) -> Surface:
-    """Of a survey of triangles the surface over a column of blocks is theirs at its middle. Of one of points it is the mean of those that
-    lie over the column, and where there is none that of the triangles between them."""
+    """The surface over each column of blocks. A survey of triangles gives its height at the middle of the column. A survey of points gives
+    the mean of the points over the column, or the height of the triangles between points if no point lies over it."""
     at_middle = terrain.heights(terrain.triangles_of(survey), grid)
     if len(survey.faces):
         return Surface(at_middle, np.zeros(grid.per_level, dtype=bool))

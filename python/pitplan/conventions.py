@@ -1,4 +1,4 @@
-"""Columns of words that say by which conventions the amounts of a written table hold: how cash is discounted, and of which outline they are."""
+"""Text columns that name the conventions of a written table: how cash is discounted, and whether rows describe shells or pushbacks."""
 
 from __future__ import annotations
 
@@ -19,14 +19,14 @@ OF_SHELLS = ("best", "worst")
 
 
 def with_discounting(table: pd.DataFrame, project: Project) -> pd.DataFrame:
-    """A table with `discounting` behind its discounted amounts, as the project names it; another table as it is."""
+    """Adds the column `discounting` to a table with discounted amounts; returns any other table unchanged."""
     is_discounted = any(name in DISCOUNTED or str(name).startswith(SPREAD) for name in table.columns)
     return table.assign(**{DISCOUNTING: project.schedule.discounting}) if is_discounted else table
 
 
 def with_outline(table: pd.DataFrame, project: Project) -> pd.DataFrame:
-    """A table of shells or of years with `outline`, where pushbacks are wider than shells: "shell" of rows that describe the shells before they
-    are widened, and "pushback" of those of a schedule."""
+    """Adds the column `outline` to a table of shells or years if the project has a minimum mining width: "shell" for rows that describe the
+    shells before widening, "pushback" for rows of a schedule."""
     if project.phases is None or not (project.phases.width or project.phases.bottom):
         return table
     is_shell = table["case"].isin(OF_SHELLS) if "case" in table else True

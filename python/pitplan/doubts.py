@@ -1,4 +1,4 @@
-"""Warnings of inputs that are lawful and unlikely: prices by another unit, tonnes that do not fit the blocks, missing-value codes."""
+"""Warnings about valid but unlikely inputs: prices in another unit, tonnes that do not fit the block volume, codes for missing values."""
 
 from __future__ import annotations
 
@@ -16,7 +16,7 @@ POUNDS_IN_A_TONNE, GRAMS_IN_AN_OUNCE = 2204.62, 31.1035
 
 
 def of_tonnes(tonnes: np.ndarray, grid: Grid) -> list[str]:
-    """A warning where the tonnes of most blocks do not fit their volume."""
+    """Warns if the tonnes of most blocks do not fit their volume."""
     volume, some = float(np.prod(grid.size)), tonnes[tonnes > 0]
     if not len(some):
         return []
@@ -32,17 +32,17 @@ def of_tonnes(tonnes: np.ndarray, grid: Grid) -> list[str]:
 
 
 def of_prices(pays: np.ndarray, metals: Sequence[Metal], grades: Sequence[np.ndarray], currency: str) -> list[str]:
-    """A warning where blocks have metal and processing pays in none of them."""
+    """Warns if blocks have metal and processing pays in none of them."""
     if pays.any() or not any((grade > 0).any() for grade in grades):
         return []
-    told = ", ".join(f"{metal.name} at {metal.price.normalize():f} {currency} per {METAL_UNITS[metal.unit]}" for metal in metals)
+    listed = ", ".join(f"{metal.name} at {metal.price.normalize():f} {currency} per {METAL_UNITS[metal.unit]}" for metal in metals)
     hints = {"t": f"a price per lb is multiplied by {POUNDS_IN_A_TONNE:,}", "g": f"one per oz divided by {GRAMS_IN_AN_OUNCE}"}
     units = dict.fromkeys(METAL_UNITS[metal.unit] for metal in metals)
-    return [f"{WARNING}processing pays in no block, {told}: {', '.join(hints[unit] for unit in units)}"]
+    return [f"{WARNING}processing pays in no block, {listed}: {', '.join(hints[unit] for unit in units)}"]
 
 
 def of_codes(name: str, values: np.ndarray) -> list[str]:
-    """A warning of values below 0 in a column that has none, such as a code for a missing value."""
+    """Warns about negative values, such as a code for a missing value."""
     below = values[values < 0]
     if not len(below):
         return []

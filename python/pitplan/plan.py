@@ -240,8 +240,8 @@ def prepare(
     if project.table.topography:
         with progress.step(f"cutting blocks by {project.table.topography.path}"):
             frame, cut = topography.cut(frame, grid, project, project.table.topography)
-    frame, told = as_mined.depleted(frame, grid, project)
-    cut += told
+    frame, mined = as_mined.depleted(frame, grid, project)
+    cut += mined
     with progress.step("laying the walls"):
         region = laying.regions_of(frame, grid, project.table.region)
         walls = laying.walls_of(region, grid, project.slopes)

@@ -260,7 +260,7 @@ def demand_agreement(project: Project) -> None:
 
 
 def demand_ground(project: Project) -> None:
-    """Refuses an as-mined surface of which the original ground is not known, or named twice."""
+    """Refuses an as-mined surface if the original ground is unknown or is given twice."""
     rules, path = project.fixed, project.path
     if rules is None or rules.surface is None:
         return

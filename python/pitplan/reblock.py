@@ -162,17 +162,17 @@ class Parts:
         return np.argsort(self.block, kind="stable")
 
     def total(self, values: Exact) -> Exact:
-        """The exact sum of each block, of which each has a row."""
+        """The exact sum over the rows of each block. Every block has a row."""
         rows, starts = values.whole[self.order], np.searchsorted(self.block[self.order], np.arange(self.count))
         rows = rows if greatest(rows) * len(rows) <= MOST_WHOLE else rows.astype(object)
         return Exact(np.add.reduceat(rows, starts), values.places)
 
     def sums(self, values: np.ndarray, places: int) -> np.ndarray:
-        """The sum of each block, rounded to so many decimals."""
+        """The sum of each block, rounded once to `places` decimals."""
         return Exact(self.total(Exact.of_floats(values)).rounded(places)[0], places).floats()
 
     def means(self, values: np.ndarray, places: int) -> np.ndarray:
-        """The mean of each block by tonnes, rounded to so many decimals; 0 where a block weighs nothing."""
+        """The tonnage-weighted mean of each block, rounded once to `places` decimals; 0 for a block without tonnes."""
         tonnes, values_of = Exact.of_floats(self.tonnes), Exact.of_floats(values)
         content, whole = self.total(tonnes.times(values_of)), self.total(tonnes).whole
         some = np.array(whole > 0, dtype=bool)

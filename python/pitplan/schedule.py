@@ -78,7 +78,7 @@ class Course:
 
     @cached_property
     def ends(self) -> np.ndarray:
-        """Where each full year ends: how many pieces are mined by then, the last of them in part. Stops after MOST_YEARS."""
+        """The place where each full year ends: the number of pieces mined by then, a fraction for a piece in work. Stops after MOST_YEARS."""
         found: list[float] = []
         place, last = 0.0, float(len(self.amounts))
         while place < last and len(found) <= MOST_YEARS:
@@ -88,7 +88,7 @@ class Course:
         return np.array(found)
 
     def after_a_year(self, place: float) -> float:
-        """How many pieces are mined a year after so many: up to where the first capacity is used up."""
+        """The place one year after a place: where a piece first needs a capacity that is used up."""
         until = float(len(self.amounts))
         for used, target in zip(self.used.T, at(self.used, np.array([place]))[0] + 1):
             piece = int(np.searchsorted(used, target + HAIR, side="right")) - 1
@@ -109,7 +109,7 @@ class Course:
 
 
 def at(sums: np.ndarray, places: np.ndarray) -> np.ndarray:
-    """Running sums of pieces between two of them: a row a place."""
+    """Running sums interpolated at places, one row a place."""
     piece = np.minimum(places.astype(np.int64), len(sums) - 2)
     share = (places - piece)[:, None]
     return np.asarray(sums[piece] + share * (sums[piece + 1] - sums[piece]))
@@ -124,7 +124,7 @@ def mean_discount(start: np.ndarray, end: np.ndarray, rate: float) -> np.ndarray
 
 
 def capacity_years(amounts: np.ndarray, settings: Schedule) -> np.ndarray:
-    """Years of each capacity that pieces use: an array of pieces and capacities, of all ore first, then each process, then rock."""
+    """Years of each capacity that each piece uses, shape (pieces, capacities): all ore, then each process, then total material."""
     capacities = [(ORE, settings.ore_per_year), *((ORE + 1 + k, capacity) for k, capacity in enumerate(settings.per_process))]
     capacities += [] if settings.rock_per_year is None else [(ROCK, settings.rock_per_year)]
     return np.stack([amounts[..., place] / capacity for place, capacity in capacities], axis=-1)
@@ -137,13 +137,13 @@ def course_of(amounts: np.ndarray, settings: Schedule) -> Course:
 
 
 def year_discounts(settings: Schedule, count: int) -> np.ndarray:
-    """By year what one of money that flows in it is worth at the start: at its end, at its middle, or evenly through the year."""
+    """Discount factors of the years 1 to `count`: for cash at the end of the year, at its middle, or evenly through it."""
     ends = np.arange(1.0, count + 1)
     return discounts_between(ends - 1, ends, settings)
 
 
 def discounts_between(starts: np.ndarray, ends: np.ndarray, settings: Schedule) -> np.ndarray:
-    """The same of parts of years that begin with the years."""
+    """Discount factors of periods that start with a year and end within it."""
     if settings.discounting in BEFORE_THE_END:
         return np.asarray((1 + settings.rate) ** -(np.floor(starts) + 1 - BEFORE_THE_END[settings.discounting]))
     return mean_discount(starts, ends, settings.rate)

@@ -34,7 +34,7 @@ HAULED = ("road", "haulage_cost", "ore_haulage_cost")
 FREE = ("free_factor", "free_process_factor")
 # Those that `pitplan pushbacks` and `pitplan schedule` write besides.
 PHASE, YEAR = "phase", "year"
-# Where a surface cuts blocks what is read of a block's tonnes, of which the answer has those below it.
+# If a surface cuts blocks: the tonnes in the table, before the cut. The answer has the tonnes below the surface.
 UNCUT = "tonnes before the cut"
 # Of a schedule by block the share of each block that goes to each of several processes.
 SHARE = "share_"

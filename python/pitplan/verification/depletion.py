@@ -30,7 +30,7 @@ def verify_cuts(answer: Answer) -> list[Rule]:
 
 
 def verify(answer: Answer) -> Rule:
-    """Tonnes of the blocks of the columns that are looked at are those that remain."""
+    """Checks that the tonnes of blocks in sampled columns are those that remain."""
     original, rules = original_of(answer), answer.project.fixed
     assert rules is not None and rules.surface is not None
     if original is None:
@@ -55,8 +55,8 @@ def verify_by_centres(answer: Answer, file: SurveyFile) -> Rule:
 
 
 def shares(answer: Answer, original: SurveyFile, mined: SurveyFile, exactly: bool) -> tuple[np.ndarray, np.ndarray]:
-    """By row the share of the block below the original ground, and below the as-mined surface too; not a number in columns that are not
-    looked at."""
+    """For each row the share of the block below the original ground, and the share below both surfaces; nan in columns that are not
+    sampled."""
     level, row, column = answer.cells
     places, place = np.unique(np.stack([row, column], axis=1), axis=0, return_inverse=True)
     numbers = some(len(places), EXACTLY if exactly else MANY)

@@ -26,7 +26,7 @@ def verify(answer: Answer) -> Rule:
     columns, count = answer.project.table, len(differences)
     if len(expected) != answer.known:
         return rule("reblocked", "rows are put together", [f"{answer.known:,} blocks for {len(expected):,}"])
-    # What a surface leaves of tonnes is looked at by itself.
+    # Tonnes below a surface have a rule of their own.
     passed = (columns.x, columns.y, columns.z, *([columns.tonnes] if answer.project.cuts_blocks else []))
     for name in [name for name in expected if name not in passed]:
         column = said[name].iloc[: answer.known].to_numpy()

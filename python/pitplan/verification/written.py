@@ -17,12 +17,12 @@ MAY_LACK = ("strip_ratio", "grade_", "least_width", "bound", "below_bound", "sum
 EXACT = "worth_at_factor"
 
 
-# Columns of words, which are looked at by themselves.
+# Text columns, which have a rule of their own.
 WORDS = ("discounting", "outline")
 
 
 def read_table(path: Path, texts: Sequence[str] = ()) -> pd.DataFrame:
-    """A table without its WORDS, of which these columns are texts. Raises PlanError, with file, row and column, where a field is no number that is to be one."""
+    """Reads a table without its WORDS; `texts` names its other text columns. Raises PlanError, with file, row and column, where a field is no number that is to be one."""
     frame = pd.read_csv(path, dtype=dict.fromkeys([*texts, EXACT], str), keep_default_na=False, na_values=[""])
     frame = frame.drop(columns=frame.columns.intersection(WORDS))
     demand_numbers(frame, path.name, texts)

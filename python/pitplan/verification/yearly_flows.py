@@ -28,7 +28,7 @@ class Parts:
 
 
 def parts_of(uses: list[list[float]]) -> Parts:
-    """Follows pieces, of each of which it is given how many years of each capacity it uses."""
+    """Follows the pieces. `uses` has, for each piece, the years of each capacity that it uses."""
     found: list[tuple[int, int, float]] = []
     room, year = [1.0] * len(uses[0]), 1
     for piece, use in enumerate(uses):
