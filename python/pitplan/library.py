@@ -14,6 +14,7 @@ import pandas as pd
 
 from . import files
 from .errors import ProgramError
+from .packages import LIBRARY, is_of
 from .rows import Rows
 from .run import Solution, ended
 
@@ -23,10 +24,13 @@ REFUSED = 1
 
 @lru_cache(maxsize=1)
 def package() -> Optional[ModuleType]:
-    """The package `pitshell`; None where it finds no libpitshell.so. Raises ProgramError where it cannot load what it finds."""
+    """The package `pitshell`; None if it, or its libpitshell.so, is not there. Raises ProgramError if it cannot load what it finds, and
+    ImportError if another module is missing."""
     try:
         import pitshell
-    except ImportError:
+    except ImportError as error:
+        if not is_of(error, LIBRARY):
+            raise
         return None
     except OSError as error:
         raise ProgramError(f"libpitshell.so cannot be loaded: {error}; --solver program does without") from error

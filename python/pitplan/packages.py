@@ -8,23 +8,37 @@ from types import ModuleType
 
 from .errors import MissingPackage
 
+# The package of the library of pits.
+LIBRARY = "pitshell"
 THREE = Path("/usr/share/javascript/three")
 
 
 def load(module: str, package: str, purpose: str) -> ModuleType:
-    """The module. Raises MissingPackage, with the Debian package's name, where it cannot be imported."""
+    """The module. Raises MissingPackage if it cannot be imported, with the Debian package's name, or with the error of a module that it
+    imports itself."""
     try:
         return importlib.import_module(module)
     except ImportError as error:
-        raise MissingPackage(f"{purpose} needs the Debian package {package}: apt-get install {package}") from error
+        if is_of(error, module):
+            raise MissingPackage(f"{purpose} needs the Debian package {package}: apt-get install {package}") from error
+        why = f"{purpose} needs the Debian package {package}, which is there and cannot be imported: {error}"
+        raise MissingPackage(f"{why}: apt-get install --reinstall {package}") from error
 
 
 def by_library(module: str) -> ModuleType:
-    """A module of this package that schedules blocks. Raises MissingPackage where the library of pits is not there, which it needs."""
+    """A module of this package that schedules blocks. Raises MissingPackage if the library of pits, which it needs, is missing."""
     try:
         return importlib.import_module(f"{__package__}.{module}")
     except ImportError as error:
-        raise MissingPackage(f"a schedule by block needs the library of pits: {error}") from error
+        if is_of(error, LIBRARY):
+            raise MissingPackage(f"a schedule by block needs the library of pits: {error}") from error
+        raise
+
+
+def is_of(error: ImportError, module: str) -> bool:
+    """Whether it is the module itself, or its package, that cannot be imported, and no other one on the way."""
+    name = error.name or ""
+    return f"{module}.".startswith(f"{name}.") and name != ""
 
 
 def three_scripts(folder: Path = THREE) -> list[str]:

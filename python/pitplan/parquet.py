@@ -9,6 +9,7 @@ import numpy as np
 import pandas as pd
 
 from .errors import MissingPackage, PlanError
+from .packages import is_of
 
 ENDING = ".parquet"
 
@@ -32,10 +33,12 @@ def read(file: Path, codes: list[str], wanted: list[str]) -> tuple[pd.DataFrame,
 
 
 def reader_of(file: Path) -> Any:
-    """Its module for files. Raises MissingPackage where it is not installed."""
+    """Its module for files. Raises MissingPackage if it is not installed."""
     try:
         from pyarrow import parquet
     except ImportError as error:
+        if not is_of(error, "pyarrow.parquet"):
+            raise MissingPackage(f"{file}: is Parquet, and pyarrow is there and cannot be imported: {error}") from error
         why = "needs pyarrow (python3-pyarrow), which is not installed and which Debian 12 does not have: export the table as CSV"
         raise MissingPackage(f"{file}: is Parquet, which {why}") from error
     return parquet

@@ -28,7 +28,7 @@ def _find() -> Path:
     for place in places:
         if place.exists():
             return place
-    raise ImportError(f"no libpitshell.so at {' or '.join(map(str, places))}: make library builds it")
+    raise ImportError(f"no libpitshell.so at {' or '.join(map(str, places))}: make library builds it", name=__package__)
 
 
 def _slice(dtype: type, flags: str = "C_CONTIGUOUS,ALIGNED") -> list:
