@@ -12,6 +12,7 @@ import numpy as np
 import pandas as pd
 
 from . import schedule as schedules, yearly_money
+from .errors import PlanError
 from .plan import MILLION, Plan
 from .project import REFERENCE_FACTOR, Schedule
 from .run import Solution
@@ -42,7 +43,21 @@ class Cells:
     content: dict[str, np.ndarray]
 
 
+def demand_of(plan: Plan, solution: Solution) -> None:
+    """Raises PlanError if the solution is of another plan."""
+    nodes = plan.grid.count + len(plan.values.processed)
+    if len(solution.entry) != nodes:
+        why = f"it has {len(solution.entry):,} nodes, and the plan {nodes:,}"
+    elif solution.of and solution.of != plan.key:
+        why = "values, walls, fixed blocks or factors differ"
+    else:
+        return
+    raise PlanError(f"{plan.source}: the solution is of another plan ({why}): give that of pitplan.solve(plan)")
+
+
 def cells_of(plan: Plan, solution: Solution) -> Cells:
+    """Raises PlanError if the solution is of another plan."""
+    demand_of(plan, solution)
     values, count = plan.values, plan.grid.count
     factor = solution.entry[:count]
     processed = np.zeros(count, dtype=np.int32)

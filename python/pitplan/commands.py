@@ -109,7 +109,7 @@ def pit(
     with begun(project, target, progress) as (mine, record, stage):
         plan = mine.plan
         keeping = mines.solve(plan, mine, progress)
-        free = mine.free_shells(within)
+        free = replace(mine.free_shells(within), of=plan.key)
         absent.demand_known(free.entry, plan.grid, project, plan.source)
         check_fixed(mine, keeping, factor, progress)
         table = pd.concat([analyse.shells(plan, solution).tail(1) for solution in (keeping, free)], ignore_index=True)

@@ -141,7 +141,7 @@ def solve(plan: Plan, mine: Optional[Mine] = None, progress: Progress = silent) 
     factors = plan.project.schedule.factors
     with progress.step(f"solving {len(factors)} factors by the {mine.solver.by}"):
         rest = mine.shells(factors)
-    solution = joined(rest, plan.settled, plan.values)
+    solution = replace(joined(rest, plan.settled, plan.values), of=plan.key)
     absent.demand_known(solution.entry, plan.grid, plan.project, plan.source)
     return solution
 

@@ -2,6 +2,8 @@
 
 from __future__ import annotations
 
+import hashlib
+import json
 import sys
 from dataclasses import dataclass, field, replace
 from pathlib import Path
@@ -83,6 +85,14 @@ class Plan:
     def called(self, cell: int) -> str:
         """What the planner calls the block of a cell."""
         return tables.called(self.table, self.project, int((self.grid.rows == cell).argmax()))
+
+    @property
+    def key(self) -> str:
+        """A hash of all that the shells depend on: grid, values, walls, fixed blocks and factors."""
+        values, walls, grid = self.values, self.walls, self.grid
+        arrays = [*values.nodes(), values.processed, walls.code, self.used, self.fixed.forced, self.fixed.barred]
+        record = {"grid": grid.as_json(), "walls": [it.as_json() for it in walls.patterns], "factors": list(self.project.schedule.factors)}
+        return hash_of_all(json.dumps(record, default=repr), arrays)
 
     @property
     def blocks(self) -> pd.DataFrame:
@@ -286,6 +296,15 @@ def wanted(values: Values, project: Project, fixed: FixedBlocks) -> np.ndarray:
     found = np.array(values.greatest_value(project.schedule.factors[-1]) > 0, dtype=bool)
     found[fixed.forced] = True
     return found
+
+
+def hash_of_all(text: str, arrays: list[np.ndarray]) -> str:
+    """A hash of a text and of arrays, with their types and shapes."""
+    digest = hashlib.sha256(text.encode())
+    for array in arrays:
+        digest.update(f"{array.dtype} {array.shape};".encode())
+        digest.update(np.ascontiguousarray(array))
+    return digest.hexdigest()
 
 
 def notes_of(plan: Plan) -> list[str]:

@@ -25,12 +25,14 @@ class Solution:
     nodes   Series by factor: how many nodes the pit has, processing nodes among them
     entry   for each node the least factor whose pit holds it; 0 where none does
     answer  the program's own text; None where the library solved
+    of      the key of the plan that was solved; "" if it is not known
     """
 
     worth: pd.Series
     nodes: pd.Series
     entry: np.ndarray
     answer: Optional[bytes] = None
+    of: str = ""
 
 
 def call(*arguments: Union[str, Path], fine: tuple[int, ...] = (0,)) -> bytes:

@@ -1,0 +1,86 @@
+"""A solution answers the plan that was solved, and no other."""
+
+from dataclasses import replace
+
+import numpy as np
+import pytest
+from conftest import PROJECT, rows
+
+import pitplan
+from pitplan import PlanError, analyse, pictures
+from pitplan.project import load
+
+ORE = {"cu": lambda i, j, k: {(3, 3, 1): 6, (4, 3, 1): 2.5, (3, 4, 0): 9}.get((i, j, k), 0)}
+PAIRS = {
+    "blocks": pitplan.blocks,
+    "shells": pitplan.shells,
+    "years": pitplan.years,
+    "edge_notes": analyse.edge_notes,
+    "scene_of": pictures.scene_of,
+}
+FIXED = ("[shells]", '[fixed]\nforced = "due"\n[shells]')
+OTHERS = {
+    "price": (("price = 8000", "price = 9000"),),
+    "recovery of one block": (("recovery = 0.5", "recovery = { R = 0.5, S = 0.6 }"),),
+    "slopes": (('"1:5"', '"1:9"'),),
+    "factors": (("[500, 1000, 1500]", "[600, 1000, 1500]"),),
+    "more factors": (("[500, 1000, 1500]", "[500, 1000, 1500, 1600]"),),
+    "fixed blocks": (FIXED,),
+    "cutoff": (("processing_cost = 10", 'processing_cost = 10\ncutoff = "fixed"'),),
+}
+
+
+@pytest.fixture
+def mine(plan_folder):
+    """Prepares a plan of a project with some changes."""
+
+    def prepare(*changes):
+        table = rows(8, 7, 3, rock=lambda i, j, k: "RS"[i == 3], due=lambda i, j, k: int((i, j, k) == (1, 1, 2)), **ORE)
+        return pitplan.prepare(plan_folder(table, PROJECT, *changes))
+
+    return prepare
+
+
+@pytest.mark.parametrize("name", PAIRS)
+def test_each_function_refuses_a_solution_of_another_plan(mine, name):
+    plan, other = mine(), mine(("price = 8000", "price = 9000"))
+    PAIRS[name](plan, pitplan.solve(plan))
+    with pytest.raises(PlanError, match=r"blocks.csv: the solution is of another plan \(.*\): give that of pitplan.solve\(plan\)"):
+        PAIRS[name](plan, pitplan.solve(other))
+
+
+@pytest.mark.parametrize("change", OTHERS)
+def test_whatever_shells_depend_on_makes_another_plan(mine, change):
+    plan, other = mine(), mine(*OTHERS[change])
+    for one, two in ((plan, other), (other, plan)):
+        with pytest.raises(PlanError, match="the solution is of another plan"):
+            pitplan.shells(one, pitplan.solve(two))
+
+
+def test_a_solution_of_a_smaller_model_is_refused(mine, plan_folder):
+    plan, other = mine(), pitplan.prepare(plan_folder(rows(7, 7, 3, **ORE)))
+    with pytest.raises(PlanError, match=r"it has 150 nodes, and the plan 171"):
+        pitplan.shells(plan, pitplan.solve(other))
+
+
+def test_what_shells_do_not_depend_on_makes_no_other_plan(mine):
+    """A plan prepared again, and another rate, which is of years alone."""
+    plan, solution = mine(), pitplan.solve(mine())
+    assert pitplan.shells(plan, solution).equals(pitplan.shells(plan, pitplan.solve(plan)))
+    later = mine(("rate = 0.1", "rate = 0.2"))
+    assert pitplan.shells(later, solution)["npv_best"].iloc[-1] < pitplan.shells(plan, solution)["npv_best"].iloc[-1]
+
+
+def test_a_plan_by_the_program_has_the_key_of_that_by_the_library(mine):
+    plan = mine()
+    by_program = pitplan.solve(replace(plan, project=replace(plan.project, solver="program")))
+    assert np.array_equal(pitplan.blocks(plan, by_program)["factor"], pitplan.blocks(plan, pitplan.solve(plan))["factor"])
+
+
+def test_phases_have_a_solution_of_their_own_factors(plan_folder):
+    path = plan_folder(rows(8, 7, 3, **ORE), PROJECT + "[pushbacks]\ncount = 2\n")
+    whole = pitplan.prepare(load(path))
+    phases = pitplan.phases.divide(whole)
+    assert len(pitplan.shells(phases.plan, phases.solution)) != len(whole.project.schedule.factors)
+    with pytest.raises(PlanError, match="the solution is of another plan"):
+        pitplan.shells(whole, phases.solution)
