@@ -15,6 +15,7 @@ from minelib.ending import ended, tell
 from . import __version__, block_commands, commands, exports, files, init, report, sensitivity_files, simulation, stages
 from .doubts import WARNING
 from .errors import PlanError
+from .noted_path import NotedPath
 from .progress import Progress, on_standard_error, silent
 from .project import REFERENCE_FACTOR, Project, load
 from .simulation.folder import BLOCK, PIT
@@ -224,6 +225,7 @@ def run_command(options: argparse.Namespace, project: Project, folder: Path, pro
         table = report.of_cases(table)
         columns = report.columns_of_cases(table, project)
         print_table([heading for _, heading, _, _ in columns], report.cells_of(table, columns))
+        tell_notes(files.read_json(folder / sensitivity_files.RECORD)["notes"])
         print(folder / sensitivity_files.TABLE)
     elif options.command == "report":
         print(commands.write_report(folder, options.sensitivity, progress))
@@ -231,9 +233,9 @@ def run_command(options: argparse.Namespace, project: Project, folder: Path, pro
         print(commands.view(folder, progress))
     elif options.command == "export":
         shape = stages.Shape(options.of, options.surface, options.smooth)
-        print(commands.export(folder, options.to, options.factor, progress, shape))
+        tell_path(commands.export(folder, options.to, options.factor, progress, shape))
     else:
-        print(commands.audit(folder, options.factor, progress))
+        tell_path(commands.audit(folder, options.factor, progress))
 
 
 def tell_table(table: pd.DataFrame, columns: report.Columns, folder: Path) -> None:
@@ -241,6 +243,12 @@ def tell_table(table: pd.DataFrame, columns: report.Columns, folder: Path) -> No
     print_table([heading for _, heading, _, _ in columns], report.cells_of(table, columns))
     tell_notes(files.read_record(folder)["notes"])
     print(folder / commands.REPORT)
+
+
+def tell_path(path: NotedPath) -> None:
+    """Where something was written, on standard output, and the notes on it on standard error."""
+    tell_notes(list(path.notes))
+    print(path)
 
 
 def tell_verified(folder: Path) -> None:

@@ -17,6 +17,7 @@ from . import schedule_pictures, sensitivity_files, sensitivity_pictures, simula
 from .conventions import with_discounting, with_outline
 from .errors import PlanError
 from .mine import Mine
+from .noted_path import NotedPath, noted
 from .phases import Phases
 from .plan import Plan, prepare as prepare_plan
 from .progress import Progress, silent
@@ -400,7 +401,7 @@ def sensitivity(
     """Tells how much the pit that is shown hangs on single numbers, as `pitplan sensitivity` does.
 
     Gives a table with a row a case. Into the folder (by default sensitivity in the project's own) it writes this table, the blocks, pictures
-    and the record sensitivity.json, and meanwhile each answer into cases: what is there is not solved again. Raises PlanError where the
+    and the record sensitivity.json, with notes, and meanwhile each answer into cases: what is there is not solved again. Raises PlanError where the
     input or a share is not usable, and where what is written is not right, unless it is not verified.
     """
     project = read(project)
@@ -433,8 +434,9 @@ def view(folder: Place, progress: Progress = silent) -> Path:
     return result.path / VIEW
 
 
-def export(folder: Place, kind: str, factor: int = REFERENCE_FACTOR, progress: Progress = silent, shape: Shape = Shape()) -> Path:
-    """Writes the shells of a folder that `write_shells` has written for other programs; gives the file's path.
+def export(folder: Place, kind: str, factor: int = REFERENCE_FACTOR, progress: Progress = silent, shape: Shape = Shape()) -> NotedPath:
+    """Writes the shells of a folder that `write_shells` has written for other programs; gives the file's path, whose `notes` say by how much
+    a smoothed surface changes the volume.
 
     `table` is the planner's own table, row by row, with each block's factors, phase and year behind it; `xlsx` all tables; `csv`, `vti`
     and `vtu` hold the shells of all factors, `dxf` the toes and crests of one at each level, `stl` and `obj` the closed surface round its
@@ -452,12 +454,12 @@ def export(folder: Place, kind: str, factor: int = REFERENCE_FACTOR, progress: P
         notes = exports.WRITERS[kind](path, result, shape)
         if kind == "table":
             verification.demand([verification.verify_table(result.path, path)])
-    progress.lines(notes or [])
-    return target
+    return noted(target, notes or ())
 
 
-def audit(folder: Place, factor: int, progress: Progress = silent) -> Path:
-    """Writes a folder by which others can check the shell of a factor, in per mille, with the program and without; gives its path.
+def audit(folder: Place, factor: int, progress: Progress = silent) -> NotedPath:
+    """Writes a folder by which others can check the shell of a factor, in per mille, with the program and without; gives its path, whose
+    `notes` warn if another release found the shells.
 
     Raises PlanError where the folder has no shells or not this factor, the library found them and project or table have changed since, or
     another pit is found than its shell, and ProgramError where the program refuses.
@@ -466,8 +468,7 @@ def audit(folder: Place, factor: int, progress: Progress = silent) -> Path:
     target = result.path / f"audit-{factor}"
     with progress.step(f"writing {target.name}"), files.staged(target) as stage:
         auditing.write(stage, result, factor, progress)
-    progress.lines(auditing.notes(target))
-    return target
+    return noted(target, auditing.notes(target))
 
 
 def read_factor(folder: Place, factor: int) -> files.Folder:

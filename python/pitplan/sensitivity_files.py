@@ -35,7 +35,6 @@ def write(found: Sensitivity, folder: Path, progress: Progress, verifies: bool) 
         with progress.step("drawing"), also_as(project.pictures.formats if project.pictures else ()):
             sensitivity_pictures.write_all(cases, rules_of(project).pairs, project.money.currency, stage)
         files.write_json(stage / RECORD, told)
-    progress.lines([told_of_skin(told["skin"], project.money.currency)])
     return cases
 
 
@@ -48,7 +47,8 @@ def record(found: Sensitivity, project: str) -> dict[str, Any]:
         "inputs": {path.name: files.hash_of(path) for path in (found.project.path, found.project.table.file)},
         "grid": found.plan.record_of_grid(),
         "factor": found.factor,
-        "skin": skin_of(found),
+        "skin": (skin := skin_of(found)),
+        "notes": [*found.plan.notes, told_of_skin(skin, found.project.money.currency)],
         "cases": [
             {"changes": [[name, str(share)] for name, share in case.changes], "key": found.keys[case], "walls": answer.walls}
             for case, answer in found.answers.items()

@@ -414,6 +414,18 @@ def test_the_command_line_writes_a_page_and_an_audit(solved, capsys):
     assert (folder / "view.html").is_file() and json.loads((folder / "audit-500" / "audit.json").read_text())["factor"] == 500
 
 
+def test_an_audit_by_another_release_is_warned_of_with_quiet_and_in_python(solved, capsys):
+    project, folder = solved
+    record = json.loads((folder / "prepare.json").read_text())
+    record["shells"]["solver"]["version"] = "libpitshell 0.0.7"
+    files.write_json(folder / "prepare.json", record)
+    path = commands.audit(folder, 500)
+    assert path == folder / "audit-500"
+    assert [*path.notes] == [f"WARNING: libpitshell 0.0.7 found the shells, and {run.identity()['version']} has audited them"]
+    assert main(["audit", str(project.path), "--factor", "500", "--quiet"]) == 0
+    assert capsys.readouterr().err.splitlines() == [*path.notes]
+
+
 def test_a_folder_with_another_record_is_no_plan(solved):
     (solved[1] / "prepare.json").write_text("{}")
     with pytest.raises(PlanError, match="prepare.json: title: is missing: run pitplan shells again"):

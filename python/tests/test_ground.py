@@ -215,3 +215,18 @@ def test_a_year_by_whose_end_nothing_is_dug_has_no_body_and_is_told(folder, monk
     monkeypatch.setattr(commands.files, "read_folder", lambda path: later)
     target = commands.export(folder, "obj", shape=Shape("year"))
     assert [path.name for path in target.iterdir()] == ["year-2.obj"]
+
+
+def test_by_how_much_smoothing_changes_the_volume_is_told_with_quiet_and_to_python(folder, capsys):
+    pytest.importorskip("vtk")
+    project = str(folder.parents[1] / "project.toml")
+    words = ["export", project, "--out", str(folder), "--to", "stl", "--surface", "ground", "--smooth"]
+    assert main([*words, "--quiet"]) == 0
+    quiet = capsys.readouterr()
+    assert len(re.findall(r"smoothed within half a block, .* m3 lie between it and the ground as it was", quiet.err)) == 1
+    assert main(words) == 0
+    aloud = capsys.readouterr()
+    assert aloud.err.count("smoothed within half a block") == 1 and aloud.out == quiet.out
+    path = commands.export(folder, "stl", shape=Shape(surface="ground", smooth=True))
+    assert path == folder / "ground-1000.stl" and [*path.notes] == quiet.err.splitlines()
+    assert commands.export(folder, "csv").notes == ()

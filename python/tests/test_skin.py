@@ -60,8 +60,13 @@ def test_where_walls_move_nothing_is_told_of_it(plan_folder):
 
 
 def test_the_command_line_tells_of_it(project, capsys):
-    assert main(["sensitivity", str(project('by = [0.1]\nvary = "price"'))]) == 0
-    assert "the pit's skin, 50.0 % of its rock, beyond the shell of factor 600, is worth 800" in capsys.readouterr().err
+    path = project('by = [0.1]\nvary = "price"')
+    for words in ([], ["--quiet"]):
+        assert main(["sensitivity", str(path), *words]) == 0
+        told = capsys.readouterr().err.splitlines()
+        skin = "the pit's skin, 50.0 % of its rock, beyond the shell of factor 600, is worth 800"
+        assert [line for line in told if "skin" in line] == [line for line in told if line.startswith(skin)] != []
+    assert told == record_of(path)["notes"] and "15 blocks lie on a grid of 5 x 3 x 1 = 15 cells" in told
 
 
 @pytest.mark.parametrize("share", ["0", "1", "-0.1", '"some"'])
