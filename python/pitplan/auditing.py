@@ -22,8 +22,8 @@ from .errors import PlanError
 from .files import Folder
 from .mine import values_at
 from .plan import Plan, prepare
+from .planned_table import project_of
 from .progress import Progress
-from .project import load
 
 CHECKER = installation.checker()
 MODEL, PREC, FIXED, CERTIFICATE = "shell.upit", "shell.prec", "shell.fixed", "shell.cert"
@@ -57,11 +57,8 @@ def read_nodes(blocks: Path) -> tuple[np.ndarray, np.ndarray]:
 
 
 def prepared_again(folder: Folder, progress: Progress) -> Plan:
-    """The plan that the library solved. Raises PlanError where project or table are not as they were."""
-    project = load(folder.path / folder.record["project"])
-    for path in project.inputs:
-        if files.hash_of(path) != folder.record["inputs"].get(path.name):
-            raise PlanError(f"{path}: has changed since {folder.path / files.RECORD} was written: run pitplan shells again")
+    """The plan that the library solved. Raises PlanError if an input has changed since."""
+    project = project_of(folder)
     schedule = replace(project.schedule, factors=tuple(folder.record["factors"]))
     return prepare(replace(project, schedule=schedule), progress=progress)
 
@@ -108,7 +105,8 @@ def write(stage: Path, folder: Folder, factor: int, progress: Progress) -> None:
         "solver": folder.record["shells"]["solver"],
         "program": run.identity(),
         "files": hashes,
-        "plan": {**folder.record["inputs"], **folder.record["files"]},
+        "inputs": folder.record["inputs"],
+        "plan": folder.record["files"],
         "not_proved": "how the mine was made from the table",
     }
     files.write_json(stage / RECORD, record)

@@ -343,8 +343,8 @@ def write_table(blocks: pd.DataFrame, stage: Path) -> None:
 
 
 def finish(plan: Plan, record: dict[str, Any], names: list[str], stage: Path) -> dict[str, Any]:
-    """Writes the record with the hashes of what was read and of what was written."""
-    record["inputs"] = {path.name: files.hash_of(path) for path in plan.project.inputs}
+    """Writes the record with the hashes of what was read, by its place as seen from the project, and of what was written."""
+    record["inputs"] = files.hashes_of(plan.project.named_inputs)
     record["files"] = files.hashes(stage, names)
     files.write_json(stage / files.RECORD, record)
     return record
@@ -413,8 +413,8 @@ def sensitivity(
 def write_report(folder: Place, sensitivity: Optional[Place] = None, progress: Progress = silent) -> Path:
     """Writes report.html of a folder that `write_shells`, `pushbacks` or a schedule has written anew, of its files; gives its path.
 
-    It tells the sensitivity of a folder, by default of that in the project's own where it is of the same project and table. Raises PlanError
-    where the folder has no shells, or it, the project or the table has changed since, and where the folder given is no such sensitivity.
+    It shows the sensitivity of a folder, by default of that in the project's own if all its inputs are the same. Raises PlanError if the
+    folder has no shells, it or an input has changed since, or the folder given is no such sensitivity.
     """
     result = files.read_folder(Path(folder))
     project = planned_table.project_of(result)

@@ -10,7 +10,7 @@ import tempfile
 from contextlib import contextmanager
 from dataclasses import dataclass
 from pathlib import Path
-from typing import Any, Iterator, Optional
+from typing import Any, Iterator, Mapping, Optional
 
 import numpy as np
 import pandas as pd
@@ -168,6 +168,11 @@ def hash_of(path: Path) -> str:
         for piece in iter(lambda: file.read(1 << 20), b""):
             digest.update(piece)
     return digest.hexdigest()
+
+
+def hashes_of(paths: Mapping[str, Path]) -> dict[str, str]:
+    """Hashes of files by the names that they have here."""
+    return {name: hash_of(path) for name, path in paths.items()}
 
 
 def hashes(folder: Path, names: list[str]) -> dict[str, str]:

@@ -52,11 +52,11 @@ def cells_of(frame: pd.DataFrame, project: Project, grid: Grid) -> np.ndarray:
 
 
 def project_of(folder: Folder) -> Project:
-    """The project that the folder was made of. Raises PlanError where it, or its table, is not what it was."""
+    """The project that the folder was made of. Raises PlanError if it, its table or another of its inputs has changed since."""
     project = load(folder.path / folder.record["project"])
-    for path in (project.path, project.table.file):
+    for name, path in project.named_inputs.items():
         try:
-            is_same = folder.record["inputs"].get(path.name) == hash_of(path)
+            is_same = folder.record["inputs"].get(name) == hash_of(path)
         except OSError as error:
             raise PlanError(f"{path}: cannot be read: {error.strerror}") from error
         if not is_same:

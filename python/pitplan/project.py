@@ -3,6 +3,7 @@
 from __future__ import annotations
 
 import codecs
+import os
 from dataclasses import dataclass, replace
 from decimal import Decimal
 from pathlib import Path
@@ -161,6 +162,11 @@ class Project:
         surfaces = (self.table.topography, *((rules.topography, rules.surface) if rules else ()))
         areas = () if rules is None else (area.polygon for area in rules.areas)
         return (self.path, self.table.file, *(path for file in (*surfaces, *areas) if file for path in file.parts))
+
+    @property
+    def named_inputs(self) -> dict[str, Path]:
+        """The inputs by their places as seen from the project's folder: two files of one name in two folders are two."""
+        return {os.path.relpath(path, self.path.parent): path for path in self.inputs}
 
     @property
     def cuts_blocks(self) -> bool:

@@ -60,7 +60,7 @@ def read_table(folder: Path, name: str) -> Written:
 
 @dataclass(frozen=True)
 class Sensitivity:
-    """What `pitplan sensitivity` has written of the same project and table."""
+    """What `pitplan sensitivity` has written of the same inputs."""
 
     folder: Path
     record: dict[str, Any]
@@ -69,7 +69,7 @@ class Sensitivity:
 def sensitivity_beside(project: Project, inputs: dict[str, str], folder: Optional[Path]) -> tuple[Optional[Sensitivity], str]:
     """The sensitivity of a folder, by default of that in the project's own, and else why there is none, in words.
 
-    Raises PlanError where a folder that is given has none, or one of another project or table.
+    Raises PlanError if a folder that is given has none, or one of other inputs.
     """
     place = project.folder / "sensitivity" if folder is None else folder
     for name in (SENSITIVITY_RECORD, SENSITIVITY):
@@ -79,15 +79,20 @@ def sensitivity_beside(project: Project, inputs: dict[str, str], folder: Optiona
             return None, ""
     try:
         record = files.read_json(place / SENSITIVITY_RECORD)
-        is_same = all(inputs.get(name) == digest for name, digest in record["inputs"].items())
-    except (ValueError, KeyError):
-        is_same = False
-    if not is_same:
-        why = f"{place}: is a sensitivity of another state of project or table"
+        others = differing(record["inputs"], inputs)
+    except (ValueError, LookupError, TypeError, AttributeError):
+        others = [SENSITIVITY_RECORD]
+    if others:
+        why = f"{place}: is a sensitivity of other inputs ({', '.join(others)})"
         if folder is not None:
             raise PlanError(f"{why}: run pitplan sensitivity again")
         return None, f"{why}, and is left out here"
     return Sensitivity(place, record), ""
+
+
+def differing(first: dict[str, str], second: dict[str, str]) -> list[str]:
+    """The names of files that only one has, or whose hashes differ."""
+    return [name for name in sorted({*first, *second}) if first.get(name) != second.get(name)]
 
 
 def write(path: Path, folder: Path, project: Project, sensitivity: Optional[Path] = None) -> None:
@@ -113,7 +118,8 @@ def write(path: Path, folder: Path, project: Project, sensitivity: Optional[Path
         bins=files.MILLING in record["files"],
         project_file=project.path.name,
         project_text=without_comments(project.path.read_text(encoding="utf-8")),
-        files={**record["inputs"], **record["files"]},
+        inputs=record["inputs"],
+        outputs=record["files"],
         **{name: record["shells"][name] for name in ("chosen", "solver")},
         **{name: record[name] for name in ("summary", "verified")},
     )

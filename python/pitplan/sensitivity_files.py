@@ -44,7 +44,7 @@ def record(found: Sensitivity, project: str) -> dict[str, Any]:
         "project": project,
         "title": found.project.title,
         "solver": asdict(found.solver),
-        "inputs": {path.name: files.hash_of(path) for path in (found.project.path, found.project.table.file)},
+        "inputs": files.hashes_of(found.project.named_inputs),
         "grid": found.plan.record_of_grid(),
         "factor": found.factor,
         "skin": (skin := skin_of(found)),

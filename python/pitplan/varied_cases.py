@@ -7,7 +7,6 @@ which is dug where nothing is planned anew; where walls change there is none, si
 from __future__ import annotations
 
 import json
-import os
 from dataclasses import dataclass, replace
 from itertools import product
 from pathlib import Path
@@ -128,7 +127,7 @@ def solve(project: Project, folder: Path, where: on_dask.Where | None, progress:
     factor = analyse.chosen_factor(analyse.shells(plan, solution), project.schedule)
     asked = Asked(up_to(project, factor), frame, found_by)
     rules = rules_of(project)
-    begun = {"project": files.hash_of(project.path), "inputs": hashes_of(project), "solver": found_by.sha256, "factor": factor, "skin": str(rules.skin)}
+    begun = {"inputs": files.hashes_of(project.named_inputs), "solver": found_by.sha256, "factor": factor, "skin": str(rules.skin)}
     cases = cases_of(rules)
     keys = {case: key_of({**begun, "changes": [[name, str(share)] for name, share in case.changes]}) for case in cases}
     paths = {case: folder / CASES / f"{keys[case]}.npz" for case in cases}
@@ -164,11 +163,6 @@ def up_to(project: Project, factor: int) -> Project:
     """The project with the factors up to one alone, whose pit is shown."""
     factors = tuple(it for it in project.schedule.factors if it <= factor)
     return replace(project, schedule=replace(project.schedule, factors=factors, chosen=factor, reference_added=False))
-
-
-def hashes_of(project: Project) -> dict[str, str]:
-    """Hashes of all files that the project names, by their place as told from it."""
-    return {os.path.relpath(path, project.path.parent): files.hash_of(path) for path in project.inputs[1:]}
 
 
 def find(case: Case, asked: Asked) -> Found:

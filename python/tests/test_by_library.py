@@ -296,7 +296,7 @@ def solved_by_library(plan_folder):
 def test_an_audit_is_refused_where_what_the_mine_was_made_of_has_changed(solved_by_library, name):
     with open(solved_by_library / name, "a") as file:
         file.write("\n")
-    with pytest.raises(PlanError, match=f"{name}: has changed since .*prepare.json was written: run pitplan shells again"):
+    with pytest.raises(PlanError, match=f"{name}: has changed since .* was written: run pitplan again"):
         commands.audit(solved_by_library / "plan", 1000)
     assert not (solved_by_library / "plan" / "audit-1000").exists() or not list((solved_by_library / "plan" / "audit-1000").iterdir())
 

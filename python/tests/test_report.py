@@ -190,8 +190,8 @@ def test_a_sensitivity_of_other_inputs_is_left_out_and_refused_where_it_is_asked
     project.write_text(project.read_text().replace("mining_cost = 2", "mining_cost = 3"))
     pitplan.write_shells(project, verifies=False)
     page = (copied / "plan" / "report.html").read_text()
-    assert "is a sensitivity of another state of project or table, and is left out here." in page and "What it hangs on" not in page
-    with pytest.raises(PlanError, match="another state of project or table: run pitplan sensitivity again"):
+    assert "is a sensitivity of other inputs (project.toml), and is left out here." in page and "What it hangs on" not in page
+    with pytest.raises(PlanError, match=r"of other inputs \(project.toml\): run pitplan sensitivity again"):
         commands.write_report(copied / "plan", copied / "plan" / "sensitivity")
 
 

@@ -147,6 +147,16 @@ def test_models_of_a_folder_may_have_their_rows_in_any_order(plan_folder):
         assert shared.grades(scenario)[:, 0].tolist() == (np.arange(12) / 10).tolist()
 
 
+def test_models_are_named_by_their_whole_files_and_no_two_alike(plan_folder):
+    table, model = hill()
+    path = plan_folder(table, MODELS)
+    write_models(path, **{name: model[["name", "cu"]] for name in ("sim.1", "sim.2", "sim")})
+    assert [scenario.model for scenario in prepared(path).scenarios] == ["sim.1", "sim.2", "sim"]
+    model[["name", "cu"]].to_csv(path.parent / "models" / "sim.2.csv.gz", index=False)
+    with pytest.raises(PlanError, match="models/sim.2.csv.gz: is a model of the same name as sim.2.csv: remove or rename one of them"):
+        prepared(path)
+
+
 def test_centres_of_a_model_may_lie_off_by_the_tolerance_and_no_more(plan_folder):
     table, model = hill()
     by_place = model[["x", "y", "z", "cu"]]

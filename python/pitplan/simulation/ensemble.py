@@ -103,7 +103,7 @@ def models(base: Base) -> Iterator[Model]:
             yield Model(next(iter(columns.values())), base.frame[picked].to_numpy())
         return
     for path in model_files(base.project):
-        yield Model(path.name.split(".")[0], read_model(path, base))
+        yield Model(name_of_model(path), read_model(path, base))
 
 
 def model_files(project: Project) -> list[Path]:
@@ -113,7 +113,16 @@ def model_files(project: Project) -> list[Path]:
     found = sorted([*folder.glob("*.csv"), *folder.glob("*.csv.gz")])
     if not found:
         raise PlanError(f"{folder}: holds no model, a .csv or .csv.gz file each")
+    named: dict[str, Path] = {}
+    for path in found:
+        if (other := named.setdefault(name_of_model(path), path)) != path:
+            raise PlanError(f"{path}: is a model of the same name as {other.name}: remove or rename one of them")
     return found
+
+
+def name_of_model(path: Path) -> str:
+    """The name of its file without .csv or .csv.gz."""
+    return path.name.removesuffix(".gz").removesuffix(".csv")
 
 
 def read_model(path: Path, base: Base) -> np.ndarray:
