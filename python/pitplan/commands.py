@@ -13,7 +13,7 @@ import pandas as pd
 
 from . import absent, analyse, auditing, block_pictures, csv_file, exports, files, mine as mines, page, phase_pictures, phases as phasing, pictures
 from . import planned_table, report_page
-from . import schedule_pictures, sensitivity_files, sensitivity_pictures, simulation, varied_cases, verification, workbook, yearly, yearly_schedule as scheduling
+from . import schedule_pictures, sensitivity_files, sensitivity_pictures, simulation, staging, varied_cases, verification, workbook, yearly, yearly_schedule as scheduling
 from .conventions import with_discounting, with_outline
 from .errors import PlanError
 from .mine import Mine
@@ -24,7 +24,7 @@ from .progress import Progress, silent
 from .project import REFERENCE_FACTOR, Project, load
 from .run import Solution
 from .simulation import Request, ScenarioResult
-from .simulation.folder import BLOCK
+from .simulation.folder import BLOCK, FOLDERS
 from .simulation.on_dask import Where
 from .solver import PROGRAM, chosen
 from .stages import FACTOR, Shape
@@ -51,6 +51,8 @@ SCHEDULE_PICTURES = {
     "schedule_value": "schedule_value.png",
 }
 REPORT, VIEW, WORKBOOK = "report.html", "view.html", "schedule.xlsx"
+# What every run writes, or removes.
+ALWAYS = (*files.OF_PROGRAM, files.RECORD, files.TABLE)
 WRITTEN = {
     *files.OF_PROGRAM,
     files.RECORD,
@@ -75,13 +77,14 @@ def read(project: Source) -> Project:
 def prepare(project: Project, folder: Path, progress: Progress) -> dict[str, Any]:
     """Writes the program's files, blocks.csv and prepare.json; gives the record. Raises PlanError, with nothing written."""
     demand_apart(project, folder)
-    plan = prepare_plan(project, progress=progress)
-    with files.staged(folder) as stage:
-        pictures.demand_within(project, plan.grid)
-        with progress.step("writing blocks and needs"):
-            pairs = plan.write(stage)
-        write_table(plan.blocks, stage)
-        return finish(plan, plan.record(pairs), [*files.of_program(stage), files.TABLE], stage)
+    with staging.alone(folder):
+        plan = prepare_plan(project, progress=progress)
+        with files.staged(folder) as stage:
+            pictures.demand_within(project, plan.grid)
+            with progress.step("writing blocks and needs"):
+                pairs = plan.write(stage)
+            write_table(plan.blocks, stage)
+            return finish(plan, plan.record(pairs), [*files.of_program(stage), files.TABLE], stage)
 
 
 def pit(
@@ -315,7 +318,8 @@ def write_csv(table: pd.DataFrame, path: Path, project: Project) -> None:
 
 
 def demand_apart(project: Project, folder: Path) -> None:
-    """Refuses a folder in which a file of the plan would take the place of the table or of the project."""
+    """Refuses a folder in which a file of the plan would take the place of the table or of the project, or has a folder in its own place."""
+    files.demand_no_folders(folder, ALWAYS)
     for path in (project.table.file, project.path):
         if path.parent.resolve() == folder.resolve() and path.name in WRITTEN:
             raise PlanError(f"{path}: the plan would be written over it: give another folder by --out")
@@ -324,18 +328,20 @@ def demand_apart(project: Project, folder: Path) -> None:
 @contextmanager
 def begun(project: Project, folder: Path, progress: Progress) -> Iterator[tuple[Mine, dict[str, Any], Path]]:
     """The mine of a project's plan for its solver, the record of how it was made and what solves it, and a folder in which files are written
-    that go to `folder` where no error comes.
+    that go to `folder` where no error comes. No other run writes into `folder` meanwhile.
 
-    Raises PlanError where the input is not usable or a file would take its place, and ProgramError where there is no solver.
+    Raises PlanError if the input is not usable, a file would take its place, or another run writes into the folder, and ProgramError if
+    there is no solver.
     """
     demand_apart(project, folder)
-    solver = chosen(project.solver)
-    plan = prepare_plan(project, progress=progress)
-    with files.staged(folder, whole=files.OF_PROGRAM) as stage:
-        pictures.demand_within(project, plan.grid)
-        with progress.step("writing blocks and needs" if solver.by == PROGRAM else "listing the needs"):
-            mine = mines.ready(plan, solver, stage)
-        yield mine, plan.record(mine.pairs) | {"solver": asdict(solver)}, stage
+    with staging.alone(folder):
+        solver = chosen(project.solver)
+        plan = prepare_plan(project, progress=progress)
+        with files.staged(folder, whole=files.OF_PROGRAM) as stage:
+            pictures.demand_within(project, plan.grid)
+            with progress.step("writing blocks and needs" if solver.by == PROGRAM else "listing the needs"):
+                mine = mines.ready(plan, solver, stage)
+            yield mine, plan.record(mine.pairs) | {"solver": asdict(solver)}, stage
 
 
 def write_table(blocks: pd.DataFrame, stage: Path) -> None:
@@ -407,7 +413,8 @@ def sensitivity(
     project = read(project)
     target = project.folder / "sensitivity" if folder is None else Path(folder)
     demand_apart(project, target)
-    return sensitivity_files.write(varied_cases.solve(project, target, where, progress), target, progress, verifies)
+    with staging.alone(target, varied_cases.CASES):
+        return sensitivity_files.write(varied_cases.solve(project, target, where, progress), target, progress, verifies)
 
 
 def write_report(folder: Place, sensitivity: Optional[Place] = None, progress: Progress = silent) -> Path:
@@ -466,7 +473,7 @@ def audit(folder: Place, factor: int, progress: Progress = silent) -> NotedPath:
     """
     result = read_factor(folder, factor)
     target = result.path / f"audit-{factor}"
-    with progress.step(f"writing {target.name}"), files.staged(target) as stage:
+    with progress.step(f"writing {target.name}"), staging.alone(target), files.staged(target) as stage:
         auditing.write(stage, result, factor, progress)
     return noted(target, auditing.notes(target))
 
@@ -492,7 +499,9 @@ def scenarios(
     """
     project = read(project)
     name = "block_scenarios" if request.by == BLOCK else "scenarios"
-    return simulation.solve(project, project.folder / name if folder is None else Path(folder), request, progress)
+    target = project.folder / name if folder is None else Path(folder)
+    with staging.alone(target, *FOLDERS):
+        return simulation.solve(project, target, request, progress)
 
 
 def gather(folder: Place, request: Request = Request(), progress: Progress = silent) -> ScenarioResult:
@@ -500,7 +509,8 @@ def gather(folder: Place, request: Request = Request(), progress: Progress = sil
 
     Raises PlanError where an answer is missing, unless the request is for part of them, and where what is gathered is not right.
     """
-    return simulation.gather(Path(folder), request, progress)
+    with staging.alone(Path(folder), *FOLDERS):
+        return simulation.gather(Path(folder), request, progress)
 
 
 def verify(folder: Place) -> list[Rule]:

@@ -3,14 +3,14 @@ for ParaView, DXF for drawing programs, surfaces for any that knows triangles, a
 
 from __future__ import annotations
 
-from contextlib import AbstractContextManager
+from contextlib import AbstractContextManager, contextmanager
 from pathlib import Path
-from typing import Callable, Optional
+from typing import Callable, Iterator, Optional
 
 import numpy as np
 import pandas as pd
 
-from . import csv_file, drawings, files, line_files, planned_table, surfaces, workbook
+from . import csv_file, drawings, files, line_files, planned_table, staging, surfaces, workbook
 from .errors import PlanError
 from .files import Folder
 from .packages import load
@@ -51,7 +51,15 @@ def staged(target: Path, kind: str, shape: Shape) -> AbstractContextManager[Path
     """A name to write to, or a folder, whose files come to the target where no error comes, and those of an earlier run go."""
     if not is_folder(kind, shape):
         return files.staged_file(target)
-    return files.staged(target, whole=tuple(path.name for path in target.glob(f"{shape.of}-*.{kind}")))
+    return staged_folder(target, f"{shape.of}-*.{kind}")
+
+
+@contextmanager
+def staged_folder(target: Path, pattern: str) -> Iterator[Path]:
+    """A folder whose files come to the target where no error comes, in place of those of an earlier run, which have such names."""
+    with staging.alone(target):
+        with files.staged(target, whole=tuple(path.name for path in target.glob(pattern))) as stage:
+            yield stage
 
 
 def demand_apt(kind: str, shape: Shape) -> None:

@@ -5,17 +5,15 @@ from __future__ import annotations
 import hashlib
 import json
 import os
-import shutil
-import tempfile
 from contextlib import contextmanager
 from dataclasses import dataclass
 from pathlib import Path
-from typing import Any, Iterator, Mapping, Optional
+from typing import Any, Iterable, Iterator, Mapping, Optional
 
 import numpy as np
 import pandas as pd
 
-from . import records, text
+from . import records, staging, text
 from .errors import PlanError
 from .fixed import Settled
 from .grid import Grid
@@ -38,22 +36,28 @@ MOST_PAIRS = 67_108_864
 @contextmanager
 def staged(folder: Path, last: str = RECORD, whole: tuple[str, ...] = ()) -> Iterator[Path]:
     """A new folder to write into; where no error comes, its files are moved to `folder`, each whole, the record last. Of `whole`, files
-    that belong together, those of an earlier run that are not written anew are taken away, since they would be of another answer.
+    that belong together, those of an earlier run that this one has not written are removed, since they would be of another answer.
 
-    Raises PlanError where the folder cannot be made or written.
+    Raises PlanError if the folder cannot be made or written, or has a folder in place of a file; then nothing of it has changed.
     """
     try:
         folder.mkdir(parents=True, exist_ok=True)
-        stage = Path(tempfile.mkdtemp(prefix=".pitplan-", dir=folder))
-        try:
+        with staging.stage_in(folder) as stage:
             yield stage
+            found = sorted(stage.iterdir(), key=lambda it: it.name == last)
+            demand_no_folders(folder, [*whole, *(path.name for path in found if not path.is_dir())])
             take_away(folder, [name for name in whole if not (stage / name).exists()])
-            for path in sorted(stage.iterdir(), key=lambda it: it.name == last):
+            for path in found:
                 os.replace(path, folder / path.name)
-        finally:
-            shutil.rmtree(stage, ignore_errors=True)
     except OSError as error:
         raise PlanError(f"{error.filename or folder}: cannot be written: {error.strerror or error}") from error
+
+
+def demand_no_folders(folder: Path, names: Iterable[str]) -> None:
+    """Raises PlanError if a folder has another in place of one of these files."""
+    for place in (folder / name for name in names):
+        if place.is_dir() and not place.is_symlink():
+            raise PlanError(f"{place}: found a folder, expected a file or nothing: move it away, or give another folder by --out")
 
 
 def take_away(folder: Path, names: list[str]) -> None:

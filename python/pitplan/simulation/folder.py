@@ -41,7 +41,7 @@ from ..solver import Solver
 RECORD, PROJECT, BASE = "scenarios.json", "project.toml", "base.npz"
 STARTS, NEEDS = "starts.npy", "needs.npy"
 DIGGABLE, MEAN = "diggable.npz", "mean.npz"
-MODELS, DONE, FAILED = "models", "done", "failed"
+FOLDERS = MODELS, DONE, FAILED = "models", "done", "failed"
 # Of the files of answers: since 2 they hold their own key.
 FORM = 2
 # The sources of what searches for schedules.

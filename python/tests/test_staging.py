@@ -1,0 +1,239 @@
+"""What killed runs leave, runs beside each other, and folders in place of files."""
+
+import os
+import signal
+import subprocess
+import sys
+from pathlib import Path
+
+import pytest
+from conftest import PROJECT, rows
+
+import pitplan
+from pitplan import PlanError, Request, Shape, commands, exports, sensitivity_pictures, staging
+from pitplan.cli import main
+
+ORE = {"cu": lambda i, j, k: {(3, 3, 1): 6, (4, 3, 1): 2.5, (3, 4, 0): 9}.get((i, j, k), 0)}
+MORE = '[pushbacks]\ncount = 2\n[schedule]\nrock_per_year = 2000\n[sensitivity]\nby = [0.1]\nvary = "price"\n[fixed]\nforced = "due"\n'
+SCENARIOS = '[scenarios]\ncolumns = { copper = ["cu", "cu2"] }\n'
+OTHER = "another run of pitplan writes into this folder"
+
+
+@pytest.fixture(autouse=True)
+def undrawn(blank_pictures, monkeypatch):
+    monkeypatch.setattr(sensitivity_pictures, "write_all", lambda *given: None)
+
+
+@pytest.fixture
+def mine(plan_folder):
+    """A mine of which every command can make something; its project."""
+    table = rows(6, 5, 3, due=lambda i, j, k: int((i, j, k) == (1, 1, 2)), cu2=lambda i, j, k: 3 * ((i, j) == (2, 2)), **ORE)
+    return plan_folder(table, PROJECT + MORE + SCENARIOS)
+
+
+RUNS = {
+    "prepare": lambda path, folder: commands.prepare(pitplan.load(path), folder, commands.silent),
+    "shells": lambda path, folder: pitplan.write_shells(path, folder, verifies=False),
+    "pit": lambda path, folder: pitplan.pit(path, 1000, folder, verifies=False),
+    "pushbacks": lambda path, folder: pitplan.pushbacks(path, folder, verifies=False),
+    "schedule": lambda path, folder: pitplan.write_schedule(path, folder, verifies=False),
+    "sensitivity": lambda path, folder: pitplan.sensitivity(path, folder, verifies=False),
+    "scenarios": lambda path, folder: pitplan.scenarios(path, folder, Request(where="parallel")),
+}
+
+
+def killed(action):
+    """A process of its own that does this and is killed then, as by kill -9."""
+    child = os.fork()
+    if not child:
+        try:
+            action()
+        finally:
+            os.kill(os.getpid(), signal.SIGKILL)
+    assert os.waitstatus_to_exitcode(os.waitpid(child, 0)[1]) == -signal.SIGKILL
+
+
+def leave(folder):
+    """What a run leaves that is killed while it writes into a folder: its stage, with a file in it."""
+    folder.mkdir(parents=True, exist_ok=True)
+
+    def write():
+        with staging.stage_in(folder) as stage:
+            (stage / "half.csv").write_text("x,y")
+            os.kill(os.getpid(), signal.SIGKILL)
+
+    killed(write)
+    assert len(list(folder.glob(".pitplan-*/half.csv"))) == 1
+
+
+@pytest.mark.parametrize("name", RUNS)
+def test_a_run_removes_what_killed_runs_have_left(mine, name):
+    folder = mine.parent / "out"
+    places = {"sensitivity": ["cases"], "scenarios": ["done", "models", "failed"]}.get(name, [])
+    for place in (folder, *(folder / it for it in places)):
+        leave(place)
+    RUNS[name](mine, folder)
+    assert list(folder.rglob(".pitplan*")) == []
+
+
+def test_the_stage_of_a_living_run_stays(tmp_path):
+    leave(tmp_path)
+    with staging.stage_in(tmp_path) as stage:
+        with staging.alone(tmp_path):
+            assert list(tmp_path.glob(".pitplan-*")) == [stage]
+        assert stage.is_dir()
+    assert list(tmp_path.iterdir()) == []
+
+
+def test_a_file_or_a_link_with_the_name_of_a_stage_stays(tmp_path):
+    (tmp_path / "mine").mkdir()
+    (tmp_path / ".pitplan-notes").write_text("of mine")
+    (tmp_path / ".pitplan-link").symlink_to(tmp_path / "mine")
+    with staging.alone(tmp_path):
+        pass
+    assert {path.name for path in tmp_path.iterdir()} == {"mine", ".pitplan-notes", ".pitplan-link"}
+
+
+@pytest.mark.parametrize("name", RUNS)
+def test_a_second_run_in_the_same_folder_is_refused_while_the_first_lives(mine, name):
+    """And changes nothing there; after the first has ended it runs."""
+    folder = mine.parent / "out"
+    with staging.alone(folder):
+        with pytest.raises(PlanError, match=rf"out: {OTHER} \(process {os.getpid()}\): wait until it ends, or give another folder by --out"):
+            RUNS[name](mine, folder)
+        assert [path.name for path in folder.iterdir()] == [".pitplan.lock"]
+    assert not folder.exists()
+    RUNS[name](mine, folder)
+    assert not (folder / ".pitplan.lock").exists()
+    assert not any(".pitplan.lock" in record.read_text() for record in folder.glob("*.json"))
+
+
+def test_a_run_by_the_command_line_is_refused_by_one_in_another_process(mine, capsys):
+    source = (
+        "import fcntl, os, sys\n"
+        "file = os.open(sys.argv[1], os.O_RDWR | os.O_CREAT)\n"
+        "fcntl.flock(file, fcntl.LOCK_EX)\n"
+        "os.write(file, b'4711\\n')\n"
+        "print('locked', flush=True)\n"
+        "sys.stdin.read()\n"
+    )
+    folder = mine.parent / "plan"
+    folder.mkdir()
+    with subprocess.Popen([sys.executable, "-c", source, str(folder / ".pitplan.lock")], stdin=-1, stdout=-1, text=True) as other:
+        assert other.stdout.readline() == "locked\n"
+        assert main(["shells", str(mine), "--no-verify", "--quiet"]) == 1
+        assert capsys.readouterr().err.startswith(f"pitplan: {folder}: {OTHER} (process 4711): wait until it ends")
+        other.kill()
+    assert (folder / ".pitplan.lock").read_text() == "4711\n"
+    assert main(["shells", str(mine), "--no-verify", "--quiet"]) == 0
+    assert not (folder / ".pitplan.lock").exists()
+
+
+def test_commands_that_only_read_work_beside_a_run_and_each_other(mine):
+    folder = mine.parent / "out"
+    pitplan.write_schedule(mine, folder, verifies=False)
+    with staging.alone(folder):
+        assert not any(rule.differences for rule in pitplan.verify(folder))
+        for write in (pitplan.write_report, pitplan.audit, pitplan.view):
+            assert write(folder, *([500] if write is pitplan.audit else [])).exists()
+        assert pitplan.export(folder, "csv", 500).exists() and pitplan.export(folder, "obj", shape=Shape("year")).exists()
+
+
+def test_two_audits_or_exports_into_one_folder_are_kept_apart(mine):
+    folder = mine.parent / "out"
+    pitplan.write_schedule(mine, folder, verifies=False)
+    with staging.alone(folder / "audit-500"), pytest.raises(PlanError, match=f"audit-500: {OTHER}"):
+        pitplan.audit(folder, 500)
+    target = folder / exports.name_of("obj", Shape("year"))
+    with staging.alone(target), pytest.raises(PlanError, match=f"{target.name}: {OTHER}"):
+        pitplan.export(folder, "obj", shape=Shape("year"))
+
+
+def test_gathering_is_kept_apart_from_another_run(tmp_path):
+    with staging.alone(tmp_path), pytest.raises(PlanError, match=OTHER):
+        pitplan.gather(tmp_path)
+    with pytest.raises(PlanError, match="nowhere/scenarios.json: cannot be read"):
+        pitplan.gather(tmp_path / "nowhere" / "nowhere")
+    assert list(tmp_path.iterdir()) == []
+
+
+def test_the_lock_of_a_killed_run_blocks_no_other(mine):
+    folder = mine.parent / "out"
+
+    def hold():
+        with staging.alone(folder):
+            os.kill(os.getpid(), signal.SIGKILL)
+
+    killed(hold)
+    assert (folder / ".pitplan.lock").is_file()
+    RUNS["shells"](mine, folder)
+    assert not (folder / ".pitplan.lock").exists()
+
+
+def test_a_lock_is_no_link_to_follow(tmp_path):
+    """Else a line of ours would stand in a file of another."""
+    (tmp_path / "kept.txt").write_text("of mine")
+    (tmp_path / ".pitplan.lock").symlink_to(tmp_path / "kept.txt")
+    with pytest.raises(PlanError, match=r"\.pitplan\.lock: cannot be written"), staging.alone(tmp_path):
+        pass
+    assert (tmp_path / "kept.txt").read_text() == "of mine"
+
+
+def test_processes_that_take_turns_are_never_in_one_folder_together(tmp_path):
+    """Each makes a file of its own in its turn, which no other may have made; the lock is removed and made again each time."""
+    children = []
+    for _ in range(4):
+        child = os.fork()
+        if not child:
+            try:
+                turns(tmp_path, 50)
+                os._exit(0)
+            finally:
+                os._exit(1)
+        children.append(child)
+    assert [os.waitstatus_to_exitcode(os.waitpid(child, 0)[1]) for child in children] == [0] * 4
+    assert list(tmp_path.iterdir()) == []
+
+
+def turns(folder: Path, count: int) -> None:
+    while count:
+        try:
+            with staging.alone(folder), staging.stage_in(folder):
+                os.close(os.open(folder / "turn", os.O_CREAT | os.O_EXCL))
+                os.unlink(folder / "turn")
+                count -= 1
+        except PlanError:
+            continue
+
+
+@pytest.mark.parametrize("name", ["prepare.json", "blocks.csv", "mine.prec", "shells.csv", "years.csv", "plans.png", "report.html"])
+def test_a_folder_in_place_of_a_file_is_refused_before_anything_is_replaced(mine, name):
+    folder = mine.parent / "out"
+    pitplan.write_shells(mine, folder, verifies=False)
+    (folder / name).unlink(missing_ok=True)
+    (folder / name).mkdir()
+    before = {path.name: path.read_bytes() for path in folder.iterdir() if path.is_file()}
+    mine.write_text(mine.read_text().replace("price = 8000", "price = 9000"))
+    with pytest.raises(PlanError, match=rf"out/{name}: found a folder, expected a file or nothing: move it away, or give another folder by --out"):
+        pitplan.write_shells(mine, folder, verifies=False)
+    assert {path.name: path.read_bytes() for path in folder.iterdir() if path.is_file()} == before
+    (folder / name).rmdir()
+    pitplan.write_shells(mine, folder, verifies=False)
+    assert (folder / "shells.csv").read_bytes() != before.get("shells.csv")
+
+
+def test_a_folder_in_place_of_an_export_is_refused(mine):
+    folder = mine.parent / "out"
+    pitplan.write_shells(mine, folder, verifies=False)
+    (folder / "pit.csv").mkdir()
+    with pytest.raises(PlanError, match="out/pit.csv: found a folder, expected a file or nothing"):
+        pitplan.export(folder, "csv")
+    assert list((folder / "pit.csv").iterdir()) == []
+
+
+def test_what_is_not_made_leaves_no_folder(mine):
+    mine.write_text(mine.read_text().replace('file = "blocks.csv"', 'file = "nowhere.csv"'))
+    for run in RUNS.values():
+        with pytest.raises(PlanError, match="nowhere.csv"):
+            run(mine, mine.parent / "far" / "away")
+        assert not (mine.parent / "far").exists()
