@@ -231,7 +231,7 @@ def test_a_solve_that_takes_long_is_ended_at_once(plan_folder, asked, status, sa
     _, err = ran.communicate(timeout=30)
     assert time.monotonic() - began < 1.5 and ran.returncode == status
     assert err.strip().splitlines()[-1:] == ([said] if said else [])
-    assert list((path.parent / "plan").iterdir()) == []
+    assert not (path.parent / "plan").exists()
 
 
 def test_what_is_asked_for_solves_else_what_is_named_else_the_library(monkeypatch):

@@ -278,7 +278,7 @@ def refused(plan_folder, table=None, text=TEXT, *changes):
     path = plan_folder(deposit() if table is None else table, text, *changes)
     with pytest.raises(PlanError, match="what was written is not right") as said:
         commands.write_shells(load(path), path.parent / "plan", silent)
-    assert list((path.parent / "plan").iterdir()) == []
+    assert not (path.parent / "plan").exists()
     return str(said.value)
 
 
