@@ -32,5 +32,5 @@ def write_block_schedule(
         solution = mines.solve(mine.plan, mine, progress)
         made = result.make(mine.plan, progress)
         record["notes"] += made.notes
-        write_answer(Answered(mine.plan, solution, blocks=made), mine, record, Writing(stage, progress, verifies))
+        write_answer(Answered(mine.plan, solution, blocks=made), mine, record, Writing(project, stage, progress, verifies))
     return made.table

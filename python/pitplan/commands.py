@@ -12,7 +12,7 @@ import numpy as np
 import pandas as pd
 
 from . import absent, analyse, auditing, block_pictures, csv_file, exports, files, mine as mines, page, phase_pictures, phases as phasing, pictures
-from . import planned_table, report_page
+from . import planned_table, project_text, report_page
 from . import schedule_pictures, sensitivity_files, sensitivity_pictures, simulation, staging, varied_cases, verification, workbook, yearly, yearly_schedule as scheduling
 from .conventions import with_discounting, with_outline
 from .errors import PlanError
@@ -52,11 +52,9 @@ SCHEDULE_PICTURES = {
 }
 REPORT, VIEW, WORKBOOK = "report.html", "view.html", "schedule.xlsx"
 # What every run writes, or removes.
-ALWAYS = (*files.OF_PROGRAM, files.RECORD, files.TABLE)
+ALWAYS = (*files.OF_PROGRAM, files.RECORD, files.TABLE, files.AS_RUN)
 WRITTEN = {
-    *files.OF_PROGRAM,
-    files.RECORD,
-    files.TABLE,
+    *ALWAYS,
     files.SHELLS,
     files.YEARS,
     files.PHASES,
@@ -83,6 +81,7 @@ def prepare(project: Project, folder: Path, progress: Progress) -> dict[str, Any
             pictures.demand_within(project, plan.grid)
             with progress.step("writing blocks and needs"):
                 pairs = plan.write(stage)
+            project_text.write(project, stage / files.AS_RUN, folder)
             write_table(plan.blocks, stage)
             return finish(plan, plan.record(pairs), [*files.of_program(stage), files.TABLE], stage)
 
@@ -109,8 +108,7 @@ def pit(
         raise PlanError(f"{project.path}: [fixed] is missing: it says which blocks must be dug and which may not be")
     within = tuple(sorted({factor, *(inner for inner in project.schedule.factors if inner < factor)}))
     schedule = replace(project.schedule, factors=within, chosen=None, reference_added=False)
-    project = replace(project, schedule=schedule)
-    with begun(project, target, progress) as (mine, record, stage):
+    with begun(project, target, progress, replace(project, schedule=schedule)) as (mine, record, stage):
         plan = mine.plan
         keeping = mines.solve(plan, mine, progress)
         free = replace(mine.free_shells(within), of=plan.key)
@@ -162,7 +160,7 @@ def write_shells(
     target = project.folder if folder is None else Path(folder)
     with begun(project, target, progress) as (mine, record, stage):
         solution = mines.solve(mine.plan, mine, progress)
-        return write_answer(Answered(mine.plan, solution), mine, record, Writing(stage, progress, verifies))
+        return write_answer(Answered(mine.plan, solution), mine, record, Writing(project, stage, progress, verifies))
 
 
 def pushbacks(
@@ -176,12 +174,12 @@ def pushbacks(
     Raises PlanError where the project has no `[pushbacks]` or the pit is empty, and where what is written is not right, unless it is not
     verified.
     """
-    project = phasing.ending(read(project))
+    project = read(project)
     target = project.folder / "pushbacks" if folder is None else Path(folder)
-    with begun(project, target, progress) as (mine, record, stage):
+    with begun(project, target, progress, phasing.ending(project)) as (mine, record, stage):
         phases = phasing.divide(mine.plan, mine, progress)
         record["notes"] += phases.notes
-        write_answer(Answered(phases.plan, phases.solution, phases), mine, record, Writing(stage, progress, verifies))
+        write_answer(Answered(phases.plan, phases.solution, phases), mine, record, Writing(project, stage, progress, verifies))
     return phasing.table(phases)
 
 
@@ -198,21 +196,22 @@ def write_schedule(
     Raises MissingPackage without openpyxl, and PlanError where the project has no `[pushbacks]`, the pit is empty or takes too many years,
     and where what is written is not right, unless it is not verified.
     """
-    project = phasing.ending(read(project))
+    project = read(project)
     target = project.folder / "schedule" if folder is None else Path(folder)
     workbook.demand_library()
-    with begun(project, target, progress) as (mine, record, stage):
+    with begun(project, target, progress, phasing.ending(project)) as (mine, record, stage):
         phases = phasing.divide(mine.plan, mine, progress)
         schedule = scheduling.make(phases, progress)
         record["notes"] += [*phases.notes, *scheduling.notes(schedule)]
-        write_answer(Answered(phases.plan, phases.solution, phases, schedule), mine, record, Writing(stage, progress, verifies))
+        write_answer(Answered(phases.plan, phases.solution, phases, schedule), mine, record, Writing(project, stage, progress, verifies))
     return scheduling.ways(schedule)
 
 
 @dataclass(frozen=True)
 class Writing:
-    """Where an answer is written, whom it is told, and whether it is looked at a second time."""
+    """The project that was run, where its answer is written, whom it is told, and whether it is looked at a second time."""
 
+    project: Project
     stage: Path
     progress: Progress
     verifies: bool
@@ -255,7 +254,7 @@ def write_answer(answered: Answered, mine: Mine, record: dict[str, Any], writing
         with progress.step("writing the workbook"):
             workbook.write(stage / WORKBOOK, sheets_of(answered, table, years))
     finish(plan, record, [*mine.files, *tables_of(answered), *pictures.files_of(drawn, formats)], stage)
-    report_page.write(stage / REPORT, stage, project)
+    report_page.write(stage / REPORT, stage, writing.project)
     return table
 
 
@@ -318,17 +317,20 @@ def write_csv(table: pd.DataFrame, path: Path, project: Project) -> None:
 
 
 def demand_apart(project: Project, folder: Path) -> None:
-    """Refuses a folder in which a file of the plan would take the place of the table or of the project, or has a folder in its own place."""
+    """Refuses a folder in which a file of the plan would take the place of an input, or has a folder in its own place."""
     files.demand_no_folders(folder, ALWAYS)
-    for path in (project.table.file, project.path):
+    for path in project.inputs:
         if path.parent.resolve() == folder.resolve() and path.name in WRITTEN:
             raise PlanError(f"{path}: the plan would be written over it: give another folder by --out")
 
 
 @contextmanager
-def begun(project: Project, folder: Path, progress: Progress) -> Iterator[tuple[Mine, dict[str, Any], Path]]:
+def begun(
+    project: Project, folder: Path, progress: Progress, planned: Optional[Project] = None
+) -> Iterator[tuple[Mine, dict[str, Any], Path]]:
     """The mine of a project's plan for its solver, the record of how it was made and what solves it, and a folder in which files are written
-    that go to `folder` where no error comes. No other run writes into `folder` meanwhile.
+    that go to `folder` where no error comes, the project among them. No other run writes into `folder` meanwhile. `planned` is the project
+    as the command plans with it, with factors of its own for example; without it that is the project itself.
 
     Raises PlanError if the input is not usable, a file would take its place, or another run writes into the folder, and ProgramError if
     there is no solver.
@@ -336,8 +338,9 @@ def begun(project: Project, folder: Path, progress: Progress) -> Iterator[tuple[
     demand_apart(project, folder)
     with staging.alone(folder):
         solver = chosen(project.solver)
-        plan = prepare_plan(project, progress=progress)
+        plan = prepare_plan(planned or project, progress=progress)
         with files.staged(folder, whole=files.OF_PROGRAM) as stage:
+            project_text.write(project, stage / files.AS_RUN, folder)
             pictures.demand_within(project, plan.grid)
             with progress.step("writing blocks and needs" if solver.by == PROGRAM else "listing the needs"):
                 mine = mines.ready(plan, solver, stage)
@@ -351,7 +354,7 @@ def write_table(blocks: pd.DataFrame, stage: Path) -> None:
 def finish(plan: Plan, record: dict[str, Any], names: list[str], stage: Path) -> dict[str, Any]:
     """Writes the record with the hashes of what was read, by its place as seen from the project, and of what was written."""
     record["inputs"] = files.hashes_of(plan.project.named_inputs)
-    record["files"] = files.hashes(stage, names)
+    record["files"] = files.hashes(stage, [files.AS_RUN, *names])
     files.write_json(stage / files.RECORD, record)
     return record
 

@@ -25,6 +25,8 @@ REST_BLOCKS, REST_PREC, PIT_MODEL = "rest.blocks", "rest.prec", "pit.upit"
 RECORD, TABLE, SHELLS, YEARS, ANSWER = "prepare.json", "blocks.csv", "shells.csv", "years.csv", "shells.txt"
 # What the program reads and writes; where the library solves none of them is there.
 OF_PROGRAM = (BLOCKS, MODEL, PREC, FIXED, REST_BLOCKS, REST_PREC, PIT_MODEL, ANSWER)
+# The project of the run, which may be another than its file says.
+AS_RUN = "project-as-run.toml"
 PHASES = "phases.csv"
 SCHEDULE, SCHEDULE_RECORD, MILLING = "schedule.csv", "schedule.json", "milling.csv"
 BLOCK_SCHEDULE, WAYS = "block_schedule.json", "ways.csv"

@@ -173,6 +173,13 @@ class Project:
         """Whether blocks have less than the table's tonnes, by a topography or an as-mined surface."""
         return bool(self.table.topography or self.fixed and self.fixed.surface)
 
+    def to_toml(self, folder: Optional[Path] = None) -> str:
+        """The text of a project.toml in a folder, by default that of the project's own file. It reads back as this project, but for `path`
+        and `solver`."""
+        from .project_text import of_project
+
+        return of_project(self, self.path.parent if folder is None else folder)
+
     def of_process(self, process: Process) -> Project:
         metals = tuple(replace(metal, recovery=process.recovery.get(metal.name, Decimal(0))) for metal in self.metals)
         return replace(self, money=replace(self.money, processing_cost=process.cost), metals=metals, processes=())

@@ -7,13 +7,13 @@ is a cell of a written table, and names it by file, row and column where a point
 from __future__ import annotations
 
 import base64
-from dataclasses import dataclass
+from dataclasses import dataclass, replace
 from pathlib import Path
 from typing import Any, Callable, Optional
 
 import pandas as pd
 
-from . import files, report, schedule_pictures
+from . import files, project_text, report, schedule_pictures
 from .conventions import IN_WORDS
 from .errors import PlanError
 from .files import hash_of
@@ -79,7 +79,7 @@ def sensitivity_beside(project: Project, inputs: dict[str, str], folder: Optiona
             return None, ""
     try:
         record = files.read_json(place / SENSITIVITY_RECORD)
-        others = differing(record["inputs"], inputs)
+        others = differing(record["inputs"], inputs) or differing_as_run(project, place, record)
     except (ValueError, LookupError, TypeError, AttributeError):
         others = [SENSITIVITY_RECORD]
     if others:
@@ -93,6 +93,13 @@ def sensitivity_beside(project: Project, inputs: dict[str, str], folder: Optiona
 def differing(first: dict[str, str], second: dict[str, str]) -> list[str]:
     """The names of files that only one has, or whose hashes differ."""
     return [name for name in sorted({*first, *second}) if first.get(name) != second.get(name)]
+
+
+def differing_as_run(project: Project, folder: Path, record: dict[str, Any]) -> list[str]:
+    """The name of the project's text if that of the sensitivity in a folder, which may have been moved, is of another project."""
+    both = (project, project_text.as_run(folder, record["project"]))
+    texts = {replace(it, folder=it.path.parent).to_toml() for it in both}
+    return [files.AS_RUN] if len(texts) > 1 else []
 
 
 def write(path: Path, folder: Path, project: Project, sensitivity: Optional[Path] = None) -> None:
@@ -116,14 +123,20 @@ def write(path: Path, folder: Path, project: Project, sensitivity: Optional[Path
         discounting=IN_WORDS[project.schedule.discounting],
         has_fixed=project.fixed is not None,
         bins=files.MILLING in record["files"],
-        project_file=project.path.name,
-        project_text=without_comments(project.path.read_text(encoding="utf-8")),
+        project_file=files.AS_RUN if files.AS_RUN in record["files"] else project.path.name,
+        project_text=text_of(folder, project, record),
         inputs=record["inputs"],
         outputs=record["files"],
         **{name: record["shells"][name] for name in ("chosen", "solver")},
         **{name: record[name] for name in ("summary", "verified")},
     )
     path.write_text(page, encoding="utf-8")
+
+
+def text_of(folder: Path, project: Project, record: dict[str, Any]) -> str:
+    """The project of the run; of a folder of an earlier release the file that it was read from."""
+    path = folder / files.AS_RUN if files.AS_RUN in record["files"] else project.path
+    return without_comments(path.read_text(encoding="utf-8"))
 
 
 def picture(path: Path) -> str:

@@ -10,7 +10,7 @@ from typing import Any
 import numpy as np
 import pandas as pd
 
-from . import csv_file, files, sensitivity_pictures, verification
+from . import csv_file, files, project_text, sensitivity_pictures, verification
 from .conventions import with_discounting
 from .pictures import also_as
 from .progress import Progress
@@ -26,6 +26,7 @@ def write(found: Sensitivity, folder: Path, progress: Progress, verifies: bool) 
     with files.staged(folder, RECORD) as stage:
         told = record(found, os.path.relpath(project.path, folder))
         write_tables(found, cases, stage)
+        project_text.write(found.asked, stage / files.AS_RUN, folder)
         files.write_json(stage / RECORD, told)
         if verifies:
             with progress.step("verifying"):

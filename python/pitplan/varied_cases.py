@@ -73,6 +73,7 @@ class Sensitivity:
 
     factor  that of the pit that is looked at, per mille
     solver  what found all of them
+    asked   the project as it was given; `project` has the factors up to the shown one alone
     """
 
     project: Project
@@ -81,6 +82,7 @@ class Sensitivity:
     answers: dict[Case, Found]
     keys: dict[Case, str]
     solver: Solver
+    asked: Project
 
 
 def rules_of(project: Project) -> SensitivityRules:
@@ -116,7 +118,7 @@ def solve(project: Project, folder: Path, where: on_dask.Where | None, progress:
     Raises PlanError where the table or a case cannot be planned with, ProgramError where the solver refuses, and MissingPackage without
     Dask where it is asked for.
     """
-    found_by = solver.chosen(project.solver)
+    found_by, given_project = solver.chosen(project.solver), project
     project = replace(project, solver=found_by.by)
     frame = tables.read(project).frame
     plan = prepare(project, frame, progress)
@@ -127,7 +129,7 @@ def solve(project: Project, folder: Path, where: on_dask.Where | None, progress:
     factor = analyse.chosen_factor(analyse.shells(plan, solution), project.schedule)
     asked = Asked(up_to(project, factor), frame, found_by)
     rules = rules_of(project)
-    begun = {"inputs": files.hashes_of(project.named_inputs), "solver": found_by.sha256, "factor": factor, "skin": str(rules.skin)}
+    begun = {"project": project.to_toml(), "inputs": files.hashes_of(project.named_inputs), "solver": found_by.sha256, "factor": factor, "skin": str(rules.skin)}
     cases = cases_of(rules)
     keys = {case: key_of({**begun, "changes": [[name, str(share)] for name, share in case.changes]}) for case in cases}
     paths = {case: folder / CASES / f"{keys[case]}.npz" for case in cases}
@@ -141,7 +143,7 @@ def solve(project: Project, folder: Path, where: on_dask.Where | None, progress:
                 answer(case, asked, path)
     elif missing:
         over_dask(missing, asked, where, progress)
-    return Sensitivity(asked.project, plan, factor, {case: read(path, plan.grid.count) for case, path in paths.items()}, keys, found_by)
+    return Sensitivity(asked.project, plan, factor, {case: read(path, plan.grid.count) for case, path in paths.items()}, keys, found_by, given_project)
 
 
 def answer(case: Case, asked: Asked, path: Path) -> None:

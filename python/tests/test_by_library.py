@@ -75,7 +75,7 @@ def test_shells_are_the_same_to_the_byte(tmp_path, example):
 
 def test_a_pit_with_fixed_blocks_and_without_is_the_same(tmp_path):
     arrays, _ = by_both(tmp_path, "pit", EXAMPLES / "fixed" / "project.toml")
-    assert {"blocks.csv", "pits.csv"} == written(arrays).keys()
+    assert {"blocks.csv", "pits.csv", "project-as-run.toml"} == written(arrays).keys()
 
 
 def test_phases_and_their_schedule_are_the_same(tmp_path):

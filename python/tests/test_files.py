@@ -35,6 +35,7 @@ def test_shells_write_tables_pictures_and_a_page_that_needs_no_other_file(solved
             "mine.upit",
             "mine.prec",
             "prepare.json",
+            "project-as-run.toml",
             "blocks.csv",
             "shells.csv",
             "years.csv",

@@ -225,7 +225,7 @@ def test_files_and_what_the_command_line_tells(small, capsys, monkeypatch, undra
     folder = path.parent / "plan" / "sensitivity"
     assert out[-1] == str(folder / "sensitivity.csv")
     assert {it.name for it in folder.iterdir()} == {
-        *("blocks.csv", "cases", "sensitivity.csv", "sensitivity.json", "tornado.png", "spider.png", "grid-price-mining_cost.png")
+        *("blocks.csv", "cases", "project-as-run.toml", "sensitivity.csv", "sensitivity.json", "tornado.png", "spider.png", "grid-price-mining_cost.png")
     }
     record = json.loads((folder / "sensitivity.json").read_text())
     assert len(record["verified"]) == 13 and record["factor"] == 1000

@@ -1,7 +1,7 @@
 """The folder of a set of scenarios, which whoever solves one reads, and into which the answer is written.
 
     scenarios.json      what there is to solve, and what it was made of
-    project.toml        the project as it was
+    project.toml        the project that was run, whose files are named from the place of its first text
     base.npz            the blocks without grades: cell, tonnes, rock; and of all cells what fixed blocks settle
     starts.npy,         the needs as rows for the library, once for all scenarios; with fixed blocks those of the rest
     needs.npy

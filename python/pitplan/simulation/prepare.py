@@ -3,14 +3,13 @@
 from __future__ import annotations
 
 import os
-import shutil
 from dataclasses import dataclass, replace
 from pathlib import Path
 from typing import Any
 
 import numpy as np
 
-from .. import csv_file, files, pictures, summary as summaries
+from .. import csv_file, files, pictures, project_text, summary as summaries
 from ..mine import counted_rows
 from ..money_rules import ByRegion
 from ..packages import by_library
@@ -117,7 +116,8 @@ def write_shared(laid: Laid, stage: Path) -> list[str]:
     """Base, the project, and the planner's rows, of which blocks are told; gives the names of the files."""
     base, plan = laid.base, laid.plan
     np.savez_compressed(stage / folders.BASE, ore=plan.values.processed, **arrays_of(base), **arrays_of_settled(plan))
-    shutil.copyfile(base.project.path, stage / folders.PROJECT)
+    # Of another folder than its own: whoever reads it names the place of the first.
+    project_text.write(base.project, stage / folders.PROJECT, base.project.path.parent)
     frame = plan.blocks
     grades = [metal.column for metal in base.project.metals]
     costs = ["mining_cost", "revenue", "processing_cost", *(["haulage_cost", "ore_haulage_cost"] if base.project.haulage else [])]

@@ -13,7 +13,8 @@ import pandas as pd
 from .. import records, table as tables
 from ..errors import PlanError
 from ..money_rules import GRADE_UNITS
-from ..project import AbsentRock, Project, load
+from ..project import AbsentRock, Project
+from ..project_text import as_run
 from ..wall_rules import Wall
 from .feed import by_code, recovered
 from .put_together import divided, together, written_rows
@@ -251,7 +252,7 @@ def read(folder: Path, project: Optional[Project] = None, table: Optional[pd.Dat
     """
     try:
         record = records.read_plan(folder / "prepare.json", is_whole=False)
-        project = project or load(folder / record["project"])
+        project = project or as_run(folder, record["project"])
         found, expected = len(record.get("walls", project.slopes.walls)), len(project.slopes.walls)
         if found < expected:
             raise PlanError(f"{folder / 'prepare.json'}: walls: found {found}, expected {expected} as in the project: run pitplan shells again")

@@ -17,7 +17,8 @@ import pandas as pd
 
 from .. import kept_arrays, toml_text
 from ..errors import PlanError
-from ..project import Project, load, of_data
+from ..project import Project, of_data
+from ..project_text import AS_RUN, as_run
 from . import absent, depletion, fixed, haulage, money, sums, walls, years
 from .answer import TOLD, Answer, Rule, beside, own_columns, read_blocks, rows_of, rule, said_of
 from .weighing import gains, weighed
@@ -66,20 +67,41 @@ def verify(written: Path, folder: Path) -> list[Rule]:
 
 
 @dataclass(frozen=True)
+class Text:
+    """The text of the project that was run: the file that has it, and the place from which it names others."""
+
+    file: Path
+    place: Path
+
+    @staticmethod
+    def of(folder: Path, first: str, written: Path) -> Text:
+        """That of a folder whose files are in `written`; of a folder of an earlier release it is in the first file."""
+        file = written / AS_RUN
+        return Text(file, folder / AS_RUN) if file.is_file() else Text(folder / first, folder / first)
+
+    @property
+    def data(self) -> Data:
+        """What it says, which the caller may change."""
+        return toml_text.read(self.file)
+
+
+@dataclass(frozen=True)
 class Told:
     """A folder as it is read: the blocks as if none were dug, and as blocks.csv tells of them; the cases' rows, and what was recorded of
-    them."""
+    them; and the project's text."""
 
     ground: Answer
     told: Answer
     rows: pd.DataFrame
     cases: list[Case]
     factor: int
+    text: Text
 
     @staticmethod
     def read(written: Path, folder: Path) -> "Told":
         record = json.loads((written / "sensitivity.json").read_text(encoding="utf-8"))
-        project = load(folder / record["project"])
+        project = as_run(folder, record["project"], written)
+        text = Text.of(folder, record["project"], written)
         blocks = read_blocks(written / "blocks.csv", project)
         frame, parts, beyond = rows_of(project, blocks, record["grid"])
         known, count, order = beside(frame, blocks, project, record["grid"], "blocks.csv")
@@ -92,7 +114,7 @@ class Told:
         ground = replace(told, said=said[["id"]].assign(factor=0))
         rows = read_table(written / "sensitivity.csv", ["number", "second"])
         rows[["number", "second"]] = rows[["number", "second"]].fillna("")
-        return Told(ground, told, rows, list(cases_in(folder, record)), factor)
+        return Told(ground, told, rows, list(cases_in(folder, record)), factor, text)
 
     def rules(self) -> list[Rule]:
         found: dict[str, list[Rule]] = {name: [] for name in OF_EACH}
@@ -108,7 +130,7 @@ class Told:
 
     def listed(self) -> Rule:
         """The project as given, each number by each share, and of each pair both by each share: each has a row, and there are no others."""
-        due, differences = sorted(due_of(self.ground.project)), []
+        due, differences = sorted(due_of(self.text)), []
         there = [tuple(row) for row in self.rows[list(AXES)].itertuples(index=False)]
         noted = [padded([(name, float(share)) for name, share in case.changes]) for case in self.cases]
         if sorted(there) != due:
@@ -139,7 +161,7 @@ class Told:
         if (given.skin & (given.entry == 0)).any():
             differences.append("a block of the skin is not in the pit")
         whole, part = (float(tonnes[inside[ids]].sum()) for inside in (given.entry > 0, given.skin))
-        if abs(part - record["tonnes"]) > 1e-6 * whole or part < float(share_of(self.ground.project)) * whole * (1 - 1e-9):
+        if abs(part - record["tonnes"]) > 1e-6 * whole or part < float(share_of(self.text)) * whole * (1 - 1e-9):
             differences.append(f"the skin has {part:,.0f} t of {whole:,.0f}, and sensitivity.json says {record['tonnes']:,.0f}")
         expected = {"share": part / whole if part else 0.0, "worth": float(self.rows["skin_worth"].iloc[0])}
         differences += [f"the skin's {name} {record[name]:.12g} for {it:.12g}" for name, it in expected.items() if abs(record[name] - it) > 6e-4]
@@ -147,7 +169,7 @@ class Told:
 
     def of_case(self, case: Case, row: pd.DataFrame) -> dict[str, Rule]:
         """Everything that a row says."""
-        project = changed(self.ground.project, case.changes)
+        project = changed(self.text, case.changes)
         whole = self.dug(case.entry, project, case.walls)
         pit = replace(weighed(whole), shells=row.set_index("factor"))
         mean = (row["npv_best"] + row["npv_worst"]) / 2
@@ -219,23 +241,23 @@ def padded(changes: list[tuple[str, float]]) -> tuple[str, float, str, float]:
     return one, by, other, also
 
 
-def due_of(project: Project) -> list[tuple[str, float, str, float]]:
+def due_of(text: Text) -> list[tuple[str, float, str, float]]:
     """The cases that the project's text asks for."""
-    asked = text_of(project.path).get("sensitivity", {})
+    asked = text.data.get("sensitivity", {})
     by = [float(share) for share in asked.get("by", map(Decimal, SHARES))]
-    names = asked.get("vary") or [name for name in NUMBERS if is_given(project, name)]
+    names = asked.get("vary") or [name for name in NUMBERS if is_given(text, name)]
     names, pairs = [names] if isinstance(names, str) else names, asked.get("pairs", [])
     alone = {*names, *(name for pair in pairs for name in pair)}
     due = [padded([]), *(padded([(name, share)]) for name, share in product(alone, by))]
     return due + [padded([(one, first), (other, second)]) for one, other in pairs for first, second in product(by, by)]
 
 
-def share_of(project: Project) -> Decimal:
-    return text_of(project.path).get("sensitivity", {}).get("skin", Decimal("0.05"))
+def share_of(text: Text) -> Decimal:
+    return text.data.get("sensitivity", {}).get("skin", Decimal("0.05"))
 
 
-def is_given(project: Project, name: str) -> bool:
-    data = text_of(project.path)
+def is_given(text: Text, name: str) -> bool:
+    data = text.data
     if name == "selling_cost":
         return any(metal.get(name, 0) != 0 for metal in data["metals"])
     if name == "haulage":
@@ -243,17 +265,13 @@ def is_given(project: Project, name: str) -> bool:
     return name != "slopes" or any({"angle", "azimuths", "bench"} & {*wall} for wall in data["slopes"]["walls"])
 
 
-def text_of(path: Path) -> Data:
-    return toml_text.read(path)
-
-
-def changed(project: Project, changes: tuple[tuple[str, Decimal], ...]) -> Project:
+def changed(text: Text, changes: tuple[tuple[str, Decimal], ...]) -> Project:
     """The project as its text would be read with these numbers changed there."""
-    data = text_of(project.path)
+    data = text.data
     for name, share in changes:
         kind, _, metal = name.partition(" ")
         NUMBERS[kind](data, 1 + share, metal)
-    return of_data(data, project.path)
+    return of_data(data, text.place)
 
 
 def times(value: Any, by: Decimal, most: Decimal = Decimal("Infinity")) -> Any:

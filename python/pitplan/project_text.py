@@ -1,0 +1,249 @@
+"""A project as the text of a project.toml, which reads back as the same project."""
+
+from __future__ import annotations
+
+import json
+import os
+from dataclasses import asdict, replace
+from pathlib import Path
+from typing import Any, Optional
+
+from .files import AS_RUN
+from .fixed_rules import BLOCKS, FixedRules
+from .haulage_rules import KINDS, Haulage
+from .money_rules import ByRegion, Curve, Metal, Money, Process
+from .phase_rules import PhaseRules
+from .picture_rules import PictureRules
+from .project import REFERENCE_FACTOR, AbsentRock, GridRules, Project, Reblock, Scenarios, Schedule, TableColumns, load
+from .schedule_rules import ScheduleRules, Sum
+from .sensitivity_rules import SensitivityRules
+from .survey_rules import SurveyFile
+from .wall_rules import Slopes, Wall
+
+# A section: values by key, of which those that are None are left out.
+Values = dict[str, Any]
+
+
+def of_project(project: Project, folder: Path) -> str:
+    """The text, for a file in this folder, from which the places of other files are told. What finds the pits is no part of it."""
+    has_processes = bool(project.processes)
+    sections: dict[str, Any] = {
+        "output": {"folder": place(project.folder, folder)},
+        "table": of_table(project.table, folder),
+        "grid": of_grid(project.grid),
+        "money": of_money(project.money, has_processes),
+        "metals": [of_metal(metal, has_processes) for metal in project.metals],
+        "processes": [of_process(process) for process in project.processes],
+        "slopes": of_slopes(project.slopes),
+        "shells": of_shells(project.schedule),
+        "haulage": project.haulage and of_haulage(project.haulage),
+        "fixed": project.fixed and of_fixed(project.fixed, folder),
+        "pushbacks": project.phases and of_phases(project.phases),
+        "schedule": project.schedule_rules and of_schedule(project.schedule_rules),
+        "sensitivity": project.sensitivity and of_sensitivity(project.sensitivity),
+        "scenarios": project.scenarios and of_scenarios(project.scenarios, folder),
+        "pictures": project.pictures and of_pictures(project.pictures),
+    }
+    lines = [f"title = {shown(project.title)}"]
+    for name, values in sections.items():
+        for one in values if isinstance(values, list) else [values]:
+            if one is not None:
+                lines += ["", f"[[{name}]]" if isinstance(values, list) else f"[{name}]", *lines_of(one, name)]
+    return "\n".join(lines) + "\n"
+
+
+def write(project: Project, path: Path, folder: Path) -> None:
+    """Writes the text for a file that goes to the folder."""
+    path.write_text(of_project(project, folder), encoding="utf-8")
+
+
+def as_run(folder: Path, place_of_first: str, written: Optional[Path] = None) -> Project:
+    """The project of a run into a folder, with the place of the file that it was read from, as the record has it, told from the folder.
+
+    Of a run that has not ended its text is in `written`, and of a folder of an earlier release it is that file. Raises PlanError.
+    """
+    first, text = folder / place_of_first, (written or folder) / AS_RUN
+    return replace(load(text, folder / AS_RUN), path=first) if text.is_file() else load(first)
+
+
+def lines_of(values: Values, name: str) -> list[str]:
+    """The keys of a section, and behind them its own lists of sections."""
+    given = {key: value for key, value in values.items() if value is not None}
+    of_sections = {key: value for key, value in given.items() if isinstance(value, list) and value and isinstance(value[0], dict)}
+    lines = [f"{key_of(key)} = {shown(value)}" for key, value in given.items() if key not in of_sections]
+    for key, several in of_sections.items():
+        for one in several:
+            lines += ["", f"[[{name}.{key}]]", *lines_of(one, f"{name}.{key}")]
+    return lines
+
+
+def key_of(key: str) -> str:
+    return key if key.isascii() and key.replace("_", "").isalnum() else shown(key)
+
+
+def shown(value: Any) -> str:
+    """A value on one line."""
+    if isinstance(value, bool):
+        return "true" if value else "false"
+    if isinstance(value, str):
+        # What JSON escapes TOML does too, and DEL besides.
+        return json.dumps(value, ensure_ascii=False).replace("\x7f", "\\u007f")
+    if isinstance(value, dict):
+        inner = ", ".join(f"{key_of(key)} = {shown(item)}" for key, item in value.items() if item is not None)
+        return f"{{ {inner} }}" if inner else "{}"
+    if isinstance(value, (list, tuple)):
+        return f"[{', '.join(map(shown, value))}]"
+    if isinstance(value, float):
+        return str(int(value)) if value.is_integer() and abs(value) < 10**15 else repr(float(value))
+    return str(value)
+
+
+def place(path: Path, folder: Path) -> str:
+    return os.path.relpath(path, folder)
+
+
+def of_survey(file: Optional[SurveyFile], folder: Path) -> Any:
+    if file is None:
+        return None
+    if not file.layers and file.height is None:
+        return place(file.path, folder)
+    return {"file": place(file.path, folder), "layer": file.layers or None, "height": file.height}
+
+
+def of_table(table: TableColumns, folder: Path) -> Values:
+    names = ("x", "y", "z", "density", "volume", "id", "rock", "region", "separator", "decimal", "encoding", "empty")
+    absent, values = table.absent, {name: getattr(table, name) for name in names}
+    if isinstance(absent, AbsentRock):
+        absent = {"tonnes": absent.tonnes, "rock": absent.rock or None, "region": absent.region or None}
+    return {
+        "file": place(table.file, folder),
+        **values,
+        "tonnes": None if table.density else table.tonnes,
+        "absent": absent,
+        "reblock": of_reblock(table.reblock) if table.reblock else None,
+        "topography": of_survey(table.topography, folder),
+    }
+
+
+def of_reblock(reblock: Reblock) -> Any:
+    return reblock.counts or {"size": reblock.size, "corner": reblock.corner}
+
+
+def of_grid(grid: GridRules) -> Values:
+    return {"size": grid.size, "tolerance": grid.tolerance, "azimuth": grid.azimuth}
+
+
+def of_money(money: Money, has_processes: bool) -> Values:
+    """`mining_cost_per_level` is left out where it is 0 and no elevation refers to it, since it does not go with costs by elevation."""
+    values = {name: getattr(money, name) for name in Money.__dataclass_fields__}
+    by_level = money.mining_cost_per_level or money.mining_cost_reference is not None
+    return {
+        **values,
+        "mining_cost_per_level": money.mining_cost_per_level if by_level else None,
+        "mining_cost_by_elevation": money.mining_cost_by_elevation or None,
+        "processing_cost": None if has_processes else money.processing_cost,
+        "mining_recovery": of_code(money.mining_recovery),
+        "dilution": of_code(money.dilution),
+        "capital": money.capital or None,
+    }
+
+
+def of_code(value: Any) -> Any:
+    return {"region": value.values} if isinstance(value, ByRegion) else value
+
+
+def of_recovery(value: Any) -> Any:
+    if isinstance(value, dict):
+        return {rock: of_recovery(item) for rock, item in value.items()}
+    return value.points if isinstance(value, Curve) else value
+
+
+def of_metal(metal: Metal, has_processes: bool) -> Values:
+    values = {name: getattr(metal, name) for name in ("name", "column", "unit", "price", "selling_cost")}
+    recovery = {} if has_processes else {"recovery": of_recovery(metal.recovery), "fixed_tail": metal.fixed_tail}
+    return {**values, **recovery, "prices": metal.prices or None}
+
+
+def of_process(process: Process) -> Values:
+    recovery = {metal: of_recovery(value) for metal, value in process.recovery.items()}
+    return {"name": process.name, "cost": process.cost, "recovery": recovery, "per_year": process.per_year}
+
+
+def of_slopes(slopes: Slopes) -> Values:
+    return {"levels": slopes.levels, "never_steeper": slopes.never_steeper, "walls": [of_wall(wall) for wall in slopes.walls]}
+
+
+def of_wall(wall: Wall) -> Values:
+    found: Values = {"region": wall.regions}
+    if wall.bench:
+        return found | {"bench": asdict(wall.bench)}
+    if wall.pattern or wall.steps:
+        return found | ({"pattern": wall.pattern} if wall.pattern else {"steps": wall.steps})
+    is_one = len(wall.angles) == 1 and wall.angles[0][0] == 0
+    return found | ({"angle": wall.angles[0][1]} if is_one else {"azimuths": wall.angles})
+
+
+def of_shells(schedule: Schedule) -> Values:
+    """Factor 1000 is left out where it was not asked for: a reader adds it."""
+    left = {REFERENCE_FACTOR} if schedule.reference_added else set()
+    return {
+        "factors": [factor for factor in schedule.factors if factor not in left],
+        "chosen": schedule.chosen,
+        "rate": schedule.rate,
+        "ore_per_year": None if schedule.per_process else schedule.ore_per_year,
+        "rock_per_year": schedule.rock_per_year,
+        "discounting": schedule.discounting,
+    }
+
+
+def of_haulage(haulage: Haulage) -> Values:
+    roads = {kind: getattr(haulage, kind) for kind in KINDS}
+    by_kind = {"cost": {kind: road.cost for kind, road in roads.items()}, "beyond": {kind: road.beyond for kind, road in roads.items()}}
+    return {"exit": haulage.exit, "gradient": haulage.gradient, **by_kind}
+
+
+def of_fixed(fixed: FixedRules, folder: Path) -> Values:
+    areas = [{"polygon": of_survey(area.polygon, folder), "barred": area.barred} for area in fixed.areas]
+    ground = of_survey(fixed.topography, folder)
+    # A file of that name, which is not the word.
+    ground = f"./{BLOCKS}" if ground == BLOCKS else BLOCKS if fixed.by_blocks else ground
+    surfaces = {"surface": of_survey(fixed.surface, folder), "topography": ground}
+    return {"forced": fixed.forced, "barred": fixed.barred, **surfaces, "areas": areas or None}
+
+
+def of_phases(rules: PhaseRules) -> Values:
+    values = {name: getattr(rules, name) for name in ("count", "tonnes", "factors", "last", "width", "bottom")}
+    return {**values, "mining_cost_added": rules.mining_cost_added or None}
+
+
+def of_schedule(rules: ScheduleRules) -> Values:
+    names = ("ore_per_year", "rock_per_year", "sinking_rate", "lag", "ramp_up", "years", "bins")
+    milp = rules.milp and {"gap": rules.milp.gap, "seconds": rules.milp.seconds and int(rules.milp.seconds)}
+    return {
+        **{name: getattr(rules, name) for name in names},
+        "milp": milp,
+        "stockpile": None if rules.rehandling is None else {"rehandling_cost": rules.rehandling},
+        "metal_per_year": rules.metal_per_year or None,
+        "least": rules.least or None,
+        "sums": [of_sum(it) for it in rules.sums] or None,
+    }
+
+
+def of_sum(it: Sum) -> Values:
+    return {name: getattr(it, name) for name in Sum.__dataclass_fields__}
+
+
+def of_sensitivity(rules: SensitivityRules) -> Values:
+    return {"by": rules.by, "vary": rules.vary or None, "pairs": rules.pairs or None, "skin": rules.skin}
+
+
+def of_scenarios(scenarios: Scenarios, folder: Path) -> Values:
+    prices = [dict(one) for one in scenarios.prices if one]
+    if scenarios.folder is not None:
+        return {"models": place(scenarios.folder, folder), "prices": prices or None}
+    return {"columns": scenarios.columns, "prices": prices or None}
+
+
+def of_pictures(rules: PictureRules) -> Values:
+    values = {"levels": rules.levels or None, "north": rules.north, "east": rules.east}
+    return {**values, "metal": rules.metal, "formats": rules.formats or None}

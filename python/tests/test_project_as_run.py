@@ -1,0 +1,137 @@
+"""A run of a project that was changed in Python says in its folder what was run: report, verification and what reads the folder use that."""
+
+import json
+import re
+import shutil
+from dataclasses import replace
+from decimal import Decimal
+
+import pytest
+from conftest import PROJECT, rows
+
+import pitplan
+from pitplan import PlanError, Request, commands, files, load, sensitivity_pictures, verify
+from pitplan.cli import main
+
+ORE = {"cu": lambda i, j, k: {(3, 3, 1): 6, (4, 3, 1): 2.5, (3, 4, 0): 9}.get((i, j, k), 0)}
+MORE = '[pushbacks]\ncount = 2\n[schedule]\nrock_per_year = 2000\n[sensitivity]\nby = [0.1]\nvary = ["price", "mining_cost"]\n'
+FIXED = '[fixed]\nforced = "due"\n'
+RUNS = {
+    "shells": pitplan.write_shells,
+    "pit": lambda project, folder: pitplan.pit(project, 500, folder),
+    "pushbacks": pitplan.pushbacks,
+    "schedule": pitplan.write_schedule,
+    "sensitivity": pitplan.sensitivity,
+    "block schedule": pitplan.write_block_schedule,
+}
+
+
+@pytest.fixture(autouse=True)
+def undrawn(blank_pictures, monkeypatch):
+    monkeypatch.setattr(sensitivity_pictures, "write_all", lambda *given: None)
+
+
+@pytest.fixture
+def mine(plan_folder):
+    def write(more=MORE):
+        return plan_folder(rows(6, 5, 3, due=lambda i, j, k: int((i, j, k) == (1, 1, 2)), **ORE), PROJECT + more)
+
+    return write
+
+
+def dearer(project, price="12000"):
+    """The project with another price, as a notebook would change it."""
+    return replace(project, metals=(replace(project.metals[0], price=Decimal(price)),))
+
+
+@pytest.mark.parametrize("name", RUNS)
+def test_a_changed_project_is_verified_as_it_was_run(mine, name):
+    """The text of the first project stays as it is, and that of the run reads back as the project."""
+    path = mine(MORE + (FIXED if name == "pit" else ""))
+    before, project = path.read_bytes(), dearer(load(path))
+    RUNS[name](project, path.parent / "out")
+    assert not [rule for rule in verify(path.parent / "out") if rule.differences]
+    assert path.read_bytes() == before
+    again = load(path.parent / "out" / "project-as-run.toml")
+    assert again.metals == project.metals and again.schedule == project.schedule
+    assert again.table.file.resolve() == project.table.file.resolve()
+
+
+def test_the_report_shows_the_project_that_was_run(mine):
+    project = dearer(load(mine()))
+    pitplan.write_shells(project)
+    page = (project.folder / "report.html").read_text()
+    assert "price = 12000" in page and "price = 8000" not in page
+    record = json.loads((project.folder / "prepare.json").read_text())
+    assert record["files"]["project-as-run.toml"] == files.hash_of(project.folder / "project-as-run.toml")
+    assert record["files"]["project-as-run.toml"] in page
+    pitplan.write_report(project.folder)
+    assert "price = 12000" in (project.folder / "report.html").read_text()
+
+
+def test_by_the_command_line_the_run_is_that_of_the_file(mine):
+    path = mine()
+    assert main(["shells", str(path), "--quiet"]) == 0
+    again = load(path.parent / "plan" / "project-as-run.toml")
+    assert again.metals == load(path).metals and again.folder.resolve() == (path.parent / "plan").resolve()
+
+
+def test_in_the_projects_own_folder_the_project_stays(mine):
+    path = mine('[output]\nfolder = "."\n')
+    shutil.move(path.parent / "blocks.csv", path.parent / "model.csv")
+    path.write_text(path.read_text().replace('file = "blocks.csv"', 'file = "model.csv"'))
+    before = path.read_bytes()
+    pitplan.write_shells(dearer(load(path)))
+    assert path.read_bytes() == before
+    assert load(path.parent / "project-as-run.toml").metals[0].price == 12000
+    assert not [rule for rule in verify(path.parent) if rule.differences]
+
+
+def test_the_text_of_a_run_is_never_written_over_by_a_run_of_it(mine):
+    path = mine()
+    pitplan.write_shells(path)
+    again = load(path.parent / "plan" / "project-as-run.toml")
+    with pytest.raises(PlanError, match="project-as-run.toml: the plan would be written over it: give another folder by --out"):
+        pitplan.write_shells(again)
+    pitplan.write_shells(again, path.parent / "again")
+    for name in ("shells.csv", "years.csv", "blocks.csv"):
+        assert (path.parent / "again" / name).read_bytes() == (path.parent / "plan" / name).read_bytes()
+
+
+def test_a_text_of_a_run_that_has_changed_is_refused(mine):
+    path = mine()
+    pitplan.write_shells(path)
+    text = path.parent / "plan" / "project-as-run.toml"
+    text.write_text(text.read_text().replace("8000", "8001"))
+    with pytest.raises(PlanError, match="project-as-run.toml: has changed since prepare.json was written: run pitplan shells again"):
+        pitplan.write_report(path.parent / "plan")
+    assert {rule.name for rule in verify(path.parent / "plan") if rule.differences} >= {"money"}
+
+
+def test_a_sensitivity_of_another_project_takes_no_answer_of_the_first(mine):
+    path = mine()
+    first, second = (pitplan.sensitivity(project) for project in (path, dearer(load(path))))
+    assert (first["worth"] < second["worth"]).all()
+    shutil.rmtree(path.parent / "plan")
+    assert pitplan.sensitivity(dearer(load(path))).equals(second)
+
+
+def test_a_sensitivity_of_another_project_is_no_part_of_a_report(mine):
+    """Though both were read from one file."""
+    path = mine()
+    pitplan.sensitivity(path)
+    pitplan.write_shells(dearer(load(path)))
+    page = (path.parent / "plan" / "report.html").read_text()
+    assert "is a sensitivity of other inputs (project-as-run.toml), and is left out here." in page
+    pitplan.sensitivity(dearer(load(path)))
+    commands.write_report(path.parent / "plan")
+    assert "What it hangs on" in (path.parent / "plan" / "report.html").read_text()
+
+
+def test_scenarios_are_solved_of_the_project_that_was_run(mine):
+    path = mine('[scenarios]\ncolumns = { copper = "cu" }\n')
+    texts = []
+    for project in (load(path), dearer(load(path))):
+        pitplan.scenarios(project, path.parent / "out", Request(where="parallel"))
+        texts.append((path.parent / "out" / "project.toml").read_text())
+    assert [re.search(r"price = (\d+)", text).group(1) for text in texts] == ["8000", "12000"]
