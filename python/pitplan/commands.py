@@ -8,7 +8,6 @@ from dataclasses import asdict, dataclass, replace
 from pathlib import Path
 from typing import TYPE_CHECKING, Any, Iterator, Optional, Union
 
-import numpy as np
 import pandas as pd
 
 from . import absent, analyse, auditing, block_pictures, csv_file, exports, files, mine as mines, page, phase_pictures, phases as phasing, pictures
@@ -22,6 +21,7 @@ from .phases import Phases
 from .plan import Plan, prepare as prepare_plan
 from .progress import Progress, silent
 from .project import REFERENCE_FACTOR, Project, load
+from .rounded_tables import shown, write_csv
 from .run import Solution
 from .simulation import Request, ScenarioResult
 from .simulation.folder import BLOCK, FOLDERS
@@ -311,11 +311,6 @@ def write_tables(answered: Answered, stage: Path) -> tuple[pd.DataFrame, pd.Data
     return table, years
 
 
-def write_csv(table: pd.DataFrame, path: Path, project: Project) -> None:
-    """A table with the convention by which its amounts are discounted."""
-    with_discounting(table, project).to_csv(path, index=False)
-
-
 def demand_apart(project: Project, folder: Path) -> None:
     """Refuses a folder in which a file of the plan would take the place of an input, or has a folder in its own place."""
     files.demand_no_folders(folder, ALWAYS)
@@ -357,26 +352,6 @@ def finish(plan: Plan, record: dict[str, Any], names: list[str], stage: Path) ->
     record["files"] = files.hashes(stage, [files.AS_RUN, *names])
     files.write_json(stage / files.RECORD, record)
     return record
-
-
-def shown(table: pd.DataFrame) -> pd.DataFrame:
-    """A table as shells.csv and years.csv have it: sums to a thousandth, grades and ratios to a millionth, shares to a billionth."""
-    result = table.copy()
-    if "worth_at_factor" in result:
-        result["worth_at_factor"] = result["worth_at_factor"].map("{:f}".format)
-    for name in result.columns:
-        if result[name].dtype == np.float64:
-            places = 6 if name.startswith("grade_") or name in ("strip_ratio", "years") else 9 if name in ("share", "below_bound") else 3
-            # A hair below nothing is rounded to -0.0, which is no amount.
-            result[name] = result[name].round(places) + 0.0
-    return with_share_below(result) if "below_bound" in result else result
-
-
-def with_share_below(ways: pd.DataFrame) -> pd.DataFrame:
-    """Ways with the share by which each value is less than its bound, of both as they are told: else a value of a few thousandths, as in
-    millions of the currency, would be told with a share that is not its own. It stays 0 or nan where the bound is 0."""
-    share = (ways["bound"] - ways["value"]) / ways["bound"].abs()
-    return ways.assign(below_bound=share.where(ways["bound"] != 0, 0.0 * ways["below_bound"]).round(9) + 0.0)
 
 
 def draw(plan: Plan, solution: Solution, table: pd.DataFrame, chosen: int, stage: Path) -> None:
