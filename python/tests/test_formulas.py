@@ -4,7 +4,7 @@ import csv
 
 import pandas as pd
 import pytest
-from conftest import PROJECT, rows
+from conftest import rows
 
 import pitplan
 from pitplan import commands, workbook

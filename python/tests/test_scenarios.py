@@ -441,7 +441,7 @@ def test_a_missing_dask_is_named_by_its_package(plan_folder, monkeypatch):
 
 def test_a_scheduler_that_is_not_there_is_named(plan_folder):
     pytest.importorskip("distributed", reason="needs the Debian package python3-distributed")
-    project = load(plan_folder(pillar(), COLUMNS))
+    load(plan_folder(pillar(), COLUMNS))
     with pytest.raises(PlanError, match="nowhere://x: no Dask scheduler answers there"):
         simulation.solve(
             *(lambda p: (p, p.folder))(load(plan_folder(pillar(), COLUMNS))), Request("nowhere://x"), silent

@@ -13,9 +13,9 @@ from test_features_together import pick, project_of, table_of
 from test_verify import TEXT
 from test_verify_scenarios import SETS, answer_of, bend, simulated
 
-from pitplan import PlanError, gather, load, simulation
+from pitplan import PlanError, gather, simulation
 from pitplan.cli import main
-from pitplan.simulation import block_problem, block_work, folder as folders, one_schedule, work
+from pitplan.simulation import block_problem, block_work, one_schedule, work
 from pitplan.verification import verify_folder
 from pitplan.verification.best_ore import most_earned
 

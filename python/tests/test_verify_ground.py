@@ -9,7 +9,7 @@ from types import SimpleNamespace
 import numpy as np
 import pandas as pd
 import pytest
-from conftest import PROJECT, rows
+from conftest import PROJECT
 from test_absent import ROCK, deposit
 from test_fixed import FIXED_SECTION, ores_and_fixed, with_section
 from test_scenarios import COLUMNS, UPRIGHT, pillar, prepared, solved_in_turn

@@ -6,7 +6,7 @@ from pathlib import Path
 
 import numpy as np
 import pandas as pd
-from conftest import PROJECT, rows
+from conftest import rows
 from hypothesis import given, settings
 from hypothesis import strategies as st
 
