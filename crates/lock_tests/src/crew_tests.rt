@@ -6,7 +6,7 @@ use crew::{Entry, Gate, OpenGate, solve_shared};
 use faults::Fault;
 use std::alloc::Global;
 use std::sync::Wait;
-use std::sync::atomic::{AtomicBool, Ordering};
+use std::sync::atomic::{AtomicBool, AtomicU32, Ordering};
 use std::test::*;
 use std::thread;
 use std::thread::Threads;
@@ -89,6 +89,55 @@ fn two_workers_work_at_once(rt: HostRuntime) -> Result<(), Fail> {
         "both asked before either was served"
     );
     assert!(rt; dug);
+    Ok(())
+}
+
+/// As many workers as there may be.
+const MOST_WORKERS: u32 = 64;
+
+/// Holds each worker back at its first ask until all have asked.
+#[derive(Drop)]
+struct Muster {
+    asked: AtomicU32,
+}
+
+impl Gate for Muster {
+    fn asked(&self, _worker: u32) {
+        self.asked.fetch_add(1, Ordering::SeqCst);
+        for _turn in 0..1_000_000 {
+            if self.asked.load(Ordering::SeqCst) >= MOST_WORKERS {
+                return;
+            }
+            thread::yield_now();
+        }
+    }
+
+    fn served(&self, _worker: u32) {}
+}
+
+/// Whether the journal has one merger under the seat of each worker, and nothing else.
+fn is_of_each(journal: &[Entry]) -> bool {
+    let each = (1..=MOST_WORKERS).all(|seat| {
+        journal.iter().filter(|entry| entry.seat == seat).count() == 1
+    });
+    let most = MOST_WORKERS as usize;
+    each && journal.len() == most && mergers_in(journal) == most
+}
+
+/// Whether of a solve by as many workers as there may be each makes one merger.
+fn is_dug_by_each<R: Threads + Wait + Sync>(rt: &R, alloc: Global) -> Result<bool, Fault> {
+    let mine = pairs_of_blocks(alloc, MOST_WORKERS)?;
+    let gate = Muster {
+        asked: AtomicU32::new(0),
+    };
+    let (_, journal) = solve_shared(rt, alloc, &mine, MOST_WORKERS, None, 1, &gate)?;
+    Ok(is_of_each(&journal))
+}
+
+/// Each worker draws one arc and is held back with it until the others have drawn theirs: so each looks, asks and is served.
+#[test]
+fn each_of_64_workers_makes_a_merger(rt: HostRuntime) -> Result<(), Fail> {
+    assert!(rt; is_dug_by_each(&rt, rt.alloc())?);
     Ok(())
 }
 
