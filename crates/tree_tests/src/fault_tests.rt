@@ -40,6 +40,12 @@ fn shows_what_it_carries(alloc: Global) -> Result<bool, Fail> {
             "no column 4 in blocks",
         )? && is_shown(
             alloc,
+            Source::Fixed,
+            Refusal::FixedClash(6),
+            0,
+            "fixed blocks clash at block 6 in fixed",
+        )? && is_shown(
+            alloc,
             Source::None,
             Refusal::Exhausted(5),
             0,
