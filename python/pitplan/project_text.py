@@ -8,7 +8,7 @@ from dataclasses import asdict, replace
 from pathlib import Path
 from typing import Any, Optional
 
-from .files import AS_RUN
+from .files import AS_RUN, hash_of
 from .fixed_rules import BLOCKS, FixedRules
 from .haulage_rules import KINDS, Haulage
 from .money_rules import ByRegion, Curve, Metal, Money, Process
@@ -64,6 +64,16 @@ def as_run(folder: Path, place_of_first: str, written: Optional[Path] = None) ->
     """
     first, text = folder / place_of_first, (written or folder) / AS_RUN
     return replace(load(text, folder / AS_RUN), path=first) if text.is_file() else load(first)
+
+
+def as_run_or_edited(folder: Path, record: dict[str, Any]) -> Project:
+    """The project of a run into a folder. If the file that it was read from has changed since the run, the project of that file.
+
+    Raises PlanError, and OSError if the file cannot be read.
+    """
+    first = folder / record["project"]
+    is_edited = record.get("inputs", {}).get(first.name, "") != hash_of(first)
+    return load(first) if is_edited else as_run(folder, record["project"])
 
 
 def lines_of(values: Values, name: str) -> list[str]:

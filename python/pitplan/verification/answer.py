@@ -14,7 +14,7 @@ from .. import records, table as tables
 from ..errors import PlanError
 from ..money_rules import GRADE_UNITS
 from ..project import AbsentRock, Project
-from ..project_text import as_run
+from ..project_text import as_run_or_edited
 from ..wall_rules import Wall
 from .feed import by_code, recovered
 from .put_together import divided, together, written_rows
@@ -246,13 +246,14 @@ class Answer:
 
 
 def read(folder: Path, project: Optional[Project] = None, table: Optional[pd.DataFrame] = None) -> Answer:
-    """The answer in a folder, to the project that it names and to its table, unless these are given.
+    """The answer in a folder, to the project that was run and to its table, unless these are given. If the project's file has changed since
+    the run, the answer must fit that file.
 
     Raises PlanError where the folder has no answer of `pitplan shells` or `pit`, or the project is not where it was.
     """
     try:
         record = records.read_plan(folder / "prepare.json", is_whole=False)
-        project = project or as_run(folder, record["project"])
+        project = project or as_run_or_edited(folder, record)
         found, expected = len(record.get("walls", project.slopes.walls)), len(project.slopes.walls)
         if found < expected:
             raise PlanError(f"{folder / 'prepare.json'}: walls: found {found}, expected {expected} as in the project: run pitplan shells again")
