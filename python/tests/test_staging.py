@@ -237,3 +237,12 @@ def test_what_is_not_made_leaves_no_folder(mine):
         with pytest.raises(PlanError, match="nowhere.csv"):
             run(mine, mine.parent / "far" / "away")
         assert not (mine.parent / "far").exists()
+
+
+def test_scenarios_do_not_replace_the_project_of_another_mine(mine):
+    other = mine.parent / "other"
+    other.mkdir()
+    (other / "project.toml").write_text("title = 'another mine'\n")
+    with pytest.raises(PlanError, match=r"other/project\.toml: scenarios would replace this project: give another folder by --out"):
+        RUNS["scenarios"](mine, other)
+    assert {path.name: path.read_text() for path in other.iterdir()} == {"project.toml": "title = 'another mine'\n"}

@@ -152,6 +152,13 @@ def demand_same_kind(folder: Path, by: str) -> None:
         raise PlanError(f"{folder}: holds scenarios --by {begun}: give another folder by --out for those --by {by}")
 
 
+def demand_no_mine(folder: Path) -> None:
+    """Raises PlanError if the folder has a project.toml that no run of scenarios wrote, which this run would replace."""
+    has_scenarios = (folder / RECORD).exists() or (folder / BASE).exists()
+    if (folder / PROJECT).exists() and not has_scenarios:
+        raise PlanError(f"{folder / PROJECT}: scenarios would replace this project: give another folder by --out")
+
+
 def read_shared(folder: Path) -> Shared:
     """Raises PlanError where `pitplan scenarios` has not written the folder, or a shared file has changed since."""
     try:

@@ -39,6 +39,7 @@ def prepare(project: Project, folder: Path, progress: Progress, by: str = folder
     blocks are to be scheduled without the library."""
     of_blocks = by_library("simulation.block_prepare") if by == folders.BLOCK else None
     folders.demand_same_kind(folder, by)
+    folders.demand_no_mine(folder)
     if of_blocks:
         of_blocks.demand_apt(project)
     solver = chosen(LIBRARY if of_blocks else project.solver)
