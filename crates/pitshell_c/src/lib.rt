@@ -2,7 +2,7 @@
 //! says the same for who writes C.
 #![tactic(auto)]
 
-ghost use Rattle.std.specs.Prelude.{◌≡◌, ◌≢◌, ◌↔◌, ◌<◌, ◌+ℤ◌, ◌*ℤ◌, ◌^◌, pos, ℤ, IsTrue, List, length};
+ghost use Rattle.std.specs.Prelude.{◌≡◌, ◌≢◌, ◌↔◌, ◌<◌, ◌+ℤ◌, ◌*ℤ◌, ◌^◌, pos, ℤ, false, IsTrue, List, length};
 ghost use Rattle.faults.specs.Words.{number_of};
 ghost use Rattle.faults.specs.declared.refusal.Refusal.{Refusal as AnyRefusal};
 ghost use Rattle.arrays.specs.Certified.{CertifyMarks, IsRefusedCertified, IsRefusedCheck, MarkCertified};
@@ -33,7 +33,8 @@ pub struct PitshellFound {
 impl PitshellFound {
     /// What is found where a pit is: its worth.
     fn worth(worth: i128) -> PitshellFound
-        ensures { pos (2 ^ 64) *ℤ result.worth_high +ℤ pos result.worth_low ≡ worth }
+        ensures worth { pos (2 ^ 64) *ℤ result.worth_high +ℤ pos result.worth_low ≡ worth }
+        ensures place { result.place ≡ 0 }
     {
         let Parts { high, low } = parts_of(worth);
         PitshellFound {
@@ -45,7 +46,8 @@ impl PitshellFound {
 
     /// What is found of a refusal: its place.
     fn refused(place: u32) -> PitshellFound
-        ensures { result.place ≡ place }
+        ensures place { result.place ≡ place }
+        ensures worth { (result.worth_high ≡ pos 0) × (result.worth_low ≡ 0) }
     {
         PitshellFound {
             worth_high: 0,
@@ -72,6 +74,8 @@ pub extern "C" fn pitshell_solve(
     ensures solved { result ≡ 0 → MarkPit values.now starts.now needs.now numbers.now greatest marks.new (pos (2 ^ 64) *ℤ found.new.worth_high +ℤ pos found.new.worth_low) }
     ensures refused { result ≢ 0 → IsRefusedBy (length values.now) starts.now needs.now numbers.now marks.old result found.new.place }
     ensures kept { result ≢ 0 → marks.new ≡ marks.old }
+    ensures no_worth { result ≢ 0 → (found.new.worth_high ≡ pos 0) × (found.new.worth_low ≡ 0) }
+    ensures no_place { result ≡ 0 → found.new.place ≡ 0 }
 {
     let arrays = MineArrays {
         values,
@@ -113,6 +117,7 @@ pub extern "C" fn pitshell_shells(
     ensures solved { result ≡ 0 → (amounts : List ℤ) × AreParts amounts worths_high.new worths_low.new × MarkShells (priced_rows revenues.now costs.now starts.now needs.now) factors.now firsts.new amounts }
     ensures refused { result ≢ 0 → IsRefusedShells (priced_rows revenues.now costs.now starts.now needs.now) factors.now firsts.old worths_high.old worths_low.old result place.new }
     ensures kept { result ≢ 0 → (firsts.new ≡ firsts.old) × (worths_high.new ≡ worths_high.old) × (worths_low.new ≡ worths_low.old) }
+    ensures no_place { result ≡ 0 → place.new ≡ 0 }
 {
     *place = 0;
     if !have_room(factors.len(), worths_high, worths_low) {
@@ -155,6 +160,8 @@ pub extern "C" fn pitshell_certificate(
         × MarkCertified values.now starts.now needs.now marks.new amounts (pos (2 ^ 64) *ℤ found.new.worth_high +ℤ pos found.new.worth_low) }
     ensures refused { result ≢ 0 → IsRefusedCertified (length values.now) starts.now needs.now marks.old flow_high.old flow_low.old result found.new.place }
     ensures kept { result ≢ 0 → (marks.new ≡ marks.old) × (flow_high.new ≡ flow_high.old) × (flow_low.new ≡ flow_low.old) }
+    ensures no_worth { result ≢ 0 → (found.new.worth_high ≡ pos 0) × (found.new.worth_low ≡ 0) }
+    ensures no_place { result ≡ 0 → found.new.place ≡ 0 }
 {
     if !have_room(needs.len(), flow_high, flow_low) {
         *found = PitshellFound::refused(0);
@@ -198,6 +205,8 @@ pub extern "C" fn pitshell_check(
     ensures answered { result ≡ 0 → (amounts : List ℤ) × AreParts amounts flow_high.now flow_low.now
         × (IsTrue yes.new ↔ CertifyMarks values.now starts.now needs.now marks.now amounts) }
     ensures refused { result ≢ 0 → IsRefusedCheck (length values.now) starts.now needs.now marks.now flow_high.now flow_low.now result place.new }
+    ensures no { result ≢ 0 → yes.new ≡ false }
+    ensures no_place { result ≡ 0 → place.new ≡ 0 }
 {
     *yes = false;
     *place = 0;
@@ -244,6 +253,8 @@ pub extern "C" fn pitshell_cycle(
     ensures none { result ≡ 0 → count.new ≡ 0 → SpellNoCycle blocks starts.now needs.now }
     ensures some { result ≡ 0 → 0 < count.new → WritesCycle blocks starts.now needs.now cycle.new count.new }
     ensures refused { result ≢ 0 → (refusal : AnyRefusal) × (result ≡ number_of refusal) × RefusesRows blocks starts.now needs.now refusal place.new }
+    ensures no_blocks { result ≢ 0 → count.new ≡ 0 }
+    ensures no_place { result ≡ 0 → place.new ≡ 0 }
 {
     *count = 0;
     *place = 0;
