@@ -20,7 +20,7 @@ from .noted_path import NotedPath, noted
 from .phases import Phases
 from .plan import Plan, prepare as prepare_plan
 from .progress import Progress, silent
-from .project import REFERENCE_FACTOR, Project, load
+from .project import REFERENCE_FACTOR, Project, inputs_beside, load
 from .rounded_tables import shown, write_csv
 from .run import Solution
 from .simulation import Request, ScenarioResult
@@ -312,9 +312,9 @@ def write_tables(answered: Answered, stage: Path) -> tuple[pd.DataFrame, pd.Data
 
 
 def demand_apart(project: Project, folder: Path) -> None:
-    """Refuses a folder in which a file of the plan would take the place of an input, or has a folder in its own place."""
+    """Refuses a folder in which a file of the plan would take the place of an input, also of another mine, or has a folder in its place."""
     files.demand_no_folders(folder, ALWAYS)
-    for path in project.inputs:
+    for path in (*project.inputs, *inputs_beside(folder)):
         if path.parent.resolve() == folder.resolve() and path.name in WRITTEN:
             raise PlanError(f"{path}: the plan would be written over it: give another folder by --out")
 

@@ -194,6 +194,14 @@ def load(path: Union[str, Path], original: Optional[Path] = None) -> Project:
     return of_data(toml_text.read(path), original or path)
 
 
+def inputs_beside(folder: Path) -> tuple[Path, ...]:
+    """The inputs of the mine whose project.toml the folder has; none if it has no such project."""
+    try:
+        return load(folder / "project.toml").inputs
+    except PlanError:
+        return ()
+
+
 def of_data(data: dict, path: Path) -> Project:
     top = Section(str(path), "", data)
     output = top.section("output", optional=True)

@@ -239,6 +239,18 @@ def test_what_is_not_made_leaves_no_folder(mine):
         assert not (mine.parent / "far").exists()
 
 
+@pytest.mark.parametrize("name", ["prepare", "shells", "pit", "pushbacks", "schedule"])
+def test_no_run_replaces_the_table_of_another_mine(mine, name):
+    other = mine.parent / "other"
+    other.mkdir()
+    texts = {"project.toml": mine.read_text(), "blocks.csv": (mine.parent / "blocks.csv").read_text()}
+    for file, text in texts.items():
+        (other / file).write_text(text)
+    with pytest.raises(PlanError, match=r"other/blocks\.csv: the plan would be written over it: give another folder by --out"):
+        RUNS[name](mine, other)
+    assert {path.name: path.read_text() for path in other.iterdir()} == texts
+
+
 def test_scenarios_do_not_replace_the_project_of_another_mine(mine):
     other = mine.parent / "other"
     other.mkdir()
