@@ -39,12 +39,9 @@ def test_words_that_do_not_go_together(mine: Mine, words: list[str], line: str) 
         ["solve", "--model", "mine.upit"],
         [*SOLVE, "--prec", "mine.prec"],
         [*SOLVE, "--modle", "mine.upit"],
-        [*SOLVE, "--mode", "shared", "--workers", "0"],
-        [*SOLVE, "--mode", "shared", "--workers", "65"],
         [*SOLVE, "--budget", "many"],
         [*SOLVE, "--budget", "-1"],
         [*SOLVE, "mine.upit"],
-        ["shells", "--blocks", "mine.blocks", "--prec", "mine.prec", "--revenue", "64", "--cost", "1", "--factors", "1"],
         ["check", "--model", "mine.upit", "--prec", "mine.prec"],
         [*SHELLS, "--fixed", "mine.prec"],
         [*SOLVE, "--fixed"],
@@ -56,6 +53,28 @@ def test_mistakes_write_nothing_to_standard_output(mine: Mine, words: list[str])
     status, out, err = mine.run(*words)
     assert (status, out) == (2, "")
     assert err
+
+
+# The first numbers outside each range; other tests give the last ones inside. A budget may be any number of 64 bits.
+OUTSIDE = [
+    (SOLVE, "--workers", "0", "0 is not in 1..=64"),
+    (SOLVE, "--workers", "65", "65 is not in 1..=64"),
+    (SOLVE, "--progress", "0", "0 is not in 1..=86400"),
+    (SOLVE, "--progress", "86401", "86401 is not in 1..=86400"),
+    (SOLVE, "--budget", "18446744073709551616", "number too large to fit in target type"),
+    (SHELLS, "--revenue", "64", "64 is not in 0..=63"),
+    (SHELLS, "--cost", "64", "64 is not in 0..=63"),
+    (SHELLS, "--workers", "65", "65 is not in 1..=64"),
+    (SHELLS, "--budget", "18446744073709551616", "number too large to fit in target type"),
+]
+
+
+@pytest.mark.parametrize(("call", "option", "number", "line"), OUTSIDE)
+def test_a_number_outside_its_range_is_refused(mine: Mine, call: list[str], option: str, number: str, line: str) -> None:
+    place = call.index(option) if option in call else len(call)
+    status, out, err = mine.run(*call[:place], option, number, *call[place + 2 :])
+    assert (status, out) == (2, "")
+    assert err.startswith(f"error: invalid value '{number}' for '{option} ") and err.splitlines()[0].endswith(line)
 
 
 def stored_words() -> dict[str, str]:
