@@ -72,7 +72,7 @@ def draw(path: pathlib.Path) -> None:
         section.fill_between(metres, floor, -SIDE * LEVELS - 90, step="mid", color="#cfc4ae")
         section.plot(metres, floor, drawstyle="steps-mid", color="#5a4f3a", linewidth=1.2)
         section.text(165, -175, "azimuth 90: the east wall,\n30 degrees, dips to the west", color="#b3402a", ha="center")
-        section.text(-110, -175, "azimuth 270: the west\nwall, 60 degrees", color="#b3402a", ha="center")
+        section.text(-95, -175, "azimuth 270: the\nwest wall, 60 degrees", color="#b3402a", ha="center")
         section.set(aspect="equal", xlim=(-200, 300), ylim=(-SIDE * LEVELS - 90, 30), xlabel="east, m", ylabel="depth, m", title="Section from west to east")
         figure.tight_layout()
         figure.savefig(path, dpi=110, bbox_inches="tight")

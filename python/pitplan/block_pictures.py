@@ -60,7 +60,7 @@ def plot_value(made: ScheduledBlocks, ax: Axes) -> None:
     currency = made.planned.plan.project.money.currency
     marks = {"color": ORE, "marker": "o", "markersize": 3, "linewidth": 1.4}
     ax.plot(np.arange(len(earned)), earned / size, label=f"schedule: {earned[-1] / size:,.2f}", **marks)
-    ax.axhline(made.found.bound / size, color=PLAIN, linestyle="--", linewidth=1.2, label=f"bound: {made.found.bound / size:,.2f}")
+    ax.axhline(made.found.bound / size, color=PLAIN, linestyle="--", linewidth=1.2, label=f"upper bound, any schedule by block: {made.found.bound / size:,.2f}")
     ax.axhline(0, color="black", linewidth=0.8)
     ax.xaxis.set_major_locator(MaxNLocator(integer=True))
     ax.set_xlabel("end of year")

@@ -22,7 +22,14 @@ from .yearly_schedule import LP, MILP, RULE, YearlySchedule, years as years_of
 
 TITLES = {RULE: "By rule", LP: "By linear programme", MILP: "By integer programme"}
 COLOURS = {"worst": WORST, RULE: "#d08a1d", LP: ORE, MILP: "#7b4fa3", "best": BEST, "bound": PLAIN}
-NAMES = {"worst": "worst case", RULE: "rule", LP: "linear programme", MILP: "integer programme", "best": "best case", "bound": "bound"}
+NAMES = {
+    "worst": "worst case",
+    RULE: "rule",
+    LP: "linear programme",
+    MILP: "integer programme",
+    "best": "best case",
+    "bound": "upper bound, these pushbacks",
+}
 MARKED = {"marker": "o", "markersize": 3, "linewidth": 1.4}
 # The rule's line is seen where the other lies on it.
 LINES = {

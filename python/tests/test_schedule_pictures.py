@@ -83,7 +83,7 @@ def test_curves_end_at_what_each_case_earns(schedule):
     # -200 + 500, 500 + 250 and 250, discounted at the ends of years.
     assert curves["rule"] == pytest.approx(np.cumsum([0, 300 / 1.1, 750 / 1.21, 250 / 1.331]))
     assert curves["best case"].tolist() == [0, 700, 1000] and "worst case" not in curves
-    assert curves["bound"] == pytest.approx(np.cumsum([0, 300 / 1.1, 700 / 1.21, 300 / 1.331]))
+    assert curves["upper bound, these pushbacks"] == pytest.approx(np.cumsum([0, 300 / 1.1, 700 / 1.21, 300 / 1.331]))
     flat = [line.get_ydata()[0] for line in ax.lines if len(set(np.atleast_1d(line.get_ydata()))) == 1]
     assert 990.0 in flat
     assert len(ax.get_legend().get_texts()) == 4
