@@ -20,12 +20,12 @@ from .sensitivity_rules import SensitivityRules
 from .survey_rules import SurveyFile
 from .wall_rules import Slopes, Wall
 
-# A section: values by key, of which those that are None are left out.
+# A section: values by key. A key whose value is None is left out.
 Values = dict[str, Any]
 
 
 def of_project(project: Project, folder: Path) -> str:
-    """The text, for a file in this folder, from which the places of other files are told. What finds the pits is no part of it."""
+    """The project.toml for a file in this folder. Paths in it are relative to the folder. It has no solver."""
     has_processes = bool(project.processes)
     sections: dict[str, Any] = {
         "output": {"folder": place(project.folder, folder)},
@@ -58,9 +58,10 @@ def write(project: Project, path: Path, folder: Path) -> None:
 
 
 def as_run(folder: Path, place_of_first: str, written: Optional[Path] = None) -> Project:
-    """The project of a run into a folder, with the place of the file that it was read from, as the record has it, told from the folder.
+    """The project of a run into a folder. Its path is that of the file that it was read from: the record gives this relative to the folder.
 
-    Of a run that has not ended its text is in `written`, and of a folder of an earlier release it is that file. Raises PlanError.
+    While a run goes on, its text is in `written`. If the folder has no text, as those of earlier releases, the file itself is read.
+    Raises PlanError.
     """
     first, text = folder / place_of_first, (written or folder) / AS_RUN
     return replace(load(text, folder / AS_RUN), path=first) if text.is_file() else load(first)

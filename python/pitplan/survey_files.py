@@ -137,7 +137,7 @@ def reading(path: Path) -> Iterator[None]:
 
 
 def demand_near(places: np.ndarray, path: Path) -> None:
-    """Raises PlanError where a place is none on the ground."""
+    """Raises PlanError if a point lies farther from 0 than any place on the ground."""
     far = ~(np.abs(places) <= FARTHEST).all(axis=1)
     if far.any():
         place = ", ".join(f"{number:g}" for number in places[int(far.argmax())])

@@ -200,7 +200,7 @@ def write(path: Path, found: Found) -> None:
 
 
 def read(path: Path, cells: int) -> Found:
-    """The answer of a case on a grid with this number of cells. Raises PlanError if the file is none."""
+    """The answer of a case on a grid with this number of cells. Raises PlanError if the file has no such answer."""
     try:
         said = kept_arrays.read(path, path.stem)
         row: dict[str, Any] = dict(zip(said["names"].tolist(), said["amounts"].tolist()))
