@@ -15,15 +15,16 @@ Functions write what the subcommands do, by default into the project's own folde
     pitplan.export("out", "csv")                           # that of pit.csv; or table, xlsx, vti, vtu; with a factor or `shape=Shape(...)` dxf, stl or obj
     pitplan.audit("out", 800)                              # that of a folder by which others can check the shell
     rules = pitplan.verify("out")                          # each with what holds, differences, and their count
-    pits = pitplan.pit("project.toml", 1000)               # a row with the fixed blocks and one without
-    phases = pitplan.pushbacks("project.toml")             # one row a phase
-    ways = pitplan.write_schedule("project.toml")          # one row a way: rule and lp
-    cases = pitplan.sensitivity("project.toml")            # one row a case: a number more or less by a share
-    found = pitplan.scenarios("project.toml")              # found.probability, found.table, found.quantiles; found.notes
-    each = pitplan.scenarios("project.toml", request=pitplan.Request(by="block"))     # each.schedules
+    pits = pitplan.write_pit("project.toml", 1000)         # a row with the fixed blocks and one without
+    phases = pitplan.write_pushbacks("project.toml")       # one row a pushback
+    ways = pitplan.write_schedule("project.toml")          # one row a method: rule and lp
+    cases = pitplan.write_sensitivity("project.toml")      # one row a case: a number more or less by a share
+    found = pitplan.write_scenarios("project.toml")        # found.probability, found.table, found.quantiles; found.notes
+    each = pitplan.write_scenarios("project.toml", request=pitplan.Request(by="block"))     # each.schedules
 
 `write_block_schedule("project.toml")`, where no blocks are fixed, gives one row: value, bound, below_bound, years, blocks and tonnes.
-`Request` says where and how scenarios are solved, and `Where` on which Dask cases are; `gather(folder)` gathers what others have solved.
+`Writing` says how a command writes its folder, `Request` where and how scenarios are solved, and `Where` on which Dask cases are;
+`gather(folder)` gathers the scenarios that others have solved.
 
 Functions `plot_...` draw on axes of your own, which they give back, and leave matplotlib's backend as it is: those of `pitplan.pictures`
 take a table of shells, or `pictures.scene_of(plan, solution)`; those of `pitplan.phase_pictures` its
@@ -36,8 +37,18 @@ This layer, which makes that of a table, is not proved; `plan.notes` says what i
 """
 
 from .analyse import blocks, shells, years
-from .block_commands import write_block_schedule
-from .commands import audit, export, gather, pit, pushbacks, scenarios, sensitivity, verify, view, write_report, write_schedule, write_shells
+from .commands.audit import audit
+from .commands.export import export
+from .commands.pit import write_pit
+from .commands.pushbacks import write_pushbacks
+from .commands.report import write_report
+from .commands.scenarios import gather, write_scenarios
+from .commands.schedule import write_block_schedule, write_schedule
+from .commands.sensitivity import write_sensitivity
+from .commands.shells import write_shells
+from .commands.verify import verify
+from .commands.view import view
+from .commands.writing import Writing
 from .errors import BudgetUsedUp, MissingPackage, PlanError, ProgramError
 from .mine import solve
 from .plan import Plan, prepare
@@ -63,23 +74,24 @@ __all__ = [
     "Shape",
     "Solution",
     "Where",
+    "Writing",
     "audit",
     "blocks",
     "export",
     "gather",
     "load",
-    "pit",
     "prepare",
-    "pushbacks",
-    "scenarios",
-    "sensitivity",
     "shells",
     "solve",
     "verify",
     "view",
     "write_block_schedule",
+    "write_pit",
+    "write_pushbacks",
     "write_report",
+    "write_scenarios",
     "write_schedule",
+    "write_sensitivity",
     "write_shells",
     "years",
 ]

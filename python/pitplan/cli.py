@@ -12,7 +12,20 @@ import pandas as pd
 from minelib.__main__ import add_arguments as add_minelib
 from minelib.ending import ended, tell
 
-from . import __version__, block_commands, commands, exports, files, init, report, sensitivity_files, simulation, stages
+from . import __version__, exports, files, init, report, sensitivity_files, simulation, stages
+from .commands.audit import audit
+from .commands.export import export
+from .commands.pit import write_pit
+from .commands.prepare import write_plan
+from .commands.pushbacks import write_pushbacks
+from .commands.report import write_report
+from .commands.scenarios import gather, write_scenarios
+from .commands.schedule import write_block_schedule, write_schedule
+from .commands.sensitivity import write_sensitivity
+from .commands.shells import write_shells
+from .commands.verify import verify
+from .commands.view import view
+from .commands.writing import PITS, REPORT, Writing
 from .doubts import WARNING
 from .errors import PlanError
 from .noted_path import NotedPath
@@ -187,62 +200,63 @@ def project_of(options: argparse.Namespace) -> Project:
 
 
 def run_command(options: argparse.Namespace, project: Project, folder: Path, progress: Progress) -> None:
+    writing = Writing(progress, not getattr(options, "no_verify", False))
     if options.command == "prepare":
-        record = commands.prepare(project, folder, progress)
+        record = write_plan(project, folder, progress)
         tell_notes(record["notes"])
         print(folder)
     elif options.command == "shells":
-        table = commands.write_shells(project, folder, progress, not options.no_verify)
+        table = write_shells(project, folder, writing)
         tell_table(table, report.columns_of(table, project), folder)
     elif options.command == "pit":
         folder = options.out or project.folder / options.command
-        table = commands.pit(project, options.factor, folder, progress, not options.no_verify)
+        table = write_pit(project, options.factor, folder, writing)
         columns = report.columns_of(table, project)
         lines = [[name, *row] for name, row in zip(table["fixed_blocks"], report.cells_of(table, columns))]
         print_table(["fixed, blocks", *(heading for _, heading, _, _ in columns)], lines)
         tell_notes(files.read_record(folder)["notes"])
-        print(folder / commands.PITS)
+        print(folder / PITS)
     elif options.command == "pushbacks":
         folder = options.out or project.folder / options.command
-        table = commands.pushbacks(project, folder, progress, not options.no_verify)
+        table = write_pushbacks(project, folder, writing)
         tell_table(table, report.columns_of_phases(table, project), folder)
     elif options.command == "schedule" and options.by == "block":
         folder = options.out or project.folder / "block_schedule"
-        table = block_commands.write_block_schedule(project, folder, progress, not options.no_verify)
+        table = write_block_schedule(project, folder, writing)
         tell_table(table, report.columns_by_block(table, project), folder)
         if files.read_json(folder / files.BLOCK_SCHEDULE)["interrupted"]:
             raise KeyboardInterrupt
     elif options.command == "schedule":
         folder = options.out or project.folder / options.command
-        table = commands.write_schedule(project, folder, progress, not options.no_verify)
+        table = write_schedule(project, folder, writing)
         tell_table(table, report.columns_of_ways(table, project), folder)
         if files.read_json(folder / files.SCHEDULE_RECORD)["interrupted"]:
             raise KeyboardInterrupt
     elif options.command == "sensitivity":
         folder = options.out or project.folder / options.command
         where = Where(options.on, options.workers) if options.on else None
-        table = commands.sensitivity(project, folder, where, progress, not options.no_verify)
+        table = write_sensitivity(project, folder, where, writing)
         table = report.of_cases(table)
         columns = report.columns_of_cases(table, project)
         print_table([heading for _, heading, _, _ in columns], report.cells_of(table, columns))
         tell_notes(files.read_json(folder / sensitivity_files.RECORD)["notes"])
         print(folder / sensitivity_files.TABLE)
     elif options.command == "report":
-        print(commands.write_report(folder, options.sensitivity, progress))
+        print(write_report(folder, options.sensitivity, progress))
     elif options.command == "view":
-        print(commands.view(folder, progress))
+        print(view(folder, progress))
     elif options.command == "export":
         shape = stages.Shape(options.of, options.surface, options.smooth)
-        tell_path(commands.export(folder, options.to, options.factor, progress, shape))
+        tell_path(export(folder, options.to, options.factor, progress, shape))
     else:
-        tell_path(commands.audit(folder, options.factor, progress))
+        tell_path(audit(folder, options.factor, progress))
 
 
 def tell_table(table: pd.DataFrame, columns: report.Columns, folder: Path) -> None:
     """An answer's table on standard output, the report's place behind it, and its notes on standard error."""
     print_table([heading for _, heading, _, _ in columns], report.cells_of(table, columns))
     tell_notes(files.read_record(folder)["notes"])
-    print(folder / commands.REPORT)
+    print(folder / REPORT)
 
 
 def tell_path(path: NotedPath) -> None:
@@ -253,7 +267,7 @@ def tell_path(path: NotedPath) -> None:
 
 def tell_verified(folder: Path) -> None:
     """A line for each rule that holds. Raises PlanError where one does not."""
-    rules = commands.verify(folder)
+    rules = verify(folder)
     demand(rules)
     for rule in rules:
         print(f"{rule.name}: {rule.holds}")
@@ -262,10 +276,10 @@ def tell_verified(folder: Path) -> None:
 def run_scenarios(options: argparse.Namespace, progress: Progress) -> None:
     if options.command == "gather":
         request = simulation.Request(factor=options.factor, partial=options.partial, verifies=not options.no_verify)
-        result = commands.gather(options.folder, request, progress)
+        result = gather(options.folder, request, progress)
     else:
         request = simulation.Request(options.on, options.workers, options.factor, options.partial, not options.no_verify, options.by)
-        result = commands.scenarios(project_of(options), options.out, request, progress)
+        result = write_scenarios(project_of(options), options.out, request, progress)
     tell_notes(list(result.notes))
     print(result.start or result.folder)
 

@@ -25,14 +25,12 @@ def load(module: str, package: str, purpose: str) -> ModuleType:
         raise MissingPackage(f"{why}: apt-get install --reinstall {package}") from error
 
 
-def by_library(module: str) -> ModuleType:
-    """A module of this package that schedules blocks. Raises MissingPackage if the library of pits, which it needs, is missing."""
+def load_library(purpose: str) -> ModuleType:
+    """Imports `pitshell`, the package of the library of pits. Raises MissingPackage if that import fails; `purpose` needs it."""
     try:
-        return importlib.import_module(f"{__package__}.{module}")
+        return importlib.import_module(LIBRARY)
     except ImportError as error:
-        if is_of(error, LIBRARY):
-            raise MissingPackage(f"a schedule by block needs the library of pits: {error}") from error
-        raise
+        raise MissingPackage(f"{purpose} needs the library of pits: {error}") from error
 
 
 def is_of(error: ImportError, module: str) -> bool:

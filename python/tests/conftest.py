@@ -119,21 +119,21 @@ def solved(solved_once, tmp_path):
 @pytest.fixture(scope="module")
 def blank_pictures():
     """Pictures of a plan's folder are empty files, since they take most of a run's time, and other tests look at them."""
-    from pitplan import commands
+    from pitplan.commands import drawing
 
-    def draw(plan, solution, table, chosen, stage):
-        for name in commands.PICTURES.values():
+    def draw(answered, table, chosen, stage):
+        for name in drawing.PICTURES.values():
             (stage / name).touch()
 
     with pytest.MonkeyPatch.context() as patch:
-        patch.setattr(commands, "draw", draw)
-        patch.setattr(commands.yearly, "write_years", lambda years, project, chosen, path: path.touch())
+        patch.setattr(drawing, "draw_shells", draw)
+        patch.setattr(drawing.yearly, "write_years", lambda years, project, chosen, path: path.touch())
         for name in ("write_plans", "write_sections"):
-            patch.setattr(commands.phase_pictures, name, lambda scene, path: path.touch())
+            patch.setattr(drawing.phase_pictures, name, lambda scene, path: path.touch())
         for name in ("write_gantt", "write_tonnes"):
-            patch.setattr(commands.schedule_pictures, name, lambda schedule, path: path.touch())
-        patch.setattr(commands.schedule_pictures, "write_cumulative", lambda schedule, years, path: path.touch())
-        patch.setattr(commands.block_pictures, "write", lambda made, path: path.touch())
+            patch.setattr(drawing.schedule_pictures, name, lambda schedule, path: path.touch())
+        patch.setattr(drawing.schedule_pictures, "write_cumulative", lambda schedule, years, path: path.touch())
+        patch.setattr(drawing.block_pictures, "write", lambda made, path: path.touch())
         yield
 
 
@@ -141,7 +141,7 @@ def blank_pictures():
 def scheduled_hill(tmp_path_factory):
     """A hill far from the origin in two phases with years, without pictures; the place of its project."""
     import pitplan
-    from pitplan import commands
+    from pitplan.commands import answers
 
     place = tmp_path_factory.mktemp("ground")
     grades = {(3, 4, 1): 6, (7, 4, 1): 2, (5, 2, 2): 0.9}
@@ -150,12 +150,8 @@ def scheduled_hill(tmp_path_factory):
     table.to_csv(place / "blocks.csv", index=False)
     (place / "project.toml").write_text(PROJECT + "[pushbacks]\ncount = 2\n[schedule]\nrock_per_year = 2000\n")
     with pytest.MonkeyPatch.context() as patch:
-        for name in ("draw", "draw_phases"):
-            patch.setattr(commands, name, lambda *given: {})
-        patch.setattr(commands.yearly, "write_years", lambda *given: None)
-        patch.setattr(commands, "PICTURES", {"years": "years.png"})
-        patch.setattr(commands.pictures, "files_of", lambda *given: [])
-        pitplan.write_schedule(place / "project.toml", verifies=False)
+        patch.setattr(answers, "draw", lambda *given: [])
+        pitplan.write_schedule(place / "project.toml", writing=pitplan.Writing(verifies=False))
     return place
 
 

@@ -13,7 +13,8 @@ from matplotlib.figure import Figure
 from test_processes import WITH
 from test_pushbacks import UPRIGHT, pillars
 
-from pitplan import PlanError, block_commands, block_pictures, files, load, prepare
+import pitplan
+from pitplan import PlanError, block_pictures, files, load, prepare
 from pitplan.block_schedule import of_plan, result
 from pitplan.cli import main
 from pitplan.verification import verify
@@ -26,7 +27,7 @@ RULES = ["block order", "block limits", "block value"]
 
 def scheduled(plan_folder, words="", text=YEARLY, table=None):
     project = load(plan_folder(pillars() if table is None else table, text + words))
-    return block_commands.write_block_schedule(project).iloc[0], project.folder / "block_schedule"
+    return pitplan.write_block_schedule(project).iloc[0], project.folder / "block_schedule"
 
 
 def wrong(folder):
@@ -198,7 +199,7 @@ def written(blank_pictures, tmp_path_factory):
     table.to_csv(place / "blocks.csv", index=False)
     text = PROJECT + "[schedule]\nrock_per_year = 1000\nramp_up = [0.5, 1]\nore_per_year = 200\nmetal_per_year = { copper = 3.5 }\n"
     (place / "project.toml").write_text(text)
-    block_commands.write_block_schedule(place / "project.toml")
+    pitplan.write_block_schedule(place / "project.toml")
     return place
 
 
@@ -282,9 +283,9 @@ def test_a_ramp_up_that_is_not_the_projects_is_found(copied):
 
 
 def test_the_view_and_the_table_have_the_years(copied):
-    from pitplan import commands
 
-    table = pd.read_csv(commands.export(copied, "table"))
+
+    table = pd.read_csv(pitplan.export(copied, "table"))
     assert table["year"].tolist() == pd.read_csv(copied / "blocks.csv").set_index("name")["year"].loc[table["name"]].tolist()
 
 
@@ -330,7 +331,7 @@ def test_both_notations_of_one_mine_have_the_same_value_and_bound(plan_folder):
 def test_where_no_block_pays_nothing_is_mined_which_is_an_answer(plan_folder):
     """Copper at a hundredth of its price: a table, a sentence and a picture with one."""
     project = load(plan_folder(pillars(), YEARLY, ("price = 8000", "price = 80")))
-    row = block_commands.write_block_schedule(project).iloc[0]
+    row = pitplan.write_block_schedule(project).iloc[0]
     assert row[["value", "bound", "years", "blocks"]].tolist() == [0, 0, 0, 0]
     notes = files.read_record(project.folder / "block_schedule")["notes"]
     assert "nothing is mined: at these prices and costs no block pays for itself and what it needs" in notes

@@ -8,7 +8,8 @@ from conftest import PROJECT, rows
 from test_block_commands import YEARLY, rewrite, scheduled, with_processes, wrong, years_of
 from test_pushbacks import pillars
 
-from pitplan import PlanError, commands, load
+import pitplan
+from pitplan import PlanError, load
 
 pytestmark = pytest.mark.usefixtures("blank_pictures")
 # Mill and shovels take all three pillars in a year.
@@ -209,7 +210,7 @@ def test_an_amount_below_0_is_refused(plan_folder):
 def test_phases_keep_no_least_amounts(plan_folder):
     project = load(plan_folder(pillars(), WIDE + "[pushbacks]\ncount = 2\n[schedule]\nyears = 2\nleast = { ore = 10 }\n"))
     with pytest.raises(PlanError, match=r"\[schedule\] least, sums: are kept by --by block alone"):
-        commands.write_schedule(project)
+        pitplan.write_schedule(project)
 
 
 def test_a_hill_with_all_of_it_passes_the_second_look(plan_folder):

@@ -19,8 +19,10 @@ from scipy.optimize import linprog
 from test_pushbacks import UPRIGHT
 from test_scenarios import hill, write_models
 
-from pitplan import MissingPackage, PlanError, Request, block_commands, commands, gather, load, scenarios, simulation
+import pitplan
+from pitplan import MissingPackage, PlanError, Request, gather, load, simulation, write_scenarios
 from pitplan.cli import main
+from pitplan.commands import answers
 from pitplan.progress import silent
 from pitplan.simulation import folder as folders, prepare, value_pictures, work
 from pitplan.simulation.one_schedule import best_shares
@@ -249,13 +251,9 @@ def test_a_schedule_each_is_that_of_the_model_with_the_process_by_name(plan_fold
     table.to_csv(tmp_path / "other" / "blocks.csv", index=False)
     (tmp_path / "other" / "project.toml").write_text(alone)
     with pytest.MonkeyPatch.context() as patch:
-        patch.setattr(commands, "draw", lambda *given: {})
-        patch.setattr(commands, "draw_phases", lambda *given: {})
-        patch.setattr(commands.yearly, "write_years", lambda *given: None)
-        patch.setattr(commands, "PICTURES", {"years": "years.png"})
-        patch.setattr(commands.pictures, "files_of", lambda *given: [])
-        patch.setattr(commands.report_page, "write", lambda *given: None)
-        other = block_commands.write_block_schedule(tmp_path / "other" / "project.toml").iloc[0]
+        patch.setattr(answers, "draw", lambda *given: [])
+        patch.setattr(answers.report_page, "write", lambda *given: None)
+        other = pitplan.write_block_schedule(tmp_path / "other" / "project.toml").iloc[0]
     (row,) = table_of(folder).to_dict("records")
     assert row["bound"] == pytest.approx(other["bound"], rel=1e-4) and row["value"] > 0
     assert row["value"] == pytest.approx(other["value"]) and row["years"] == other["years"] > 2
@@ -338,7 +336,7 @@ def test_factors_are_no_part_of_a_schedule(plan_folder):
 def test_what_is_refused(plan_folder, words, said):
     path = plan_folder(pillars([1, 0.5, 0]), TWO_YEARS, ("years = 2", f"years = 2\n{words}"))
     with pytest.raises(PlanError) as error:
-        scenarios(path, request=BY_BLOCK)
+        write_scenarios(path, request=BY_BLOCK)
     assert said in str(error.value) and "project.toml" in str(error.value)
     assert not (path.parent / "plan").exists()
 
@@ -354,7 +352,7 @@ def test_what_is_refused(plan_folder, words, said):
 )
 def test_what_else_is_refused(plan_folder, changes, said):
     with pytest.raises(PlanError) as error:
-        scenarios(plan_folder(pillars([1, 0.5, 0]), TWO_YEARS, *changes), request=BY_BLOCK)
+        write_scenarios(plan_folder(pillars([1, 0.5, 0]), TWO_YEARS, *changes), request=BY_BLOCK)
     assert said in str(error.value)
 
 
@@ -362,7 +360,7 @@ def test_limits_under_which_a_pit_would_take_too_long_are_refused(plan_folder):
     text = TWO_YEARS.replace("[schedule]\nyears = 2\n", "").replace("ore_per_year = 100", "ore_per_year = 1")
     path = plan_folder(pillars([1, 1, 1]), text)
     with pytest.raises(PlanError, match="the pit would take more than 200 years: are the limits in tonnes a year?"):
-        scenarios(path, request=BY_BLOCK)
+        write_scenarios(path, request=BY_BLOCK)
     assert not (path.parent / "plan" / "block_scenarios" / "scenarios.json").exists()
 
 
@@ -375,7 +373,7 @@ def test_a_factor_another_kind_of_folder_and_the_program_are_refused(plan_folder
     assert "pitplan: --solver program: finds pits alone" in capsys.readouterr().err
     folder = prepared(path).folder
     with pytest.raises(PlanError, match="holds scenarios --by block: give another folder by --out for those --by pit"):
-        scenarios(path, folder)
+        write_scenarios(path, folder)
     with pytest.raises(PlanError, match="2 of 2 schedules have no answer, first sim_1: was not solved"):
         gather(folder)
     with pytest.raises(PlanError, match="--factor: schedules by block"):
@@ -405,7 +403,7 @@ def test_processes_of_dask_write_the_same_as_one_after_the_other(plan_folder, tm
         table[name] = np.where(rng.random(len(table)) < 0.3, rng.random(len(table)).round(3) * 2, 0.0)
     path = plan_folder(table, TWO_YEARS.replace("years = 2", "years = 4"))
     here = solved_in_turn(prepared(path))
-    result = scenarios(path, tmp_path / "dask", Request("local", 2, by="block"))
+    result = write_scenarios(path, tmp_path / "dask", Request("local", 2, by="block"))
     assert without_seconds(here) == without_seconds(tmp_path / "dask")
     assert any(note.startswith("4 solved (status 0)") for note in result.notes) and len(result.schedules) == 3
     assert "0 of 4 schedules have their answer already" in result.notes
@@ -414,7 +412,7 @@ def test_processes_of_dask_write_the_same_as_one_after_the_other(plan_folder, tm
 def test_jobs_of_slurm_solve_their_lines(plan_folder):
     """The third line is the one schedule for all."""
     path = plan_folder(pillars([1, 0.5, 0], [0, 0.5, 1]), TWO_YEARS)
-    result = scenarios(path, request=Request("slurm", by="block"))
+    result = write_scenarios(path, request=Request("slurm", by="block"))
     folder = result.folder
     assert result.start == folder / "start.sh" and (folder / "jobs.txt").read_text() == "1\n2\n3\n"
     subprocess.run(["sh", str(folder / "array.sbatch")], check=True, env={**os.environ, "SLURM_ARRAY_TASK_ID": "3"})

@@ -18,8 +18,9 @@ from test_fixed import FIXED_SECTION, ores_and_fixed, with_section
 from test_scenarios import COLUMNS, PRICES, UPRIGHT, pillar
 
 import pitplan
-from pitplan import PlanError, ProgramError, commands, files, library, load, run, simulation, solver, table as tables, varied_cases
+from pitplan import PlanError, ProgramError, files, library, load, run, simulation, solver, table as tables, varied_cases
 from pitplan.cli import main
+from pitplan.commands import answers
 from pitplan.mine import counted_rows
 from pitplan.rows import Rows
 from pitplan.simulation import folder as folders, prepare, work
@@ -274,7 +275,7 @@ def test_both_packages_are_of_one_release():
 def test_an_audit_of_what_the_library_solved_writes_the_mine_itself(tmp_path):
     """Blocks, needs and fixed blocks are those that the program would have read."""
     arrays, texts = by_both(tmp_path, "shells", EXAMPLES / "fixed" / "project.toml", "--no-verify")
-    first, second = (commands.audit(place, 800) for place in (arrays, texts))
+    first, second = (pitplan.audit(place, 800) for place in (arrays, texts))
     for name in ("shell.upit", "shell.prec", "shell.fixed", "pit.txt", "shell.cert"):
         assert (first / name).read_bytes() == (second / name).read_bytes(), name
     environment = {**os.environ, "PITSHELL": str(run.program()), "PYTHON": sys.executable}
@@ -288,7 +289,7 @@ def test_an_audit_of_what_the_library_solved_writes_the_mine_itself(tmp_path):
 def solved_by_library(plan_folder):
     path = plan_folder(ores_and_fixed(), with_section(FIXED_SECTION + 'surface = "mined.csv"\ntopography = "blocks"\n'))
     (path.parent / "mined.csv").write_text("x,y,z\n0,0,900\n")
-    commands.write_shells(replace(load(path), solver="library"), verifies=False)
+    pitplan.write_shells(replace(load(path), solver="library"), writing=pitplan.Writing(verifies=False))
     return path.parent
 
 
@@ -297,7 +298,7 @@ def test_an_audit_is_refused_where_what_the_mine_was_made_of_has_changed(solved_
     with open(solved_by_library / name, "a") as file:
         file.write("\n")
     with pytest.raises(PlanError, match=f"{name}: has changed since .* was written: run pitplan again"):
-        commands.audit(solved_by_library / "plan", 1000)
+        pitplan.audit(solved_by_library / "plan", 1000)
     assert not (solved_by_library / "plan" / "audit-1000").exists() or not list((solved_by_library / "plan" / "audit-1000").iterdir())
 
 
@@ -305,15 +306,15 @@ def test_files_of_an_earlier_run_by_the_program_are_taken_away(plan_folder):
     """They would be another mine's beside the new tables; a run that is refused takes none away."""
     path = plan_folder(rows(4, 4, 3, cu=lambda i, j, k: 6 * ((i, j, k) == (2, 2, 1))))
     project = load(path)
-    commands.write_shells(replace(project, solver="program"), verifies=False)
+    pitplan.write_shells(replace(project, solver="program"), writing=pitplan.Writing(verifies=False))
     there = {"mine.blocks", "mine.upit", "mine.prec", "shells.txt"}
     assert set(files.of_program(project.folder)) == there
     with pytest.MonkeyPatch.context() as patch:
-        patch.setattr(commands, "draw", lambda *_: (_ for _ in ()).throw(PlanError("no pictures")))
+        patch.setattr(answers, "draw", lambda *_: (_ for _ in ()).throw(PlanError("no pictures")))
         with pytest.raises(PlanError, match="no pictures"):
-            commands.write_shells(replace(project, solver="library"), verifies=False)
+            pitplan.write_shells(replace(project, solver="library"), writing=pitplan.Writing(verifies=False))
     assert set(files.of_program(project.folder)) == there
-    commands.write_shells(replace(project, solver="library"), verifies=False)
+    pitplan.write_shells(replace(project, solver="library"), writing=pitplan.Writing(verifies=False))
     assert files.of_program(project.folder) == () and pitplan.verify(project.folder)
 
 

@@ -14,8 +14,9 @@ import pytest
 from conftest import ROOT
 
 import pitplan
-from pitplan import analyse, commands
+from pitplan import analyse
 from pitplan.conventions import with_discounting
+from pitplan.rounded_tables import shown
 
 EXAMPLE = ROOT / "examples" / "plan"
 
@@ -35,7 +36,7 @@ def test_the_program_s_own_text_is_the_expected_one():
 def test_the_table_of_shells_is_the_expected_one(solved_example):
     _, _, table = solved_example
     expected = pd.read_csv(EXAMPLE / "expected" / "shells.csv", dtype={"worth_at_factor": str})
-    written = with_discounting(commands.shown(table), pitplan.load(EXAMPLE / "project.toml"))
+    written = with_discounting(shown(table), pitplan.load(EXAMPLE / "project.toml"))
     pd.testing.assert_frame_equal(written, expected, check_dtype=False, rtol=1e-9)
 
 

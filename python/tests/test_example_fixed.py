@@ -12,7 +12,8 @@ import pytest
 from conftest import ROOT
 from test_oracle import cotangent
 
-from pitplan import commands, prepare, run
+import pitplan
+from pitplan import prepare, run
 
 EXAMPLE = ROOT / "examples" / "fixed"
 WALLS = {"west": [(0, 45)], "east": [(0, 48), (90, 42), (180, 48), (270, 45)]}
@@ -25,8 +26,8 @@ PLACES = (("x", 5010, 20), ("y", 2010, 20), ("z", 2707.5, 15))
 def folder(tmp_path_factory):
     """The shells of the example and, in pit, its pit of factor 1000."""
     place = tmp_path_factory.mktemp("fixed")
-    commands.write_shells(EXAMPLE / "project.toml", place)
-    commands.pit(EXAMPLE / "project.toml", 1000, place / "pit")
+    pitplan.write_shells(EXAMPLE / "project.toml", place)
+    pitplan.write_pit(EXAMPLE / "project.toml", 1000, place / "pit")
     return place
 
 
@@ -109,6 +110,6 @@ def cone(wall):
 def test_others_can_check_the_pit(folder):
     """By the program and by the short checker, which shares nothing with it."""
     environment = {**os.environ, "PITSHELL": str(run.program()), "PYTHON": sys.executable}
-    words = ["sh", str(commands.audit(folder, 1000) / "check.sh")]
+    words = ["sh", str(pitplan.audit(folder, 1000) / "check.sh")]
     ran = subprocess.run(words, env=environment, capture_output=True, text=True)
     assert ran.stdout == "hashes: yes\npitshell check: yes\ncheck_certificate.py: yes\n", ran.stderr

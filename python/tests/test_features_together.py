@@ -5,7 +5,6 @@ import pytest
 from conftest import PROJECT, rows
 
 import pitplan
-from pitplan import commands, pushbacks, write_schedule
 from pitplan.verification import verify
 
 GOLD = '[[metals]]\nname = "gold"\ncolumn = "au"\nunit = "gram_per_tonne"\nprice = 60\nselling_cost = 1.5\n'
@@ -85,7 +84,7 @@ def test_what_is_written_is_right(plan_folder, blank_pictures, monkeypatch, seed
     rules = "[schedule]\nlag = 1\nyears = 9\n" + (pick(rng, "", "bins = 3\n", "bins = 3\nstockpile = { rehandling_cost = 0.4 }\n") if is_one else "")
     text = PROJECT + haulage(rng) + f'[pushbacks]\nfactors = [500, 1000]\n{rules}[fixed]\nforced = "must"\nbarred = "never"\n'
     path = plan_folder(table_of(rng), text, *changes)
-    ways = [(commands.write_shells, "plan"), (pushbacks, "plan/pushbacks"), (write_schedule, "plan/schedule"), (commands.pit, "plan/pit")]
+    ways = [(pitplan.write_shells, "plan"), (pitplan.write_pushbacks, "plan/pushbacks"), (pitplan.write_schedule, "plan/schedule"), (pitplan.write_pit, "plan/pit")]
     command, folder = ways[seed % 4]
     table = command(path)
     assert len(table) and not any(rule.differences for rule in verify(path.parent / folder))

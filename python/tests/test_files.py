@@ -15,9 +15,14 @@ import pandas as pd
 import pytest
 from conftest import PROJECT, ROOT, rows
 
-from pitplan import BudgetUsedUp, PlanError, ProgramError, auditing, commands, files, load, mine, outlines, packages, run
+import pitplan
+from pitplan import BudgetUsedUp, PlanError, ProgramError, auditing, files, load, mine, outlines, packages, run
 from pitplan.cli import main
+from pitplan.commands import answers
+from pitplan.commands.prepare import write_plan
+from pitplan.commands.writing import PICTURES
 from pitplan.progress import silent
+from pitplan.rounded_tables import shown
 
 ORE = {"cu": lambda i, j, k: {(3, 3, 1): 6, (4, 3, 1): 2.5, (3, 4, 0): 9}.get((i, j, k), 0)}
 
@@ -25,9 +30,9 @@ ORE = {"cu": lambda i, j, k: {(3, 3, 1): 6, (4, 3, 1): 2.5, (3, 4, 0): 9}.get((i
 def test_shells_write_tables_pictures_and_a_page_that_needs_no_other_file(solved):
     """Where the library solves it needs no other file either."""
     project, folder = solved
-    commands.write_shells(replace(project, solver="program"), verifies=False)
+    pitplan.write_shells(replace(project, solver="program"), writing=pitplan.Writing(verifies=False))
     names = {path.name for path in folder.iterdir()}
-    pictures = set(commands.PICTURES.values())
+    pictures = set(PICTURES.values())
     assert (
         names
         == {
@@ -52,9 +57,9 @@ def test_shells_write_tables_pictures_and_a_page_that_needs_no_other_file(solved
 
 def test_a_mine_without_ore_has_a_report_and_a_page_too(plan_folder):
     project = load(plan_folder(rows(4, 4, 3), PROJECT, ("[500, 1000, 1500]", "[1000]")))
-    table = commands.write_shells(project, project.folder, silent)
+    table = pitplan.write_shells(project, project.folder)
     assert table["blocks"].tolist() == [0] and table["worth"].tolist() == [0]
-    commands.view(project.folder, silent)
+    pitplan.view(project.folder, silent)
     assert (
         "–" in (project.folder / "report.html").read_text()
         and '"most": 1.0' in (project.folder / "view.html").read_text()
@@ -69,7 +74,7 @@ def test_the_record_is_json_that_can_be_read(solved):
 
 def test_the_record_has_hashes_of_all_that_was_read_and_written(solved):
     project, folder = solved
-    commands.write_shells(replace(project, solver="program"), verifies=False)
+    pitplan.write_shells(replace(project, solver="program"), writing=pitplan.Writing(verifies=False))
     record = json.loads((folder / "prepare.json").read_text())
     names = [*record["files"], *record["inputs"]]
     places = [folder / name for name in record["files"]] + [project.path.parent / name for name in record["inputs"]]
@@ -93,7 +98,7 @@ def test_a_file_changed_since_is_refused(solved):
 
 def test_a_prepared_folder_has_no_shells_yet(plan_folder):
     project = load(plan_folder(rows(4, 4, 3, **ORE)))
-    commands.prepare(project, project.folder, silent)
+    write_plan(project, project.folder, silent)
     with pytest.raises(PlanError, match="has no shells yet: run pitplan shells first"):
         files.read_folder(project.folder)
     with pytest.raises(PlanError, match="nowhere/prepare.json: cannot be read: run pitplan shells first"):
@@ -103,7 +108,7 @@ def test_a_prepared_folder_has_no_shells_yet(plan_folder):
 @pytest.mark.parametrize("factor", [500, 1000, 1500])
 def test_an_audit_is_confirmed_by_the_program_and_by_the_short_checker(solved, factor):
     _, folder = solved
-    target = commands.audit(folder, factor, silent)
+    target = pitplan.audit(folder, factor, silent)
     environment = {**os.environ, "PITSHELL": str(run.program()), "PYTHON": sys.executable}
     # No module is taken from the folder that is checked.
     (target / "argparse.py").write_text("raise SystemExit('a module of the folder was run')\n")
@@ -117,7 +122,7 @@ def test_an_audit_is_confirmed_by_the_program_and_by_the_short_checker(solved, f
 
 def test_a_bent_audit_is_not_confirmed(solved):
     _, folder = solved
-    target = commands.audit(folder, 1000, silent)
+    target = pitplan.audit(folder, 1000, silent)
     model = target / "shell.upit"
     model.write_text(model.read_text().replace("\n0 -", "\n0 "))
     environment = {**os.environ, "PITSHELL": str(run.program()), "PYTHON": sys.executable}
@@ -126,7 +131,7 @@ def test_a_bent_audit_is_not_confirmed(solved):
 
 def test_an_audit_of_other_blocks_or_of_another_worth_is_refused(solved):
     folder = files.read_folder(solved[1])
-    stage = commands.audit(solved[1], 1000, silent)
+    stage = pitplan.audit(solved[1], 1000, silent)
     worth = auditing.demand_same(stage, folder, 1000)
     shells = pd.read_csv(solved[1] / "shells.csv", dtype={"worth_at_factor": str})
     assert [worth] == shells.loc[shells["factor"] == 1000, "worth_at_factor"].map(Decimal).tolist()
@@ -157,14 +162,14 @@ def test_values_of_an_audit_are_exact(tmp_path):
 
 def test_a_factor_that_is_not_solved_is_refused(solved):
     _, folder = solved
-    for call in (lambda: commands.audit(folder, 900, silent), lambda: commands.export(folder, "dxf", 900, silent)):
+    for call in (lambda: pitplan.audit(folder, 900, silent), lambda: pitplan.export(folder, "dxf", 900, silent)):
         with pytest.raises(PlanError, match="factor 900 is not among the factors 500, 1000, 1500"):
             call()
 
 
 def test_csv_has_the_blocks_of_all_pits(solved):
     _, folder = solved
-    table = pd.read_csv(commands.export(folder, "csv", 1000, silent))
+    table = pd.read_csv(pitplan.export(folder, "csv", 1000, silent))
     blocks = pd.read_csv(folder / "blocks.csv")
     assert len(table) == (blocks["factor"] > 0).sum() > 0 and set(table["name"]) == set(
         blocks["name"][blocks["factor"] > 0]
@@ -177,7 +182,7 @@ def test_vti_is_read_back_by_vtk_cell_by_cell(solved):
 
     _, folder = solved
     reader = vtk.vtkXMLImageDataReader()
-    reader.SetFileName(str(commands.export(folder, "vti", 1000, silent)))
+    reader.SetFileName(str(pitplan.export(folder, "vti", 1000, silent)))
     reader.Update()
     image = reader.GetOutput()
     assert image.GetDimensions() == (11, 10, 6) and image.GetBounds() == (0, 100, 0, 90, 0, 50)
@@ -193,9 +198,9 @@ def test_vtu_has_a_cell_a_block_of_rock_where_the_block_lies(plan_folder):
     from vtk.util.numpy_support import vtk_to_numpy
 
     path = plan_folder(rows(4, 3, 2, **ORE, tonnes=lambda i, j, k: 100 * int((i, j, k) != (2, 0, 1))))
-    commands.write_shells(path, verifies=False)
+    pitplan.write_shells(path, writing=pitplan.Writing(verifies=False))
     reader = vtk.vtkXMLUnstructuredGridReader()
-    reader.SetFileName(str(commands.export(path.parent / "plan", "vtu")))
+    reader.SetFileName(str(pitplan.export(path.parent / "plan", "vtu")))
     reader.Update()
     mesh = reader.GetOutput()
     blocks = pd.read_csv(path.parent / "plan" / "blocks.csv")
@@ -215,7 +220,7 @@ def test_vtu_has_a_cell_a_block_of_rock_where_the_block_lies(plan_folder):
 def test_a_workbook_has_all_tables_of_the_folder(solved):
     openpyxl = pytest.importorskip("openpyxl")
     _, folder = solved
-    book = openpyxl.load_workbook(commands.export(folder, "xlsx"))
+    book = openpyxl.load_workbook(pitplan.export(folder, "xlsx"))
     assert book.sheetnames == ["shells", "years"]
     for name in book.sheetnames:
         table = pd.read_csv(folder / f"{name}.csv")
@@ -227,7 +232,7 @@ def test_a_workbook_has_all_tables_of_the_folder(solved):
 def test_dxf_has_the_area_of_the_pit_on_each_level(solved):
     ezdxf = pytest.importorskip("ezdxf")
     _, folder = solved
-    drawing = ezdxf.readfile(commands.export(folder, "dxf", 1000, silent))
+    drawing = ezdxf.readfile(pitplan.export(folder, "dxf", 1000, silent))
     blocks = pd.read_csv(folder / "blocks.csv")
     dug = blocks[(blocks["factor"] > 0) & (blocks["factor"] <= 1000)]
     areas = {}
@@ -268,7 +273,7 @@ def test_rings_have_a_point_at_each_corner_and_at_no_other(seed):
 def test_the_planners_own_table_is_never_written_over(plan_folder):
     path = plan_folder(rows(4, 4, 3, **ORE))
     before = (path.parent / "blocks.csv").read_bytes()
-    for command in (commands.prepare, commands.write_shells):
+    for command in (write_plan, pitplan.write_shells):
         with pytest.raises(
             PlanError, match="blocks.csv: the plan would be written over it: give another folder by --out"
         ):
@@ -288,7 +293,7 @@ def test_what_is_above_a_limit_is_refused(plan_folder, monkeypatch, solved, modu
     monkeypatch.setattr(f"pitplan.{module}.{limit}", 2 if module == "page" else 100)
     path = plan_folder(rows(6, 6, 4, **ORE))
     with pytest.raises(PlanError, match=words):
-        commands.view(solved[1], silent) if module == "page" else commands.prepare(
+        pitplan.view(solved[1], silent) if module == "page" else write_plan(
             load(path), path.parent / "out", silent
         )
 
@@ -298,23 +303,23 @@ def test_levels_that_were_chosen_are_named_where_their_needs_are_too_many(plan_f
     path = plan_folder(rows(6, 6, 4, **ORE), PROJECT, ("levels = 3\n", ""), ('pattern = "1:5"', "angle = 30"))
     words = r"needs, and the program takes at most 100: give \[slopes\] levels, fewer than the 7 that were chosen"
     with pytest.raises(PlanError, match=words):
-        commands.prepare(load(path), path.parent / "out", silent)
+        write_plan(load(path), path.parent / "out", silent)
 
 
 def test_nothing_half_written_stays(plan_folder, monkeypatch):
     project = load(plan_folder(rows(4, 4, 3, **ORE)))
     monkeypatch.setattr(files, "write_prec", lambda *_: (_ for _ in ()).throw(OSError(28, "No space left on device")))
     with pytest.raises(PlanError, match="cannot be written: No space left on device"):
-        commands.prepare(project, project.folder, silent)
+        write_plan(project, project.folder, silent)
     assert not project.folder.exists()
 
 
 def test_a_failed_run_leaves_the_earlier_one(solved, monkeypatch):
     project, folder = solved
     before = {path.name: path.read_bytes() for path in folder.iterdir()}
-    monkeypatch.setattr(commands, "draw", lambda *_: (_ for _ in ()).throw(PlanError("no pictures")))
+    monkeypatch.setattr(answers, "draw", lambda *_: (_ for _ in ()).throw(PlanError("no pictures")))
     with pytest.raises(PlanError, match="no pictures"):
-        commands.write_shells(project, folder, silent)
+        pitplan.write_shells(project, folder)
     assert {path.name: path.read_bytes() for path in folder.iterdir()} == before
 
 
@@ -373,14 +378,14 @@ def test_a_status_that_is_fine_gives_the_answer(tmp_path, monkeypatch):
 
 def test_amounts_are_written_to_a_thousandth_and_nothing_has_no_minus():
     table = pd.DataFrame({"cash": [-0.0004, -0.0006, 1234.5678], "grade_copper": [0.1234567, 1e-7, -1e-9], "year": [1, 2, 3]})
-    written = commands.shown(table.assign(worth_at_factor=[Decimal("1E+3"), Decimal("-0.5"), Decimal(7)])).to_csv(index=False)
+    written = shown(table.assign(worth_at_factor=[Decimal("1E+3"), Decimal("-0.5"), Decimal(7)])).to_csv(index=False)
     assert written.splitlines()[1:] == ["0.0,0.123457,1,1000", "-0.001,0.0,2,-0.5", "1234.568,0.0,3,7"]
 
 
 def test_the_share_below_a_bound_is_that_of_the_value_and_the_bound_that_are_told():
     """By hand: (5 + 500) / 5, (0.033 - 0.032) / 0.033, nothing of a bound that is told as 0, and nothing known without one."""
     ways = {"value": [-500.0004, 0.0324, 0.0001, 7.0], "bound": [5.0004, 0.0334, 0.0003, np.nan], "below_bound": [100.99, 0.0299, 0.67, np.nan]}
-    assert commands.shown(pd.DataFrame(ways))["below_bound"].fillna(-1).tolist() == [101.0, 0.03030303, 0.0, -1]
+    assert shown(pd.DataFrame(ways))["below_bound"].fillna(-1).tolist() == [101.0, 0.03030303, 0.0, -1]
 
 
 def test_the_command_line_tells_table_steps_and_warnings(solved_once):
@@ -420,7 +425,7 @@ def test_an_audit_by_another_release_is_warned_of_with_quiet_and_in_python(solve
     record = json.loads((folder / "prepare.json").read_text())
     record["shells"]["solver"]["version"] = "libpitshell 0.0.7"
     files.write_json(folder / "prepare.json", record)
-    path = commands.audit(folder, 500)
+    path = pitplan.audit(folder, 500)
     assert path == folder / "audit-500"
     assert [*path.notes] == [f"WARNING: libpitshell 0.0.7 found the shells, and {run.identity()['version']} has audited them"]
     assert main(["audit", str(project.path), "--factor", "500", "--quiet"]) == 0
@@ -473,10 +478,9 @@ def test_a_notebook_keeps_its_backend_and_sees_no_figure(solved):
     text = f"""
 import matplotlib; matplotlib.use("svg")
 import matplotlib.pyplot as plt
-from pitplan import commands, load
-from pitplan.progress import silent
-project = load({str(solved[0].path)!r})
-commands.write_shells(project, project.folder, silent, verifies=False)
+import pitplan
+project = pitplan.load({str(solved[0].path)!r})
+pitplan.write_shells(project, project.folder, writing=pitplan.Writing(verifies=False))
 assert matplotlib.get_backend() == "svg" and plt.get_fignums() == [], (matplotlib.get_backend(), plt.get_fignums())
 """
     subprocess.run([sys.executable, "-c", text], check=True, env={**os.environ, "PYTHONPATH": str(ROOT / "python")})
@@ -500,6 +504,6 @@ def test_a_plan_is_shown_in_a_few_lines(plan_folder):
 def test_image_data_is_xml_with_raw_arrays(solved):
     pytest.importorskip("vtk")
     _, folder = solved
-    text = commands.export(folder, "vti", 1000, silent).read_bytes()
+    text = pitplan.export(folder, "vti", 1000, silent).read_bytes()
     assert text.startswith(b"<?xml") or text.startswith(b"<VTKFile")
     assert xml.fromstring(text.split(b"<AppendedData")[0] + b"</VTKFile>").attrib["type"] == "ImageData"

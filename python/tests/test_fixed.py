@@ -15,7 +15,7 @@ from hypothesis import strategies as st
 from test_shells import BOX, CLOSED, SMALL, best_by_trying, grades, project_of
 
 import pitplan
-from pitplan import commands, files, fixed, load, mine, prepare, run, simulation
+from pitplan import files, fixed, load, mine, prepare, run, simulation
 from pitplan.cli import main
 from pitplan.fixed_rules import FixedRules
 from pitplan.errors import PlanError
@@ -201,7 +201,7 @@ def test_a_pit_that_keeps_to_fixed_blocks(plan_folder, capsys):
 
 def test_a_pit_with_forced_blocks(plan_folder):
     project = load(plan_folder(ore_below_waste(), with_section('[fixed]\nforced = "must"\n')))
-    table = commands.pit(project, 1000)
+    table = pitplan.write_pit(project, 1000)
     assert table["blocks"].tolist() == [6, 4]
     assert files.read_record(project.folder / "pit")["fixed"] == {"forced": 1, "barred": 0}
     # the block at the floor and the one above it, at 2 a tonne and 100 t a block
@@ -271,7 +271,7 @@ def test_a_pit_of_the_least_factor_of_all_is_compared_too(plan_folder):
     """At a thousandth of eight millions the ore of 6 % yields 24,000, and that of 0.5 % 2000: both pay for processing and four blocks."""
     text = with_section(FIXED_SECTION).replace("price = 8000", "price = 8_000_000")
     project = load(plan_folder(ores_and_fixed(), text))
-    table = commands.pit(project, 1)
+    table = pitplan.write_pit(project, 1)
     # Four blocks each; and the one block more that must be dug, at the floor of the last column.
     assert table["blocks"].tolist() == [9, 8]
 
@@ -281,22 +281,22 @@ def test_a_shell_that_is_not_the_pit_of_the_solver_is_refused(plan_folder, monke
     path = plan_folder(ores_and_fixed(), with_section(FIXED_SECTION))
     monkeypatch.setattr(mine, "joined", lambda rest, settled, values: rest)
     with pytest.raises(PlanError, match="is not the solver's pit with the fixed blocks: 3 nodes differ"):
-        commands.write_shells(load(path), path.parent / "plan", silent)
+        pitplan.write_shells(load(path), path.parent / "plan")
     assert not (path.parent / "plan" / "report.html").exists()
 
 
 def test_the_best_case_of_a_pit_digs_its_inner_shells_first(plan_folder):
     project = load(plan_folder(ores_and_fixed(), with_section(FIXED_SECTION)))
-    pits = commands.pit(project, 1500)
-    shells = commands.write_shells(project, project.folder, silent)
+    pits = pitplan.write_pit(project, 1500)
+    shells = pitplan.write_shells(project, project.folder)
     kept, last = pits.iloc[0], shells.set_index("factor").loc[1500]
     assert kept["npv_best"] == last["npv_best"] > kept["npv_worst"] == last["npv_worst"]
 
 
 def test_an_audit_of_a_shell_with_fixed_blocks_is_confirmed_from_any_folder(plan_folder, tmp_path):
     project = load(plan_folder(ores_and_fixed(), with_section(FIXED_SECTION)))
-    commands.write_shells(project, project.folder, silent)
-    target = commands.audit(project.folder, 1000, silent)
+    pitplan.write_shells(project, project.folder)
+    target = pitplan.audit(project.folder, 1000, silent)
     (tmp_path / "bin").mkdir()
     (tmp_path / "bin" / "program").symlink_to(run.program().resolve())
     words = ["sh", str(target.relative_to(tmp_path) / "check.sh")]

@@ -7,7 +7,7 @@ import pytest
 from conftest import rows
 
 import pitplan
-from pitplan import commands, workbook
+from pitplan import workbook
 
 BEGIN = ("=1+2", "+1", "-2+3", "@SUM(A1)", '=HYPERLINK("x")', "=")
 
@@ -55,9 +55,9 @@ def test_csv_files_keep_the_text(plan_folder, blank_pictures, capsys):
     folder = pitplan.load(path).folder
     with open(folder / "blocks.csv", newline="") as written:
         assert sorted(row["rock"] for row in csv.DictReader(written)) == ["=1+2", "@a", *["R"] * 16]
-    with open(commands.export(folder, "table"), newline="") as written:
+    with open(pitplan.export(folder, "table"), newline="") as written:
         assert [row["rock"] for row in csv.DictReader(written)] == table["rock"].tolist()
-    with open(commands.export(folder, "csv"), newline="") as written:
+    with open(pitplan.export(folder, "csv"), newline="") as written:
         assert "=1+2" in {row["rock"] for row in csv.DictReader(written)}
 
 

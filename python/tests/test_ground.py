@@ -9,7 +9,8 @@ import pandas as pd
 import pytest
 from test_surfaces import triangles_of, volume_of
 
-from pitplan import PlanError, commands, files, ground, stages
+import pitplan
+from pitplan import PlanError, files, ground, stages
 from pitplan.cli import main
 from pitplan.grid import Grid
 from pitplan.stages import Shape, Stage
@@ -153,14 +154,14 @@ def test_a_file_of_an_earlier_run_goes_and_those_of_others_stay(folder):
     (folder / "ground-years-stl").mkdir()
     for name in ("year-99.stl", "notes.txt"):
         (folder / "ground-years-stl" / name).touch()
-    commands.export(folder, "stl", shape=Shape("year", "ground"))
+    pitplan.export(folder, "stl", shape=Shape("year", "ground"))
     names = {path.name for path in (folder / "ground-years-stl").iterdir()}
     assert "notes.txt" in names and "year-1.stl" in names and "year-99.stl" not in names
 
 
 def test_phases_have_closed_bodies_too(folder):
     pytest.importorskip("vtk")
-    target = commands.export(folder, "stl", shape=Shape("phase"))
+    target = pitplan.export(folder, "stl", shape=Shape("phase"))
     for number in (1, 2):
         assert volume_of(triangles_of(target / f"phase-{number}.stl")) == pytest.approx(volume_dug(folder, "phase", number))
     assert len(list(target.iterdir())) == 2
@@ -168,7 +169,7 @@ def test_phases_have_closed_bodies_too(folder):
 
 def test_a_drawing_has_a_layer_a_bench_and_phase(folder):
     ezdxf = pytest.importorskip("ezdxf")
-    drawing = ezdxf.readfile(commands.export(folder, "dxf", shape=Shape("phase", "ground")))
+    drawing = ezdxf.readfile(pitplan.export(folder, "dxf", shape=Shape("phase", "ground")))
     faces = {}
     for face in drawing.modelspace().query("3DFACE"):
         faces.setdefault(face.dxf.layer, []).append([list(face.dxf.vtx0), list(face.dxf.vtx1), list(face.dxf.vtx2)])
@@ -204,7 +205,7 @@ def test_what_cannot_be_is_refused(folder, capsys, words, said):
 def test_a_folder_without_phases_is_told_what_makes_them(solved):
     for name, command in (("phase", "pushbacks"), ("year", "schedule")):
         with pytest.raises(PlanError, match=f"has no {name}s: run pitplan {command}, and name its folder by --out"):
-            commands.export(solved[1], "dxf", shape=Shape(name))
+            pitplan.export(solved[1], "dxf", shape=Shape(name))
 
 
 def test_a_year_by_whose_end_nothing_is_dug_has_no_body_and_is_told(folder, monkeypatch):
@@ -212,8 +213,8 @@ def test_a_year_by_whose_end_nothing_is_dug_has_no_body_and_is_told(folder, monk
     pytest.importorskip("vtk")
     result = files.read_folder(folder)
     later = replace(result, blocks=result.blocks.assign(year=np.where(result.blocks["year"] > 0, 2, 0)))
-    monkeypatch.setattr(commands.files, "read_folder", lambda path: later)
-    target = commands.export(folder, "obj", shape=Shape("year"))
+    monkeypatch.setattr(files, "read_folder", lambda path: later)
+    target = pitplan.export(folder, "obj", shape=Shape("year"))
     assert [path.name for path in target.iterdir()] == ["year-2.obj"]
 
 
@@ -227,6 +228,6 @@ def test_by_how_much_smoothing_changes_the_volume_is_told_with_quiet_and_to_pyth
     assert main(words) == 0
     aloud = capsys.readouterr()
     assert aloud.err.count("smoothed within half a block") == 1 and aloud.out == quiet.out
-    path = commands.export(folder, "stl", shape=Shape(surface="ground", smooth=True))
+    path = pitplan.export(folder, "stl", shape=Shape(surface="ground", smooth=True))
     assert path == folder / "ground-1000.stl" and [*path.notes] == quiet.err.splitlines()
-    assert commands.export(folder, "csv").notes == ()
+    assert pitplan.export(folder, "csv").notes == ()

@@ -10,7 +10,7 @@ from conftest import PROJECT, rows
 from test_turned import turned
 
 import pitplan
-from pitplan import PlanError, commands, verification
+from pitplan import PlanError, verification
 from pitplan.cli import main
 from pitplan.project import load
 
@@ -61,7 +61,7 @@ def test_a_road_is_rounded_once_and_verified(plan_folder, blank_pictures):
     """28.284271 m in plan and a ramp of 40 / 0.12 = 333.333333 m are 361.617604 m: 361.618, where each part alone would be cut down."""
     section = "[haulage]\nexit = [25, 25, 40]\ngradient = 0.12\ncost = 0.12\n"
     path = hauled(plan_folder, rows(6, 4, 4, cu=lambda i, j, k: 4.0), section)
-    commands.write_shells(path)
+    pitplan.write_shells(path)
     assert pitplan.prepare(path).blocks.set_index("name").loc["b0-0-0", "road"] == 361.618
 
 
@@ -88,7 +88,7 @@ def ore_hill():
 @pytest.mark.usefixtures("blank_pictures")
 def test_an_answer_is_verified_and_a_wrong_road_is_found(plan_folder):
     path = hauled(plan_folder, ore_hill())
-    commands.write_shells(path)
+    pitplan.write_shells(path)
     folder = path.parent / "plan"
     assert [rule.name for rule in verification.verify(folder) if rule.name == "haulage"] == ["haulage"]
     blocks = pd.read_csv(folder / "blocks.csv")
@@ -107,7 +107,7 @@ def test_the_exit_of_a_turned_model_is_the_planners(plan_folder):
         section = SECTION.replace("[15, 45, 30]", f"[{exit_at['x']:.6f}, {exit_at['y']:.6f}, 30]")
         table = turned(ore_hill(), degrees, 6)
         path = hauled(plan_folder, table, section, ("size = [10, 10, 10]", "tolerance = 0.001"))
-        commands.write_shells(path)
+        pitplan.write_shells(path)
         found.append(pd.read_csv(path.parent / "plan" / "blocks.csv").set_index("name"))
     assert found[0]["factor"].nunique() > 2
     assert np.abs(found[1]["road"] - found[0]["road"]).max() <= 0.0011
@@ -119,7 +119,7 @@ def test_sensitivity_to_haulage(plan_folder):
     """A tenth more a kilometre is a tenth more of all haulage, of what is dug and what is milled in the kept pit."""
     section = SECTION + '[sensitivity]\nby = [0.1]\nvary = ["haulage"]\n'
     path = hauled(plan_folder, ore_hill(), section, ("rate = 0.1", "rate = 0.1\nchosen = 1000"))
-    table = pitplan.sensitivity(path, path.parent / "hang").set_index("number")
+    table = pitplan.write_sensitivity(path, path.parent / "hang").set_index("number")
     plan = pitplan.prepare(path)
     entry = pitplan.solve(plan).entry[: plan.grid.count]
     dug = (entry > 0) & (entry <= 1000)

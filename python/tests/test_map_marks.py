@@ -9,7 +9,7 @@ from conftest import PROJECT, rows
 from matplotlib.figure import Figure
 
 import pitplan
-from pitplan import PlanError, commands, map_marks, phase_pictures, pictures
+from pitplan import PlanError, map_marks, phase_pictures, pictures
 from pitplan.grid import Grid
 from pitplan.picture_rules import PictureRules
 from pitplan.simulation import pictures as many
@@ -180,7 +180,7 @@ def test_pictures_are_written_as_pdf_and_svg_too_the_same_each_time(project):
     path = project('formats = ["pdf", "svg"]')
     written = []
     for _ in range(2):
-        commands.write_shells(path, verifies=False)
+        pitplan.write_shells(path, writing=pitplan.Writing(verifies=False))
         folder = path.parent / "plan"
         record = json.loads((folder / "prepare.json").read_text())["files"]
         names = {f"{name}.{kind}" for name in ("pit_by_pit", "years", "plans", "sections") for kind in ("png", "pdf", "svg")}
@@ -194,7 +194,7 @@ def test_phases_are_drawn_where_the_project_asks_for(project, monkeypatch):
     shown = []
     for name in ("write_plans", "write_sections"):
         monkeypatch.setattr(phase_pictures, name, lambda scene, path: (shown.append(scene), path.touch()))
-    commands.pushbacks(project("levels = [5]\nnorth = 49\n[pushbacks]\ncount = 1"), verifies=False)
+    pitplan.write_pushbacks(project("levels = [5]\nnorth = 49\n[pushbacks]\ncount = 1"), writing=pitplan.Writing(verifies=False))
     assert [phase_pictures.levels_to_show(scene) for scene in shown] == [[2]] * 2 and shown[0].section_row == 4
 
 
@@ -231,7 +231,7 @@ def test_what_is_refused(project, words, said):
 )
 def test_places_beyond_the_model_are_refused(project, words, said):
     with pytest.raises(PlanError, match=said):
-        commands.write_shells(project(words))
+        pitplan.write_shells(project(words))
 
 
 def test_the_models_ends_are_within_it(project):

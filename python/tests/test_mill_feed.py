@@ -7,7 +7,7 @@ import pytest
 from conftest import PROJECT, rows
 
 import pitplan
-from pitplan import PlanError, commands, money, pushbacks, write_schedule
+from pitplan import PlanError, money, write_pushbacks, write_schedule
 from pitplan.verification import verify
 
 MILLION = 10**6
@@ -86,7 +86,7 @@ def test_by_region_needs_a_column_of_regions(plan_folder):
 def test_a_shell_by_hand(plan_folder):
     """Both blocks are dug: 200 t, of which one of 100 t is ore in situ, and 99 come to the mill, in 99 / 33 years; 90 t of 0.8 % in these."""
     path = plan_folder(one_block(), PROJECT, ("mining_cost = 2\n", TEXT), ("ore_per_year = 100", "ore_per_year = 33"))
-    table = commands.write_shells(path).set_index("factor").loc[1000]
+    table = pitplan.write_shells(path).set_index("factor").loc[1000]
     expected = {"tonnes": 200, "ore_tonnes": 99, "in_situ_ore_tonnes": 100, "waste_tonnes": 100, "strip_ratio": 1, "processed_tonnes": 99, "years": 3}
     expected |= {"grade_copper": 72 / 99, "metal_copper": 0.36, "worth": 2736 - 1039.5 - 400}
     assert {name: table[name] for name in expected} == pytest.approx(expected)
@@ -95,7 +95,7 @@ def test_a_shell_by_hand(plan_folder):
 def test_waste_is_never_negative(plan_folder, blank_pictures):
     """Ore alone, with a tenth of dilution: 110 t come to the mill of 100 t that are dug."""
     path = plan_folder(rows(2, 2, 1, cu=lambda i, j, k: 3), PROJECT, ("mining_cost = 2\n", "mining_cost = 2\ndilution = 0.1\n"))
-    table = commands.write_shells(path).set_index("factor").loc[1000]
+    table = pitplan.write_shells(path).set_index("factor").loc[1000]
     assert (table["ore_tonnes"], table["in_situ_ore_tonnes"], table["waste_tonnes"], table["strip_ratio"]) == (pytest.approx(440), 400, 0, 0)
 
 
@@ -113,7 +113,7 @@ def deposit():
 def test_phases_and_schedules_count_what_comes_to_the_mill(plan_folder, blank_pictures):
     """Three blocks of ore in all, and both looks agree."""
     path = plan_folder(deposit(), PROJECT, *SCHEDULED)
-    assert pushbacks(path)["ore_tonnes"].sum() == pytest.approx(3 * 99)
+    assert write_pushbacks(path)["ore_tonnes"].sum() == pytest.approx(3 * 99)
     assert write_schedule(path).set_index("way")["ore_tonnes"]["rule"] == pytest.approx(3 * 99)
 
 
@@ -133,7 +133,7 @@ def passed_over(**changed):
 def test_what_is_passed_over_is_found(plan_folder, monkeypatch, changed):
     path = plan_folder(one_block(), PROJECT, ("mining_cost = 2\n", TEXT))
     monkeypatch.setattr(money, "values_of", passed_over(**changed))
-    commands.write_shells(path, verifies=False)
+    pitplan.write_shells(path, writing=pitplan.Writing(verifies=False))
     wrong = {rule.name for rule in verify(path.parent / "plan") if rule.differences}
     assert "money" in wrong and (("shells" in wrong) == ("royalty" not in next(iter(changed))))
 
@@ -143,5 +143,5 @@ def test_scenarios_count_what_comes_to_the_mill_by_region(plan_folder):
     table = rows(4, 1, 1, region=lambda i, j, k: "12"[i % 2]).drop(columns="cu").assign(cu_a=[3, 0, 0, 0], cu_b=[0, 3, 0, 2])
     text = "mining_cost = 2\ndilution = { region = { 1 = 0, 2 = 0.2 } }\n"
     path = plan_folder(table, PROJECT + '[scenarios]\ncolumns = { copper = "cu_*" }\n', ("mining_cost = 2\n", text))
-    found = pitplan.scenarios(path, request=pitplan.Request(workers=1)).table
+    found = pitplan.write_scenarios(path, request=pitplan.Request(workers=1)).table
     assert found[found["factor"] == 1000]["ore_tonnes"].tolist() == [100, 240]

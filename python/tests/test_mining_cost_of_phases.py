@@ -8,7 +8,7 @@ from test_phase_widths import RICH, floor, square
 from test_pushbacks import UPRIGHT, pillars, with_phases
 
 import pitplan
-from pitplan import PlanError, block_commands, commands, files, phases
+from pitplan import PlanError, files, phases
 from pitplan.verification import verify
 
 pytestmark = pytest.mark.usefixtures("blank_pictures")
@@ -25,7 +25,7 @@ def present(*cash):
 def pushed(plan_folder):
     """The folder of the three phases."""
     path = plan_folder(pillars(), with_phases(ADDED, AT_ENDS))
-    pitplan.pushbacks(path)
+    pitplan.write_pushbacks(path)
     return path.parent / "plan" / "pushbacks"
 
 
@@ -47,7 +47,7 @@ def test_phases_and_years_by_hand(pushed):
 def test_shells_and_costs_of_blocks_are_those_without_it(pushed, plan_folder):
     blocks = pd.read_csv(pushed / "blocks.csv")
     path = plan_folder(pillars(), with_phases("count = 3", AT_ENDS))
-    pitplan.pushbacks(path)
+    pitplan.write_pushbacks(path)
     pd.testing.assert_frame_equal(pd.read_csv(path.parent / "plan" / "pushbacks" / "blocks.csv"), blocks)
     assert "mining_cost_added" not in pd.read_csv(path.parent / "plan" / "pushbacks" / "phases.csv")
 
@@ -64,7 +64,7 @@ def test_a_schedule_pays_it(plan_folder, bins):
     """The third phase costs 4 more a tonne, 200 more than it is worth: the rule digs it, and the linear programme leaves it."""
     text = with_phases("count = 3\nmining_cost_added = [0, 1.5, 4]", AT_ENDS) + f"[schedule]\nyears = 5\n{bins}"
     path = plan_folder(pillars(), text)
-    ways = commands.write_schedule(path).set_index("way")
+    ways = pitplan.write_schedule(path).set_index("way")
     folder = path.parent / "plan" / "schedule"
     rows = pd.read_csv(folder / "schedule.csv")
     by_phase = rows.groupby(["way", "phase"])["cash"].sum()
@@ -82,7 +82,7 @@ def test_blocks_that_come_in_another_phase_for_its_width_pay_there(plan_folder):
     grades = dict.fromkeys(square(3, 2, 3), RICH) | dict.fromkeys({(5, 3)} | square(10, 2, 2), 0.6)
     words = "factors = [400, 1500]\nwidth = 20\nmining_cost_added = [1, 2]"
     path = plan_folder(floor(grades, columns=15), with_phases(words, PROJECT))
-    table = pitplan.pushbacks(path)
+    table = pitplan.write_pushbacks(path)
     assert table["tonnes"].tolist() == [3000, 1600] and table["mining_cost_added"].tolist() == [3000, 3200]
     folder = path.parent / "plan" / "pushbacks"
     cash, shells = (pd.read_csv(folder / name) for name in ("years.csv", "shells.csv"))
@@ -104,14 +104,14 @@ def test_blocks_that_come_in_another_phase_for_its_width_pay_there(plan_folder):
 def test_what_is_refused(plan_folder, words, said):
     path = plan_folder(pillars(), with_phases(words))
     with pytest.raises(PlanError, match=said):
-        pitplan.pushbacks(path)
+        pitplan.write_pushbacks(path)
     assert not (path.parent / "plan" / "pushbacks" / "phases.csv").exists()
 
 
 def test_blocks_one_by_one_have_no_phases(plan_folder):
     path = plan_folder(pillars(), with_phases(ADDED))
     with pytest.raises(PlanError, match=r"\[pushbacks\] mining_cost_added: is by phase, and blocks are in none: leave it out"):
-        block_commands.write_block_schedule(path)
+        pitplan.write_block_schedule(path)
 
 
 def wrong(folder):
@@ -144,7 +144,7 @@ def test_costs_that_are_not_paid_are_found(plan_folder, monkeypatch):
     path = plan_folder(pillars(), text)
     monkeypatch.setattr(phases.Phases, "mining_cost_added", property(lambda made: np.zeros(made.plan.grid.count)))
     with pytest.raises(PlanError) as error:
-        commands.write_schedule(path)
+        pitplan.write_schedule(path)
     assert all(f"{name}: " in str(error.value) for name in ("phases", "years"))
     with pytest.raises(PlanError, match="phases: phase 2: mining_cost_added 0 for 300"):
-        pitplan.pushbacks(path)
+        pitplan.write_pushbacks(path)

@@ -9,7 +9,7 @@ import pytest
 from conftest import PROJECT, rows
 
 import pitplan
-from pitplan import PlanError, commands, files, money
+from pitplan import PlanError, files, money
 from pitplan.verification import money as verified_money
 
 MILLION = 10**6
@@ -107,7 +107,7 @@ def test_cost_by_elevation_at_half_a_millionth(plan_folder, blank_pictures):
     text = "mining_cost = 2\nmining_cost_by_elevation = [[0, 0.37], [240, 0]]"
     table = rows(2, 2, 8, cu=lambda i, j, k: 4.0, tonnes=lambda i, j, k: 15_900).assign(z=lambda it: it["z"] * 1.5 - 6)
     changes = [("size = [10, 10, 10]", "size = [10, 10, 15]"), ("ore_per_year = 100", "ore_per_year = 100_000")]
-    commands.write_shells(plan_folder(table, PROJECT, ("mining_cost = 2", text), *changes))
+    pitplan.write_shells(plan_folder(table, PROJECT, ("mining_cost = 2", text), *changes))
 
 
 def test_two_metals_and_prices_by_rock(plan_folder):

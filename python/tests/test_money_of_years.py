@@ -14,7 +14,7 @@ from test_linear_programme import limits, small
 from test_sequencing import problem_of, random_benches
 
 import pitplan
-from pitplan import PlanError, commands, grade_bins, integer_programme, linear_programme, write_schedule, yearly_money
+from pitplan import PlanError, grade_bins, integer_programme, linear_programme, write_schedule, yearly_money
 from pitplan import milling_programme as mp
 from pitplan.phase_benches import PhaseBenches
 from pitplan.schedule_rules import Effort
@@ -36,7 +36,7 @@ def mean(start, end):
 
 def solved(path):
     """The table of shells at factor 1000, and its years of the best case."""
-    shells = commands.write_shells(path)
+    shells = pitplan.write_shells(path)
     years = pd.read_csv(path.parent / "plan" / "years.csv")
     return shells.set_index("factor").loc[1000], years[(years["case"] == "best") & (years["factor"] == 1000)].set_index("year")
 
@@ -211,14 +211,14 @@ def test_the_second_look_at_schedules_agrees(plan_folder, blank_pictures, way):
 def test_money_that_is_passed_over_is_found(plan_folder, monkeypatch, blank_pictures, name, without, rule):
     path, of_project = scheduled(plan_folder, ""), yearly_money.of_project
     monkeypatch.setattr(yearly_money, "of_project", lambda project: replace(of_project(project), **{name: without}))
-    write_schedule(path, verifies=False)
+    write_schedule(path, writing=pitplan.Writing(verifies=False))
     wrong = {rule.name for rule in verify(path.parent / "plan" / "schedule") if rule.differences}
     assert {"years", f"schedule {rule}"} <= wrong
 
 
 def test_costs_of_a_year_that_are_bent_are_found(mine):
     path = mine(MONEY, of_years("end_of_year"))
-    commands.write_shells(path)
+    pitplan.write_shells(path)
     file = path.parent / "plan" / "years.csv"
     table = pd.read_csv(file)
     table.loc[table.index[-1], "fixed_cost"] += 1

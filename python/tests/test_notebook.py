@@ -47,7 +47,7 @@ def test_shells_are_written_and_given_as_a_frame(plan):
     assert table["factor"].tolist() == [500, 1000, 1500]
     assert table["worth_at_factor"].tolist() == [Decimal(12_000 - 1000 - 800 - 600), Decimal(24_000 + 2000 - 2000 - 1600 - 200), Decimal(36_000 + 3000 - 3800)]
     assert (plan.parent / "plan" / "report.html").exists()
-    again = pitplan.write_shells(str(plan), str(plan.parent / "other"), verifies=False)
+    again = pitplan.write_shells(str(plan), str(plan.parent / "other"), writing=pitplan.Writing(verifies=False))
     pd.testing.assert_frame_equal(again, table)
     assert "this run left it out" in (plan.parent / "other" / "report.html").read_text()
 
@@ -71,8 +71,8 @@ def test_a_page_exports_and_a_folder_for_auditors_are_told_by_their_paths(solved
         (lambda folder: pitplan.view(folder / "nowhere"), "nowhere/prepare.json: cannot be read: run pitplan shells first"),
         (lambda folder: pitplan.verify(folder / "nowhere"), "nowhere/prepare.json: cannot be read: run pitplan shells first"),
         (lambda folder: pitplan.gather(folder), "scenarios.json: cannot be read: run pitplan scenarios first"),
-        (lambda folder: pitplan.scenarios(folder.parent / "project.toml"), r"\[scenarios\] is missing"),
-        (lambda folder: pitplan.pit(folder.parent / "project.toml"), r"\[fixed\] is missing"),
+        (lambda folder: pitplan.write_scenarios(folder.parent / "project.toml"), r"\[scenarios\] is missing"),
+        (lambda folder: pitplan.write_pit(folder.parent / "project.toml"), r"\[fixed\] is missing"),
     ],
 )
 def test_what_cannot_be_is_refused_in_words(solved, call, said):
@@ -92,7 +92,7 @@ def test_a_verified_folder_is_told_rule_by_rule(solved):
 
 
 def test_a_pit_with_fixed_blocks_and_without_them(plan):
-    table = pitplan.pit(plan, 500)
+    table = pitplan.write_pit(plan, 500)
     assert table["fixed_blocks"].tolist() == ["kept", "free"] and table["factor"].tolist() == [500, 500]
     assert (table["worth_at_factor"][1] - table["worth_at_factor"][0]) == 600
     assert (plan.parent / "plan" / "pit" / "pits.csv").exists()
@@ -102,7 +102,7 @@ def test_scenarios_are_given_as_frames(plan_folder):
     """Three blocks above each other: at 8000 a tonne one of three models pays at 500 and 1000, at 12,000 two do at 1000."""
     pytest.importorskip("distributed", reason="needs the Debian package python3-distributed")
     path = plan_folder(pillar(), PRICES, UPRIGHT)
-    found = pitplan.scenarios(path, request=Request(workers=1))
+    found = pitplan.write_scenarios(path, request=Request(workers=1))
     assert found.folder == path.parent / "plan" / "scenarios" and found.start is None
     assert "6 solved (status 0)" in found.notes
     assert found.probability["probability_1000"].tolist() == [0.5] * 3
@@ -141,7 +141,7 @@ def test_the_notebook_from_a_frame_to_a_schedule_runs(monkeypatch):
 
 def test_lists_of_jobs_are_told_by_what_to_start(plan_folder):
     path = plan_folder(pillar(), COLUMNS, UPRIGHT)
-    found = pitplan.scenarios(path, path.parent / "many", Request("parallel"))
+    found = pitplan.write_scenarios(path, path.parent / "many", Request("parallel"))
     assert found.start == path.parent / "many" / "start.sh"
     with pytest.raises(PlanError, match="probability.csv: cannot be read: run pitplan scenarios or gather first"):
         found.probability

@@ -5,6 +5,7 @@ import sys
 
 import pytest
 
+import pitplan.block_schedule
 from pitplan import MissingPackage, library, packages
 
 
@@ -28,18 +29,20 @@ def test_a_package_that_lacks_another_is_not_called_missing(tmp_path, monkeypatc
         packages.load("lent", "python3-lent", "a map")
 
 
-@pytest.mark.parametrize("text", ["import nowhere_at_all\n", "from json import nowhere_at_all\n"])
-def test_only_the_missing_library_of_pits_is_called_missing(tmp_path, monkeypatch, text):
-    module_of(tmp_path, monkeypatch, text)
-    monkeypatch.setattr(packages, "__package__", "lent")
-    (tmp_path / "lent" / "__init__.py").write_text("")
-    (tmp_path / "lent" / "blocks.py").write_text(text)
-    with pytest.raises(ImportError, match="nowhere_at_all"):
-        packages.by_library("blocks")
-    (tmp_path / "lent" / "others.py").write_text("import pitshell\n")
+def test_a_missing_library_of_pits_is_named(monkeypatch):
     monkeypatch.setitem(sys.modules, "pitshell", None)
     with pytest.raises(MissingPackage, match="^a schedule by block needs the library of pits: .*pitshell"):
-        packages.by_library("others")
+        packages.load_library("a schedule by block")
+
+
+def test_only_the_missing_library_of_pits_is_called_missing(monkeypatch):
+    """A module of the layer that cannot be imported is a mistake in the layer."""
+    module = "pitplan.block_schedule.result"
+    monkeypatch.setitem(sys.modules, "pitshell", sys)
+    monkeypatch.setitem(sys.modules, module, None)
+    monkeypatch.delattr(pitplan.block_schedule, "result", raising=False)
+    with pytest.raises(ImportError, match="result"):
+        pitplan.write_block_schedule("project.toml")
 
 
 def test_the_program_stands_in_for_a_missing_library_alone(tmp_path, monkeypatch):

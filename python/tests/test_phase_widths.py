@@ -34,7 +34,7 @@ def pushed(plan_folder, table, words, text=PROJECT):
     """The phases, of the pit of factor 1000 unless the words name another, with each block's phase and the notes of widths."""
     words += "" if "last" in words or "factors" in words else "\nlast = 1000"
     project = load(plan_folder(table, with_phases(words, text)))
-    found = pitplan.pushbacks(project).set_index("phase")
+    found = pitplan.write_pushbacks(project).set_index("phase")
     notes = [note for note in files.read_record(project.folder / "pushbacks")["notes"] if "blocks are dug" in note or "too small" in note]
     return found, blocks_of(project.folder / "pushbacks")["phase"], notes
 
@@ -102,7 +102,7 @@ def test_a_phase_that_hardly_keeps_anything_is_told(plan_folder):
     rich = square(2, 2, 4)
     table = rows(10, 10, 1, cu=lambda i, j, k: RICH if (i, j) in rich else 0.6 if (i, j) in square(1, 1, 6) else 0)
     project = load(plan_folder(table, with_phases("factors = [400, 1000]\nwidth = 30", PROJECT)))
-    assert pitplan.pushbacks(project)["blocks"].tolist() == [0, 36]
+    assert pitplan.write_pushbacks(project)["blocks"].tolist() == [0, 36]
     told = "WARNING: for its width phase 1 has 0 t of 1,600 t in its shell: the pit holds fewer phases so wide"
     assert told in files.read_record(project.folder / "pushbacks")["notes"]
 
@@ -220,7 +220,7 @@ def divided(blank_pictures, tmp_path_factory):
     grades = dict.fromkeys(square(3, 2, 3) - {(5, 3)}, RICH) | dict.fromkeys(square(10, 2, 2), 0.6)
     floor(grades, columns=15).to_csv(place / "blocks.csv", index=False)
     (place / "project.toml").write_text(with_phases("factors = [400, 1500]\nwidth = 20\nbottom = 20", PROJECT))
-    pitplan.pushbacks(place / "project.toml")
+    pitplan.write_pushbacks(place / "project.toml")
     return place
 
 
@@ -261,7 +261,7 @@ def test_a_bottom_that_is_wide_by_a_later_phase_alone_is_found(plan_folder):
     grades = dict.fromkeys(square(3, 2, 2), RICH) | dict.fromkeys(square(5, 2, 2), 0.6)
     project = load(plan_folder(floor(grades), with_phases("factors = [400, 1500]\nbottom = 20", PROJECT)))
     # Above the second square a block of phase 2 lies between one of phase 1 and the ground.
-    assert pitplan.pushbacks(project)["least_width"].tolist() == [20, 10]
+    assert pitplan.write_pushbacks(project)["least_width"].tolist() == [20, 10]
     folder = project.folder / "pushbacks"
     table = pd.read_csv(folder / "blocks.csv")
     table.loc[table["name"] == "b4-2-0", "phase"] = 2

@@ -10,7 +10,8 @@ import pandas as pd
 import pytest
 from conftest import rows
 
-from pitplan import MissingPackage, PlanError, commands
+import pitplan
+from pitplan import MissingPackage, PlanError
 from pitplan.cli import main
 from pitplan.stages import Shape
 
@@ -48,7 +49,7 @@ def strings_of(path):
 
 @pytest.mark.parametrize("name", ["phase", "year"])
 def test_strings_go_round_what_is_dug_on_each_bench(folder, name):
-    path = commands.export(folder, "str", shape=Shape(name))
+    path = pitplan.export(folder, "str", shape=Shape(name))
     assert path == folder / f"lines-{name}s.str"
     areas = defaultdict(float)
     for string in strings_of(path):
@@ -63,7 +64,7 @@ def test_strings_go_round_what_is_dug_on_each_bench(folder, name):
 
 
 def test_a_table_has_the_same_lines(folder):
-    table = pd.read_csv(commands.export(folder, "lines", shape=Shape("phase")))
+    table = pd.read_csv(pitplan.export(folder, "lines", shape=Shape("phase")))
     assert table.columns.tolist() == ["phase", "line", "kind", "bench", "x", "y", "z"]
     areas = defaultdict(float)
     for (number, _, kind, bench), line in table.groupby(["phase", "line", "kind", "bench"]):
@@ -74,9 +75,9 @@ def test_a_table_has_the_same_lines(folder):
 
 def test_a_geopackage_is_read_by_gdal_and_is_the_same_each_time(folder):
     ogr = pytest.importorskip("osgeo.ogr", reason="needs the Debian package python3-gdal")
-    path = commands.export(folder, "gpkg", shape=Shape("phase"))
+    path = pitplan.export(folder, "gpkg", shape=Shape("phase"))
     before = path.read_bytes()
-    assert commands.export(folder, "gpkg", shape=Shape("phase")).read_bytes() == before
+    assert pitplan.export(folder, "gpkg", shape=Shape("phase")).read_bytes() == before
     source, areas = ogr.Open(str(path)), defaultdict(float)
     layer = source.GetLayerByName("lines")
     assert layer.GetSpatialRef() is None or layer.GetSpatialRef().IsLocal() or "ndefined" in layer.GetSpatialRef().GetName()
@@ -90,20 +91,20 @@ def test_a_geopackage_is_read_by_gdal_and_is_the_same_each_time(folder):
 def test_a_geopackage_is_one_for_those_who_read_its_tables(folder):
     """Of SQLite, with the mark of a GeoPackage and the extent of all lines."""
     pytest.importorskip("osgeo.ogr")
-    with sqlite3.connect(commands.export(folder, "gpkg", shape=Shape("year"))) as base:
+    with sqlite3.connect(pitplan.export(folder, "gpkg", shape=Shape("year"))) as base:
         assert base.execute("pragma application_id").fetchone()[0] == int.from_bytes(b"GPKG", "big")
         (name, west, south, east, north), = base.execute("select table_name, min_x, min_y, max_x, max_y from gpkg_contents").fetchall()
         count = base.execute("select count(*) from lines where kind = 'toe'").fetchone()[0]
     dug = pd.read_csv(folder / "blocks.csv").query("year > 0")
     ends = [dug["x"].min() - 5, dug["y"].min() - 5, dug["x"].max() + 5, dug["y"].max() + 5]
     assert name == "lines" and [west, south, east, north] == pytest.approx(ends)
-    assert count == sum(1 for string in strings_of(commands.export(folder, "str", shape=Shape("year"))) if string[0][4] == "toe")
+    assert count == sum(1 for string in strings_of(pitplan.export(folder, "str", shape=Shape("year"))) if string[0][4] == "toe")
 
 
 def test_a_pit_of_one_factor_by_hand(plan_folder, capsys):
     """One block of ore under one of waste: four corners on two levels, each with a toe and a crest."""
     path = plan_folder(rows(1, 1, 2, cu=lambda i, j, k: 6 if k == 0 else 0))
-    commands.write_shells(path, verifies=False)
+    pitplan.write_shells(path, writing=pitplan.Writing(verifies=False))
     assert main(["export", str(path), "--to", "str", "--factor", "1000"]) == 0
     found = path.parent / "plan" / "lines-1000.str"
     assert capsys.readouterr().out.strip() == str(found)
@@ -120,15 +121,15 @@ def test_a_pit_of_one_factor_by_hand(plan_folder, capsys):
 
 def test_an_empty_pit_has_no_lines(plan_folder):
     path = plan_folder(rows(2, 2, 2))
-    commands.write_shells(path, verifies=False)
+    pitplan.write_shells(path, writing=pitplan.Writing(verifies=False))
     for kind in ("str", "lines"):
         with pytest.raises(PlanError, match="the pit of factor 1000 is empty"):
-            commands.export(path.parent / "plan", kind)
+            pitplan.export(path.parent / "plan", kind)
     assert not list((path.parent / "plan").glob("lines-*"))
 
 
 def test_without_gdal_its_package_is_named(solved, monkeypatch):
     monkeypatch.setitem(sys.modules, "osgeo.ogr", None)
     with pytest.raises(MissingPackage, match="export --to gpkg needs the Debian package python3-gdal: apt-get install python3-gdal"):
-        commands.export(solved[1], "gpkg")
+        pitplan.export(solved[1], "gpkg")
     assert not list(solved[1].glob("lines-*"))

@@ -10,7 +10,7 @@ from hypothesis import given
 from hypothesis import strategies as st
 
 import pitplan
-from pitplan import PlanError, analyse, commands, files, money, processes, write_schedule
+from pitplan import PlanError, analyse, files, money, processes, write_schedule
 from pitplan.processes import Way, best_way, steps_of
 from pitplan.verification import verify
 
@@ -120,7 +120,7 @@ def test_the_process_of_a_block_by_hand(plan_folder, blank_pictures, grade, proc
     """Of 0.2 % leach gains 640 - 300, the mill 1440 - 1300; 0.05 % pay nowhere. Digging is demanded."""
     table = rows(1, 1, 2, cu=lambda i, j, k: 0 if k else grade, must=lambda i, j, k: 1 - k)
     path = plan_folder(table, PROJECT + '[fixed]\nforced = "must"\n', *WITH)
-    shell = commands.write_shells(path).set_index("factor").loc[1000]
+    shell = pitplan.write_shells(path).set_index("factor").loc[1000]
     blocks = pd.read_csv(path.parent / "plan" / "blocks.csv", keep_default_na=False).set_index("name")
     assert blocks["process"].tolist() == ["", process] and shell["ore_tonnes"] == ore
     assert {name: shell[f"ore_tonnes_{name}"] for name in ("leach", "mill")} == {name: ore * (name == process) for name in ("leach", "mill")}
@@ -129,7 +129,7 @@ def test_the_process_of_a_block_by_hand(plan_folder, blank_pictures, grade, proc
 def test_worth_by_hand_at_each_factor(plan_folder, blank_pictures):
     """Two blocks are dug for 400. At 0.3 leaching 768 - 300 is worth more than milling 1728 - 1300, at 0.5 milling 2880 - 1300."""
     path = plan_folder(one_column(), PROJECT, *WITH, ("[500, 1000, 1500]", "[270, 300, 500, 1000]"))
-    shells = commands.write_shells(path).set_index("factor")
+    shells = pitplan.write_shells(path).set_index("factor")
     assert [float(worth) for worth in shells["worth_at_factor"]] == [0, 768 - 700, 2880 - 1700, 5760 - 1700]
     assert shells["worth"].tolist() == [0, 4060, 4060, 4060] and shells["processed_tonnes"].tolist() == [0, 100, 100, 100]
 
@@ -148,7 +148,7 @@ MORE = [*WITH, ("mining_cost = 2\n", "mining_cost = 0.3\nmining_recovery = 0.97\
 
 def solved(plan_folder):
     path = plan_folder(deposit(), PROJECT, *MORE)
-    commands.write_shells(path, verifies=False)
+    pitplan.write_shells(path, writing=pitplan.Writing(verifies=False))
     return path.parent / "plan"
 
 

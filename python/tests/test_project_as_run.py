@@ -10,7 +10,7 @@ import pytest
 from conftest import PROJECT, rows
 
 import pitplan
-from pitplan import PlanError, Request, commands, files, load, sensitivity_pictures, verify
+from pitplan import PlanError, Request, files, load, sensitivity_pictures, verify
 from pitplan.cli import main
 
 ORE = {"cu": lambda i, j, k: {(3, 3, 1): 6, (4, 3, 1): 2.5, (3, 4, 0): 9}.get((i, j, k), 0)}
@@ -18,7 +18,7 @@ MORE = '[pushbacks]\ncount = 2\n[schedule]\nrock_per_year = 2000\n[sensitivity]\
 FIXED = '[fixed]\nforced = "due"\n'
 RUNS = {
     "shells": pitplan.write_shells,
-    "pit": lambda project, folder: pitplan.pit(project, 500, folder),
+    "pit": lambda project, folder: pitplan.write_pit(project, 500, folder),
     "pushbacks": pitplan.pushbacks,
     "schedule": pitplan.write_schedule,
     "sensitivity": pitplan.sensitivity,
@@ -110,21 +110,21 @@ def test_a_text_of_a_run_that_has_changed_is_refused(mine):
 
 def test_a_sensitivity_of_another_project_takes_no_answer_of_the_first(mine):
     path = mine()
-    first, second = (pitplan.sensitivity(project) for project in (path, dearer(load(path))))
+    first, second = (pitplan.write_sensitivity(project) for project in (path, dearer(load(path))))
     assert (first["worth"] < second["worth"]).all()
     shutil.rmtree(path.parent / "plan")
-    assert pitplan.sensitivity(dearer(load(path))).equals(second)
+    assert pitplan.write_sensitivity(dearer(load(path))).equals(second)
 
 
 def test_a_sensitivity_of_another_project_is_no_part_of_a_report(mine):
     """Though both were read from one file."""
     path = mine()
-    pitplan.sensitivity(path)
+    pitplan.write_sensitivity(path)
     pitplan.write_shells(dearer(load(path)))
     page = (path.parent / "plan" / "report.html").read_text()
     assert "is a sensitivity of other inputs (project-as-run.toml), and is left out here." in page
-    pitplan.sensitivity(dearer(load(path)))
-    commands.write_report(path.parent / "plan")
+    pitplan.write_sensitivity(dearer(load(path)))
+    pitplan.write_report(path.parent / "plan")
     assert "What it hangs on" in (path.parent / "plan" / "report.html").read_text()
 
 
@@ -132,6 +132,6 @@ def test_scenarios_are_solved_of_the_project_that_was_run(mine):
     path = mine('[scenarios]\ncolumns = { copper = "cu" }\n')
     texts = []
     for project in (load(path), dearer(load(path))):
-        pitplan.scenarios(project, path.parent / "out", Request(where="parallel"))
+        pitplan.write_scenarios(project, path.parent / "out", Request(where="parallel"))
         texts.append((path.parent / "out" / "project.toml").read_text())
     assert [re.search(r"price = (\d+)", text).group(1) for text in texts] == ["8000", "12000"]

@@ -10,7 +10,7 @@ from hypothesis import given, settings
 from hypothesis import strategies as st
 
 import pitplan
-from pitplan import PlanError, commands, files, load, phases
+from pitplan import PlanError, files, load, phases
 from pitplan.cli import main
 from pitplan.phase_rules import PhaseRules
 from pitplan.verification import verify
@@ -37,7 +37,7 @@ def blocks_of(folder):
 def test_three_shells_of_like_tonnage_are_three_phases(plan_folder):
     """The greatest factors whose shells have 200 and 400 of 600 t are 500 and 700."""
     project = load(plan_folder(pillars(), with_phases("count = 3")))
-    table = pitplan.pushbacks(project).set_index("phase")
+    table = pitplan.write_pushbacks(project).set_index("phase")
     assert table.index.tolist() == [1, 2, 3] and table["factor"].tolist() == [500, 700, 1000]
     assert table["blocks"].tolist() == [2, 2, 2] and table["tonnes"].tolist() == [200, 200, 200]
     assert table["ore_tonnes"].tolist() == [100, 100, 100] and table["strip_ratio"].tolist() == [1, 1, 1]
@@ -65,7 +65,7 @@ def test_three_shells_of_like_tonnage_are_three_phases(plan_folder):
 )
 def test_what_is_asked_for_by_count_tonnes_and_factors(plan_folder, words, factors, told):
     project = load(plan_folder(pillars(), with_phases(words)))
-    assert pitplan.pushbacks(project)["factor"].tolist() == factors
+    assert pitplan.write_pushbacks(project)["factor"].tolist() == factors
     notes = files.read_record(project.folder / "pushbacks")["notes"]
     found = [note for note in notes if note.startswith(("between the factors", "the shell of factor")) or "phases are asked for" in note]
     assert [told] == [note[: len(told)] for note in found if told in note] if told else found == []
@@ -108,7 +108,7 @@ def test_fixed_blocks_are_in_the_first_phase_and_in_none(plan_folder):
     table = pillars(must=lambda i, j, k: int((i, k) == (2, 0)), never=lambda i, j, k: int((i, k) == (0, 1)))
     text = with_phases("count = 2") + '[fixed]\nforced = "must"\nbarred = "never"\n'
     project = load(plan_folder(table, text))
-    assert pitplan.pushbacks(project)["blocks"].tolist() == [2, 2]
+    assert pitplan.write_pushbacks(project)["blocks"].tolist() == [2, 2]
     said = blocks_of(project.folder / "pushbacks")["phase"]
     assert said.to_dict() == {f"b{i}-0-{k}": [0, 2, 1][i] for i in range(3) for k in range(2)}
 
@@ -117,7 +117,7 @@ def test_rows_without_rock_join_no_pieces(plan_folder):
     """Two blocks of ore whose cones meet where the table has rows of no tonnes."""
     table = rows(7, 1, 2, cu=lambda i, j, k: 6 * ((i, k) in ((1, 0), (4, 0))), tonnes=lambda i, j, k: 100 * (k == 0))
     project = load(plan_folder(table, with_phases("factors = [1000]", PROJECT)))
-    found = pitplan.pushbacks(project)
+    found = pitplan.write_pushbacks(project)
     assert found[["blocks", "pieces"]].values.tolist() == [[2, 2]]
     assert wrong(project.folder / "pushbacks") == {}
 
@@ -127,23 +127,23 @@ def test_the_last_phase_ends_with_the_shell_that_is_selected(plan_folder):
     of best and worst case falls, and shells selects the two pillars of a lesser factor."""
     table = rows(3, 1, 2, cu=lambda i, j, k: 0 if k else [1, 0.7, 0.355][i])
     path = plan_folder(table, with_phases("count = 2", UPRIGHT.replace("[500, 1000, 1500]", "[500, 800, 1000, 1500]")))
-    commands.write_shells(path)
+    pitplan.write_shells(path)
     selected = files.read_record(path.parent / "plan")["shells"]["chosen"]
     assert selected == 800
-    assert pitplan.pushbacks(path)["factor"].tolist() == [500, 800]
+    assert pitplan.write_pushbacks(path)["factor"].tolist() == [500, 800]
     record = files.read_record(path.parent / "plan" / "pushbacks")
     assert record["shells"]["chosen"] == 800
     assert "the last phase ends with the shell of factor 800, which shells selects: [pushbacks] last names another" in record["notes"]
     # The project may name another, by the phases' key or the shells'.
     for change in (with_phases("count = 3\nlast = 1000"), with_phases("count = 3").replace("rate = 0.1", "rate = 0.1\nchosen = 1000")):
-        assert pitplan.pushbacks(plan_folder(table, change))["factor"].iloc[-1] == 1000
+        assert pitplan.write_pushbacks(plan_folder(table, change))["factor"].iloc[-1] == 1000
 
 
 def test_where_no_shell_pays_the_last_phase_is_that_of_the_price_as_given(plan_folder):
     """Each year costs more than all ore earns. A schedule that mines nothing is then the best, and an answer."""
     costs = UPRIGHT.replace("mining_cost = 2\n", "mining_cost = 2\nfixed_cost_per_year = 100_000\n").replace("[500, 1000, 1500]", "[100, 500, 1000, 1500]")
     path = plan_folder(pillars(), with_phases("count = 2", costs))
-    assert pitplan.pushbacks(path)["factor"].iloc[-1] == 1000
+    assert pitplan.write_pushbacks(path)["factor"].iloc[-1] == 1000
     told = "WARNING: no shell has a net present value above 0: the last phase ends with the shell of factor 1000"
     assert told in files.read_record(path.parent / "plan" / "pushbacks")["notes"]
     ways = pitplan.write_schedule(path).set_index("way")
@@ -174,13 +174,13 @@ def test_an_empty_pit_is_refused(plan_folder, capsys):
 )
 def test_what_is_refused(plan_folder, words, said):
     with pytest.raises(PlanError) as error:
-        pitplan.pushbacks(plan_folder(pillars(), with_phases(words)))
+        pitplan.write_pushbacks(plan_folder(pillars(), with_phases(words)))
     assert said in str(error.value) and "project.toml" in str(error.value)
 
 
 def test_a_project_that_asks_for_no_phases_is_told_so(plan_folder):
     with pytest.raises(PlanError, match="project.toml: .pushbacks. is missing"):
-        pitplan.pushbacks(plan_folder(pillars(), UPRIGHT))
+        pitplan.write_pushbacks(plan_folder(pillars(), UPRIGHT))
 
 
 def random_table(seed):
@@ -198,7 +198,7 @@ def test_phases_of_random_mines_are_closed_nested_and_even(tmp_path_factory, see
     (place / "project.toml").write_text(with_phases("count = 3\nlast = 1500", PROJECT))
     project = load(place / "project.toml")
     try:
-        table = pitplan.pushbacks(project)
+        table = pitplan.write_pushbacks(project)
     except PlanError as error:
         assert "is empty" in str(error)
         return
@@ -221,7 +221,7 @@ def divided(blank_pictures, tmp_path_factory):
     table["must"], table["never"] = (table["name"] == "b1-1-3").astype(int), (table["x"] > 100).astype(int)
     table.to_csv(place / "blocks.csv", index=False)
     (place / "project.toml").write_text(with_phases("count = 3", PROJECT) + '[fixed]\nforced = "must"\nbarred = "never"\n')
-    pitplan.pushbacks(place / "project.toml")
+    pitplan.write_pushbacks(place / "project.toml")
     return place
 
 
@@ -304,16 +304,16 @@ def test_phases_of_a_project_that_asks_for_none_are_found(copied):
 def test_nothing_is_written_where_a_phase_is_wrong(plan_folder, monkeypatch):
     """All blocks of the last phase in the first."""
     whole = phases.blocks
-    monkeypatch.setattr(commands.phasing, "blocks", lambda it: whole(it).replace({"phase": {3: 1}}))
+    monkeypatch.setattr(phases, "blocks", lambda it: whole(it).replace({"phase": {3: 1}}))
     project = load(plan_folder(pillars(), with_phases("count = 3")))
     with pytest.raises(PlanError, match="what was written is not right"):
-        pitplan.pushbacks(project)
+        pitplan.write_pushbacks(project)
     assert not (project.folder / "pushbacks" / "phases.csv").exists()
 
 
 def test_a_column_that_is_called_phase_is_kept(plan_folder):
     text = with_phases("count = 3").replace('rock = "rock"', 'rock = "phase"')
     project = load(plan_folder(pillars().rename(columns={"rock": "phase"}), text))
-    pitplan.pushbacks(project)
+    pitplan.write_pushbacks(project)
     blocks = blocks_of(project.folder / "pushbacks")
     assert sorted(set(blocks["phase"])) == [1, 2, 3] and set(blocks["planner_phase"]) == {"R"}

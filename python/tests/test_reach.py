@@ -8,7 +8,7 @@ import pytest
 from conftest import PROJECT, rows
 
 import pitplan
-from pitplan import PlanError, analyse, commands, reach
+from pitplan import PlanError, analyse, reach
 from pitplan.grid import Grid
 from pitplan.reach import Box
 from pitplan.verification import verify
@@ -119,7 +119,7 @@ def wrong(path):
 
 def test_the_second_look_agrees(plan_folder, few, blank_pictures):
     path = plan_folder(deposit(), PROJECT, ANGLES)
-    commands.write_shells(path)
+    pitplan.write_shells(path)
     assert wrong(path) == {}
     assert "reach" in {rule.name for rule in verify(path.parent / "plan")}
     assert len(pd.read_csv(path.parent / "plan" / "blocks.csv")) < 1000
@@ -127,9 +127,9 @@ def test_the_second_look_agrees(plan_folder, few, blank_pictures):
 
 def test_a_table_written_back_has_no_factor_where_it_was_left_out(plan_folder, few, blank_pictures):
     path = plan_folder(deposit(), PROJECT, ANGLES)
-    commands.write_shells(path)
+    pitplan.write_shells(path)
     blocks = pd.read_csv(path.parent / "plan" / "blocks.csv").set_index("name")
-    after = pd.read_csv(commands.export(path.parent / "plan", "table")).set_index("name")
+    after = pd.read_csv(pitplan.export(path.parent / "plan", "table")).set_index("name")
     assert after.index.tolist() == deposit()["name"].tolist()
     pd.testing.assert_series_equal(after["factor"], blocks["factor"].reindex(after.index, fill_value=0))
 
@@ -145,7 +145,7 @@ box_of = reach.box_of
 def test_ground_that_shells_need_and_is_left_out_is_found(plan_folder, few, monkeypatch, blank_pictures):
     path = plan_folder(deposit(), PROJECT, ANGLES)
     monkeypatch.setattr(reach, "box_of", narrower)
-    commands.write_shells(path, verifies=False)
+    pitplan.write_shells(path, writing=pitplan.Writing(verifies=False))
     assert "needs ground that was left out" in wrong(path)["reach"][0]
 
 
@@ -153,13 +153,13 @@ def test_ore_that_is_left_out_is_found(plan_folder, few, monkeypatch, blank_pict
     path = plan_folder(deposit().assign(cu=lambda it: it["cu"].mask(it["name"] == "b20-15-7", 20.0)), PROJECT, ANGLES)
     can_pay = reach.can_pay
     monkeypatch.setattr(reach, "can_pay", lambda model, project: can_pay(model, project)[:2])
-    commands.write_shells(path, verifies=False)
+    pitplan.write_shells(path, writing=pitplan.Writing(verifies=False))
     assert wrong(path)["reach"] == ("block b20-15-7 was left out, and pays at factor 1500",)
 
 
 def test_a_table_that_has_changed_where_it_was_left_out_is_found(plan_folder, few, blank_pictures):
     path = plan_folder(deposit(), PROJECT, ANGLES)
-    commands.write_shells(path)
+    pitplan.write_shells(path)
     file = path.parent / "blocks.csv"
     table = pd.read_csv(file)
     table[table["name"] != "b20-15-7"].to_csv(file, index=False)
@@ -176,5 +176,5 @@ def test_rows_that_are_put_together_and_cells_without_rows(plan_folder, monkeypa
     monkeypatch.setattr(pitplan.grid, "MOST_BLOCKS", 1500)
     table = deposit()
     path = plan_folder(table[~table["name"].isin(["b20-2-0", "b9-8-6"])], PROJECT, ANGLES, change)
-    commands.write_shells(path)
+    pitplan.write_shells(path)
     assert wrong(path) == {} and "reach" in {rule.name for rule in verify(path.parent / "plan")}

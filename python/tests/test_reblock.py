@@ -8,7 +8,7 @@ import pytest
 from conftest import PROJECT, rows
 
 import pitplan
-from pitplan import PlanError, commands, reblock
+from pitplan import PlanError, reblock
 from pitplan.verification import verify
 
 TWOS = ('file = "blocks.csv"', 'file = "blocks.csv"\nreblock = [2, 2, 1]')
@@ -111,7 +111,7 @@ FIXED = '[fixed]\nforced = "must"\nbarred = "never"\n'
 def solved_hill(plan_folder, blank_pictures):
     def solve():
         path = plan_folder(hill(), PROJECT + FIXED, ('file = "blocks.csv"', 'file = "blocks.csv"\nreblock = [2, 2, 2]'))
-        commands.write_shells(path, verifies=False)
+        pitplan.write_shells(path, writing=pitplan.Writing(verifies=False))
         return path.parent / "plan"
 
     return solve
@@ -178,7 +178,7 @@ def test_a_corner_that_is_no_multiple_of_the_size_is_right(plan_folder, blank_pi
     """All as it was, 5 m to the east."""
     moved = (PARENTS[0], PARENTS[1].replace("corner = [60,", "corner = [65,"))
     path = plan_folder(sub_blocks().assign(x=lambda it: it["x"] + 5), PROJECT, moved, SIZE)
-    commands.write_shells(path)
+    pitplan.write_shells(path)
     assert pd.read_csv(path.parent / "plan" / "blocks.csv")["x"].tolist() == [115, 135]
     assert [rule.name for rule in verify(path.parent / "plan") if rule.differences] == []
 

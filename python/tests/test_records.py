@@ -6,7 +6,8 @@ import re
 
 import pytest
 
-from pitplan import PlanError, commands, files, records, verification
+import pitplan
+from pitplan import PlanError, files, records, verification
 
 
 def parts_of(value, place=()):
@@ -133,7 +134,7 @@ def bends():
 def test_records_that_do_not_fit_what_stands_beside_them(solved):
     _, folder = solved
     whole = files.read_record(folder)
-    calls = (verification.verify_folder, lambda it: commands.export(it, "csv"), commands.view)
+    calls = (verification.verify_folder, lambda it: pitplan.export(it, "csv"), pitplan.view)
     refusals = 0
     for place, value in bends():
         (folder / "prepare.json").write_text(json.dumps(bent(whole, place, value) if len(place) > 1 or place[0] in whole else {**whole, place[0]: value}))

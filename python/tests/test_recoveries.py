@@ -11,7 +11,7 @@ from hypothesis import given
 from hypothesis import strategies as st
 
 import pitplan
-from pitplan import PlanError, commands, money, recoveries
+from pitplan import PlanError, money, recoveries
 from pitplan.exact import Exact
 from pitplan.money_rules import Curve
 from pitplan.recoveries import Head
@@ -114,7 +114,7 @@ def wrong(path):
 
 
 def test_the_second_look_agrees(plan_folder, blank_pictures):
-    commands.write_shells(plan_folder(deposit(), PROJECT, *TEXT))
+    pitplan.write_shells(plan_folder(deposit(), PROJECT, *TEXT))
 
 
 def at_own_grade(recovery, rock, head):
@@ -132,7 +132,7 @@ of_rows = recoveries.of_rows
 def test_a_recovery_at_another_grade_or_rounded_otherwise_is_found(plan_folder, monkeypatch, blank_pictures, name, planted):
     path = plan_folder(deposit(), PROJECT, *TEXT)
     monkeypatch.setattr(recoveries, name, planted)
-    commands.write_shells(path, verifies=False)
+    pitplan.write_shells(path, writing=pitplan.Writing(verifies=False))
     assert "money" in wrong(path)
 
 
@@ -143,7 +143,7 @@ def test_a_tail_that_is_passed_over_is_found(plan_folder, monkeypatch, blank_pic
         return weigh(frame, grid, replace(project, metals=tuple(replace(metal, fixed_tail=Decimal(0)) for metal in project.metals)), *more)
 
     monkeypatch.setattr(money, "values_of", without)
-    commands.write_shells(path, verifies=False)
+    pitplan.write_shells(path, writing=pitplan.Writing(verifies=False))
     assert "money" in wrong(path)
 
 

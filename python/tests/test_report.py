@@ -14,7 +14,7 @@ from browser import Browser, needs_chromium
 from conftest import PROJECT, rows
 
 import pitplan
-from pitplan import PlanError, commands, report_page
+from pitplan import PlanError, files, report_page
 from pitplan.cli import main
 from pitplan.verification import verify
 
@@ -78,7 +78,7 @@ def written(tmp_path_factory):
     table.to_csv(place / "blocks.csv", index=False)
     text = PROJECT.replace("[slopes]\n", GOLD).replace("[money]", '[money]\ncurrency = "EUR"') + MORE
     (place / "project.toml").write_text(text)
-    pitplan.sensitivity(place / "project.toml")
+    pitplan.write_sensitivity(place / "project.toml")
     pitplan.write_schedule(place / "project.toml")
     pitplan.write_shells(place / "project.toml")
     return place
@@ -141,7 +141,7 @@ def test_the_answer_is_the_first_that_is_told(written):
 def test_ways_are_the_sums_of_their_years(written):
     """Anew, from schedule.csv and schedule.json."""
     folder = written / "plan" / "schedule"
-    rows_of, told = pd.read_csv(folder / "schedule.csv").groupby("way"), commands.files.read_json(folder / "schedule.json")
+    rows_of, told = pd.read_csv(folder / "schedule.csv").groupby("way"), files.read_json(folder / "schedule.json")
     for way in pd.read_csv(folder / "ways.csv").itertuples():
         dug = rows_of.get_group(way.way)
         assert (way.tonnes, way.ore_tonnes) == (pytest.approx(dug["rock_tonnes"].sum()), pytest.approx(dug["ore_tonnes"].sum()))
@@ -177,9 +177,9 @@ def test_the_report_is_made_anew_with_a_sensitivity_of_the_same_inputs(copied, c
     assert main(["report", str(copied / "project.toml"), "--sensitivity", str(copied / "other")]) == 0
     page = (folder / "report.html").read_text()
     assert "What it hangs on" in page and "mining cost +10 %" in page and "Pairs of numbers are in the same file." in page
-    assert commands.files.hash_of(copied / "other" / "sensitivity.csv") in page
+    assert files.hash_of(copied / "other" / "sensitivity.csv") in page
     (copied / "other" / "tornado.png").unlink()
-    commands.write_report(folder, copied / "other")
+    pitplan.write_report(folder, copied / "other")
     assert (folder / "report.html").read_text().count("data:image/png") == page.count("data:image/png") - 1
     assert main(["report", str(copied / "project.toml"), "--sensitivity", str(copied)]) == 1
     assert f"pitplan: {copied}: has no sensitivity.json: run pitplan sensitivity first" in capsys.readouterr().err
@@ -188,17 +188,17 @@ def test_the_report_is_made_anew_with_a_sensitivity_of_the_same_inputs(copied, c
 def test_a_sensitivity_of_other_inputs_is_left_out_and_refused_where_it_is_asked_for(copied):
     project = copied / "project.toml"
     project.write_text(project.read_text().replace("mining_cost = 2", "mining_cost = 3"))
-    pitplan.write_shells(project, verifies=False)
+    pitplan.write_shells(project, writing=pitplan.Writing(verifies=False))
     page = (copied / "plan" / "report.html").read_text()
     assert "is a sensitivity of other inputs (project.toml), and is left out here." in page and "What it hangs on" not in page
     with pytest.raises(PlanError, match=r"of other inputs \(project.toml\): run pitplan sensitivity again"):
-        commands.write_report(copied / "plan", copied / "plan" / "sensitivity")
+        pitplan.write_report(copied / "plan", copied / "plan" / "sensitivity")
 
 
 @pytest.mark.parametrize("text", ["{", "{}"])
 def test_a_record_that_is_none_of_a_sensitivity_stops_no_report(copied, text):
     (copied / "plan" / "sensitivity" / "sensitivity.json").write_text(text)
-    page = commands.write_report(copied / "plan").read_text()
+    page = pitplan.write_report(copied / "plan").read_text()
     assert "and is left out here." in page and "What it hangs on" not in page
 
 
@@ -206,7 +206,7 @@ def test_a_report_of_a_project_that_has_changed_is_refused(copied):
     project = copied / "project.toml"
     project.write_text(project.read_text() + "\n# looked at\n")
     with pytest.raises(PlanError, match="project.toml: has changed since .* was written: run pitplan again"):
-        commands.write_report(copied / "plan")
+        pitplan.write_report(copied / "plan")
 
 
 @pytest.mark.parametrize("count", [12, 13, 25, 40])

@@ -15,8 +15,9 @@ from hypothesis import given
 from hypothesis import strategies as st
 
 import pitplan
-from pitplan import PlanError, analyse, commands
+from pitplan import PlanError, analyse, files
 from pitplan.project import of_data, read_schedule
+from pitplan.rounded_tables import shown
 from pitplan.run import Solution
 from pitplan.section import Section
 
@@ -291,9 +292,9 @@ def test_an_empty_pit_has_no_years():
 def test_the_file_of_years_stands_beside_the_shells(solved):
     project, folder = solved
     table = pd.read_csv(folder / "years.csv")
-    assert "years.csv" in commands.files.read_folder(folder).record["files"]
+    assert "years.csv" in files.read_folder(folder).record["files"]
     plan = pitplan.prepare(project)
-    expected = commands.shown(analyse.years(plan, pitplan.solve(plan))).assign(discounting="end_of_year")
+    expected = shown(analyse.years(plan, pitplan.solve(plan))).assign(discounting="end_of_year")
     pd.testing.assert_frame_equal(table, expected, check_dtype=False)
     shells = pd.read_csv(folder / "shells.csv").set_index("factor")
     sums = table.groupby(["case", "factor"])["discounted"].sum()

@@ -9,7 +9,8 @@ import pytest
 from conftest import PROJECT, rows
 from matplotlib.figure import Figure
 
-from pitplan import PlanError, Where, commands, load, sensitivity_pictures, varied, varied_cases
+import pitplan
+from pitplan import PlanError, Where, load, sensitivity_pictures, varied, varied_cases
 from pitplan.cli import main
 from pitplan.verification import verify_folder
 
@@ -48,7 +49,7 @@ def small(plan_folder):
 
 def test_each_number_by_hand(small):
     """What 100 t of the rich block earn in their year, and with the poor one where it pays, in two."""
-    table = by_case(commands.sensitivity(small("by = [-0.1, 0.1]")))
+    table = by_case(pitplan.write_sensitivity(small("by = [-0.1, 0.1]")))
     assert list(table.index.get_level_values(0)) == ["", *np.repeat(["price", "mining_cost", "processing_cost", "recovery", "capacity"], 2)]
     worth = {("", 0.0): 22_800, ("price", -0.1): 20_400, ("price", 0.1): 25_200 + 120, ("mining_cost", -0.1): 22_820 + 20}
     worth |= {("mining_cost", 0.1): 22_780, ("processing_cost", -0.1): 22_900 + 100, ("processing_cost", 0.1): 22_700}
@@ -64,7 +65,7 @@ def test_each_number_by_hand(small):
 
 def test_what_the_pit_as_given_earns_stands_beside_it(small):
     """The rich block alone, at the case's numbers."""
-    table = by_case(commands.sensitivity(small("by = [-0.1, 0.1]")))
+    table = by_case(pitplan.write_sensitivity(small("by = [-0.1, 0.1]")))
     kept = table.xs(("", 0.0), level=("second", "second_share"))["kept_worth"]
     assert kept["price"].tolist() == pytest.approx([20_400, 25_200]) and kept["mining_cost"].tolist() == pytest.approx([22_820, 22_780])
     assert kept["processing_cost"].tolist() == pytest.approx([22_900, 22_700]) and kept["recovery"].tolist() == pytest.approx([20_400, 25_200])
@@ -75,7 +76,7 @@ def test_what_the_pit_as_given_earns_stands_beside_it(small):
 
 def test_pairs_by_hand(small):
     """Both numbers at once; and each of a pair alone too, though it is not named by itself."""
-    table = by_case(commands.sensitivity(small('by = [-0.1, 0.1]\nvary = "price"\npairs = [["price", "mining_cost"]]')))
+    table = by_case(pitplan.write_sensitivity(small('by = [-0.1, 0.1]\nvary = "price"\npairs = [["price", "mining_cost"]]')))
     worth = table["worth"].to_dict()
     assert len(worth) == 9
     assert worth[("price", 0.1, "mining_cost", 0.1)] == pytest.approx(26_400 - 1000 - 220 + 1320 - 1220)
@@ -127,7 +128,7 @@ def test_a_case_is_the_project_with_this_number_written_there(plan_folder, tmp_p
 
 def demand_as_written(path, other, number, changes):
     """The case of a sensitivity is the project in whose text these changes were made."""
-    table = commands.sensitivity(path)
+    table = pitplan.write_sensitivity(path)
     shutil.copytree(path.parent, other, ignore=shutil.ignore_patterns("plan"))
     text = path.read_text()
     for old, new in changes:
@@ -135,7 +136,7 @@ def demand_as_written(path, other, number, changes):
         text = text.replace(old, new)
     (other / "project.toml").write_text(text)
     for row, folder in ((0, path), (1, other / "project.toml")):
-        shells = commands.write_shells(folder, verifies=False).set_index("factor").loc[1000].drop("worth_at_factor")
+        shells = pitplan.write_shells(folder, writing=pitplan.Writing(verifies=False)).set_index("factor").loc[1000].drop("worth_at_factor")
         assert table.iloc[row][shells.index].astype(float).to_dict() == pytest.approx(shells.astype(float).to_dict())
     assert table["kept_worth"].isna().tolist() == [False, number == "slopes"]
     assert table.loc[1, "npv"] != table.loc[0, "npv"]
@@ -160,8 +161,8 @@ def test_fixed_blocks_hold_in_every_case_and_ore_may_be_settled(plan_folder):
     table = rows(9, 8, 4, **RICH, must=lambda i, j, k: int((i, j, k) == (0, 0, 3)), never=lambda i, j, k: int(i == 8))
     words = '\n[fixed]\nforced = "must"\nbarred = "never"\n[sensitivity]\nby = [-0.1]\n'
     path = plan_folder(table, PROJECT + words, *MORE, ("processing_cost = 10\n", 'processing_cost = 10\ncutoff = "fixed"\n'))
-    found = commands.sensitivity(path)
-    shells = commands.write_shells(path, verifies=False).set_index("factor")
+    found = pitplan.write_sensitivity(path)
+    shells = pitplan.write_shells(path, writing=pitplan.Writing(verifies=False)).set_index("factor")
     assert found.loc[0, ["blocks", "worth"]].tolist() == pytest.approx(shells.loc[1000, ["blocks", "worth"]].tolist())
     folder = path.parent / "plan" / "sensitivity"
     blocks, record = pd.read_csv(folder / "blocks.csv"), json.loads((folder / "sensitivity.json").read_text())
@@ -174,7 +175,7 @@ def test_rows_that_are_put_together_are_varied_as_blocks(plan_folder):
     """Four blocks of 10 m in one of 20: the ore is as it would be in a table of these."""
     table = rows(8, 8, 3, cu=lambda i, j, k: 6 if (i // 2, j // 2, k) == (2, 2, 1) else 0)
     change = ('file = "blocks.csv"', 'file = "blocks.csv"\nreblock = [2, 2, 1]')
-    found = commands.sensitivity(plan_folder(table, PROJECT + '\n[sensitivity]\nby = [0.1]\nvary = "price"\n', change))
+    found = pitplan.write_sensitivity(plan_folder(table, PROJECT + '\n[sensitivity]\nby = [0.1]\nvary = "price"\n', change))
     # Four times 24,000 and 1000 for processing, and of five blocks of 400 t, of which one is over the ore, 800 each.
     assert found["worth"].tolist() == pytest.approx([4 * 24_000 - 4000 - 6 * 800, 4 * 26_400 - 4000 - 6 * 800])
 
@@ -183,11 +184,11 @@ def test_costs_by_elevation_and_walls_by_azimuth(plan_folder, tmp_path):
     walls = ("[slopes]\nlevels = 3\n", "[slopes]\nlevels = 3\n"), ('pattern = "1:5"', "azimuths = [[0, 40], [180, 50]]")
     money = ("mining_cost = 2\n", "mining_cost = 2\nmining_cost_by_elevation = [[5, 2], [35, 0]]\n"), ("rate = 0.1", "rate = 0.1\nchosen = 1000")
     path = plan_folder(rows(9, 8, 4, **RICH), PROJECT + '\n[sensitivity]\nby = [0.1]\nvary = ["mining_cost", "slopes"]\n', *walls, *money)
-    table = commands.sensitivity(path)
+    table = pitplan.write_sensitivity(path)
     text = path.read_text().replace("mining_cost = 2\n", "mining_cost = 2.2\n").replace("[5, 2]", "[5, 2.2]")
     for row, changed in ((1, text), (2, path.read_text().replace("[[0, 40], [180, 50]]", "[[0, 44], [180, 55]]"))):
         path.write_text(changed)
-        assert commands.write_shells(path, verifies=False)["worth"].iloc[1] == pytest.approx(table.loc[row, "worth"])
+        assert pitplan.write_shells(path, writing=pitplan.Writing(verifies=False))["worth"].iloc[1] == pytest.approx(table.loc[row, "worth"])
 
 
 def test_a_lower_price_of_all_is_a_lesser_factor(plan_folder):
@@ -195,8 +196,8 @@ def test_a_lower_price_of_all_is_a_lesser_factor(plan_folder):
     path = plan_folder(
         rows(9, 8, 4, **RICH), PROJECT + '\n[sensitivity]\nby = [-0.2]\nvary = "price"\n', ("factors = [500, 1000, 1500]", "factors = [640, 800]\nchosen = 800")
     )
-    table = commands.sensitivity(path)
-    shells = commands.write_shells(path, verifies=False).set_index("factor")
+    table = pitplan.write_sensitivity(path)
+    shells = pitplan.write_shells(path, writing=pitplan.Writing(verifies=False)).set_index("factor")
     assert table.loc[1, "factor"] == 800 and table.loc[1, "kept_worth"] == pytest.approx(float(shells["worth_at_factor"][800]))
     assert float(table.loc[1, "worth_at_factor"]) == pytest.approx(float(shells["worth_at_factor"][640])) and table.loc[1, "blocks"] == shells["blocks"][640]
 
@@ -205,13 +206,13 @@ def test_what_has_an_answer_is_not_solved_again(small, monkeypatch):
     path, solved = small("by = [0.1]"), []
     find = varied_cases.find
     monkeypatch.setattr(varied_cases, "find", lambda *words: solved.append(words) or find(*words))
-    first = commands.sensitivity(path)
+    first = pitplan.write_sensitivity(path)
     assert len(solved) == 6
     monkeypatch.chdir(path.parent)
-    second = commands.sensitivity("project.toml")
+    second = pitplan.write_sensitivity("project.toml")
     assert len(solved) == 6 and first.astype(str).equals(second.astype(str))
     path.write_text(path.read_text().replace("by = [0.1]", "by = [0.1, 0.2]"))
-    commands.sensitivity(path)
+    pitplan.write_sensitivity(path)
     assert len(solved) == 6 + 11, "the project's text is another"
 
 
@@ -239,12 +240,12 @@ def test_cases_over_dask_are_those_of_one_after_the_other(small, capsys):
     pytest.importorskip("distributed")
     path = small('by = [-0.1, 0.1]\nvary = ["price", "capacity"]')
     assert main(["sensitivity", str(path), "--quiet", "--on", "local", "--workers", "1", "--out", str(path.parent / "dask")]) == 0
-    commands.sensitivity(path, path.parent / "one", verifies=False)
+    pitplan.write_sensitivity(path, path.parent / "one", writing=pitplan.Writing(verifies=False))
     assert (path.parent / "dask" / "sensitivity.csv").read_bytes() == (path.parent / "one" / "sensitivity.csv").read_bytes()
     assert len(list((path.parent / "dask" / "cases").iterdir())) == 5
     path.write_text(path.read_text().replace("[-0.1, 0.1]", "[-0.9999]"))
     with pytest.raises(PlanError, match="are the capacities in tonnes a year"):
-        commands.sensitivity(path, path.parent / "dask", Where("local", 1))
+        pitplan.write_sensitivity(path, path.parent / "dask", Where("local", 1))
 
 
 def test_cases_are_solved_here_or_over_dask_alone(small, capsys):
@@ -283,7 +284,7 @@ def test_what_is_refused(small, words, said):
 def test_walls_that_no_share_allows_are_refused(plan_folder):
     path = plan_folder(rows(5, 3, 1, **ORE), PROJECT + "\n[sensitivity]\nby = [1.1]\nvary = 'slopes'\n", ('pattern = "1:5"', "angle = 45"))
     with pytest.raises(PlanError, match="by: slopes times 2.1 leave 1 to 90 degrees"):
-        commands.sensitivity(path)
+        pitplan.write_sensitivity(path)
 
 
 def test_shares_have_their_ends(small):
@@ -299,7 +300,7 @@ def answered(tmp_path_factory, undrawn):
         text = text.replace(old, new)
     (place / "project.toml").write_text(text)
     rows(8, 7, 4, **RICH).to_csv(place / "blocks.csv", index=False)
-    commands.sensitivity(place / "project.toml")
+    pitplan.write_sensitivity(place / "project.toml")
     return place
 
 
@@ -424,7 +425,7 @@ def test_a_number_that_is_varied_otherwise_is_found(answered, tmp_path, monkeypa
     place = shutil.copytree(answered, tmp_path / "mine", ignore=shutil.ignore_patterns("plan"))
     monkeypatch.setitem(varied.VARIED, number, careless)
     with pytest.raises(PlanError, match="what was written is not right"):
-        commands.sensitivity(place / "project.toml")
+        pitplan.write_sensitivity(place / "project.toml")
     assert not (place / "plan" / "sensitivity" / "sensitivity.csv").exists()
 
 

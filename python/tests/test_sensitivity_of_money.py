@@ -9,7 +9,7 @@ from conftest import PROJECT, rows
 from test_processes import WITH
 
 import pitplan
-from pitplan import PlanError, commands, load, sensitivity_pictures, varied
+from pitplan import PlanError, load, sensitivity_pictures, varied
 from pitplan.money_rules import Curve
 
 BY = "ore_per_year = 100", "ore_per_year = 100\nchosen = 1000"
@@ -30,7 +30,7 @@ def two_blocks():
 
 def worths(path):
     """By number and share."""
-    return commands.sensitivity(path).set_index(["number", "share"])["worth"]
+    return pitplan.write_sensitivity(path).set_index(["number", "share"])["worth"]
 
 
 def test_several_processes(plan_folder):
@@ -70,7 +70,7 @@ def test_walls_of_benches(plan_folder):
     """Both looks agree of walls that are a fifth steeper and a tenth flatter than the benches' own."""
     wall = ('[[slopes.walls]]\npattern = "1:5"', "[[slopes.walls]]\nbench = { height = 20, face = 65, berm = 9 }")
     table = rows(9, 9, 3, cu=lambda i, j, k: 30 if (i, j, k) == (4, 4, 0) else 0)
-    found = commands.sensitivity(plan_folder(table, PROJECT + RULES, wall, BY)).set_index(["number", "share"])["blocks"]
+    found = pitplan.write_sensitivity(plan_folder(table, PROJECT + RULES, wall, BY)).set_index(["number", "share"])["blocks"]
     assert found[("slopes", 0.2)] < found[("", 0.0)] <= found[("slopes", -0.1)]
 
 
@@ -86,13 +86,13 @@ def test_a_model_that_is_too_large_is_refused(plan_folder, monkeypatch):
     monkeypatch.setattr(pitplan.grid, "MOST_BLOCKS", 40)
     table = rows(12, 3, 2, cu=lambda i, j, k: 9 if (i, j, k) == (2, 1, 0) else 0)
     with pytest.raises(PlanError, match="what shells can reach of it is another with each number"):
-        commands.sensitivity(plan_folder(table, PROJECT + RULES, BY))
+        pitplan.write_sensitivity(plan_folder(table, PROJECT + RULES, BY))
 
 
 def test_a_zipped_table_is_written_back(plan_folder):
     path = plan_folder(two_blocks(), PROJECT, ('"blocks.csv"', '"blocks.zip"'))
     with zipfile.ZipFile(path.parent / "blocks.zip", "w") as packed:
         packed.write(path.parent / "blocks.csv", "blocks.csv")
-    commands.write_shells(path)
-    written = pd.read_csv(commands.export(path.parent / "plan", "table"))
+    pitplan.write_shells(path)
+    written = pd.read_csv(pitplan.export(path.parent / "plan", "table"))
     assert written["name"].tolist() == two_blocks()["name"].tolist() and (written["factor"] > 0).sum() == 2

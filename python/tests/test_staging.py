@@ -10,8 +10,9 @@ import pytest
 from conftest import PROJECT, rows
 
 import pitplan
-from pitplan import PlanError, Request, Shape, commands, exports, sensitivity_pictures, staging
+from pitplan import PlanError, Request, Shape, exports, sensitivity_pictures, staging
 from pitplan.cli import main
+from pitplan.commands.prepare import write_plan
 
 ORE = {"cu": lambda i, j, k: {(3, 3, 1): 6, (4, 3, 1): 2.5, (3, 4, 0): 9}.get((i, j, k), 0)}
 MORE = '[pushbacks]\ncount = 2\n[schedule]\nrock_per_year = 2000\n[sensitivity]\nby = [0.1]\nvary = "price"\n[fixed]\nforced = "due"\n'
@@ -32,13 +33,13 @@ def mine(plan_folder):
 
 
 RUNS = {
-    "prepare": lambda path, folder: commands.prepare(pitplan.load(path), folder, commands.silent),
-    "shells": lambda path, folder: pitplan.write_shells(path, folder, verifies=False),
-    "pit": lambda path, folder: pitplan.pit(path, 1000, folder, verifies=False),
-    "pushbacks": lambda path, folder: pitplan.pushbacks(path, folder, verifies=False),
-    "schedule": lambda path, folder: pitplan.write_schedule(path, folder, verifies=False),
-    "sensitivity": lambda path, folder: pitplan.sensitivity(path, folder, verifies=False),
-    "scenarios": lambda path, folder: pitplan.scenarios(path, folder, Request(where="parallel")),
+    "prepare": lambda path, folder: write_plan(pitplan.load(path), folder),
+    "shells": lambda path, folder: pitplan.write_shells(path, folder, writing=pitplan.Writing(verifies=False)),
+    "pit": lambda path, folder: pitplan.write_pit(path, 1000, folder, writing=pitplan.Writing(verifies=False)),
+    "pushbacks": lambda path, folder: pitplan.write_pushbacks(path, folder, writing=pitplan.Writing(verifies=False)),
+    "schedule": lambda path, folder: pitplan.write_schedule(path, folder, writing=pitplan.Writing(verifies=False)),
+    "sensitivity": lambda path, folder: pitplan.write_sensitivity(path, folder, writing=pitplan.Writing(verifies=False)),
+    "scenarios": lambda path, folder: pitplan.write_scenarios(path, folder, Request(where="parallel")),
 }
 
 
@@ -131,7 +132,7 @@ def test_a_run_by_the_command_line_is_refused_by_one_in_another_process(mine, ca
 
 def test_commands_that_only_read_work_beside_a_run_and_each_other(mine):
     folder = mine.parent / "out"
-    pitplan.write_schedule(mine, folder, verifies=False)
+    pitplan.write_schedule(mine, folder, writing=pitplan.Writing(verifies=False))
     with staging.alone(folder):
         assert not any(rule.differences for rule in pitplan.verify(folder))
         for write in (pitplan.write_report, pitplan.audit, pitplan.view):
@@ -141,7 +142,7 @@ def test_commands_that_only_read_work_beside_a_run_and_each_other(mine):
 
 def test_two_audits_or_exports_into_one_folder_are_kept_apart(mine):
     folder = mine.parent / "out"
-    pitplan.write_schedule(mine, folder, verifies=False)
+    pitplan.write_schedule(mine, folder, writing=pitplan.Writing(verifies=False))
     with staging.alone(folder / "audit-500"), pytest.raises(PlanError, match=f"audit-500: {OTHER}"):
         pitplan.audit(folder, 500)
     target = folder / exports.name_of("obj", Shape("year"))
@@ -209,22 +210,22 @@ def turns(folder: Path, count: int) -> None:
 @pytest.mark.parametrize("name", ["prepare.json", "blocks.csv", "mine.prec", "shells.csv", "years.csv", "plans.png", "report.html"])
 def test_a_folder_in_place_of_a_file_is_refused_before_anything_is_replaced(mine, name):
     folder = mine.parent / "out"
-    pitplan.write_shells(mine, folder, verifies=False)
+    pitplan.write_shells(mine, folder, writing=pitplan.Writing(verifies=False))
     (folder / name).unlink(missing_ok=True)
     (folder / name).mkdir()
     before = {path.name: path.read_bytes() for path in folder.iterdir() if path.is_file()}
     mine.write_text(mine.read_text().replace("price = 8000", "price = 9000"))
     with pytest.raises(PlanError, match=rf"out/{name}: found a folder, expected a file or nothing: move it away, or give another folder by --out"):
-        pitplan.write_shells(mine, folder, verifies=False)
+        pitplan.write_shells(mine, folder, writing=pitplan.Writing(verifies=False))
     assert {path.name: path.read_bytes() for path in folder.iterdir() if path.is_file()} == before
     (folder / name).rmdir()
-    pitplan.write_shells(mine, folder, verifies=False)
+    pitplan.write_shells(mine, folder, writing=pitplan.Writing(verifies=False))
     assert (folder / "shells.csv").read_bytes() != before.get("shells.csv")
 
 
 def test_a_folder_in_place_of_an_export_is_refused(mine):
     folder = mine.parent / "out"
-    pitplan.write_shells(mine, folder, verifies=False)
+    pitplan.write_shells(mine, folder, writing=pitplan.Writing(verifies=False))
     (folder / "pit.csv").mkdir()
     with pytest.raises(PlanError, match="out/pit.csv: found a folder, expected a file or nothing"):
         pitplan.export(folder, "csv")

@@ -9,7 +9,7 @@ import pytest
 from conftest import PROJECT, rows
 
 import pitplan
-from pitplan import PlanError, analyse, commands, slopes
+from pitplan import PlanError, analyse, slopes
 from pitplan.verification import verify
 from pitplan.wall_rules import Bench
 
@@ -110,7 +110,7 @@ def wrong(path):
 @pytest.mark.parametrize("text", [f"steps = {[list(step) for step in LEANING]}", BENCH])
 def test_the_second_look_agrees(plan_folder, blank_pictures, text):
     path = plan_folder(deposit(), PROJECT, walls(text))
-    commands.write_shells(path)
+    pitplan.write_shells(path)
     assert wrong(path) == set()
     assert (pd.read_csv(path.parent / "plan" / "shells.csv")["blocks"] > 5).all()
 
@@ -118,12 +118,12 @@ def test_the_second_look_agrees(plan_folder, blank_pictures, text):
 def test_a_step_that_is_passed_over_is_found(plan_folder, monkeypatch, blank_pictures):
     path, pattern_of = plan_folder(deposit(), PROJECT, walls(f"steps = {[list(step) for step in LEANING]}")), slopes.pattern_of
     monkeypatch.setattr("pitplan.walls.pattern_of", lambda wall, *more: pattern_of(replace(wall, steps=wall.steps[1:]), *more))
-    commands.write_shells(path, verifies=False)
+    pitplan.write_shells(path, writing=pitplan.Writing(verifies=False))
     assert "walls" in wrong(path)
 
 
 def test_berms_that_are_passed_over_are_found(plan_folder, monkeypatch, blank_pictures):
     monkeypatch.setattr(Bench, "angle", property(lambda bench: bench.face))
     path = plan_folder(deposit(), PROJECT, walls(BENCH))
-    commands.write_shells(path, verifies=False)
+    pitplan.write_shells(path, writing=pitplan.Writing(verifies=False))
     assert "walls" in wrong(path)

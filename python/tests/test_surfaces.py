@@ -9,7 +9,8 @@ import pandas as pd
 import pytest
 from conftest import PROJECT, rows
 
-from pitplan import MissingPackage, PlanError, commands, surfaces
+import pitplan
+from pitplan import MissingPackage, PlanError, surfaces
 from pitplan.cli import main
 
 
@@ -47,7 +48,7 @@ def far(plan_folder):
     table = rows(9, 8, 4, cu=lambda i, j, k: ore.get((i, j, k), 0), tonnes=lambda i, j, k: 100 * int((i, j, k) != (2, 3, 3)))
     table = table.assign(x=table["x"] + 430_000.5, y=table["y"] + 6_512_000.25)
     path = plan_folder(table)
-    commands.write_shells(path, verifies=False)
+    pitplan.write_shells(path, writing=pitplan.Writing(verifies=False))
     return path
 
 
@@ -70,9 +71,9 @@ def test_a_surface_holds_what_its_blocks_do(far, capsys, kind, factor):
 def test_an_empty_pit_has_no_surface(plan_folder):
     pytest.importorskip("vtk")
     path = plan_folder(rows(3, 3, 2), PROJECT)
-    commands.write_shells(path, verifies=False)
+    pitplan.write_shells(path, writing=pitplan.Writing(verifies=False))
     with pytest.raises(PlanError, match="the pit of factor 1000 is empty: it has no surface"):
-        commands.export(path.parent / "plan", "stl")
+        pitplan.export(path.parent / "plan", "stl")
     assert not (path.parent / "plan" / "pit-1000.stl").exists()
 
 
@@ -86,11 +87,11 @@ def test_a_surface_that_holds_something_else_is_not_kept(far, monkeypatch):
 
     monkeypatch.setattr(surfaces, "round_cells", higher)
     with pytest.raises(PlanError, match=r"pit-500.obj: \d+ triangles hold 18,036 m3, and the 18 blocks 18,000 m3: please report this"):
-        commands.export(far.parent / "plan", "obj", 500)
+        pitplan.export(far.parent / "plan", "obj", 500)
     assert not (far.parent / "plan" / "pit-500.obj").exists()
 
 
 def test_a_missing_library_is_named(far, monkeypatch):
     monkeypatch.setitem(sys.modules, "vtk", None)
     with pytest.raises(MissingPackage, match="export --to stl needs the Debian package python3-vtk9"):
-        commands.export(far.parent / "plan", "stl")
+        pitplan.export(far.parent / "plan", "stl")

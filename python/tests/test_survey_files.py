@@ -11,7 +11,8 @@ from ezdxf.render import MeshBuilder
 from osgeo import gdal, ogr, osr
 from test_verify import looked_at
 
-from pitplan import PlanError, commands, fixed, load, prepare, survey_files, terrain
+import pitplan
+from pitplan import PlanError, fixed, load, prepare, survey_files, terrain
 from pitplan.survey_rules import SurveyFile
 
 gdal.UseExceptions()
@@ -220,8 +221,8 @@ def test_strings_have_north_before_east(tmp_path):
 def test_strings_that_are_written_are_read(plan_folder, tmp_path, blank_pictures):
     """The toes and crests of a pit, which the export has in two forms."""
     path = plan_folder(rows(7, 7, 3, cu=lambda i, j, k: 9 * ((i, j, k) == (3, 3, 1))), PROJECT)
-    commands.write_shells(path)
-    strings, table = (commands.export(path.parent / "plan", kind) for kind in ("str", "lines"))
+    pitplan.write_shells(path)
+    strings, table = (pitplan.export(path.parent / "plan", kind) for kind in ("str", "lines"))
     expected = pd.read_csv(table)[["x", "y", "z"]].to_numpy()
     assert sorted(map(tuple, read(strings, "*").points)) == sorted(map(tuple, expected)) and len(expected) > 8
     assert len(areas(strings, "*").polygons) > 1

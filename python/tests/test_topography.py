@@ -12,7 +12,7 @@ from test_turned import turned
 from test_verify import looked_at
 
 import pitplan
-from pitplan import PlanError, commands, files, terrain, topography
+from pitplan import PlanError, files, terrain, topography
 from pitplan.cli import main
 from pitplan.survey_files import NO_FACES, Topography
 from pitplan.verification import verify
@@ -285,7 +285,7 @@ def cut_hill(plan_folder, tmp_path):
     points = [(x, y, 25 + 0.15 * x + rng.uniform(-9, 9)) for x in range(-7, 106, 7) for y in range(-7, 96, 7)]
     pd.DataFrame(points, columns=["x", "y", "z"]).to_csv(tmp_path / "topo.csv", index=False)
     path = plan_folder(hill(), PROJECT, CUT)
-    commands.write_shells(path, verifies=False)
+    pitplan.write_shells(path, writing=pitplan.Writing(verifies=False))
     return path.parent / "plan"
 
 
@@ -351,7 +351,7 @@ def test_a_run_that_cuts_wrong_is_refused(plan_folder, tmp_path, monkeypatch, be
     else:
         monkeypatch.setattr(terrain, "below", lambda triangles, grid: right(triangles + [0, 0, 1], grid))
     with pytest.raises(PlanError, match="topography: block "):
-        commands.write_shells(plan_folder(rows(6, 5, 3, cu=lambda i, j, k: 2), PROJECT, CUT))
+        pitplan.write_shells(plan_folder(rows(6, 5, 3, cu=lambda i, j, k: 2), PROJECT, CUT))
 
 
 @pytest.mark.usefixtures("blank_pictures")
@@ -362,7 +362,7 @@ def test_a_model_too_large_for_the_program(plan_folder, tmp_path, monkeypatch):
     table = rows(24, 20, 9, cu=lambda i, j, k: ore.get((i, j, k), 0))
     plane(tmp_path, lambda x, y: 75, [(-900, -900), (900, -900), (0, 2000)])
     path = plan_folder(table, PROJECT, CUT)
-    commands.write_shells(path)
+    pitplan.write_shells(path)
     plan = pitplan.prepare(path)
     assert plan.left_out > 1000 and plan.table["tonnes"].isin([0, 50, 100]).all()
     assert not wrong(path.parent / "plan")
@@ -376,7 +376,7 @@ def test_a_sensitivity_of_blocks_that_are_cut(plan_folder, tmp_path, monkeypatch
     plane(tmp_path, lambda x, y: 5)
     text = PROJECT.replace("ore_per_year = 100", "ore_per_year = 100\nchosen = 1000") + '[sensitivity]\nby = [0.1]\nvary = ["price"]\n'
     path = plan_folder(rows(5, 3, 1, cu=lambda i, j, k: 6 * ((i, j) == (1, 1))), text, CUT)
-    table = commands.sensitivity(path)
+    table = pitplan.write_sensitivity(path)
     # 50 t of 6 % with a recovery of a half at 8000 a tonne, with 10 for processing and 2 for mining.
     assert table["worth"].tolist() == pytest.approx([50 * (240 - 12), 50 * (264 - 12)])
     folder = path.parent / "plan" / "sensitivity"

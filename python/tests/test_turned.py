@@ -13,7 +13,7 @@ from conftest import PROJECT, rows
 from matplotlib.figure import Figure
 
 import pitplan
-from pitplan import PlanError, commands, files, map_marks, page
+from pitplan import PlanError, files, map_marks, page
 from pitplan.cli import main
 from pitplan.grid import Grid
 from pitplan.simulation import ensemble
@@ -45,7 +45,7 @@ def hill():
 def planned(plan_folder, table, text=PROJECT, *changes):
     """The folder of a plan and its blocks by name."""
     path = plan_folder(table, text, *changes)
-    commands.write_shells(path)
+    pitplan.write_shells(path)
     folder = path.parent / "plan"
     return folder, pd.read_csv(folder / "blocks.csv").set_index("name")
 
@@ -133,7 +133,7 @@ def one_block(plan_folder):
     table = rows(5, 4, 2, cu=lambda i, j, k: 6 if (i, j, k) == (2, 1, 1) else 0)
     table["x"], table["y"] = (axis.round(3) for axis in by_hand(table["x"], table["y"]))
     path = plan_folder(table)
-    commands.write_shells(path)
+    pitplan.write_shells(path)
     return path
 
 
@@ -244,7 +244,7 @@ def test_a_section_of_a_turned_model_is_asked_for_along_its_axes(one_block, plan
     table = pd.read_csv(one_block.parent / "blocks.csv")
     path = plan_folder(table, PROJECT + "[pictures]\nnorth = 5002\n")
     with pytest.raises(PlanError, match=r"\[pictures\] north: 5002 is beyond the model, from 0 to 40 m along azimuth 36.8\d*°"):
-        commands.write_shells(path)
+        pitplan.write_shells(path)
 
 
 def turned_points(points, degrees):
@@ -277,7 +277,7 @@ def test_phases_widths_and_schedules_are_those_of_the_straight_model(plan_folder
     for degrees in (0, -12.5):
         path = plan_folder(turned(ore, degrees), text, walls_at(degrees), NO_SIZE)
         folder = path.parent / f"schedule{degrees}"
-        commands.write_schedule(path, folder)
+        pitplan.write_schedule(path, folder)
         blocks = pd.read_csv(folder / "blocks.csv").set_index("name")[["phase", "year", "factor"]]
         tables.append([blocks, *(pd.read_csv(folder / name) for name in ("shells.csv", "phases.csv", "schedule.csv", "years.csv"))])
     assert tables[0][0]["phase"].nunique() == 3
@@ -295,7 +295,7 @@ def test_rows_are_put_together_along_the_grids_axes(plan_folder, one_block):
     for plan in (counts, corner):
         assert plan.grid.shape == (2, 2, 2) and np.allclose(plan.grid.origin, (1014, 5002, 15), atol=0.002)
         assert plan.table["tonnes"].tolist() == [400] * 8 and plan.table["cu"].max() == 1.5
-    commands.write_shells(plan_folder(table, PROJECT, ('region = "region"', 'region = "region"\nreblock = [2, 2, 1]')))
+    pitplan.write_shells(plan_folder(table, PROJECT, ('region = "region"', 'region = "region"\nreblock = [2, 2, 1]')))
 
 
 def test_blocks_of_cells_without_a_row_have_the_planners_centres(plan_folder, one_block):
@@ -303,7 +303,7 @@ def test_blocks_of_cells_without_a_row_have_the_planners_centres(plan_folder, on
     table = pd.read_csv(one_block.parent / "blocks.csv")
     rock = 'region = "region"\nabsent = { tonnes = 90, rock = "R", region = "1" }'
     path = plan_folder(table[table["name"] != "b3-2-0"], PROJECT, ('region = "region"', rock))
-    commands.write_shells(path)
+    pitplan.write_shells(path)
     blocks = pd.read_csv(path.parent / "plan" / "blocks.csv").set_index("name")
     added = blocks.loc[[name for name in blocks.index if name.startswith("absent-")]]
     assert added["tonnes"].tolist() == [90] and np.allclose(added[["x", "y", "z"]], [[1043, 4999, 5]], atol=0.002)
@@ -321,7 +321,7 @@ def test_a_simulated_model_is_matched_by_the_planners_centres(plan_folder, tmp_p
 @pytest.mark.usefixtures("blank_pictures")
 def test_the_second_look_sees_a_wrong_azimuth(plan_folder, tmp_path, capsys):
     path = plan_folder(turned(hill(), 30), PROJECT, walls_at(30), ("size = [10, 10, 10]", "azimuth = 30"))
-    commands.write_shells(path)
+    pitplan.write_shells(path)
     for azimuth in (-30, 30.02):
         shutil.copytree(path.parent / "plan", tmp_path / "other", dirs_exist_ok=True)
         told = tmp_path / "other" / "prepare.json"

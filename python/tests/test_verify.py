@@ -11,9 +11,10 @@ from conftest import PROJECT, rows
 from hypothesis import HealthCheck, given, settings
 from hypothesis import strategies as st
 
-from pitplan import PlanError, absent, commands, files, fixed, load, money, prepare, schedule, slopes, solve, table as tables
+import pitplan
+from pitplan import PlanError, absent, files, fixed, load, money, prepare, schedule, slopes, solve, table as tables
 from pitplan.cli import main
-from pitplan.progress import silent
+from pitplan.commands.answers import Answered, write_tables
 from pitplan.verification import answer as answers, demand, sums, verify
 from pitplan.verification.answer import read
 from pitplan.verification.money import sample
@@ -48,7 +49,7 @@ def answered(tmp_path_factory):
     deposit().to_csv(place / "blocks.csv", index=False)
     (place / "project.toml").write_text(TEXT)
     project = load(place / "project.toml")
-    commands.write_shells(project)
+    pitplan.write_shells(project)
     return place, files.read_record(project.folder)
 
 
@@ -277,7 +278,7 @@ def refused(plan_folder, table=None, text=TEXT, *changes):
     """What a run says that is refused by its second look; nothing of it stays."""
     path = plan_folder(deposit() if table is None else table, text, *changes)
     with pytest.raises(PlanError, match="what was written is not right") as said:
-        commands.write_shells(load(path), path.parent / "plan", silent)
+        pitplan.write_shells(load(path), path.parent / "plan")
     assert not (path.parent / "plan").exists()
     return str(said.value)
 
@@ -286,7 +287,7 @@ def test_a_run_reads_its_table_once_and_a_later_look_reads_it_again(plan_folder,
     """The second look of a run takes the rows as they were read, and would see what a later look sees."""
     path, reads, read_table = plan_folder(deposit(), TEXT), [], tables.read
     monkeypatch.setattr(tables, "read", lambda project: reads.append(project) or read_table(project))
-    commands.write_shells(path)
+    pitplan.write_shells(path)
     assert len(reads) == 1 and wrong(path.parent / "plan") == set() and len(reads) == 2
     table = read_table(load(path)).frame
     bent = table.assign(cu=table["cu"].where(table["cu"] < 6, 5.9))
@@ -300,7 +301,7 @@ def looked_at(plan):
     folder = plan.project.folder
     folder.mkdir(exist_ok=True)
     record = plan.record(plan.write(folder))
-    commands.write_tables(commands.Answered(plan, solve(plan)), folder)
+    write_tables(Answered(plan, solve(plan)), folder)
     record["shells"] = {"factors": list(plan.project.schedule.factors)}
     (folder / "prepare.json").write_text(json.dumps(record))
     return verify(folder, plan.project)

@@ -15,7 +15,8 @@ from test_fixed import FIXED_SECTION, ores_and_fixed, with_section
 from test_scenarios import COLUMNS, UPRIGHT, pillar, prepared, solved_in_turn
 from test_verify import looked_at, ore_everywhere, wrong
 
-from pitplan import PlanError, absent, commands, files, fixed, load, mine, prepare, simulation, terrain
+import pitplan
+from pitplan import PlanError, absent, files, fixed, load, mine, prepare, simulation, terrain
 from pitplan.progress import silent
 from pitplan.simulation import Request
 from pitplan.verification import verify
@@ -191,7 +192,7 @@ def test_points_that_make_no_triangle_demand_nothing_beside_them(plan_folder, tm
 def pits(plan_folder):
     """The folder of a pit with fixed blocks and without them."""
     project = load(plan_folder(ores_and_fixed(), with_section(FIXED_SECTION)))
-    commands.pit(project, 1500)
+    pitplan.write_pit(project, 1500)
     verified = files.read_record(project.folder / "pit")["verified"]
     assert [line.split(":")[0] for line in verified][-3:] == ["years", "conventions", "free"]
     return project.folder / "pit"
@@ -254,5 +255,5 @@ def test_a_pit_without_fixed_blocks_that_leaves_a_block_standing_is_refused(plan
     project = load(plan_folder(ores_and_fixed(), with_section(FIXED_SECTION)))
     monkeypatch.setattr(mine, "ready", partial(bent, mine.ready))
     with pytest.raises(PlanError, match="free: walls: block .*, needs a block that is not"):
-        commands.pit(project, 1500)
+        pitplan.write_pit(project, 1500)
     assert not (project.folder / "pit").exists()

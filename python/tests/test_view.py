@@ -13,7 +13,8 @@ import pandas as pd
 import pytest
 from browser import Browser, needs_chromium
 
-from pitplan import PlanError, commands, files, page as pages
+import pitplan
+from pitplan import PlanError, files, page as pages
 from pitplan.progress import silent
 
 KEPT = Path(__file__).parent / "expected" / "view.png"
@@ -23,7 +24,7 @@ KEPT = Path(__file__).parent / "expected" / "view.png"
 def page(solved_once, tmp_path_factory):
     """A page of the solved hill, and the blocks that it shows."""
     folder = shutil.copytree(solved_once.place / "plan", tmp_path_factory.mktemp("view") / "plan")
-    return commands.view(folder, silent), pd.read_csv(folder / "blocks.csv")
+    return pitplan.view(folder, silent), pd.read_csv(folder / "blocks.csv")
 
 
 @pytest.fixture(scope="module")

@@ -14,7 +14,7 @@ import numpy as np
 
 from .. import files
 from ..errors import MissingPackage, PlanError
-from ..packages import by_library
+from ..packages import load_library
 from ..picture_rules import PictureRules
 from ..pictures import also_as
 from ..progress import Progress
@@ -115,7 +115,10 @@ def gather_schedules(shared: Shared, request: Request, progress: Progress) -> Sc
     """Writes tables and the picture of the schedules of all scenarios and of the one for all, as `gather` does. Raises PlanError likewise,
     and MissingPackage without the library."""
     demand_no_factor(request)
-    block_answers = by_library("simulation.block_answers")
+    load_library("a schedule by block")
+    # Its modules import the library themselves.
+    from . import block_answers
+
     with files.staged(shared.folder) as stage:
         with progress.step(f"digging the one schedule in {len(shared.scenarios):,} scenarios"):
             schedules = block_answers.gather(shared, request.partial)

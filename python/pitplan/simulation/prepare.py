@@ -5,6 +5,7 @@ from __future__ import annotations
 import os
 from dataclasses import dataclass, replace
 from pathlib import Path
+from types import ModuleType
 from typing import Any
 
 import numpy as np
@@ -12,7 +13,7 @@ import numpy as np
 from .. import csv_file, files, pictures, project_text, summary as summaries
 from ..mine import counted_rows
 from ..money_rules import ByRegion
-from ..packages import by_library
+from ..packages import load_library
 from ..plan import Plan
 from ..progress import Progress
 from ..project import Project
@@ -37,7 +38,7 @@ class Models:
 def prepare(project: Project, folder: Path, progress: Progress, by: str = folders.PIT) -> folders.Shared:
     """Reads and checks every model, and writes what solving needs. Raises PlanError with nothing to solve written, and MissingPackage where
     blocks are to be scheduled without the library."""
-    of_blocks = by_library("simulation.block_prepare") if by == folders.BLOCK else None
+    of_blocks = block_preparation() if by == folders.BLOCK else None
     folders.demand_same_kind(folder, by)
     folders.demand_no_mine(folder)
     if of_blocks:
@@ -61,6 +62,15 @@ def prepare(project: Project, folder: Path, progress: Progress, by: str = folder
             parts["project"] |= {"factors": list(project.schedule.factors)}
             write_record(laid, keyed(laid.scenarios, project, parts), written, stage)
     return folders.read_shared(folder)
+
+
+def block_preparation() -> ModuleType:
+    """The module that prepares schedules by block. Raises MissingPackage without the library."""
+    load_library("a schedule by block")
+    # It imports the library itself, and this module.
+    from . import block_prepare
+
+    return block_prepare
 
 
 @dataclass(frozen=True)

@@ -14,7 +14,7 @@ import numpy as np
 from .. import absent, analyse, files, kept_arrays, library, mine, money, run, solver
 from ..errors import PlanError, ProgramError
 from ..files import staged_file
-from ..packages import by_library
+from ..packages import load_library
 from ..plan import Plan
 from ..run import Solution
 from ..walls import Walls
@@ -68,7 +68,7 @@ def solve(folder: str, number: int) -> Outcome:
         return Outcome(number, 0, "", 0.0)
     try:
         if shared.is_by_block:
-            by_library("simulation.block_work").write_answer(shared, scenario)
+            write_block_answer(shared, scenario)
         else:
             write_answer(shared, scenario)
     except PlanError as error:
@@ -111,6 +111,15 @@ def shells_of(shared: Shared, plan: Plan) -> Solution:
         blocks = Path(place) / files.BLOCKS
         files.write_blocks(blocks, plan.grid, plan.values.processed, nodes)
         return run.solve_files(blocks, shared.folder / files.PREC, factors)
+
+
+def write_block_answer(shared: Shared, scenario: Scenario) -> None:
+    """Makes and keeps the schedule of a scenario. Raises MissingPackage without the library, and PlanError as `block_work` does."""
+    load_library("a schedule by block")
+    # It imports the library itself, and this module.
+    from . import block_work
+
+    block_work.write_answer(shared, scenario)
 
 
 def write_answer(shared: Shared, scenario: Scenario) -> None:

@@ -1,0 +1,145 @@
+"""The answer of a plan, with pushbacks or a schedule if there are any, as tables, pictures, workbook, report and record."""
+
+from __future__ import annotations
+
+from dataclasses import dataclass
+from pathlib import Path
+from typing import TYPE_CHECKING, Optional
+
+import pandas as pd
+
+from .. import analyse, files, mine as mines, phases as phasing, report_page, workbook, yearly_schedule as scheduling
+from ..conventions import with_discounting, with_outline
+from ..mine import Mine
+from ..phases import Phases
+from ..plan import Plan
+from ..progress import Progress
+from ..rounded_tables import shown, write_csv
+from ..run import Solution
+from ..yearly_schedule import YearlySchedule
+from .drawing import draw
+from .writing import REPORT, WORKBOOK, Run, finish, note_verified, write_table
+
+if TYPE_CHECKING:
+    from ..block_schedule.result import ScheduledBlocks
+
+
+@dataclass(frozen=True)
+class Answered:
+    """The answer of a plan: its shells, and if asked for the pushbacks with their yearly schedule, or the schedule by block."""
+
+    plan: Plan
+    solution: Solution
+    phases: Optional[Phases] = None
+    schedule: Optional[YearlySchedule] = None
+    blocks: Optional[ScheduledBlocks] = None
+
+
+def write_answer(answered: Answered, run: Run) -> pd.DataFrame:
+    """Writes tables, pictures, the report and the record of an answer.
+
+    Returns
+    -------
+    DataFrame
+        One row for each shell.
+
+    Raises
+    ------
+    PlanError
+        If a result differs from its independent recalculation.
+    """
+    plan, stage, progress = answered.plan, run.stage, run.writing.progress
+    with progress.step("counting the shells"):
+        table, years = write_tables(answered, stage)
+        run.record["notes"] += analyse.edge_notes(plan, answered.solution)
+    factor = analyse.chosen_factor(table, plan.project.schedule)
+    check_fixed(run.mine, answered.solution, factor, progress)
+    note_answer(answered, factor, run)
+    note_verified(plan, run)
+    with progress.step("drawing"):
+        drawn = draw(answered, table, years, factor, stage)
+    if answered.schedule is not None:
+        with progress.step("writing the workbook"):
+            workbook.write(stage / WORKBOOK, sheets_of(answered, table, years))
+    finish(plan, run.record, [*run.mine.files, *tables_of(answered), *drawn], stage)
+    report_page.write(stage / REPORT, stage, run.project)
+    return table
+
+
+def note_answer(answered: Answered, factor: int, run: Run) -> None:
+    """Adds the parts of the answer to the record; `factor` is that of the chosen shell, in per mille."""
+    record = run.record
+    record["shells"] = {"factors": list(answered.plan.project.schedule.factors), "chosen": factor, "solver": record.pop("solver")}
+    if answered.phases is not None:
+        record["phases"] = len(answered.phases.factors)
+    if answered.schedule is not None:
+        record["schedule"] = answered.schedule.shown
+    if answered.blocks is not None:
+        record["by_block"] = True
+
+
+def check_fixed(mine: Mine, solution: Solution, factor: int, progress: Progress) -> None:
+    """Solves the whole mine with its fixed blocks at a factor, in per mille. Raises PlanError if the shell of that factor is another pit."""
+    if mine.plan.settled is None:
+        return
+    with progress.step(f"solving factor {factor} by itself, with the fixed blocks"):
+        pit = mine.pit(factor)
+    mines.demand_same(solution, pit, factor)
+
+
+def tables_of(answered: Answered) -> list[str]:
+    """The names of the tables that an answer has."""
+    names = [files.TABLE, files.SHELLS, files.YEARS, *([files.PHASES] if answered.phases else [])]
+    names += [files.SCHEDULE, files.SCHEDULE_RECORD, WORKBOOK] if answered.schedule else []
+    names += [files.BLOCK_SCHEDULE] if answered.blocks else []
+    names += [files.WAYS] if answered.schedule or answered.blocks else []
+    return [*names, files.MILLING] if answered.schedule and answered.schedule.milling else names
+
+
+def sheets_of(answered: Answered, table: pd.DataFrame, years: pd.DataFrame) -> dict[str, pd.DataFrame]:
+    """The tables of a schedule's workbook, by sheet."""
+    assert answered.phases is not None and answered.schedule is not None
+    project = answered.plan.project
+    bins = {"milling": shown(scheduling.milling(answered.schedule))} if answered.schedule.milling else {}
+    sheets = {
+        "ways": scheduling.ways(answered.schedule),
+        "schedule": shown(scheduling.table(answered.schedule)),
+        "years": shown(with_outline(years[years["factor"] == answered.schedule.factor], project)),
+        "phases": shown(phasing.table(answered.phases)),
+        "shells": shown(with_outline(table, project)),
+    }
+    return bins | {name: with_discounting(sheet, project) for name, sheet in sheets.items()}
+
+
+def write_tables(answered: Answered, stage: Path) -> tuple[pd.DataFrame, pd.DataFrame]:
+    """Writes the program's own answer, if it solved, blocks.csv, shells.csv, years.csv, of pushbacks phases.csv, and the tables of a
+    schedule; returns the tables of shells and of years."""
+    plan, solution, phases = answered.plan, answered.solution, answered.phases
+    more = None if phases is None else phases.mining_cost_added
+    table, years = analyse.shells(plan, solution, more), analyse.years(plan, solution, more)
+    if solution.answer is not None:
+        (stage / files.ANSWER).write_bytes(solution.answer)
+    blocks = analyse.blocks(plan, solution) if phases is None else phasing.blocks(phases)
+    if answered.schedule is not None:
+        blocks["year"] = scheduling.blocks_year(answered.schedule)[blocks["id"].to_numpy()]
+        years = pd.concat([years, scheduling.years(answered.schedule)], ignore_index=True)
+        write_schedule_tables(answered.schedule, plan, stage)
+    if answered.blocks is not None:
+        blocks, years = answered.blocks.beside(blocks), pd.concat([years, answered.blocks.years], ignore_index=True)
+        files.write_json(stage / files.BLOCK_SCHEDULE, answered.blocks.record)
+        write_csv(shown(answered.blocks.ways), stage / files.WAYS, plan.project)
+    write_table(blocks, stage)
+    for found, name in ((table, files.SHELLS), (years, files.YEARS)):
+        write_csv(shown(found if phases is None else with_outline(found, plan.project)), stage / name, plan.project)
+    if phases is not None:
+        shown(phasing.table(phases)).to_csv(stage / files.PHASES, index=False)
+    return table, years
+
+
+def write_schedule_tables(schedule: YearlySchedule, plan: Plan, stage: Path) -> None:
+    """Writes schedule.csv, ways.csv, schedule.json, and milling.csv if ore is divided into bins."""
+    write_csv(shown(scheduling.table(schedule)), stage / files.SCHEDULE, plan.project)
+    write_csv(shown(scheduling.ways(schedule)), stage / files.WAYS, plan.project)
+    files.write_json(stage / files.SCHEDULE_RECORD, scheduling.record(schedule))
+    if schedule.milling:
+        shown(scheduling.milling(schedule)).to_csv(stage / files.MILLING, index=False)

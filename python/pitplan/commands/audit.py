@@ -1,0 +1,32 @@
+"""`pitplan audit`: a folder by which others can check one shell."""
+
+from __future__ import annotations
+
+from .. import auditing, files, staging
+from ..noted_path import NotedPath, noted
+from ..progress import Progress, silent
+from .export import read_factor
+from .writing import Place
+
+
+def audit(folder: Place, factor: int, progress: Progress = silent) -> NotedPath:
+    """Writes a folder by which others can check the shell of a factor, in per mille, with the program and without it.
+
+    Returns
+    -------
+    NotedPath
+        The path of the folder. Its `notes` warn if another release found the shells.
+
+    Raises
+    ------
+    PlanError
+        If the folder has no shells or not this factor, the library found them and an input has changed since, or the pit that is found
+        again differs from the shell.
+    ProgramError
+        If the program refuses.
+    """
+    result = read_factor(folder, factor)
+    target = result.path / f"audit-{factor}"
+    with progress.step(f"writing {target.name}"), staging.alone(target), files.staged(target) as stage:
+        auditing.write(stage, result, factor, progress)
+    return noted(target, auditing.notes(target))

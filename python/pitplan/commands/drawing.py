@@ -1,0 +1,74 @@
+"""The pictures of an answer."""
+
+from __future__ import annotations
+
+from pathlib import Path
+from typing import TYPE_CHECKING
+
+import pandas as pd
+
+from .. import block_pictures, phase_pictures, pictures, schedule_pictures, yearly
+from .writing import BLOCK_PICTURES, PHASE_PICTURES, PICTURES, SCHEDULE_PICTURES
+
+if TYPE_CHECKING:
+    from .answers import Answered
+
+
+def draw(answered: Answered, table: pd.DataFrame, years: pd.DataFrame, chosen: int, stage: Path) -> list[str]:
+    """Draws the pictures of shells, and those of pushbacks and schedules if there are any.
+
+    Parameters
+    ----------
+    answered : Answered
+        The answer.
+    table, years : DataFrame
+        Its tables of shells and of years.
+    chosen : int
+        The factor of the chosen shell, in per mille.
+    stage : Path
+        The folder of the pictures.
+
+    Returns
+    -------
+    list of str
+        The names of the written files, in each format.
+    """
+    project = answered.plan.project
+    formats = project.pictures.formats if project.pictures else ()
+    with pictures.also_as(formats):
+        draw_shells(answered, table, chosen, stage)
+        yearly.write_years(years, project, chosen, stage / PICTURES["years"])
+        drawn = PICTURES | draw_phases(answered, stage) | draw_schedules(answered, years, stage)
+    return pictures.files_of(drawn, formats)
+
+
+def draw_shells(answered: Answered, table: pd.DataFrame, chosen: int, stage: Path) -> None:
+    plan = answered.plan
+    scene = pictures.scene_of(plan, answered.solution, chosen)
+    pictures.write_pit_by_pit(table, plan.project.money.currency, chosen, stage / PICTURES["pit_by_pit"])
+    pictures.write_plans(scene, stage / PICTURES["plans"])
+    pictures.write_sections(scene, stage / PICTURES["sections"])
+
+
+def draw_phases(answered: Answered, stage: Path) -> dict[str, str]:
+    """Draws the pushbacks, if there are any; returns the files of the pictures by name."""
+    if answered.phases is None:
+        return {}
+    scene = phase_pictures.scene_of(answered.phases)
+    phase_pictures.write_plans(scene, stage / PHASE_PICTURES["phase_plans"])
+    phase_pictures.write_sections(scene, stage / PHASE_PICTURES["phase_sections"])
+    return PHASE_PICTURES
+
+
+def draw_schedules(answered: Answered, years: pd.DataFrame, stage: Path) -> dict[str, str]:
+    """Draws the schedule of pushbacks or of blocks, if there is one; returns the files of the pictures by name."""
+    drawn: dict[str, str] = {}
+    if answered.schedule is not None:
+        drawn = SCHEDULE_PICTURES
+        schedule_pictures.write_gantt(answered.schedule, stage / drawn["schedule_gantt"])
+        schedule_pictures.write_tonnes(answered.schedule, stage / drawn["schedule_tonnes"])
+        schedule_pictures.write_cumulative(answered.schedule, years, stage / drawn["schedule_value"])
+    if answered.blocks is not None:
+        drawn = drawn | BLOCK_PICTURES
+        block_pictures.write(answered.blocks, stage / BLOCK_PICTURES["block_schedule"])
+    return drawn

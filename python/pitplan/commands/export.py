@@ -1,0 +1,64 @@
+"""`pitplan export`: the shells for other programs."""
+
+from __future__ import annotations
+
+from dataclasses import replace
+from pathlib import Path
+
+from .. import exports, files, verification
+from ..errors import PlanError
+from ..noted_path import NotedPath, noted
+from ..progress import Progress, silent
+from ..project import REFERENCE_FACTOR
+from ..stages import FACTOR, Shape
+from .writing import Place
+
+
+def export(folder: Place, kind: str, factor: int = REFERENCE_FACTOR, progress: Progress = silent, shape: Shape = Shape()) -> NotedPath:
+    """Writes the shells of a folder that `write_shells` has written for other programs.
+
+    Parameters
+    ----------
+    folder : str or Path
+        The folder of the plan.
+    kind : str
+        The format. `table` is the planner's own table, row by row, with the factors, pushback and year of each block; `xlsx` has all
+        tables; `csv`, `vti` and `vtu` hold the shells of all factors. `dxf` has the toes and crests of one shell at each level, and so do
+        `gpkg`, `str` and `lines`, in metres. `stl` and `obj` have the closed surface round its blocks.
+    factor : int
+        That of the shell, in per mille.
+    progress : Progress
+        Reports the steps.
+    shape : Shape
+        Whether all pushbacks or years are exported instead, surfaces as a file each in a folder, or the ground with the pit in it.
+
+    Returns
+    -------
+    NotedPath
+        The path of the file. Its `notes` give the change of volume if a surface was smoothed.
+
+    Raises
+    ------
+    PlanError
+        If the folder has no shells or not this factor, pushbacks or years, the format is unknown or has no such shape, or the file differs
+        from its independent recalculation.
+    MissingPackage
+        Without a library that the format requires.
+    """
+    shape = replace(shape, factor=factor)
+    exports.demand_apt(kind, shape)
+    result = read_factor(folder, factor) if shape.of == FACTOR else files.read_folder(Path(folder))
+    target = result.path / exports.name_of(kind, shape)
+    with progress.step(f"writing {target.name}"), exports.staged(target, kind, shape) as path:
+        notes = exports.WRITERS[kind](path, result, shape)
+        if kind == "table":
+            verification.demand([verification.verify_table(result.path, path)])
+    return noted(target, notes or ())
+
+
+def read_factor(folder: Place, factor: int) -> files.Folder:
+    """Reads the files of a plan. Raises PlanError if there is no shell of this factor, in per mille."""
+    result = files.read_folder(Path(folder))
+    if factor not in result.factors:
+        raise PlanError(f"factor {factor} is not among the factors {', '.join(map(str, result.factors))}")
+    return result

@@ -1,0 +1,73 @@
+"""`pitplan pit`: the pit of one factor, with the fixed blocks and without them."""
+
+from __future__ import annotations
+
+from dataclasses import replace
+from pathlib import Path
+from typing import Optional
+
+import pandas as pd
+
+from .. import absent, analyse, files, mine as mines
+from ..errors import PlanError
+from ..project import REFERENCE_FACTOR, Project
+from ..rounded_tables import shown, write_csv
+from .answers import check_fixed
+from .writing import PITS, Place, Source, Writing, begun, finish, note_verified, read, write_table
+
+
+def write_pit(
+    project: Source, factor: int = REFERENCE_FACTOR, folder: Optional[Place] = None, writing: Writing = Writing()
+) -> pd.DataFrame:
+    """Solves the pit of one factor with the project's fixed blocks and without them, as `pitplan pit` does.
+
+    The folder gets this table, blocks.csv and the record prepare.json. blocks.csv has the pit with the fixed blocks. It also has the
+    shells of the project's lower factors within that pit, which the best case mines in turn. Its columns free_factor and
+    free_process_factor have the same without the fixed blocks.
+
+    Parameters
+    ----------
+    project : Project, str or Path
+        A project, or the path of its project.toml.
+    factor : int
+        In per mille.
+    folder : str or Path, optional
+        Where the files go. Default: pit in the project's output folder.
+    writing : Writing
+        How they are written.
+
+    Returns
+    -------
+    DataFrame
+        Two rows, in which `fixed_blocks` is "kept" or "free", with the columns of `pitplan.shells`.
+
+    Raises
+    ------
+    PlanError
+        If the project has no fixed blocks, or a result differs from its independent recalculation.
+    """
+    project = read(project)
+    target = project.folder / "pit" if folder is None else Path(folder)
+    if project.fixed is None:
+        raise PlanError(f"{project.path}: [fixed] is missing: it says which blocks must be dug and which may not be")
+    planned = with_lower_factors(project, factor)
+    with begun(project, target, writing, planned) as run:
+        plan = run.mine.plan
+        keeping = mines.solve(plan, run.mine, writing.progress)
+        free = replace(run.mine.free_shells(planned.schedule.factors), of=plan.key)
+        absent.demand_known(free.entry, plan.grid, project, plan.source)
+        check_fixed(run.mine, keeping, factor, writing.progress)
+        table = pd.concat([analyse.shells(plan, solution).tail(1) for solution in (keeping, free)], ignore_index=True)
+        table.insert(0, "fixed_blocks", ["kept", "free"])
+        of_free = analyse.blocks(plan, free)[["factor", "process_factor"]].add_prefix("free_")
+        write_table(pd.concat([analyse.blocks(plan, keeping), of_free], axis=1), run.stage)
+        write_csv(shown(table), run.stage / PITS, project)
+        note_verified(plan, run)
+        finish(plan, run.record, [*run.mine.files, files.TABLE, PITS], run.stage)
+    return table
+
+
+def with_lower_factors(project: Project, factor: int) -> Project:
+    """The project with one factor, in per mille, and those of its own that are lower."""
+    within = tuple(sorted({factor, *(inner for inner in project.schedule.factors if inner < factor)}))
+    return replace(project, schedule=replace(project.schedule, factors=within, chosen=None, reference_added=False))

@@ -1,0 +1,97 @@
+"""`pitplan schedule`: a yearly schedule of pushbacks, or of blocks."""
+
+from __future__ import annotations
+
+from pathlib import Path
+from typing import Optional
+
+import pandas as pd
+
+from .. import mine as mines, phases as phasing, workbook, yearly_schedule as scheduling
+from ..packages import load_library
+from .answers import Answered, write_answer
+from .writing import Place, Source, Writing, begun, read
+
+
+def write_schedule(project: Source, folder: Optional[Place] = None, writing: Writing = Writing()) -> pd.DataFrame:
+    """Schedules the benches of pushbacks by years, as `pitplan schedule` does.
+
+    The folder gets all files that `write_pushbacks` writes, with the year of each block in blocks.csv and the years of each method in
+    years.csv. It also gets schedule.csv, schedule.json, milling.csv if ore is divided into bins, a workbook of the tables, and pictures.
+    An interruption while programmes are solved ends these only, and schedule.json records it.
+
+    Parameters
+    ----------
+    project : Project, str or Path
+        A project, or the path of its project.toml.
+    folder : str or Path, optional
+        Where the files go. Default: schedule in the project's output folder.
+    writing : Writing
+        How they are written.
+
+    Returns
+    -------
+    DataFrame
+        One row for each method: by rule, by linear programme, and if asked for by integer programme.
+
+    Raises
+    ------
+    MissingPackage
+        Without openpyxl.
+    PlanError
+        If the project has no `[pushbacks]`, the pit is empty or takes too many years, or a result differs from its independent
+        recalculation.
+    """
+    project = read(project)
+    target = project.folder / "schedule" if folder is None else Path(folder)
+    workbook.demand_library()
+    with begun(project, target, writing, phasing.ending(project)) as run:
+        phases = phasing.divide(run.mine.plan, run.mine, writing.progress)
+        schedule = scheduling.make(phases, writing.progress)
+        run.record["notes"] += [*phases.notes, *scheduling.notes(schedule)]
+        write_answer(Answered(phases.plan, phases.solution, phases, schedule), run)
+    return scheduling.ways(schedule)
+
+
+def write_block_schedule(project: Source, folder: Optional[Place] = None, writing: Writing = Writing()) -> pd.DataFrame:
+    """Schedules blocks one by one, as `pitplan schedule --by block` does, with an upper bound on the value of all such schedules.
+
+    The folder gets all files that `write_shells` writes, with the year of each block in blocks.csv and the years in years.csv, and
+    block_schedule.json. An interruption after the bound is found ends the search for better schedules only, and block_schedule.json
+    records it.
+
+    Parameters
+    ----------
+    project : Project, str or Path
+        A project, or the path of its project.toml.
+    folder : str or Path, optional
+        Where the files go. Default: block_schedule in the project's output folder.
+    writing : Writing
+        How they are written.
+
+    Returns
+    -------
+    DataFrame
+        One row: value, bound, and the optimality gap as a share of the bound.
+
+    Raises
+    ------
+    MissingPackage
+        Without the library libpitshell.so.
+    PlanError
+        If the project asks for something that no schedule by block supports, has too many blocks, or a result differs from its independent
+        recalculation.
+    """
+    load_library("a schedule by block")
+    # Its modules import the library themselves.
+    from ..block_schedule import result
+
+    project = read(project)
+    target = project.folder / "block_schedule" if folder is None else Path(folder)
+    with begun(project, target, writing) as run:
+        plan = run.mine.plan
+        solution = mines.solve(plan, run.mine, writing.progress)
+        made = result.make(plan, writing.progress)
+        run.record["notes"] += made.notes
+        write_answer(Answered(plan, solution, blocks=made), run)
+    return made.table

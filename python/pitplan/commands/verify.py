@@ -1,0 +1,25 @@
+"""`pitplan verify`: an independent recalculation of a folder."""
+
+from __future__ import annotations
+
+from pathlib import Path
+
+from .. import verification
+from ..verification import Rule
+from .writing import Place
+
+
+def verify(folder: Place) -> list[Rule]:
+    """Recalculates every number of a folder of shells, of a pit, of a sensitivity or of scenarios independently.
+
+    Returns
+    -------
+    list of Rule
+        Each with the words of the rule in `holds`, the first ten places that differ in `differences`, and their number in `count`.
+
+    Raises
+    ------
+    PlanError
+        If the folder has no answer, or the table has changed since the run.
+    """
+    return verification.verify_folder(Path(folder))

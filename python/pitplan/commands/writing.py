@@ -1,0 +1,171 @@
+"""What commands share: how they write, the names of their files, and the folder in which these are staged."""
+
+from __future__ import annotations
+
+import os
+from contextlib import contextmanager
+from dataclasses import asdict, dataclass
+from pathlib import Path
+from typing import Any, Iterator, Optional, Union
+
+import pandas as pd
+
+from .. import block_pictures, csv_file, exports, files, mine as mines, pictures, project_text
+from .. import sensitivity_files, sensitivity_pictures, staging, verification
+from ..errors import PlanError
+from ..mine import Mine
+from ..plan import Plan, prepare as prepare_plan
+from ..progress import Progress, silent
+from ..project import Project, inputs_beside, load
+from ..solver import PROGRAM, chosen
+
+# A project, or the path of its project.toml; and a folder.
+Source = Union[str, Path, Project]
+Place = Union[str, Path]
+PITS = "pits.csv"
+PICTURES = {
+    "pit_by_pit": "pit_by_pit.png",
+    "years": "years.png",
+    "plans": "plans.png",
+    "sections": "sections.png",
+}
+PHASE_PICTURES = {"phase_plans": "phase_plans.png", "phase_sections": "phase_sections.png"}
+SCHEDULE_PICTURES = {
+    "schedule_gantt": "schedule_gantt.png",
+    "schedule_tonnes": "schedule_tonnes.png",
+    "schedule_value": "schedule_value.png",
+}
+BLOCK_PICTURES = {"block_schedule": block_pictures.NAME}
+REPORT, VIEW, WORKBOOK = "report.html", "view.html", "schedule.xlsx"
+# The files that every run writes or removes.
+ALWAYS = (*files.OF_PROGRAM, files.RECORD, files.TABLE, files.AS_RUN)
+WRITTEN = {
+    *ALWAYS,
+    files.SHELLS,
+    files.YEARS,
+    files.PHASES,
+    *(files.SCHEDULE, files.SCHEDULE_RECORD, files.MILLING, WORKBOOK),
+    *(files.BLOCK_SCHEDULE, files.WAYS),
+    *(REPORT, VIEW),
+    *PICTURES.values(),
+    *PHASE_PICTURES.values(),
+    *SCHEDULE_PICTURES.values(),
+    *BLOCK_PICTURES.values(),
+}
+WRITTEN |= {PITS, *sensitivity_files.WRITTEN, *sensitivity_pictures.WRITTEN, *exports.WRITTEN}
+
+
+@dataclass(frozen=True)
+class Writing:
+    """How a command writes its folder.
+
+    Attributes
+    ----------
+    progress : Progress
+        Reports the steps; silent by default.
+    verifies : bool
+        Recalculate all results independently before they are kept.
+    """
+
+    progress: Progress = silent
+    verifies: bool = True
+
+
+@dataclass(frozen=True)
+class Run:
+    """A command at work.
+
+    Attributes
+    ----------
+    project : Project
+        The project as it was given. The plan of the mine may have other factors.
+    mine : Mine
+        The mine of the plan, ready for its solver.
+    record : dict
+        The record prepare.json as far as it is known. Commands add to it.
+    stage : Path
+        The folder in which files are written before they are moved to their place.
+    writing : Writing
+        How the folder is written.
+    """
+
+    project: Project
+    mine: Mine
+    record: dict[str, Any]
+    stage: Path
+    writing: Writing
+
+
+def read(project: Source) -> Project:
+    """Returns the project, reading its file if a path is given."""
+    return project if isinstance(project, Project) else load(project)
+
+
+def demand_apart(project: Project, folder: Path) -> None:
+    """Refuses a folder in which a file of the plan would replace an input, also of another mine, or has a folder in its place."""
+    files.demand_no_folders(folder, ALWAYS)
+    for path in (*project.inputs, *inputs_beside(folder)):
+        if path.parent.resolve() == folder.resolve() and path.name in WRITTEN:
+            raise PlanError(f"{path}: the plan would be written over it: give another folder by --out")
+
+
+@contextmanager
+def begun(project: Project, folder: Path, writing: Writing, planned: Optional[Project] = None) -> Iterator[Run]:
+    """Plans a project and yields the run, whose staged files are moved to the folder if no error is raised. The project is one of them.
+    No other run writes into the folder at the same time.
+
+    Parameters
+    ----------
+    project : Project
+        The project as it was given, which is recorded.
+    folder : Path
+        Where the files go.
+    writing : Writing
+        How they are written.
+    planned : Project, optional
+        The project that is planned, for example with other factors. Default: `project`.
+
+    Raises
+    ------
+    PlanError
+        If the input is not usable, a file would replace an input, or another run writes into the folder.
+    ProgramError
+        If there is no solver.
+    """
+    demand_apart(project, folder)
+    progress = writing.progress
+    with staging.alone(folder):
+        solver = chosen(project.solver)
+        plan = prepare_plan(planned or project, progress=progress)
+        with files.staged(folder, whole=files.OF_PROGRAM) as stage:
+            project_text.write(project, stage / files.AS_RUN, folder)
+            pictures.demand_within(project, plan.grid)
+            with progress.step("writing blocks and needs" if solver.by == PROGRAM else "listing the needs"):
+                mine = mines.ready(plan, solver, stage)
+            yield Run(project, mine, plan.record(mine.pairs) | {"solver": asdict(solver)}, stage, writing)
+
+
+def note_verified(plan: Plan, run: Run) -> None:
+    """Recalculates all staged results independently, and records the rules that hold. Raises PlanError if one does not."""
+    record, stage = run.record, run.stage
+    record["project"] = os.path.relpath(plan.project.path, stage.parent)
+    record["verified"] = []
+    if run.writing.verifies:
+        files.write_json(stage / files.RECORD, record)
+        with run.writing.progress.step("verifying"):
+            rules = verification.verify(stage, plan.project, plan.read)
+        verification.demand(rules)
+        record["verified"] = [f"{rule.name}: {rule.holds}" for rule in rules]
+
+
+def write_table(blocks: pd.DataFrame, stage: Path) -> None:
+    """Writes blocks.csv."""
+    csv_file.write(stage / files.TABLE, blocks)
+
+
+def finish(plan: Plan, record: dict[str, Any], names: list[str], stage: Path) -> dict[str, Any]:
+    """Writes the record with the hashes of the inputs, by their place relative to the project, and of the written files; returns it."""
+    record["inputs"] = files.hashes_of(plan.project.named_inputs)
+    record["files"] = files.hashes(stage, [files.AS_RUN, *names])
+    files.write_json(stage / files.RECORD, record)
+    return record
