@@ -54,8 +54,9 @@ from .mine import solve
 from .plan import Plan, prepare
 from .project import Project, load
 from .run import Solution
-from .simulation import Request, ScenarioResult
 from .simulation.on_dask import Where
+from .simulation.request import Request
+from .simulation.result import ScenarioResult
 from .stages import Shape
 from .verification import Rule
 

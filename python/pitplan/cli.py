@@ -12,14 +12,14 @@ import pandas as pd
 from minelib.__main__ import add_arguments as add_minelib
 from minelib.ending import ended, tell
 
-from . import __version__, exports, files, init, report, sensitivity_files, simulation, stages
+from . import __version__, exports, files, init, report, sensitivity_files, stages
 from .commands.audit import audit
 from .commands.export import export
 from .commands.pit import write_pit
 from .commands.prepare import write_plan
 from .commands.pushbacks import write_pushbacks
 from .commands.report import write_report
-from .commands.scenarios import gather, write_scenarios
+from .commands.scenarios import gather, solve_scenario, write_scenarios
 from .commands.schedule import write_block_schedule, write_schedule
 from .commands.sensitivity import write_sensitivity
 from .commands.shells import write_shells
@@ -33,6 +33,7 @@ from .progress import Progress, on_standard_error, silent
 from .project import REFERENCE_FACTOR, Project, load
 from .simulation.folder import BLOCK, PIT
 from .simulation.on_dask import Where
+from .simulation.request import Request
 from .solver import BY
 from .verification import demand
 
@@ -173,7 +174,7 @@ def main(arguments: Optional[Sequence[str]] = None) -> int:
 def run_subcommand(options: argparse.Namespace) -> int:
     progress = silent if getattr(options, "quiet", False) else on_standard_error()
     if options.command == "scenario":
-        outcome = simulation.one(options.folder, options.number)
+        outcome = solve_scenario(options.folder, options.number)
         if outcome.why:
             tell(f"pitplan: {outcome.why}")
         return outcome.status
@@ -274,12 +275,12 @@ def tell_verified(folder: Path) -> None:
 
 
 def run_scenarios(options: argparse.Namespace, progress: Progress) -> None:
+    writing = Writing(progress, not options.no_verify)
     if options.command == "gather":
-        request = simulation.Request(factor=options.factor, partial=options.partial, verifies=not options.no_verify)
-        result = gather(options.folder, request, progress)
+        result = gather(options.folder, Request(factor=options.factor, partial=options.partial), writing)
     else:
-        request = simulation.Request(options.on, options.workers, options.factor, options.partial, not options.no_verify, options.by)
-        result = write_scenarios(project_of(options), options.out, request, progress)
+        request = Request(options.on, options.workers, options.factor, options.partial, options.by)
+        result = write_scenarios(project_of(options), options.out, request, writing)
     tell_notes(list(result.notes))
     print(result.start or result.folder)
 

@@ -31,7 +31,7 @@ from .map_marks import axes_of_map, contours, floor_of, mark_map, mark_section_c
 from .outlines import edges
 from .picture_rules import PictureRules
 from .plan import Plan
-from .project import Metal, Project
+from .project import Metal
 from .run import Solution
 
 ORE, WASTE, GROUND = "#3b6ea5", "#cfc9bd", "#ece8df"
@@ -138,19 +138,6 @@ def scene_of(plan: Plan, solution: Solution, chosen: Optional[int] = None) -> Sc
         chosen=analyse.chosen_factor(analyse.shells(plan, solution), plan.project.schedule) if chosen is None else chosen,
         rules=rules,
     )
-
-
-def demand_within(project: Project, grid: Grid) -> None:
-    """Raises PlanError where `[pictures]` names a level or a section beyond the model."""
-    rules = project.pictures or PictureRules()
-    west, east, south, north, floor, top = grid.extent()
-    asked = (("levels", rules.levels, floor, top), ("north", (rules.north,), south, north), ("east", (rules.east,), west, east))
-    for key, values, least, most in asked:
-        for value in values:
-            if value is not None and not least <= value <= most:
-                along = dict(zip(("east", "north"), grid.frame.names)).get(key, "") if grid.azimuth else ""
-                where = f"beyond the model, from {metres(least)} to {metres(most)} m {along}".rstrip()
-                raise PlanError(f"{project.path}: [pictures] {key}: {metres(value)} is {where}")
 
 
 def place_of(coordinate: float, grid: Grid, axis: int) -> int:

@@ -20,7 +20,7 @@ from test_pushbacks import UPRIGHT
 from test_scenarios import hill, write_models
 
 import pitplan
-from pitplan import MissingPackage, PlanError, Request, gather, load, simulation, write_scenarios
+from pitplan import MissingPackage, PlanError, Request, gather, load, write_scenarios
 from pitplan.cli import main
 from pitplan.commands import answers
 from pitplan.progress import silent
@@ -42,7 +42,7 @@ FILES = ["schedules.csv", "one_schedule.csv", "one_schedule_years.csv", "quantil
 def blank_picture():
     """The picture is an empty file, but in the test that draws it."""
     with pytest.MonkeyPatch.context() as patch:
-        patch.setattr(simulation.value_pictures, "write", lambda table, currency, path: path.touch())
+        patch.setattr(value_pictures, "write", lambda table, currency, path: path.touch())
         yield
 
 
@@ -61,7 +61,7 @@ def prepared(path):
 def solved_in_turn(shared):
     outcomes = [work.solve(str(shared.folder), job.number) for job in shared.missing()]
     assert [outcome.why for outcome in outcomes] == [""] * len(outcomes)
-    simulation.gather(shared.folder, Request(), silent)
+    pitplan.gather(shared.folder)
     return shared.folder
 
 

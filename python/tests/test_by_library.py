@@ -18,7 +18,7 @@ from test_fixed import FIXED_SECTION, ores_and_fixed, with_section
 from test_scenarios import COLUMNS, PRICES, UPRIGHT, pillar
 
 import pitplan
-from pitplan import PlanError, ProgramError, files, library, load, run, simulation, solver, table as tables, varied_cases
+from pitplan import PlanError, ProgramError, files, library, load, run, solver, table as tables, varied_cases
 from pitplan.cli import main
 from pitplan.commands import answers
 from pitplan.mine import counted_rows
@@ -350,7 +350,7 @@ def test_cases_of_a_sensitivity_are_not_begun_with_another_library(plan_folder, 
 def test_jobs_name_the_solver_and_find_it(plan_folder, kind, by):
     pytest.importorskip("distributed")
     path = plan_folder(pillar(), PRICES, UPRIGHT)
-    found = simulation.solve(replace(load(path), solver=by), load(path).folder, simulation.Request(where=kind), pitplan.progress.silent)
+    found = pitplan.write_scenarios(replace(load(path), solver=by), load(path).folder, pitplan.Request(where=kind))
     named = {"library": f"PITSHELL_LIBRARY={pitshell.LIBRARY.resolve()} ", "program": f"PITSHELL={run.program().resolve()} "}
     script = (found.folder / "scenario.sh").read_text()
     assert named[by] in script

@@ -15,7 +15,7 @@ from hypothesis import strategies as st
 from test_shells import BOX, CLOSED, SMALL, best_by_trying, grades, project_of
 
 import pitplan
-from pitplan import files, fixed, load, mine, prepare, run, simulation
+from pitplan import files, fixed, load, mine, prepare, run
 from pitplan.cli import main
 from pitplan.fixed_rules import FixedRules
 from pitplan.errors import PlanError
@@ -311,7 +311,7 @@ def test_scenarios_keep_to_fixed_blocks(plan_folder, tmp_path):
     project = load(plan_folder(table, text))
     folder = project.folder / "scenarios"
     told = io.StringIO()
-    simulation.solve(project, folder, simulation.Request(workers=1), Progress(told))
+    pitplan.write_scenarios(project, folder, pitplan.Request(workers=1), pitplan.Writing(Progress(told)))
     assert "solving 2 scenarios .. 1 2 " in told.getvalue()
     likely = pd.read_csv(folder / "probability.csv")
     assert (likely.loc[likely["must"] == 1, "probability_500"] == 1).all()

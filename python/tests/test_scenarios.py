@@ -16,10 +16,12 @@ from hypothesis import given, settings
 from hypothesis import strategies as st
 from test_shells import BOX, CLOSED, best_by_trying
 
-from pitplan import MissingPackage, PlanError, ProgramError, load, simulation
+import pitplan
+from pitplan import MissingPackage, PlanError, ProgramError, Request, load
 from pitplan.cli import main, parser
 from pitplan.progress import Progress, silent
-from pitplan.simulation import Request, answers, folder as folders, job_lists, on_dask, prepare, work
+from pitplan.commands import scenario_files
+from pitplan.simulation import answers, folder as folders, job_lists, on_dask, pictures, prepare, work
 
 UPRIGHT = ('pattern = "1:5"', "angle = 90")
 COLUMNS = PROJECT + '[scenarios]\ncolumns = { copper = "sim_*" }\n'
@@ -290,7 +292,7 @@ def test_what_went_wrong_is_told_by_status(plan_folder, monkeypatch):
     monkeypatch.setattr(on_dask, "run", lambda *_: ended)
     project = load(plan_folder(pillar(), COLUMNS))
     with pytest.raises(PlanError) as said:
-        simulation.solve(project, project.folder, Request(), silent)
+        pitplan.write_scenarios(project, project.folder)
     assert str(said.value) == (
         "1 solved (status 0); 1 out of budget (status 3): sim_2: exhausted; 1 killed again and again (status 75): gone: "
         "run again, or gather the others by --partial"
@@ -301,27 +303,27 @@ def test_some_answers_are_gathered_on_request_alone(plan_folder):
     shared = prepared(plan_folder(pillar(), COLUMNS, UPRIGHT))
     assert [work.solve(str(shared.folder), number).status for number in (1, 3)] == [0, 0]
     with pytest.raises(PlanError, match="1 of 3 scenarios have no answer, first sim_2: was not solved"):
-        simulation.gather(shared.folder, Request(), silent)
-    notes = simulation.gather(shared.folder, Request(partial=True, factor=1500), silent).notes
+        pitplan.gather(shared.folder)
+    notes = pitplan.gather(shared.folder, Request(partial=True, factor=1500)).notes
     assert "WARNING: 1 scenarios have no answer and are left out of everything" in notes
     blocks = pd.read_csv(shared.folder / "probability.csv")
     assert (
         blocks["name"].tolist() == ["b0-0-2", "b0-0-1", "b0-0-0"] and blocks["probability_1500"].tolist() == [0.5] * 3
     )
-    for name in simulation.PICTURES.values():
+    for name in scenario_files.PICTURES.values():
         assert (shared.folder / name).read_bytes().startswith(b"\x89PNG")
     with pytest.raises(PlanError, match="factor 700 is not among the factors 500, 1000, 1500"):
-        simulation.gather(shared.folder, Request(factor=700), silent)
+        pitplan.gather(shared.folder, Request(factor=700))
 
 
 def test_pictures_of_scenarios_are_those_that_the_project_asks_for(plan_folder, monkeypatch):
     """Three blocks over each other: of the three levels the lowest is asked for."""
     shown = []
-    monkeypatch.setattr(simulation.pictures, "write_plans", lambda likely, path: shown.append(likely))
+    monkeypatch.setattr(pictures, "write_plans", lambda likely, path: shown.append(likely))
     shared = prepared(plan_folder(pillar(), COLUMNS + '[pictures]\nlevels = [5]\nformats = ["svg"]\n', UPRIGHT))
     solved_in_turn(shared)
-    simulation.gather(shared.folder, Request(), silent)
-    assert simulation.pictures.levels_to_show(shown[0]) == [2]
+    pitplan.gather(shared.folder)
+    assert pictures.levels_to_show(shown[0]) == [2]
     assert b"<svg" in (shared.folder / "spread.svg").read_bytes()[:500] and (shared.folder / "spread.png").is_file()
 
 
@@ -336,7 +338,7 @@ def test_the_image_has_the_probabilities_of_all_cells(plan_folder):
     vtk = pytest.importorskip("vtk", reason="needs the Debian package python3-vtk9")
     shared = prepared(plan_folder(pillar(), COLUMNS, UPRIGHT))
     gathered = solved_in_turn(shared)
-    assert simulation.write_image(shared, gathered, shared.folder) == []
+    assert scenario_files.write_image(shared, gathered, shared.folder) == []
     reader = vtk.vtkXMLImageDataReader()
     reader.SetFileName(str(shared.folder / "probability.vti"))
     reader.Update()
@@ -348,7 +350,7 @@ def test_the_image_has_the_probabilities_of_all_cells(plan_folder):
 def test_lists_of_jobs_are_shell_and_name_what_is_missing(plan_folder, kind):
     path = plan_folder(pillar(), COLUMNS, UPRIGHT)
     assert work.solve(str(prepared(path).folder), 1).status == 0
-    result = simulation.solve(load(path), load(path).folder, Request(where=kind), silent)
+    result = pitplan.write_scenarios(load(path), load(path).folder, Request(where=kind))
     folder = load(path).folder
     assert result.notes[-1] == "1 of 3 scenarios have their answer already"
     assert result.start == folder / "start.sh" and (folder / "jobs.txt").read_text() == "2\n3\n"
@@ -434,18 +436,16 @@ def test_a_missing_dask_is_named_by_its_package(plan_folder, monkeypatch):
     project = load(plan_folder(pillar(), COLUMNS))
     monkeypatch.setitem(sys.modules, "distributed", None)
     with pytest.raises(MissingPackage, match="needs the Debian package python3-distributed: apt-get install"):
-        simulation.solve(project, project.folder, Request(), silent)
+        pitplan.write_scenarios(project, project.folder)
     with pytest.raises(PlanError, match="factor 700 is not among the factors 500, 1000, 1500"):
-        simulation.solve(project, project.folder, Request(factor=700), silent)
+        pitplan.write_scenarios(project, project.folder, Request(factor=700))
 
 
 def test_a_scheduler_that_is_not_there_is_named(plan_folder):
     pytest.importorskip("distributed", reason="needs the Debian package python3-distributed")
     load(plan_folder(pillar(), COLUMNS))
     with pytest.raises(PlanError, match="nowhere://x: no Dask scheduler answers there"):
-        simulation.solve(
-            *(lambda p: (p, p.folder))(load(plan_folder(pillar(), COLUMNS))), Request("nowhere://x"), silent
-        )
+        pitplan.write_scenarios(plan_folder(pillar(), COLUMNS), request=Request("nowhere://x"))
 
 
 def likely(folder):
@@ -474,7 +474,7 @@ def test_answers_are_gathered_from_the_command_line(plan_folder, capsys):
 def test_no_lists_of_jobs_are_written_where_all_is_answered(plan_folder, kind):
     path = plan_folder(pillar(), COLUMNS, UPRIGHT)
     solved_in_turn(prepared(path))
-    result = simulation.solve(load(path), load(path).folder, Request(where=kind), silent)
+    result = pitplan.write_scenarios(load(path), load(path).folder, Request(where=kind))
     assert (result.folder, result.start) == (load(path).folder, None)
     assert result.notes[-1] == "3 of 3 scenarios have their answer already"
     assert (load(path).folder / "quantiles.csv").exists() and not (load(path).folder / "jobs.txt").exists()
@@ -562,6 +562,6 @@ def test_probabilities_are_told_without_the_image_where_vtk_is_missing(plan_fold
     shared = prepared(plan_folder(pillar(), COLUMNS, UPRIGHT))
     solved_in_turn(shared)
     monkeypatch.setitem(sys.modules, "vtk", None)
-    (note,) = simulation.gather(shared.folder, Request(), silent).notes
+    (note,) = pitplan.gather(shared.folder).notes
     assert note.startswith("probability.vti was not written: ") and "python3-vtk9" in note
     assert likely(shared.folder)[0] == pytest.approx([1 / 3, 1 / 3, 2 / 3], abs=1e-6) and not (shared.folder / "probability.vti").exists()

@@ -13,9 +13,9 @@ from test_features_together import pick, project_of, table_of
 from test_verify import TEXT
 from test_verify_scenarios import SETS, answer_of, bend, simulated
 
-from pitplan import PlanError, gather, simulation
+from pitplan import PlanError, gather
 from pitplan.cli import main
-from pitplan.simulation import block_problem, block_work, one_schedule, work
+from pitplan.simulation import block_problem, block_work, one_schedule, value_pictures, work
 from pitplan.verification import verify_folder
 from pitplan.verification.best_ore import most_earned
 
@@ -27,7 +27,7 @@ RULES = ["blocks", "absent", "levels", "scenarios", "block order", "block value"
 @pytest.fixture(scope="module", autouse=True)
 def blank_picture():
     with pytest.MonkeyPatch.context() as patch:
-        patch.setattr(simulation.value_pictures, "write", lambda table, currency, path: path.touch())
+        patch.setattr(value_pictures, "write", lambda table, currency, path: path.touch())
         yield
 
 

@@ -16,9 +16,7 @@ from test_scenarios import COLUMNS, UPRIGHT, pillar, prepared, solved_in_turn
 from test_verify import looked_at, ore_everywhere, wrong
 
 import pitplan
-from pitplan import PlanError, absent, files, fixed, load, mine, prepare, simulation, terrain
-from pitplan.progress import silent
-from pitplan.simulation import Request
+from pitplan import PlanError, absent, files, fixed, load, mine, prepare, terrain
 from pitplan.verification import verify
 
 
@@ -97,7 +95,7 @@ def test_rock_of_scenarios_that_the_project_does_not_give_is_found(plan_folder, 
     shared = prepared(path)
     solved_in_turn(shared)
     with pytest.raises(PlanError, match="absent: block absent-1: tonnes 95.0 for 90.0"):
-        simulation.gather(shared.folder, Request(), silent)
+        pitplan.gather(shared.folder)
 
 
 def with_absent(project, changed):

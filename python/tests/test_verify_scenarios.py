@@ -12,10 +12,10 @@ from hypothesis import strategies as st
 from test_scenarios import COLUMNS, MODELS, PRICES, UPRIGHT, hill, pillar, prepared, solved_in_turn, write_models
 from test_verify import TEXT, deposit
 
-from pitplan import PlanError, simulation
+import pitplan
+from pitplan import PlanError, Request
 from pitplan.cli import main
-from pitplan.progress import silent
-from pitplan.simulation import Request, ensemble, work
+from pitplan.simulation import ensemble, work
 from pitplan.verification.scenarios import Verification, verify
 from pitplan.verification.simulated import read
 
@@ -36,7 +36,7 @@ def gathered(tmp_path_factory):
     (place / "project.toml").write_text(TEXT + '[scenarios]\ncolumns = { copper = "cu_*" }\n' + SETS)
     shared = prepared(place / "project.toml")
     solved_in_turn(shared)
-    notes = simulation.gather(shared.folder, Request(), silent).notes
+    notes = pitplan.gather(shared.folder).notes
     assert not any("left out" in note for note in notes)
     return place
 
@@ -77,7 +77,7 @@ def test_what_is_right_is_told_rule_by_rule(copied, capsys):
 def test_a_run_may_leave_it_out_and_says_so(copied, capsys):
     (copied / "probability.csv").unlink()
     assert main(["gather", str(copied), "--quiet", "--no-verify"]) == 0
-    assert f"the second look was left out: pitplan verify {copied} makes up for it\n" in capsys.readouterr().err
+    assert f"the results were not verified: run pitplan verify {copied}\n" in capsys.readouterr().err
     assert json.loads((copied / "gathered.json").read_text())["verified"] == []
     assert wrong(copied) == set()
 
@@ -211,7 +211,7 @@ def test_models_of_a_folder_are_read_by_id_and_by_place(plan_folder):
     write_models(path, by_place=model[["x", "y", "z", "cu"]].sample(frac=1, random_state=2))
     folder = prepared(path).folder
     solved_in_turn(prepared(path))
-    simulation.gather(folder, Request(), silent)
+    pitplan.gather(folder)
     assert wrong(folder) == set()
     models = read(folder, folder)
     assert [models.grades(scenario.model)[:, 0].tolist() for scenario in models.scenarios] == [(np.arange(12) / 10).tolist()] * 2
@@ -234,7 +234,7 @@ def test_rows_of_a_model_that_are_taken_in_their_own_order_are_found(plan_folder
     folder = prepared(path).folder
     solved_in_turn(prepared(path))
     with pytest.raises(PlanError, match="of 1 of 1|worth: scenario 1, mixed at copper 40000: factor"):
-        simulation.gather(folder, Request(), silent)
+        pitplan.gather(folder)
     assert not (folder / "probability.csv").exists()
 
 
@@ -244,7 +244,7 @@ def test_prices_that_are_passed_over_are_found(plan_folder, monkeypatch):
     solved_in_turn(shared)
     # At 12,000 the metal of sim_1, 0.75 t, yields 4500 at factor 500, and the pit 2900.
     with pytest.raises(PlanError, match="worth: scenario 2, sim_1 at copper 12000: factor 500: worth_at_factor 1400.* for 2900"):
-        simulation.gather(shared.folder, Request(), silent)
+        pitplan.gather(shared.folder)
 
 
 def test_a_cost_that_is_counted_from_another_level_is_found(plan_folder, monkeypatch):
@@ -258,7 +258,7 @@ def test_a_cost_that_is_counted_from_another_level_is_found(plan_folder, monkeyp
     path = plan_folder(pd.concat([table, side]), *text)
     shared = prepared(path)
     solved_in_turn(shared)
-    simulation.gather(shared.folder, Request(), silent)
+    pitplan.gather(shared.folder)
     # 30 m is the top of the three blocks that ore needs, and 50 m that of the model.
     assert Verification(read(shared.folder, shared.folder)).reference == 30
     assert pd.read_csv(shared.folder / "scenarios.csv")["worth_at_factor"][1] == 4400 - 25 - 50
@@ -266,7 +266,7 @@ def test_a_cost_that_is_counted_from_another_level_is_found(plan_folder, monkeyp
     shared = prepared(path)
     solved_in_turn(shared)
     with pytest.raises(PlanError, match="worth: scenario 1, sim_1: factor 500: worth_at_factor "):
-        simulation.gather(shared.folder, Request(), silent)
+        pitplan.gather(shared.folder)
 
 
 def test_ten_scenarios_of_more_are_looked_at_evenly(plan_folder):
@@ -274,7 +274,7 @@ def test_ten_scenarios_of_more_are_looked_at_evenly(plan_folder):
     sets = "".join(f"[[scenarios.prices]]\ncopper = {price}\n" for price in (8000, 9000, 10_000, 12_000))
     shared = prepared(plan_folder(pillar(), COLUMNS + sets, UPRIGHT))
     solved_in_turn(shared)
-    simulation.gather(shared.folder, Request(), silent)
+    pitplan.gather(shared.folder)
     sample = Verification(read(shared.folder, shared.folder)).sample
     assert [scenario.number for scenario in sample] == [1, 2, 3, 5, 6, 7, 8, 10, 11, 12]
     assert all("of 10 of 12 answered scenarios: " in rule.holds for rule in verify(shared.folder) if rule.name in ("walls", "fixed", "shells", "worth"))
@@ -286,14 +286,14 @@ def test_sets_of_prices_that_name_other_metals_are_kept_apart(plan_folder):
     sets = "[[scenarios.prices]]\ncopper = 8000\n[[scenarios.prices]]\ncopper = 8000\ngold = 90\n"
     shared = prepared(plan_folder(simulated(), TEXT + '[scenarios]\ncolumns = { copper = "cu_*" }\n' + sets))
     solved_in_turn(shared)
-    simulation.gather(shared.folder, Request(), silent)
+    pitplan.gather(shared.folder)
     assert wrong(shared.folder) == set()
 
 
 def test_answers_that_were_not_gathered_are_named(plan_folder):
     shared = prepared(plan_folder(pillar(), COLUMNS, UPRIGHT))
     assert [work.solve(str(shared.folder), number).status for number in (1, 3)] == [0, 0]
-    simulation.gather(shared.folder, Request(partial=True), silent)
+    pitplan.gather(shared.folder, Request(partial=True))
     assert wrong(shared.folder) == set() and json.loads((shared.folder / "gathered.json").read_text())["answers"] == [1, 3]
     assert work.solve(str(shared.folder), 2).status == 0
     (rule,) = [rule for rule in verify(shared.folder) if rule.name == "tables"]
@@ -306,7 +306,7 @@ def test_a_density_and_ground_without_rows_are_looked_at(plan_folder):
     rock = 'density = "dens"\nvolume = "vol"\nabsent = { tonnes = 90, rock = "R", region = "1" }\nfile ='
     shared = prepared(plan_folder(table[table["name"] != "b0-0-1"], COLUMNS, UPRIGHT, ("file =", rock)))
     solved_in_turn(shared)
-    simulation.gather(shared.folder, Request(), silent)
+    pitplan.gather(shared.folder)
     assert wrong(shared.folder) == set()
     assert pd.read_csv(shared.folder / "scenarios.csv")["worth_at_factor"][0] == 1400 + 20 + 199
 
@@ -354,7 +354,7 @@ def test_random_scenarios_are_right(plan_folder, seed, cutoff, deeper):
         grades = {"cu": np.where(some[0], rng.random(len(table)).round(3) * 8, 0.0), "au": np.where(some[1] & (number > 0), 2.5, 0.0)}
         write_models(path, **{f"m{number}": table[["x", "y", "z"]].assign(**grades).sample(frac=1, random_state=number)})
     solved_in_turn(prepared(path))
-    simulation.gather(prepared(path).folder, Request(), silent)
+    pitplan.gather(prepared(path).folder)
     assert wrong(path.parent / "plan") == set()
 
 
@@ -366,7 +366,7 @@ def test_tables_and_models_that_are_gone_are_named(copied, plan_folder):
     path = plan_folder(table, MODELS)
     write_models(path, only=model)
     solved_in_turn(prepared(path))
-    simulation.gather(prepared(path).folder, Request(), silent)
+    pitplan.gather(prepared(path).folder)
     shutil.rmtree(path.parent / "models")
     with pytest.raises(PlanError, match="/models: cannot be read: No such file or directory"):
         verify(path.parent / "plan")
@@ -377,7 +377,7 @@ def test_blocks_that_come_in_at_factor_1_are_dug(plan_folder):
     changes = [UPRIGHT, ("price = 8000", "price = 8_000_000"), ("[500, 1000, 1500]", "[1, 2, 1000]")]
     shared = prepared(plan_folder(pillar(), COLUMNS, *changes))
     solved_in_turn(shared)
-    simulation.gather(shared.folder, Request(), silent)
+    pitplan.gather(shared.folder)
     assert wrong(shared.folder) == set()
     assert pd.read_csv(shared.folder / "probability.csv")["probability_1"].tolist() == pytest.approx([1 / 3] * 3, abs=1e-6)
 
@@ -390,7 +390,7 @@ def test_ore_that_pays_nothing_once_it_is_rounded_is_none(plan_folder):
     more = "mining_cost = 2\nmining_cost_per_level = 0.5\ndecimals = 2"
     shared = prepared(plan_folder(table, COLUMNS, UPRIGHT, ("price = 8000", "price = 8000.000001"), ("mining_cost = 2", more)))
     solved_in_turn(shared)
-    simulation.gather(shared.folder, Request(), silent)
+    pitplan.gather(shared.folder)
     assert shared.record["mining_cost_reference"] == 20 and wrong(shared.folder) == set()
     # 90,000 t of copper; a tonne costs 10 to process, and 2 to mine in the upper block and 2.5 in the lower.
     worth = pd.read_csv(shared.folder / "scenarios.csv").set_index("factor")["worth"]
@@ -401,7 +401,7 @@ def test_quantiles_of_one_model_are_its_own_amounts(plan_folder):
     """At factor 1000 its pit has three blocks of 100 t and is worth 4400."""
     shared = prepared(plan_folder(pillar().drop(columns=["sim_2", "sim_3"]), COLUMNS, UPRIGHT))
     solved_in_turn(shared)
-    simulation.gather(shared.folder, Request(), silent)
+    pitplan.gather(shared.folder)
     assert wrong(shared.folder) == set()
     row = pd.read_csv(shared.folder / "quantiles.csv").set_index("factor").loc[1000]
     parts = ("mean", "least", "quantile_0.1", "quantile_0.5", "quantile_0.9", "greatest")

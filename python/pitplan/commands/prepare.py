@@ -5,7 +5,8 @@ from __future__ import annotations
 from pathlib import Path
 from typing import Any
 
-from .. import files, pictures, project_text, staging
+from .. import files, project_text, staging
+from ..picture_bounds import demand_within
 from ..plan import prepare
 from ..progress import Progress, silent
 from ..project import Project
@@ -29,7 +30,7 @@ def write_plan(project: Project, folder: Path, progress: Progress = silent) -> d
     with staging.alone(folder):
         plan = prepare(project, progress=progress)
         with files.staged(folder) as stage:
-            pictures.demand_within(project, plan.grid)
+            demand_within(project, plan.grid)
             with progress.step("writing blocks and needs"):
                 pairs = plan.write(stage)
             project_text.write(project, stage / files.AS_RUN, folder)

@@ -1,19 +1,21 @@
-"""`pitplan scenarios` and `gather`: pits or schedules of simulated models at several prices."""
+"""`pitplan scenarios`, `gather` and `scenario`: pits or schedules of simulated models at several prices."""
 
 from __future__ import annotations
 
 from pathlib import Path
 from typing import Optional
 
-from .. import simulation, staging
-from ..progress import Progress, silent
-from ..simulation import Request, ScenarioResult
-from ..simulation.folder import BLOCK, FOLDERS
-from .writing import Place, Source, read
+from .. import staging
+from ..simulation import run, work
+from ..simulation.folder import BLOCK, FOLDERS, read_shared
+from ..simulation.request import Request
+from ..simulation.result import ScenarioResult
+from .scenario_files import write_pits, write_schedules
+from .writing import Place, Source, Writing, read
 
 
 def write_scenarios(
-    project: Source, folder: Optional[Place] = None, request: Request = Request(), progress: Progress = silent
+    project: Source, folder: Optional[Place] = None, request: Request = Request(), writing: Writing = Writing()
 ) -> ScenarioResult:
     """Solves simulated models at several prices, as `pitplan scenarios` does.
 
@@ -27,8 +29,8 @@ def write_scenarios(
         Where the files go. Default: scenarios in the project's output folder, or block_scenarios if the request is by block.
     request : Request
         How the scenarios are solved.
-    progress : Progress
-        Reports the steps.
+    writing : Writing
+        How the files are written.
 
     Returns
     -------
@@ -47,11 +49,23 @@ def write_scenarios(
     name = "block_scenarios" if request.by == BLOCK else "scenarios"
     target = project.folder / name if folder is None else Path(folder)
     with staging.alone(target, *FOLDERS):
-        return simulation.solve(project, target, request, progress)
+        solved = run.solve(project, target, request, writing.progress)
+        if solved.start is not None:
+            return ScenarioResult(target, solved.notes, solved.start)
+        return ScenarioResult(target, (*solved.notes, *gathered(target, request, writing)))
 
 
-def gather(folder: Place, request: Request = Request(), progress: Progress = silent) -> ScenarioResult:
-    """Writes probabilities, tables and pictures of scenarios that others have solved.
+def gather(folder: Place, request: Request = Request(), writing: Writing = Writing()) -> ScenarioResult:
+    """Writes probabilities or schedules, tables and pictures of scenarios that others have solved, as `pitplan gather` does.
+
+    Parameters
+    ----------
+    folder : str or Path
+        The folder that `write_scenarios` has prepared.
+    request : Request
+        Which of the answers are gathered.
+    writing : Writing
+        How the files are written.
 
     Returns
     -------
@@ -64,4 +78,15 @@ def gather(folder: Place, request: Request = Request(), progress: Progress = sil
         If an answer is missing, unless the request is for part of them, or a result differs from its independent recalculation.
     """
     with staging.alone(Path(folder), *FOLDERS):
-        return simulation.gather(Path(folder), request, progress)
+        return ScenarioResult(Path(folder), tuple(gathered(Path(folder), request, writing)))
+
+
+def gathered(folder: Path, request: Request, writing: Writing) -> list[str]:
+    """Gathers the answers of a folder; returns notes on them."""
+    shared = read_shared(folder)
+    return write_schedules(shared, request, writing) if shared.is_by_block else write_pits(shared, request, writing)
+
+
+def solve_scenario(folder: Place, number: int) -> work.Outcome:
+    """Solves one scenario of a folder that `write_scenarios` has prepared, counted from 1. Raises no PlanError: the outcome has the status."""
+    return work.solve(str(folder), number)

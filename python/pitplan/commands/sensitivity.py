@@ -2,13 +2,18 @@
 
 from __future__ import annotations
 
+import os
 from pathlib import Path
 from typing import Optional
 
 import pandas as pd
 
-from .. import sensitivity_files, staging, varied_cases
+from .. import csv_file, files, project_text, sensitivity_files, sensitivity_pictures, staging, varied_cases, verification
+from ..conventions import with_discounting
+from ..pictures import also_as
+from ..sensitivity_files import RECORD, TABLE
 from ..simulation.on_dask import Where
+from ..varied_cases import Case, Sensitivity
 from .writing import Place, Source, Writing, demand_apart, read
 
 
@@ -45,5 +50,42 @@ def write_sensitivity(
     target = project.folder / "sensitivity" if folder is None else Path(folder)
     demand_apart(project, target)
     with staging.alone(target, varied_cases.CASES):
-        found = varied_cases.solve(project, target, where, writing.progress)
-        return sensitivity_files.write(found, target, writing.progress, writing.verifies)
+        return write_cases(varied_cases.solve(project, target, where, writing.progress), target, writing)
+
+
+def write_cases(found: Sensitivity, folder: Path, writing: Writing) -> pd.DataFrame:
+    """Writes tables, pictures and the record of all cases into the folder of their answers.
+
+    Returns
+    -------
+    DataFrame
+        One row for each case.
+
+    Raises
+    ------
+    PlanError
+        If a result differs from its independent recalculation.
+    """
+    cases, project, progress = varied_cases.table(found), found.project, writing.progress
+    with files.staged(folder, RECORD) as stage:
+        record = sensitivity_files.record(found, os.path.relpath(project.path, folder))
+        write_tables(found, cases, stage)
+        project_text.write(found.asked, stage / files.AS_RUN, folder)
+        files.write_json(stage / RECORD, record)
+        if writing.verifies:
+            with progress.step("verifying"):
+                rules = verification.verify_sensitivity(stage, folder)
+            verification.demand(rules)
+            record["verified"] = [f"{rule.name}: {rule.holds}" for rule in rules]
+        with progress.step("drawing"), also_as(project.pictures.formats if project.pictures else ()):
+            sensitivity_pictures.write_all(cases, varied_cases.rules_of(project).pairs, project.money.currency, stage)
+        files.write_json(stage / RECORD, record)
+    return cases
+
+
+def write_tables(found: Sensitivity, cases: pd.DataFrame, stage: Path) -> None:
+    """Writes sensitivity.csv, and blocks.csv with the factor of each block in the pits of the project as given."""
+    blocks = found.plan.blocks
+    blocks["factor"] = found.answers[Case()].entry[blocks["id"].to_numpy()]
+    csv_file.write(stage / files.TABLE, blocks)
+    with_discounting(sensitivity_files.shown(cases), found.project).to_csv(stage / TABLE, index=False)

@@ -10,10 +10,11 @@ from typing import Any, Iterator, Optional, Union
 
 import pandas as pd
 
-from .. import block_pictures, csv_file, exports, files, mine as mines, pictures, project_text
+from .. import block_pictures, csv_file, exports, files, mine as mines, project_text
 from .. import sensitivity_files, sensitivity_pictures, staging, verification
 from ..errors import PlanError
 from ..mine import Mine
+from ..picture_bounds import demand_within
 from ..plan import Plan, prepare as prepare_plan
 from ..progress import Progress, silent
 from ..project import Project, inputs_beside, load
@@ -139,7 +140,7 @@ def begun(project: Project, folder: Path, writing: Writing, planned: Optional[Pr
         plan = prepare_plan(planned or project, progress=progress)
         with files.staged(folder, whole=files.OF_PROGRAM) as stage:
             project_text.write(project, stage / files.AS_RUN, folder)
-            pictures.demand_within(project, plan.grid)
+            demand_within(project, plan.grid)
             with progress.step("writing blocks and needs" if solver.by == PROGRAM else "listing the needs"):
                 mine = mines.ready(plan, solver, stage)
             yield Run(project, mine, plan.record(mine.pairs) | {"solver": asdict(solver)}, stage, writing)

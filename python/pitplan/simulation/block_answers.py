@@ -3,24 +3,19 @@
 from __future__ import annotations
 
 from dataclasses import dataclass
-from pathlib import Path
 from typing import Any
 
 import numpy as np
 import pandas as pd
 from numpy.typing import NDArray
 
-from .. import csv_file, files
-from ..conventions import with_discounting
 from ..errors import PlanError
 from ..phase_benches import ORE
-from ..plan import codes_of
 from . import answers
 from .block_problem import weights_of
 from .block_work import Kept, diggable_of, mean_of, read_answer
 from .folder import Shared
 from .one_schedule import Dug, row_of, years_of_dug
-from .result import ONE, ONE_RECORD, ONE_YEARS, QUANTILES, SCHEDULES
 from .work import plan_of
 
 SOLVED = "solved"
@@ -104,16 +99,6 @@ def quantiles(schedules: Schedules) -> pd.DataFrame:
     bound, and of what the one schedule earns."""
     table = schedules.answered
     return answers.spread_of(table, [name for name in table.columns if name.startswith("price_")], list(VALUES))
-
-
-def write(schedules: Schedules, shared: Shared, stage: Path) -> None:
-    """Writes the tables, and one_schedule.json."""
-    blocks = answers.read_blocks(shared.folder, codes_of(shared.project))
-    csv_file.write(stage / ONE, schedules.by_block(shared, blocks))
-    tables = {SCHEDULES: schedules.table, ONE_YEARS: schedules.years, QUANTILES: quantiles(schedules)}
-    for name, table in tables.items():
-        with_discounting(table, shared.project).to_csv(stage / name, index=False, float_format="%.12g")
-    files.write_json(stage / ONE_RECORD, schedules.record(shared))
 
 
 def notes(schedules: Schedules, shared: Shared) -> list[str]:

@@ -4,7 +4,6 @@ As those of a plan: each `plot_` function draws on axes that it is given, and ea
 
 from __future__ import annotations
 
-from dataclasses import dataclass
 from functools import partial
 from pathlib import Path
 from typing import Any
@@ -18,11 +17,11 @@ from matplotlib.colors import BoundaryNorm, ListedColormap, to_rgba
 from matplotlib.figure import Figure
 from matplotlib.lines import Line2D
 
-from ..grid import Grid, metres
+from ..grid import metres
 from ..map_marks import axes_of_map, mark_map, mark_section_cells, section_titles
 from ..outlines import edges
-from ..picture_rules import PictureRules
 from ..pictures import GROUND, MAP, STYLE, finish, list_of, name_axes, scaled, section_column, section_levels, section_row, write_maps
+from .likely import Likely
 
 STEPS = np.linspace(0, 1, 11)
 COLOURS = ListedColormap(matplotlib.colormaps["viridis_r"](np.linspace(0.02, 1, len(STEPS) - 1)))
@@ -38,33 +37,6 @@ SET_COLOURS = ("#0072b2", "#d55e00", "#009e73", "#aa4499", "#b58900", "#555555")
 SET_MARKS = ("o", "s", "^", "D", "v", "P")
 
 
-@dataclass(frozen=True)
-class Likely:
-    """The share of scenarios with each cell in the pit of a factor, and where there is rock, levels, rows, columns; and which levels and
-    sections are shown."""
-
-    grid: Grid
-    share: np.ndarray
-    solid: np.ndarray
-    factor: int
-    count: int
-    rules: PictureRules = PictureRules()
-
-    @property
-    def shown(self) -> np.ndarray:
-        """The shares in rock alone, 0 elsewhere."""
-        return np.where(self.solid, self.share, 0.0)
-
-    @property
-    def section_row(self) -> int:
-        """The row of blocks along which a section goes; the pit is what half of the scenarios hold."""
-        return section_row(self.rules, self.grid, self.shown >= 0.5)
-
-    @property
-    def section_column(self) -> int:
-        return section_column(self.rules, self.grid, self.shown >= 0.5)
-
-
 def write_plans(likely: Likely, path: Path) -> None:
     write_maps(likely.grid, partial(plot_plans, likely), path, 1 + len(levels_to_show(likely)))
 
@@ -78,7 +50,7 @@ def plot_plans(likely: Likely, axes: Any) -> list[Axes]:
     extent, height = (west, east, south, north), likely.grid.size[2]
     draw(first, likely.shown.max(axis=0), likely.solid.any(axis=0), extent)
     first.set_title("Any level")
-    mark_section_cells(first, likely.grid, likely.section_row, likely.section_column)
+    mark_section_cells(first, likely.grid, row_of_section(likely), column_of_section(likely))
     for ax, number in zip(others, levels):
         draw(ax, likely.shown[number], likely.solid[number], extent)
         ax.set_title(f"Level {metres(top - (number + 1) * height)} to {metres(top - number * height)} m")
@@ -103,7 +75,7 @@ def plot_sections(likely: Likely, axes: Any) -> list[Axes]:
     gives."""
     found = list_of(axes, 2)
     west, east, south, north, bottom, top = likely.grid.extent()
-    row, column = likely.section_row, likely.section_column
+    row, column = row_of_section(likely), column_of_section(likely)
     (first, second), (along, up) = section_titles(likely.grid, row, column), likely.grid.frame.names
     cuts: tuple[Any, ...] = ((slice(None, None, -1), row, slice(None)), (slice(None, None, -1), slice(None), column))
     places = (
@@ -142,6 +114,16 @@ def explain(axes: list[Axes], likely: Likely) -> None:
     ]
     figure.legend(handles=handles, ncol=3, loc="upper right", facecolor="#9a9a9a", framealpha=1)
     figure.suptitle(f"Probability of each block in the pit at factor {likely.factor}\n", x=0.01, ha="left")
+
+
+def row_of_section(likely: Likely) -> int:
+    """The row of blocks of the section from west to east; the pit is the cells that half of the scenarios hold."""
+    return section_row(likely.rules, likely.grid, likely.shown >= 0.5)
+
+
+def column_of_section(likely: Likely) -> int:
+    """As `row_of_section`, of the section from south to north."""
+    return section_column(likely.rules, likely.grid, likely.shown >= 0.5)
 
 
 def levels_to_show(likely: Likely) -> list[int]:

@@ -10,10 +10,11 @@ from typing import Any
 
 import numpy as np
 
-from .. import csv_file, files, pictures, project_text, summary as summaries
+from .. import csv_file, files, project_text, summary as summaries
 from ..mine import counted_rows
 from ..money_rules import ByRegion
 from ..packages import load_library
+from ..picture_bounds import demand_within
 from ..plan import Plan
 from ..progress import Progress
 from ..project import Project
@@ -46,7 +47,7 @@ def prepare(project: Project, folder: Path, progress: Progress, by: str = folder
     solver = chosen(LIBRARY if of_blocks else project.solver)
     with progress.step(f"reading {project.table.file}"):
         base = read_base(project)
-    pictures.demand_within(project, base.grid)
+    demand_within(project, base.grid)
     progress.lines(summaries.of_ground(base.table, base.grid, project))
     with progress.step("reading the models"):
         read = write_models(base, folder)

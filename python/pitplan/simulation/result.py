@@ -16,7 +16,7 @@ from ..picture_rules import PictureRules
 from ..plan import codes_of, shown_name
 from ..project import REFERENCE_FACTOR, load
 from . import folder as folders
-from .pictures import Likely
+from .likely import Likely
 
 PROBABILITY, IMAGE, TABLE, QUANTILES = "probability.csv", "probability.vti", "scenarios.csv", "quantiles.csv"
 # Of schedules by block those of all scenarios, and the one for all by block and by year.

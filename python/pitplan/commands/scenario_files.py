@@ -1,0 +1,161 @@
+"""The files of scenarios that are solved: tables, images, pictures, and gathered.json."""
+
+from __future__ import annotations
+
+from pathlib import Path
+from typing import TYPE_CHECKING
+
+import numpy as np
+import pandas as pd
+
+from .. import csv_file, files, verification
+from ..conventions import with_discounting
+from ..errors import MissingPackage
+from ..packages import load_library
+from ..picture_rules import PictureRules
+from ..pictures import also_as
+from ..plan import codes_of
+from ..simulation import answers, pictures, run, value_pictures
+from ..simulation.answers import Gathered
+from ..simulation.folder import Shared
+from ..simulation.likely import Likely
+from ..simulation.request import Request
+from ..simulation.result import IMAGE, ONE, ONE_RECORD, ONE_YEARS, PROBABILITY, QUANTILES, SCHEDULES, TABLE
+from ..vtk_files import write_image as write_vti
+from .writing import Writing
+
+if TYPE_CHECKING:
+    from ..simulation.block_answers import Schedules
+
+GATHERED = "gathered.json"
+PICTURES = {"plans": "probability_plans.png", "sections": "probability_sections.png", "spread": "spread.png"}
+PICTURE_OF_VALUES = "schedule_values.png"
+
+
+def write_pits(shared: Shared, request: Request, writing: Writing) -> list[str]:
+    """Writes probabilities, tables and pictures of the pits of all scenarios, and gathered.json, which lists what was verified.
+
+    Returns
+    -------
+    list of str
+        Notes for the planner.
+
+    Raises
+    ------
+    PlanError
+        If an answer is missing, or a result differs from its independent recalculation.
+    """
+    progress, factor = writing.progress, run.shown_factor(shared, request)
+    with files.staged(shared.folder) as stage:
+        with progress.step("gathering the answers"):
+            gathered = answers.gather(shared, request.partial)
+            write_tables(shared, gathered, stage)
+        notes = note_verified(shared, gathered.missing, writing, stage)
+        with progress.step("drawing"):
+            notes += write_image(shared, gathered, stage)
+            draw(shared, gathered, factor, stage)
+    return [*notes, *notes_of_missing(gathered.missing)]
+
+
+def write_schedules(shared: Shared, request: Request, writing: Writing) -> list[str]:
+    """Writes tables and the picture of the schedules of all scenarios and of the one for all; as `write_pits`.
+
+    Raises
+    ------
+    PlanError
+        As `write_pits` does.
+    MissingPackage
+        Without the library.
+    """
+    run.demand_no_factor(request)
+    load_library("a schedule by block")
+    # It imports the library itself.
+    from ..simulation import block_answers
+
+    progress = writing.progress
+    with files.staged(shared.folder) as stage:
+        with progress.step(f"digging the one schedule in {len(shared.scenarios):,} scenarios"):
+            schedules = block_answers.gather(shared, request.partial)
+            write_schedule_tables(schedules, block_answers.quantiles(schedules), shared, stage)
+        notes = block_answers.notes(schedules, shared) + note_verified(shared, schedules.missing, writing, stage)
+        with progress.step("drawing"), also_as(rules_of(shared).formats):
+            value_pictures.write(schedules.answered, shared.project.money.currency, stage / PICTURE_OF_VALUES)
+    return [*notes, *notes_of_missing(schedules.missing)]
+
+
+def rules_of(shared: Shared) -> PictureRules:
+    return shared.project.pictures or PictureRules()
+
+
+def notes_of_missing(missing: dict[int, str]) -> list[str]:
+    return [f"WARNING: {len(missing):,} scenarios have no answer and are left out of everything"] if missing else []
+
+
+def note_verified(shared: Shared, missing: dict[int, str], writing: Writing, stage: Path) -> list[str]:
+    """Recalculates the answers and their tables independently, and writes gathered.json with the rules that hold.
+
+    Returns
+    -------
+    list of str
+        A note if the recalculation was skipped.
+
+    Raises
+    ------
+    PlanError
+        If a result differs.
+    """
+    verified: list[str] = []
+    if writing.verifies:
+        with writing.progress.step("verifying"):
+            rules = verification.verify_scenarios(shared.folder, stage)
+        verification.demand(rules)
+        verified = [f"{rule.name}: {rule.holds}" for rule in rules]
+    answered = [scenario.number for scenario in shared.scenarios if scenario.number not in missing]
+    files.write_json(stage / GATHERED, {"answers": answered, "verified": verified})
+    return [] if writing.verifies else [f"the results were not verified: run pitplan verify {shared.folder}"]
+
+
+def write_tables(shared: Shared, gathered: Gathered, stage: Path) -> None:
+    """Writes the probability of each block, the pits of each scenario, and their quantiles."""
+    blocks = answers.read_blocks(shared.folder, codes_of(shared.project))
+    answers.by_block(shared, gathered, blocks).to_csv(stage / PROBABILITY, index=False, float_format="%.6g")
+    gathered.table.to_csv(stage / TABLE, index=False, float_format="%.10g")
+    answers.quantiles(gathered.table).to_csv(stage / QUANTILES, index=False, float_format="%.10g")
+
+
+def write_schedule_tables(schedules: Schedules, quantiles: pd.DataFrame, shared: Shared, stage: Path) -> None:
+    """Writes the tables of schedules and of the one for all, and one_schedule.json."""
+    blocks = answers.read_blocks(shared.folder, codes_of(shared.project))
+    csv_file.write(stage / ONE, schedules.by_block(shared, blocks))
+    tables = {SCHEDULES: schedules.table, ONE_YEARS: schedules.years, QUANTILES: quantiles}
+    for name, table in tables.items():
+        with_discounting(table, shared.project).to_csv(stage / name, index=False, float_format="%.12g")
+    files.write_json(stage / ONE_RECORD, schedules.record(shared))
+
+
+def write_image(shared: Shared, gathered: Gathered, stage: Path) -> list[str]:
+    """Writes the probabilities of all factors as VTK image data; returns a note if VTK is missing."""
+    grid = shared.grid
+    arrays = {
+        f"probability_{factor}": grid.spread(gathered.share[:, k].astype(np.float32))
+        for k, factor in enumerate(gathered.factors)
+    }
+    tonnes = shared.frame[shared.project.table.tonnes].to_numpy()
+    try:
+        write_vti(stage / IMAGE, grid, {**arrays, "tonnes": grid.spread(tonnes)})
+    except MissingPackage as error:
+        return [f"{IMAGE} was not written: {error}"]
+    return []
+
+
+def draw(shared: Shared, gathered: Gathered, factor: int, stage: Path) -> None:
+    """Draws plans and sections of the probabilities at a factor, in per mille, and the spread of tonnes and worth."""
+    grid, rules = shared.grid, rules_of(shared)
+    share = gathered.share[:, gathered.factors.index(factor)]
+    solid = grid.spread(shared.frame[shared.project.table.tonnes].to_numpy() > 0)
+    count = gathered.table["scenario"].nunique()
+    likely = Likely(grid, grid.cube(grid.spread(share)), grid.cube(solid), factor, count, rules)
+    with also_as(rules.formats):
+        pictures.write_plans(likely, stage / PICTURES["plans"])
+        pictures.write_sections(likely, stage / PICTURES["sections"])
+        pictures.write_spread(gathered.table, shared.project.money.currency, stage / PICTURES["spread"])

@@ -1,0 +1,21 @@
+"""Whether the levels and sections that `[pictures]` names are within the model."""
+
+from __future__ import annotations
+
+from .errors import PlanError
+from .grid import Grid, metres
+from .picture_rules import PictureRules
+from .project import Project
+
+
+def demand_within(project: Project, grid: Grid) -> None:
+    """Raises PlanError if `[pictures]` names a level or a section beyond the model."""
+    rules = project.pictures or PictureRules()
+    west, east, south, north, floor, top = grid.extent()
+    asked = (("levels", rules.levels, floor, top), ("north", (rules.north,), south, north), ("east", (rules.east,), west, east))
+    for key, values, least, most in asked:
+        for value in values:
+            if value is not None and not least <= value <= most:
+                along = dict(zip(("east", "north"), grid.frame.names)).get(key, "") if grid.azimuth else ""
+                where = f"beyond the model, from {metres(least)} to {metres(most)} m {along}".rstrip()
+                raise PlanError(f"{project.path}: [pictures] {key}: {metres(value)} is {where}")

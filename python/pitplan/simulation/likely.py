@@ -1,0 +1,43 @@
+"""The probability of each cell in the pit of a factor, as plans and sections show it."""
+
+from __future__ import annotations
+
+from dataclasses import dataclass
+
+import numpy as np
+
+from ..grid import Grid
+from ..picture_rules import PictureRules
+
+
+@dataclass(frozen=True)
+class Likely:
+    """The probability of each cell in the pit of a factor.
+
+    Attributes
+    ----------
+    grid : Grid
+        The cells.
+    share : ndarray of float, shape (levels, rows, columns)
+        The share of scenarios with the cell in the pit, from 0 to 1.
+    solid : ndarray of bool, shape (levels, rows, columns)
+        Whether the cell holds rock.
+    factor : int
+        That of the pits, in per mille.
+    count : int
+        How many scenarios there are.
+    rules : PictureRules
+        Which levels and sections are shown.
+    """
+
+    grid: Grid
+    share: np.ndarray
+    solid: np.ndarray
+    factor: int
+    count: int
+    rules: PictureRules = PictureRules()
+
+    @property
+    def shown(self) -> np.ndarray:
+        """The shares in rock; 0 elsewhere. Shape (levels, rows, columns)."""
+        return np.where(self.solid, self.share, 0.0)

@@ -1,0 +1,92 @@
+"""Solves the scenarios that have no answer yet: in this process, over Dask, or by lists of jobs that others start.
+
+All models are read before any scenario is solved, so that an error in the last one cannot stop a run half-way. Answers are files: a
+scheduler passes only a number to a task and a status back. The lists for Slurm and GNU parallel are text, which you can edit before you
+submit it.
+"""
+
+from __future__ import annotations
+
+from dataclasses import dataclass
+from pathlib import Path
+from typing import Optional
+
+from ..errors import PlanError
+from ..progress import Progress
+from ..project import REFERENCE_FACTOR, Project
+from . import folder as folders, job_lists, on_dask, prepare, work
+from .folder import Shared
+from .request import Request
+
+
+@dataclass(frozen=True)
+class Solved:
+    """How far the scenarios of a folder are solved.
+
+    Attributes
+    ----------
+    notes : tuple of str
+        Sentences for the planner.
+    start : Path, optional
+        The script to start, for `slurm` and `parallel`, if scenarios have no answer yet.
+    """
+
+    notes: tuple[str, ...]
+    start: Optional[Path] = None
+
+
+def solve(project: Project, folder: Path, request: Request, progress: Progress) -> Solved:
+    """Solves the scenarios that have no answer yet, or writes the lists of jobs that do so.
+
+    Raises
+    ------
+    PlanError
+        If the project or a model is not usable, or a scenario ends without an answer and the request is not for part of them.
+    MissingPackage
+        Without Dask if it is required, or by block without the library.
+    """
+    if request.by == folders.BLOCK:
+        demand_no_factor(request)
+    shared = prepare.prepare(project, folder, progress, request.by)
+    # Refused before hours of solving, not after them.
+    if not shared.is_by_block:
+        shown_factor(shared, request)
+    missing, count = shared.missing(), len(shared.jobs)
+    notes = [*shared.record["notes"], f"{count - len(missing):,} of {count:,} {shared.called} have their answer already"]
+    if request.where in ("slurm", "parallel"):
+        start = job_lists.write(request.where, folder, missing, shared.solver) if missing else None
+        return Solved(tuple(notes), start)
+    if missing:
+        outcomes = on_dask.run(on_dask.Where(request.where, request.workers), folder, missing, progress)
+        ended = notes_of_outcomes(outcomes)
+        if any(outcome.status for outcome in outcomes) and not request.partial:
+            raise PlanError(f"{'; '.join(ended)}: run again, or gather the others by --partial")
+        notes += ended
+    return Solved(tuple(notes))
+
+
+def notes_of_outcomes(outcomes: list[work.Outcome]) -> list[str]:
+    """How many scenarios ended with each status, with the first reason if it is not 0."""
+    words = {0: "solved", 1: "refused by the solver", 2: "not understood by the program", 3: "out of budget"}
+    words |= {4: "answered no", work.REFUSED: "refused by pitplan", work.LOST: "killed again and again"}
+    notes = []
+    for status, said in words.items():
+        ended = [outcome for outcome in outcomes if outcome.status == status]
+        if ended:
+            notes.append(f"{len(ended):,} {said} (status {status})" + (f": {ended[0].why}" if status else ""))
+    return notes
+
+
+def demand_no_factor(request: Request) -> None:
+    """Raises PlanError if a factor to draw is given: schedules by block have none."""
+    if request.factor is not None:
+        raise PlanError("--factor: schedules by block are made at the price as given: leave it out")
+
+
+def shown_factor(shared: Shared, request: Request) -> int:
+    """The factor whose probabilities are drawn, in per mille. Raises PlanError if no scenario was solved at it."""
+    factors = list(shared.record["factors"])
+    factor = request.factor or shared.project.schedule.chosen or REFERENCE_FACTOR
+    if factor not in factors:
+        raise PlanError(f"factor {factor} is not among the factors {', '.join(map(str, factors))}")
+    return factor
