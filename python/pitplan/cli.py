@@ -69,6 +69,8 @@ def parser() -> argparse.ArgumentParser:
         if name in ("pit", "pushbacks", "schedule", "sensitivity", "shells"):
             sub.add_argument("--no-verify", action="store_true", help="leave out the second look at every number")
             add_solver(sub)
+        if name in ("pushbacks", "schedule", "sensitivity", "shells"):
+            add_no_figures(sub)
         if name == "schedule":
             text = "schedule benches of phases (phase, the default), or blocks one by one, with the bound of all such schedules (block)"
             sub.add_argument("--by", choices=("phase", "block"), default="phase", help=text)
@@ -101,6 +103,10 @@ def add_export(sub: Any) -> None:
     text = "the blocks that are dug (pit, the default), or the open surface of the ground with the pit in it"
     sub.add_argument("--surface", choices=(stages.PIT, stages.GROUND), default=stages.PIT, help=text)
     sub.add_argument("--smooth", action="store_true", help="of the ground: without the steps of blocks")
+
+
+def add_no_figures(sub: Any) -> None:
+    sub.add_argument("--no-figures", action="store_true", help="draw no figures, and remove those of an earlier run in the folder")
 
 
 def add_solver(sub: Any) -> None:
@@ -139,6 +145,7 @@ def add_scenarios(subs: Any) -> None:
         sub.add_argument("--factor", type=int, help="the factor to draw (default: the project's chosen one, or 1000)")
         sub.add_argument("--partial", action="store_true", help="gather although scenarios have no answer")
         sub.add_argument("--no-verify", action="store_true", help="leave out the second look at what is gathered")
+        add_no_figures(sub)
     one.add_argument("number", type=positive, help="the scenario, from 1")
     for sub in (every, some, one):
         sub.add_argument("--quiet", action="store_true", help="tell no progress on standard error")
@@ -201,7 +208,7 @@ def project_of(options: argparse.Namespace) -> Project:
 
 
 def run_command(options: argparse.Namespace, project: Project, folder: Path, progress: Progress) -> None:
-    writing = Writing(progress, not getattr(options, "no_verify", False))
+    writing = Writing(progress, not getattr(options, "no_verify", False), not getattr(options, "no_figures", False))
     if options.command == "prepare":
         record = write_plan(project, folder, progress)
         tell_notes(record["notes"])
@@ -275,7 +282,7 @@ def tell_verified(folder: Path) -> None:
 
 
 def run_scenarios(options: argparse.Namespace, progress: Progress) -> None:
-    writing = Writing(progress, not options.no_verify)
+    writing = Writing(progress, not options.no_verify, not options.no_figures)
     if options.command == "gather":
         result = gather(options.folder, Request(factor=options.factor, partial=options.partial), writing)
     else:

@@ -84,6 +84,7 @@ PLAN = {
     "phases": Lacking(whole(1, 100_000)),
     "schedule": Lacking(TEXT),
     "by_block": Lacking(TRUTH),
+    "figures": Lacking(TRUTH),
 }
 
 # The verification requires the grid, and checks the other parts where they are present.

@@ -117,23 +117,12 @@ def solved(solved_once, tmp_path):
 
 
 @pytest.fixture(scope="module")
-def blank_pictures():
-    """Pictures of a plan's folder are empty files, since they take most of a run's time, and other tests look at them."""
-    from pitplan.commands import drawing
-
-    def draw(answered, table, chosen, stage):
-        for name in drawing.PICTURES.values():
-            (stage / name).touch()
+def without_figures():
+    """Commands draw no figures, whoever calls them: figures take most of a run's time, and other tests check them."""
+    from pitplan.commands.writing import Writing
 
     with pytest.MonkeyPatch.context() as patch:
-        patch.setattr(drawing, "draw_shells", draw)
-        patch.setattr(drawing.yearly, "write_years", lambda years, project, chosen, path: path.touch())
-        for name in ("write_plans", "write_sections"):
-            patch.setattr(drawing.phase_pictures, name, lambda scene, path: path.touch())
-        for name in ("write_gantt", "write_tonnes"):
-            patch.setattr(drawing.schedule_pictures, name, lambda schedule, path: path.touch())
-        patch.setattr(drawing.schedule_pictures, "write_cumulative", lambda schedule, years, path: path.touch())
-        patch.setattr(drawing.block_pictures, "write", lambda made, path: path.touch())
+        patch.setattr(Writing, "figures", property(lambda writing: False, lambda writing, given: None))
         yield
 
 
@@ -141,7 +130,6 @@ def blank_pictures():
 def scheduled_hill(tmp_path_factory):
     """A hill far from the origin in two phases with years, without pictures; the place of its project."""
     import pitplan
-    from pitplan.commands import answers
 
     place = tmp_path_factory.mktemp("ground")
     grades = {(3, 4, 1): 6, (7, 4, 1): 2, (5, 2, 2): 0.9}
@@ -149,9 +137,7 @@ def scheduled_hill(tmp_path_factory):
     table = table[(table["z"] < 30) | (table["x"] < 60)].assign(x=lambda it: it["x"] + 430_000.5, y=lambda it: it["y"] + 6_512_000.25)
     table.to_csv(place / "blocks.csv", index=False)
     (place / "project.toml").write_text(PROJECT + "[pushbacks]\ncount = 2\n[schedule]\nrock_per_year = 2000\n")
-    with pytest.MonkeyPatch.context() as patch:
-        patch.setattr(answers, "draw", lambda *given: [])
-        pitplan.write_schedule(place / "project.toml", writing=pitplan.Writing(verifies=False))
+    pitplan.write_schedule(place / "project.toml", writing=pitplan.Writing(verifies=False, figures=False))
     return place
 
 

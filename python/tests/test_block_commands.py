@@ -19,7 +19,7 @@ from pitplan.block_schedule import of_plan, result
 from pitplan.cli import main
 from pitplan.verification import verify
 
-pytestmark = pytest.mark.usefixtures("blank_pictures")
+pytestmark = pytest.mark.usefixtures("without_figures")
 # The mill takes the ore of one pillar a year, and the shovels a pillar.
 YEARLY = UPRIGHT.replace("ore_per_year = 100", 'ore_per_year = 100\nrock_per_year = 200\ndiscounting = "end_of_year"')
 RULES = ["block order", "block limits", "block value"]
@@ -191,7 +191,7 @@ def test_an_interrupted_run_keeps_the_best_so_far(plan_folder, capsys, monkeypat
 
 
 @pytest.fixture(scope="module")
-def written(blank_pictures, tmp_path_factory):
+def written(without_figures, tmp_path_factory):
     """A hill under several limits."""
     place = tmp_path_factory.mktemp("scheduled")
     grades = {(3, 4, 1): 6, (7, 4, 1): 2, (5, 2, 2): 0.9, (3, 3, 2): 1.5, (8, 4, 2): 0.8}

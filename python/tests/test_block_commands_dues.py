@@ -11,7 +11,7 @@ from test_pushbacks import pillars
 import pitplan
 from pitplan import PlanError, load
 
-pytestmark = pytest.mark.usefixtures("blank_pictures")
+pytestmark = pytest.mark.usefixtures("without_figures")
 # Mill and shovels take all three pillars in a year.
 WIDE = YEARLY.replace("ore_per_year = 100", "ore_per_year = 300").replace("rock_per_year = 200", "rock_per_year = 600")
 

@@ -22,7 +22,6 @@ from test_scenarios import hill, write_models
 import pitplan
 from pitplan import MissingPackage, PlanError, Request, gather, load, write_scenarios
 from pitplan.cli import main
-from pitplan.commands import answers
 from pitplan.progress import silent
 from pitplan.simulation import folder as folders, prepare, value_pictures, work
 from pitplan.simulation.one_schedule import best_shares
@@ -35,15 +34,8 @@ BY_BLOCK = Request(by="block")
 # The same with the process by its name.
 MILL = '[[processes]]\nname = "mill"\ncost = 10\nrecovery = { copper = 0.5 }\nper_year = 100\n'
 IN_MILL = [("recovery = 0.5\n", ""), ("ore_per_year = 100\n", "")]
+pytestmark = pytest.mark.usefixtures("without_figures")
 FILES = ["schedules.csv", "one_schedule.csv", "one_schedule_years.csv", "quantiles.csv", "one_schedule.json"]
-
-
-@pytest.fixture(scope="module", autouse=True)
-def blank_picture():
-    """The picture is an empty file, but in the test that draws it."""
-    with pytest.MonkeyPatch.context() as patch:
-        patch.setattr(value_pictures, "write", lambda table, currency, path: path.touch())
-        yield
 
 
 def pillars(*models):
@@ -250,10 +242,7 @@ def test_a_schedule_each_is_that_of_the_model_with_the_process_by_name(plan_fold
     (tmp_path / "other").mkdir()
     table.to_csv(tmp_path / "other" / "blocks.csv", index=False)
     (tmp_path / "other" / "project.toml").write_text(alone)
-    with pytest.MonkeyPatch.context() as patch:
-        patch.setattr(answers, "draw", lambda *given: [])
-        patch.setattr(answers.report_page, "write", lambda *given: None)
-        other = pitplan.write_block_schedule(tmp_path / "other" / "project.toml").iloc[0]
+    other = pitplan.write_block_schedule(tmp_path / "other" / "project.toml").iloc[0]
     (row,) = table_of(folder).to_dict("records")
     assert row["bound"] == pytest.approx(other["bound"], rel=1e-4) and row["value"] > 0
     assert row["value"] == pytest.approx(other["value"]) and row["years"] == other["years"] > 2

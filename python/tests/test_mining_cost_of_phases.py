@@ -11,7 +11,7 @@ import pitplan
 from pitplan import PlanError, files, phases
 from pitplan.verification import verify
 
-pytestmark = pytest.mark.usefixtures("blank_pictures")
+pytestmark = pytest.mark.usefixtures("without_figures")
 # Of three phases of 200 t, which are worth 2600, 1400 and 600, the second costs 300 more and the third 500.
 ADDED = "count = 3\nmining_cost_added = [0, 1.5, 2.5]"
 AT_ENDS = UPRIGHT.replace("ore_per_year = 100", 'ore_per_year = 100\ndiscounting = "end_of_year"')

@@ -42,7 +42,7 @@ def solved(path):
 
 
 @pytest.fixture
-def mine(plan_folder, blank_pictures):
+def mine(plan_folder, without_figures):
     """100 t of ore, worth 2000 once they are dug, under 100 t of waste; each costs 200 to dig, and 0.4 t of copper are sold."""
 
     def write(*changes):
@@ -146,7 +146,7 @@ def test_a_mine_that_costs_more_than_it_earns_is_left():
     assert problem.value(linear_programme.diggable(optimum, problem)) == 0
 
 
-def test_bins_end_before_capital_that_does_not_pay(plan_folder, blank_pictures):
+def test_bins_end_before_capital_that_does_not_pay(plan_folder, without_figures):
     """Capital of year 4 is more than all ore that is left then: the mine ends with year 3, worth as much as where there are no more years."""
     table = rows(5, 4, 3, cu=lambda i, j, k: [[0.5, 1.4, 0.9, 2.0, 0.7], [1.1, 0.4, 1.9, 0.8, 1.3]][(j + k) % 2][i])
     changes = [("ore_per_year = 100", "ore_per_year = 900\nrock_per_year = 1200"), ("mining_cost = 2\n", "mining_cost = 2\ncapital = [[4, 200_000]]\n")]
@@ -202,13 +202,13 @@ def scheduled(plan_folder, way):
 
 
 @pytest.mark.parametrize("way", ["", "milp = { seconds = 60 }", "bins = 3", "bins = 3\nstockpile = { rehandling_cost = 1 }"])
-def test_the_second_look_at_schedules_agrees(plan_folder, blank_pictures, way):
+def test_the_second_look_at_schedules_agrees(plan_folder, without_figures, way):
     ways = write_schedule(scheduled(plan_folder, way))
     assert (ways["below_bound"] >= -1e-9).all()
 
 
 @pytest.mark.parametrize(("name", "without", "rule"), [("fixed_cost", 0.0, "value"), ("capital", (), "value"), ("premiums", {}, "amounts")])
-def test_money_that_is_passed_over_is_found(plan_folder, monkeypatch, blank_pictures, name, without, rule):
+def test_money_that_is_passed_over_is_found(plan_folder, monkeypatch, without_figures, name, without, rule):
     path, of_project = scheduled(plan_folder, ""), yearly_money.of_project
     monkeypatch.setattr(yearly_money, "of_project", lambda project: replace(of_project(project), **{name: without}))
     write_schedule(path, writing=pitplan.Writing(verifies=False))

@@ -15,7 +15,7 @@ from pitplan import PlanError, files, load, phases, prepare, trim, widths
 from pitplan.phase_rules import PhaseRules
 from pitplan.verification.phase_widths import blocks_across, cells_in
 
-pytestmark = pytest.mark.usefixtures("blank_pictures")
+pytestmark = pytest.mark.usefixtures("without_figures")
 RICH, POOR = 2, 0.4
 
 
@@ -215,7 +215,7 @@ def test_what_is_refused(plan_folder, words, said):
 
 
 @pytest.fixture(scope="module")
-def divided(blank_pictures, tmp_path_factory):
+def divided(without_figures, tmp_path_factory):
     place = tmp_path_factory.mktemp("wide")
     grades = dict.fromkeys(square(3, 2, 3) - {(5, 3)}, RICH) | dict.fromkeys(square(10, 2, 2), 0.6)
     floor(grades, columns=15).to_csv(place / "blocks.csv", index=False)

@@ -28,7 +28,7 @@ def wrong(folder):
 
 
 @pytest.fixture(scope="module")
-def scheduled(tmp_path_factory, blank_pictures):
+def scheduled(tmp_path_factory, without_figures):
     """Two pillars of ore, the richer in phase 1, scheduled by years; rows from last to first."""
     place = tmp_path_factory.mktemp("scheduled")
     table = rows(9, 5, 3, cu=lambda i, j, k: {(2, 2, 1): 6, (6, 2, 1): 0.8}.get((i, j, k), 0))

@@ -141,11 +141,10 @@ def test_the_widths_of_the_page_are_those_of_the_example():
     assert many["blocks"][2] == 3 and "0 earlier" in note and "0 never" in note
 
 
-def test_the_sensitivity_of_the_page_is_that_of_the_example(tmp_path, monkeypatch):
-    monkeypatch.setattr("pitplan.sensitivity_pictures.write_all", lambda *given: None)
+def test_the_sensitivity_of_the_page_is_that_of_the_example(tmp_path):
     project = pitplan.load(EXAMPLE)
     rules = SensitivityRules((Decimal("-0.2"), Decimal("-0.1")), ("price", "slopes"))
-    table = pitplan.write_sensitivity(replace(project, sensitivity=rules), tmp_path, writing=pitplan.Writing(verifies=False))
+    table = pitplan.write_sensitivity(replace(project, sensitivity=rules), tmp_path, writing=pitplan.Writing(verifies=False, figures=False))
     npv = {(row.number, row.share): f"{row.npv / 1e6:.1f}" for row in table.itertuples()}
     said = re.search(r"Of the example's ([\d.]+) M USD a price that is 20 % less leaves ([\d.]+), and walls of a tenth less angle ([\d.]+)\.", PAGE)
     assert said.groups() == (npv["", 0.0], npv["price", -0.2], npv["slopes", -0.1])

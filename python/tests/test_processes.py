@@ -116,7 +116,7 @@ def test_nodes_of_a_block_that_must_be_dug_by_hand(plan_folder, tmp_path):
 
 
 @pytest.mark.parametrize(("grade", "process", "ore"), [(0.8, "mill", 100), (0.2, "leach", 100), (0.05, "", 0)])
-def test_the_process_of_a_block_by_hand(plan_folder, blank_pictures, grade, process, ore):
+def test_the_process_of_a_block_by_hand(plan_folder, without_figures, grade, process, ore):
     """Of 0.2 % leach gains 640 - 300, the mill 1440 - 1300; 0.05 % pay nowhere. Digging is demanded."""
     table = rows(1, 1, 2, cu=lambda i, j, k: 0 if k else grade, must=lambda i, j, k: 1 - k)
     path = plan_folder(table, PROJECT + '[fixed]\nforced = "must"\n', *WITH)
@@ -126,7 +126,7 @@ def test_the_process_of_a_block_by_hand(plan_folder, blank_pictures, grade, proc
     assert {name: shell[f"ore_tonnes_{name}"] for name in ("leach", "mill")} == {name: ore * (name == process) for name in ("leach", "mill")}
 
 
-def test_worth_by_hand_at_each_factor(plan_folder, blank_pictures):
+def test_worth_by_hand_at_each_factor(plan_folder, without_figures):
     """Two blocks are dug for 400. At 0.3 leaching 768 - 300 is worth more than milling 1728 - 1300, at 0.5 milling 2880 - 1300."""
     path = plan_folder(one_column(), PROJECT, *WITH, ("[500, 1000, 1500]", "[270, 300, 500, 1000]"))
     shells = pitplan.write_shells(path).set_index("factor")
@@ -156,7 +156,7 @@ def wrong(folder):
     return {rule.name for rule in verify(folder) if rule.differences}
 
 
-def test_the_second_look_agrees_and_each_process_has_ore(plan_folder, blank_pictures):
+def test_the_second_look_agrees_and_each_process_has_ore(plan_folder, without_figures):
     folder = solved(plan_folder)
     assert wrong(folder) == set()
     shells = pd.read_csv(folder / "shells.csv").set_index("factor")
@@ -167,7 +167,7 @@ def test_the_second_look_agrees_and_each_process_has_ore(plan_folder, blank_pict
     assert (np.diff(plan.values.processed) == 0).sum() > 5
 
 
-def test_each_process_keeps_its_capacity(plan_folder, blank_pictures):
+def test_each_process_keeps_its_capacity(plan_folder, without_figures):
     folder = solved(plan_folder)
     years = pd.read_csv(folder / "years.csv")
     assert years["ore_tonnes_mill"].max() == pytest.approx(100) and years["ore_tonnes_leach"].max() <= 300 + 1e-6
@@ -189,7 +189,7 @@ def test_shells_are_those_of_the_best_process_at_each_factor(plan_folder, cutoff
 
 
 @pytest.mark.parametrize("column", ["process", "revenue_leach", "processing_cost_mill", "revenue"])
-def test_what_is_bent_in_blocks_is_found(plan_folder, blank_pictures, column):
+def test_what_is_bent_in_blocks_is_found(plan_folder, without_figures, column):
     folder = solved(plan_folder)
     table = pd.read_csv(folder / "blocks.csv", keep_default_na=False)
     at = table.index[table["process"] == "mill"][0]
@@ -213,18 +213,18 @@ def both(ways):
 
 
 @pytest.mark.parametrize(("name", "planted", "rule"), [("best_way", worst_way, "money"), ("steps_of", both, "worth")])
-def test_other_processes_and_blocks_that_are_processed_twice_are_found(plan_folder, monkeypatch, blank_pictures, name, planted, rule):
+def test_other_processes_and_blocks_that_are_processed_twice_are_found(plan_folder, monkeypatch, without_figures, name, planted, rule):
     monkeypatch.setattr(money, name, planted)
     assert rule in wrong(solved(plan_folder))
 
 
-def test_a_capacity_that_is_passed_over_is_found(plan_folder, monkeypatch, blank_pictures):
+def test_a_capacity_that_is_passed_over_is_found(plan_folder, monkeypatch, without_figures):
     years = pitplan.schedule.capacity_years
     monkeypatch.setattr(pitplan.schedule, "capacity_years", lambda amounts, settings: years(amounts, replace(settings, per_process=())))
     assert "years" in wrong(solved(plan_folder))
 
 
-def test_phases_and_schedules_keep_to_the_capacities(plan_folder, blank_pictures):
+def test_phases_and_schedules_keep_to_the_capacities(plan_folder, without_figures):
     text = "[pushbacks]\ncount = 2\n[schedule]\nlag = 1\nramp_up = [0.5, 1.0]\n[shells]"
     ways = write_schedule(plan_folder(deposit(), PROJECT, *MORE, ("[shells]", text)))
     assert ways["way"].tolist() == ["rule", "lp"] and (ways["below_bound"] >= -1e-9).all()

@@ -10,9 +10,10 @@ import pytest
 from conftest import PROJECT, rows
 
 import pitplan
-from pitplan import PlanError, Request, files, load, sensitivity_pictures, verify
+from pitplan import PlanError, Request, files, load, verify
 from pitplan.cli import main
 
+pytestmark = pytest.mark.usefixtures("without_figures")
 ORE = {"cu": lambda i, j, k: {(3, 3, 1): 6, (4, 3, 1): 2.5, (3, 4, 0): 9}.get((i, j, k), 0)}
 MORE = '[pushbacks]\ncount = 2\n[schedule]\nrock_per_year = 2000\n[sensitivity]\nby = [0.1]\nvary = ["price", "mining_cost"]\n'
 FIXED = '[fixed]\nforced = "due"\n'
@@ -24,11 +25,6 @@ RUNS = {
     "sensitivity": pitplan.sensitivity,
     "block schedule": pitplan.write_block_schedule,
 }
-
-
-@pytest.fixture(autouse=True)
-def undrawn(blank_pictures, monkeypatch):
-    monkeypatch.setattr(sensitivity_pictures, "write_all", lambda *given: None)
 
 
 @pytest.fixture

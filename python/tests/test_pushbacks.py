@@ -15,7 +15,7 @@ from pitplan.cli import main
 from pitplan.phase_rules import PhaseRules
 from pitplan.verification import verify
 
-pytestmark = pytest.mark.usefixtures("blank_pictures")
+pytestmark = pytest.mark.usefixtures("without_figures")
 UPRIGHT = PROJECT.replace('pattern = "1:5"', "angle = 90").replace("levels = 3\n", "levels = 1\n")
 GRADES = [1, 0.7, 0.5]
 
@@ -215,7 +215,7 @@ def test_phases_of_random_mines_are_closed_nested_and_even(tmp_path_factory, see
 
 
 @pytest.fixture(scope="module")
-def divided(blank_pictures, tmp_path_factory):
+def divided(without_figures, tmp_path_factory):
     place = tmp_path_factory.mktemp("divided")
     table = rows(11, 9, 4, cu=lambda i, j, k: {(3, 4, 1): 6, (7, 4, 1): 2, (5, 2, 2): 0.9}.get((i, j, k), 0))
     table["must"], table["never"] = (table["name"] == "b1-1-3").astype(int), (table["x"] > 100).astype(int)
@@ -240,7 +240,7 @@ def test_what_is_right_passes(copied, capsys):
     told = capsys.readouterr().out.splitlines()
     assert [line.split(":")[0] for line in told][-5:] == ["phase of blocks", "phase walls", "phase fixed", "phases", "phase widths"]
     page = (copied / "report.html").read_text()
-    assert "<h3>Phases</h3>" in page and "how phases were made of shells, the other numbers" in page and page.count("data:image/png") == 6
+    assert "<h3>Phases</h3>" in page and "how phases were made of shells, the other numbers" in page and "data:image/png" not in page
 
 
 NUMBERS = "blocks tonnes ore_tonnes waste_tonnes strip_ratio grade_copper metal_copper worth"

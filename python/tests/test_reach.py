@@ -117,7 +117,7 @@ def wrong(path):
     return {rule.name: rule.differences for rule in verify(path.parent / "plan") if rule.differences}
 
 
-def test_the_second_look_agrees(plan_folder, few, blank_pictures):
+def test_the_second_look_agrees(plan_folder, few, without_figures):
     path = plan_folder(deposit(), PROJECT, ANGLES)
     pitplan.write_shells(path)
     assert wrong(path) == {}
@@ -125,7 +125,7 @@ def test_the_second_look_agrees(plan_folder, few, blank_pictures):
     assert len(pd.read_csv(path.parent / "plan" / "blocks.csv")) < 1000
 
 
-def test_a_table_written_back_has_no_factor_where_it_was_left_out(plan_folder, few, blank_pictures):
+def test_a_table_written_back_has_no_factor_where_it_was_left_out(plan_folder, few, without_figures):
     path = plan_folder(deposit(), PROJECT, ANGLES)
     pitplan.write_shells(path)
     blocks = pd.read_csv(path.parent / "plan" / "blocks.csv").set_index("name")
@@ -142,14 +142,14 @@ def narrower(used, grid):
 box_of = reach.box_of
 
 
-def test_ground_that_shells_need_and_is_left_out_is_found(plan_folder, few, monkeypatch, blank_pictures):
+def test_ground_that_shells_need_and_is_left_out_is_found(plan_folder, few, monkeypatch, without_figures):
     path = plan_folder(deposit(), PROJECT, ANGLES)
     monkeypatch.setattr(reach, "box_of", narrower)
     pitplan.write_shells(path, writing=pitplan.Writing(verifies=False))
     assert "needs ground that was left out" in wrong(path)["reach"][0]
 
 
-def test_ore_that_is_left_out_is_found(plan_folder, few, monkeypatch, blank_pictures):
+def test_ore_that_is_left_out_is_found(plan_folder, few, monkeypatch, without_figures):
     path = plan_folder(deposit().assign(cu=lambda it: it["cu"].mask(it["name"] == "b20-15-7", 20.0)), PROJECT, ANGLES)
     can_pay = reach.can_pay
     monkeypatch.setattr(reach, "can_pay", lambda model, project: can_pay(model, project)[:2])
@@ -157,7 +157,7 @@ def test_ore_that_is_left_out_is_found(plan_folder, few, monkeypatch, blank_pict
     assert wrong(path)["reach"] == ("block b20-15-7 was left out, and pays at factor 1500",)
 
 
-def test_a_table_that_has_changed_where_it_was_left_out_is_found(plan_folder, few, blank_pictures):
+def test_a_table_that_has_changed_where_it_was_left_out_is_found(plan_folder, few, without_figures):
     path = plan_folder(deposit(), PROJECT, ANGLES)
     pitplan.write_shells(path)
     file = path.parent / "blocks.csv"
@@ -171,7 +171,7 @@ ABSENT = ('file = "blocks.csv"', 'file = "blocks.csv"\nabsent = { tonnes = 90, r
 
 
 @pytest.mark.parametrize("change", [('file = "blocks.csv"', 'file = "blocks.csv"\nreblock = [2, 1, 1]'), ABSENT])
-def test_rows_that_are_put_together_and_cells_without_rows(plan_folder, monkeypatch, blank_pictures, change):
+def test_rows_that_are_put_together_and_cells_without_rows(plan_folder, monkeypatch, without_figures, change):
     """A block of the floor and one in the ground have no row."""
     monkeypatch.setattr(pitplan.grid, "MOST_BLOCKS", 1500)
     table = deposit()

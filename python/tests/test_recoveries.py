@@ -113,7 +113,7 @@ def wrong(path):
     return {rule.name for rule in verify(path.parent / "plan") if rule.differences}
 
 
-def test_the_second_look_agrees(plan_folder, blank_pictures):
+def test_the_second_look_agrees(plan_folder, without_figures):
     pitplan.write_shells(plan_folder(deposit(), PROJECT, *TEXT))
 
 
@@ -129,14 +129,14 @@ of_rows = recoveries.of_rows
 
 
 @pytest.mark.parametrize(("name", "planted"), [("of_rows", at_own_grade), ("nearest", down)])
-def test_a_recovery_at_another_grade_or_rounded_otherwise_is_found(plan_folder, monkeypatch, blank_pictures, name, planted):
+def test_a_recovery_at_another_grade_or_rounded_otherwise_is_found(plan_folder, monkeypatch, without_figures, name, planted):
     path = plan_folder(deposit(), PROJECT, *TEXT)
     monkeypatch.setattr(recoveries, name, planted)
     pitplan.write_shells(path, writing=pitplan.Writing(verifies=False))
     assert "money" in wrong(path)
 
 
-def test_a_tail_that_is_passed_over_is_found(plan_folder, monkeypatch, blank_pictures):
+def test_a_tail_that_is_passed_over_is_found(plan_folder, monkeypatch, without_figures):
     path, weigh = plan_folder(deposit(), PROJECT, *TEXT), money.values_of
 
     def without(frame, grid, project, *more):

@@ -12,20 +12,13 @@ from matplotlib.figure import Figure
 import pitplan
 from pitplan import PlanError, Where, load, sensitivity_pictures, varied, varied_cases
 from pitplan.cli import main
+from pitplan.commands.writing import Writing
 from pitplan.verification import verify_folder
 
 # Two blocks of ore at the surface, each with 1,000 for processing and 200 for mining: one of 24,000, and one of 1,200, which just does not pay.
 ORE = {"cu": lambda i, j, k: {(1, 1): 6, (3, 1): 0.3}.get((i, j), 0)}
-DRAW = sensitivity_pictures.write_all
+pytestmark = pytest.mark.usefixtures("without_figures")
 KEPT = ["kept_worth", "kept_npv_best", "kept_npv_worst", "kept_years"]
-
-
-@pytest.fixture(scope="module", autouse=True)
-def undrawn(blank_pictures):
-    """Pictures are drawn by the tests that look at them alone."""
-    with pytest.MonkeyPatch.context() as patch:
-        patch.setattr(sensitivity_pictures, "write_all", lambda *given: None)
-        yield patch
 
 
 def mean_discount(years, rate=0.1):
@@ -216,8 +209,8 @@ def test_what_has_an_answer_is_not_solved_again(small, monkeypatch):
     assert len(solved) == 6 + 11, "the project's text is another"
 
 
-def test_files_and_what_the_command_line_tells(small, capsys, monkeypatch, undrawn):
-    monkeypatch.setattr(sensitivity_pictures, "write_all", DRAW)
+def test_files_and_what_the_command_line_tells(small, capsys, monkeypatch):
+    monkeypatch.setattr(Writing, "figures", True)
     path = small('vary = ["price", "mining_cost"]\npairs = [["price", "mining_cost"]]')
     assert main(["sensitivity", str(path), "--quiet"]) == 0
     out = capsys.readouterr().out.splitlines()
@@ -293,7 +286,7 @@ def test_shares_have_their_ends(small):
 
 
 @pytest.fixture(scope="module")
-def answered(tmp_path_factory, undrawn):
+def answered(tmp_path_factory, without_figures):
     place = tmp_path_factory.mktemp("varied")
     text = PROJECT + '\n[sensitivity]\nby = [-0.2, 0.2]\npairs = [["price", "capacity"]]\n'
     for old, new in MORE:

@@ -9,18 +9,12 @@ from conftest import PROJECT, rows
 from test_processes import WITH
 
 import pitplan
-from pitplan import PlanError, load, sensitivity_pictures, varied
+from pitplan import PlanError, load, varied
 from pitplan.money_rules import Curve
 
+pytestmark = pytest.mark.usefixtures("without_figures")
 BY = "ore_per_year = 100", "ore_per_year = 100\nchosen = 1000"
 RULES = '\n[sensitivity]\nby = [-0.1, 0.2]\n'
-
-
-@pytest.fixture(scope="module", autouse=True)
-def undrawn(blank_pictures):
-    with pytest.MonkeyPatch.context() as patch:
-        patch.setattr(sensitivity_pictures, "write_all", lambda *given: None)
-        yield
 
 
 def two_blocks():

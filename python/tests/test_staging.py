@@ -10,19 +10,16 @@ import pytest
 from conftest import PROJECT, rows
 
 import pitplan
-from pitplan import PlanError, Request, Shape, exports, sensitivity_pictures, staging
+from pitplan import PlanError, Request, Shape, exports, staging
 from pitplan.cli import main
 from pitplan.commands.prepare import write_plan
+from pitplan.commands.writing import Writing
 
+pytestmark = pytest.mark.usefixtures("without_figures")
 ORE = {"cu": lambda i, j, k: {(3, 3, 1): 6, (4, 3, 1): 2.5, (3, 4, 0): 9}.get((i, j, k), 0)}
 MORE = '[pushbacks]\ncount = 2\n[schedule]\nrock_per_year = 2000\n[sensitivity]\nby = [0.1]\nvary = "price"\n[fixed]\nforced = "due"\n'
 SCENARIOS = '[scenarios]\ncolumns = { copper = ["cu", "cu2"] }\n'
 OTHER = "another run of pitplan writes into this folder"
-
-
-@pytest.fixture(autouse=True)
-def undrawn(blank_pictures, monkeypatch):
-    monkeypatch.setattr(sensitivity_pictures, "write_all", lambda *given: None)
 
 
 @pytest.fixture
@@ -208,7 +205,9 @@ def turns(folder: Path, count: int) -> None:
 
 
 @pytest.mark.parametrize("name", ["prepare.json", "blocks.csv", "mine.prec", "shells.csv", "years.csv", "plans.png", "report.html"])
-def test_a_folder_in_place_of_a_file_is_refused_before_anything_is_replaced(mine, name):
+def test_a_folder_in_place_of_a_file_is_refused_before_anything_is_replaced(mine, name, monkeypatch):
+    if name.endswith(".png"):
+        monkeypatch.setattr(Writing, "figures", True)
     folder = mine.parent / "out"
     pitplan.write_shells(mine, folder, writing=pitplan.Writing(verifies=False))
     (folder / name).unlink(missing_ok=True)

@@ -108,21 +108,21 @@ def wrong(path):
 
 
 @pytest.mark.parametrize("text", [f"steps = {[list(step) for step in LEANING]}", BENCH])
-def test_the_second_look_agrees(plan_folder, blank_pictures, text):
+def test_the_second_look_agrees(plan_folder, without_figures, text):
     path = plan_folder(deposit(), PROJECT, walls(text))
     pitplan.write_shells(path)
     assert wrong(path) == set()
     assert (pd.read_csv(path.parent / "plan" / "shells.csv")["blocks"] > 5).all()
 
 
-def test_a_step_that_is_passed_over_is_found(plan_folder, monkeypatch, blank_pictures):
+def test_a_step_that_is_passed_over_is_found(plan_folder, monkeypatch, without_figures):
     path, pattern_of = plan_folder(deposit(), PROJECT, walls(f"steps = {[list(step) for step in LEANING]}")), slopes.pattern_of
     monkeypatch.setattr("pitplan.walls.pattern_of", lambda wall, *more: pattern_of(replace(wall, steps=wall.steps[1:]), *more))
     pitplan.write_shells(path, writing=pitplan.Writing(verifies=False))
     assert "walls" in wrong(path)
 
 
-def test_berms_that_are_passed_over_are_found(plan_folder, monkeypatch, blank_pictures):
+def test_berms_that_are_passed_over_are_found(plan_folder, monkeypatch, without_figures):
     monkeypatch.setattr(Bench, "angle", property(lambda bench: bench.face))
     path = plan_folder(deposit(), PROJECT, walls(BENCH))
     pitplan.write_shells(path, writing=pitplan.Writing(verifies=False))

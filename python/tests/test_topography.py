@@ -293,7 +293,7 @@ def wrong(folder):
     return {rule.name: rule.differences[0] for rule in verify(folder) if rule.differences}
 
 
-@pytest.mark.usefixtures("blank_pictures")
+@pytest.mark.usefixtures("without_figures")
 def test_the_second_look_agrees(cut_hill):
     rules = {rule.name: rule for rule in verify(cut_hill)}
     assert not any(rule.differences for rule in rules.values())
@@ -304,7 +304,7 @@ def test_the_second_look_agrees(cut_hill):
     assert set(files.read_record(cut_hill)["inputs"]) == {"project.toml", "blocks.csv", "topo.csv"}
 
 
-@pytest.mark.usefixtures("blank_pictures")
+@pytest.mark.usefixtures("without_figures")
 @pytest.mark.parametrize("more", [1e-4, -1e-4, 60])
 def test_tonnes_that_are_bent_are_found(cut_hill, more):
     blocks = pd.read_csv(cut_hill / "blocks.csv", dtype={"region": str})
@@ -314,7 +314,7 @@ def test_tonnes_that_are_bent_are_found(cut_hill, more):
     assert f"block {blocks['name'][row]}: " in wrong(cut_hill)["topography"]
 
 
-@pytest.mark.usefixtures("blank_pictures")
+@pytest.mark.usefixtures("without_figures")
 def test_many_columns_are_looked_at_by_heights(cut_hill, monkeypatch):
     """Of a block of which but a few columns are looked at exactly a fifth is missed."""
     from pitplan.verification import topography as second
@@ -327,7 +327,7 @@ def test_many_columns_are_looked_at_by_heights(cut_hill, monkeypatch):
     assert f"block {blocks['name'][row]}: " in wrong(cut_hill)["topography"]
 
 
-@pytest.mark.usefixtures("blank_pictures")
+@pytest.mark.usefixtures("without_figures")
 @pytest.mark.parametrize("tonnes", [150, -1])
 def test_no_block_has_more_than_the_table_gives_or_less_than_nothing(cut_hill, monkeypatch, tonnes):
     """Of a column that is not looked at otherwise."""
@@ -354,7 +354,7 @@ def test_a_run_that_cuts_wrong_is_refused(plan_folder, tmp_path, monkeypatch, be
         pitplan.write_shells(plan_folder(rows(6, 5, 3, cu=lambda i, j, k: 2), PROJECT, CUT))
 
 
-@pytest.mark.usefixtures("blank_pictures")
+@pytest.mark.usefixtures("without_figures")
 def test_a_model_too_large_for_the_program(plan_folder, tmp_path, monkeypatch):
     """Ore far from the pit and above the ground is air and left out with the rest; the second look says so too."""
     monkeypatch.setattr(pitplan.grid, "MOST_BLOCKS", 3000)
@@ -368,11 +368,8 @@ def test_a_model_too_large_for_the_program(plan_folder, tmp_path, monkeypatch):
     assert not wrong(path.parent / "plan")
 
 
-@pytest.mark.usefixtures("blank_pictures")
-def test_a_sensitivity_of_blocks_that_are_cut(plan_folder, tmp_path, monkeypatch):
-    from pitplan import sensitivity_pictures
-
-    monkeypatch.setattr(sensitivity_pictures, "write_all", lambda *given: None)
+@pytest.mark.usefixtures("without_figures")
+def test_a_sensitivity_of_blocks_that_are_cut(plan_folder, tmp_path):
     plane(tmp_path, lambda x, y: 5)
     text = PROJECT.replace("ore_per_year = 100", "ore_per_year = 100\nchosen = 1000") + '[sensitivity]\nby = [0.1]\nvary = ["price"]\n'
     path = plan_folder(rows(5, 3, 1, cu=lambda i, j, k: 6 * ((i, j) == (1, 1))), text, CUT)

@@ -15,24 +15,18 @@ from test_verify_scenarios import SETS, answer_of, bend, simulated
 
 from pitplan import PlanError, gather
 from pitplan.cli import main
-from pitplan.simulation import block_problem, block_work, one_schedule, value_pictures, work
+from pitplan.simulation import block_problem, block_work, one_schedule, work
 from pitplan.verification import verify_folder
 from pitplan.verification.best_ore import most_earned
 
 LIMITS = ("ore_per_year = 150\nrock_per_year = 1000", "ore_per_year = 300\nrock_per_year = 9000")
 YEARLY = TEXT.replace("rate = 0.1", 'rate = 0.1\ndiscounting = "mid_year"').replace(*LIMITS)
+pytestmark = pytest.mark.usefixtures("without_figures")
 RULES = ["blocks", "absent", "levels", "scenarios", "block order", "block value", "one schedule", "tables"]
 
 
-@pytest.fixture(scope="module", autouse=True)
-def blank_picture():
-    with pytest.MonkeyPatch.context() as patch:
-        patch.setattr(value_pictures, "write", lambda table, currency, path: path.touch())
-        yield
-
-
 @pytest.fixture(scope="module")
-def gathered(tmp_path_factory):
+def gathered(tmp_path_factory, without_figures):
     """Three models of a hill at two sets of prices, with fixed blocks, two metals, a ramp-up and a limit of metal."""
     place = tmp_path_factory.mktemp("scheduled")
     simulated().to_csv(place / "blocks.csv", index=False)

@@ -55,9 +55,12 @@ def write_answer(answered: Answered, run: Run) -> pd.DataFrame:
     factor = analyse.chosen_factor(table, plan.project.schedule)
     check_fixed(run.mine, answered.solution, factor, progress)
     note_answer(answered, factor, run)
+    run.record["figures"] = run.writing.figures
     note_verified(plan, run)
-    with progress.step("drawing"):
-        drawn = draw(answered, table, years, factor, stage)
+    drawn: list[str] = []
+    if run.writing.figures:
+        with progress.step("drawing"):
+            drawn = draw(answered, table, years, factor, stage)
     if answered.schedule is not None:
         with progress.step("writing the workbook"):
             workbook.write(stage / WORKBOOK, sheets_of(answered, table, years))

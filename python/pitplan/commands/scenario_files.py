@@ -46,14 +46,16 @@ def write_pits(shared: Shared, request: Request, writing: Writing) -> list[str]:
         If an answer is missing, or a result differs from its independent recalculation.
     """
     progress, factor = writing.progress, run.shown_factor(shared, request)
-    with files.staged(shared.folder) as stage:
+    with files.staged(shared.folder, whole=writing.removed(shared.folder, PICTURES.values())) as stage:
         with progress.step("gathering the answers"):
             gathered = answers.gather(shared, request.partial)
             write_tables(shared, gathered, stage)
         notes = note_verified(shared, gathered.missing, writing, stage)
-        with progress.step("drawing"):
+        with progress.step("writing the image"):
             notes += write_image(shared, gathered, stage)
-            draw(shared, gathered, factor, stage)
+        if writing.figures:
+            with progress.step("drawing"):
+                draw(shared, gathered, factor, stage)
     return [*notes, *notes_of_missing(gathered.missing)]
 
 
@@ -73,13 +75,14 @@ def write_schedules(shared: Shared, request: Request, writing: Writing) -> list[
     from ..simulation import block_answers
 
     progress = writing.progress
-    with files.staged(shared.folder) as stage:
+    with files.staged(shared.folder, whole=writing.removed(shared.folder, [PICTURE_OF_VALUES])) as stage:
         with progress.step(f"digging the one schedule in {len(shared.scenarios):,} scenarios"):
             schedules = block_answers.gather(shared, request.partial)
             write_schedule_tables(schedules, block_answers.quantiles(schedules), shared, stage)
         notes = block_answers.notes(schedules, shared) + note_verified(shared, schedules.missing, writing, stage)
-        with progress.step("drawing"), also_as(rules_of(shared).formats):
-            value_pictures.write(schedules.answered, shared.project.money.currency, stage / PICTURE_OF_VALUES)
+        if writing.figures:
+            with progress.step("drawing"), also_as(rules_of(shared).formats):
+                value_pictures.write(schedules.answered, shared.project.money.currency, stage / PICTURE_OF_VALUES)
     return [*notes, *notes_of_missing(schedules.missing)]
 
 
@@ -111,7 +114,7 @@ def note_verified(shared: Shared, missing: dict[int, str], writing: Writing, sta
         verification.demand(rules)
         verified = [f"{rule.name}: {rule.holds}" for rule in rules]
     answered = [scenario.number for scenario in shared.scenarios if scenario.number not in missing]
-    files.write_json(stage / GATHERED, {"answers": answered, "verified": verified})
+    files.write_json(stage / GATHERED, {"answers": answered, "verified": verified, "figures": writing.figures})
     return [] if writing.verifies else [f"the results were not verified: run pitplan verify {shared.folder}"]
 
 

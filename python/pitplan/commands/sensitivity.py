@@ -17,6 +17,10 @@ from ..varied_cases import Case, Sensitivity
 from .writing import Place, Source, Writing, demand_apart, read
 
 
+# Those of pairs have the names of both numbers.
+FIGURES = (*sensitivity_pictures.WRITTEN, "grid-*.png")
+
+
 def write_sensitivity(
     project: Source, folder: Optional[Place] = None, where: Optional[Where] = None, writing: Writing = Writing()
 ) -> pd.DataFrame:
@@ -67,8 +71,8 @@ def write_cases(found: Sensitivity, folder: Path, writing: Writing) -> pd.DataFr
         If a result differs from its independent recalculation.
     """
     cases, project, progress = varied_cases.table(found), found.project, writing.progress
-    with files.staged(folder, RECORD) as stage:
-        record = sensitivity_files.record(found, os.path.relpath(project.path, folder))
+    with files.staged(folder, RECORD, writing.removed(folder, FIGURES)) as stage:
+        record = sensitivity_files.record(found, os.path.relpath(project.path, folder)) | {"figures": writing.figures}
         write_tables(found, cases, stage)
         project_text.write(found.asked, stage / files.AS_RUN, folder)
         files.write_json(stage / RECORD, record)
@@ -77,8 +81,9 @@ def write_cases(found: Sensitivity, folder: Path, writing: Writing) -> pd.DataFr
                 rules = verification.verify_sensitivity(stage, folder)
             verification.demand(rules)
             record["verified"] = [f"{rule.name}: {rule.holds}" for rule in rules]
-        with progress.step("drawing"), also_as(project.pictures.formats if project.pictures else ()):
-            sensitivity_pictures.write_all(cases, varied_cases.rules_of(project).pairs, project.money.currency, stage)
+        if writing.figures:
+            with progress.step("drawing"), also_as(project.pictures.formats if project.pictures else ()):
+                sensitivity_pictures.write_all(cases, varied_cases.rules_of(project).pairs, project.money.currency, stage)
         files.write_json(stage / RECORD, record)
     return cases
 

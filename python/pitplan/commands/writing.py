@@ -6,7 +6,7 @@ import os
 from contextlib import contextmanager
 from dataclasses import asdict, dataclass
 from pathlib import Path
-from typing import Any, Iterator, Optional, Union
+from typing import Any, Iterable, Iterator, Optional, Union
 
 import pandas as pd
 
@@ -15,6 +15,7 @@ from .. import sensitivity_files, sensitivity_pictures, staging, verification
 from ..errors import PlanError
 from ..mine import Mine
 from ..picture_bounds import demand_within
+from ..picture_rules import FORMATS
 from ..plan import Plan, prepare as prepare_plan
 from ..progress import Progress, silent
 from ..project import Project, inputs_beside, load
@@ -37,6 +38,7 @@ SCHEDULE_PICTURES = {
     "schedule_value": "schedule_value.png",
 }
 BLOCK_PICTURES = {"block_schedule": block_pictures.NAME}
+FIGURES = tuple((PICTURES | PHASE_PICTURES | SCHEDULE_PICTURES | BLOCK_PICTURES).values())
 REPORT, VIEW, WORKBOOK = "report.html", "view.html", "schedule.xlsx"
 # The files that every run writes or removes.
 ALWAYS = (*files.OF_PROGRAM, files.RECORD, files.TABLE, files.AS_RUN)
@@ -48,10 +50,7 @@ WRITTEN = {
     *(files.SCHEDULE, files.SCHEDULE_RECORD, files.MILLING, WORKBOOK),
     *(files.BLOCK_SCHEDULE, files.WAYS),
     *(REPORT, VIEW),
-    *PICTURES.values(),
-    *PHASE_PICTURES.values(),
-    *SCHEDULE_PICTURES.values(),
-    *BLOCK_PICTURES.values(),
+    *FIGURES,
 }
 WRITTEN |= {PITS, *sensitivity_files.WRITTEN, *sensitivity_pictures.WRITTEN, *exports.WRITTEN}
 
@@ -66,10 +65,27 @@ class Writing:
         Reports the steps; silent by default.
     verifies : bool
         Recalculate all results independently before they are kept.
+    figures : bool
+        Draw figures. Without them those of an earlier run in the folder are removed, since they show other results.
     """
 
     progress: Progress = silent
     verifies: bool = True
+    figures: bool = True
+
+    def removed(self, folder: Path, names: Iterable[str]) -> tuple[str, ...]:
+        """The figures of an earlier run that are in the folder and go, in all formats.
+
+        Parameters
+        ----------
+        folder : Path
+            The output folder.
+        names : iterable of str
+            The names of figures, such as plans.png; `*` is any text.
+        """
+        stems = [] if self.figures else [Path(name).stem for name in names]
+        found = {path.name for stem in stems for kind in ("png", *FORMATS) for path in folder.glob(f"{stem}.{kind}") if path.is_file()}
+        return tuple(sorted(found))
 
 
 @dataclass(frozen=True)
@@ -138,7 +154,7 @@ def begun(project: Project, folder: Path, writing: Writing, planned: Optional[Pr
     with staging.alone(folder):
         solver = chosen(project.solver)
         plan = prepare_plan(planned or project, progress=progress)
-        with files.staged(folder, whole=files.OF_PROGRAM) as stage:
+        with files.staged(folder, whole=(*files.OF_PROGRAM, *writing.removed(folder, FIGURES))) as stage:
             project_text.write(project, stage / files.AS_RUN, folder)
             demand_within(project, plan.grid)
             with progress.step("writing blocks and needs" if solver.by == PROGRAM else "listing the needs"):

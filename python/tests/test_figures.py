@@ -1,0 +1,97 @@
+"""Runs with figures and without: what is drawn, what the record says, and that no figure of other results stays behind."""
+
+import json
+
+import pytest
+from conftest import PROJECT, rows
+
+import pitplan
+from pitplan import Writing
+from pitplan.cli import main
+from pitplan.commands.writing import BLOCK_PICTURES, FIGURES, PHASE_PICTURES, PICTURES, SCHEDULE_PICTURES
+
+ORE = {"cu": lambda i, j, k: 6 * ((i, j, k) == (2, 2, 1)), "cu2": lambda i, j, k: 3 * ((i, j, k) == (2, 2, 1))}
+MORE = """[pushbacks]
+count = 1
+[schedule]
+rock_per_year = 2000
+[sensitivity]
+by = [0.1]
+vary = ["price", "mining_cost"]
+pairs = [["price", "mining_cost"]]
+[scenarios]
+columns = { copper = ["cu", "cu2"] }
+"""
+ONCE = Writing(verifies=False)
+BARE = Writing(verifies=False, figures=False)
+
+
+@pytest.fixture
+def mine(plan_folder):
+    return plan_folder(rows(5, 5, 3, **ORE), PROJECT + MORE)
+
+
+def figures_in(folder):
+    return {path.name for path in folder.iterdir() if path.suffix in (".png", ".svg", ".pdf")}
+
+
+@pytest.mark.parametrize(
+    ("command", "name", "drawn"),
+    [
+        (pitplan.write_shells, "", PICTURES),
+        (pitplan.write_schedule, "schedule", PICTURES | PHASE_PICTURES | SCHEDULE_PICTURES),
+        (pitplan.write_block_schedule, "block_schedule", PICTURES | BLOCK_PICTURES),
+    ],
+)
+def test_a_run_without_figures_removes_those_of_an_earlier_run(mine, command, name, drawn):
+    folder = mine.parent / "plan" / name
+    first = command(mine, writing=ONCE)
+    page, record = (folder / "report.html").read_text(), json.loads((folder / "prepare.json").read_text())
+    assert figures_in(folder) == {*drawn.values()} < {*record["files"]} and record["figures"] is True
+    assert page.count("data:image/png") == len(drawn) and "<h2>Pictures</h2>" in page
+    second = command(mine, writing=BARE)
+    page, record = (folder / "report.html").read_text(), json.loads((folder / "prepare.json").read_text())
+    assert figures_in(folder) == set() and record["figures"] is False and not {*FIGURES} & {*record["files"]}
+    assert "<img" not in page and "<h2>Pictures</h2>" not in page and "<h2>Tables</h2>" in page
+    assert first.to_csv() == second.to_csv()
+
+
+def test_figures_of_other_formats_are_removed_too(mine):
+    mine.write_text(mine.read_text() + '[pictures]\nformats = ["svg"]\n')
+    pitplan.write_shells(mine, writing=ONCE)
+    folder = mine.parent / "plan"
+    assert len(figures_in(folder)) == 2 * len(PICTURES)
+    (folder / "map.png").touch()
+    pitplan.write_shells(mine, writing=BARE)
+    assert figures_in(folder) == {"map.png"}, "a picture that no run draws stays"
+
+
+def test_a_sensitivity_without_figures(mine):
+    folder = mine.parent / "plan" / "sensitivity"
+    pitplan.write_sensitivity(mine, writing=ONCE)
+    assert figures_in(folder) == {"tornado.png", "spider.png", "grid-price-mining_cost.png"}
+    assert json.loads((folder / "sensitivity.json").read_text())["figures"] is True
+    pitplan.write_shells(mine, writing=BARE)
+    assert (mine.parent / "plan" / "report.html").read_text().count("<img") == 1, "the tornado, which the sensitivity has drawn"
+    pitplan.write_sensitivity(mine, writing=BARE)
+    assert figures_in(folder) == set() and json.loads((folder / "sensitivity.json").read_text())["figures"] is False
+    page = pitplan.write_report(mine.parent / "plan").read_text()
+    assert "<img" not in page and "sensitivity.csv" in page
+
+
+@pytest.mark.parametrize(("by", "names"), [("pit", {"probability_plans.png", "probability_sections.png", "spread.png"}), ("block", {"schedule_values.png"})])
+def test_scenarios_without_figures(mine, by, names):
+    pytest.importorskip("distributed")
+    result = pitplan.write_scenarios(mine, request=pitplan.Request(workers=1, by=by), writing=ONCE)
+    assert figures_in(result.folder) == names
+    assert json.loads((result.folder / "gathered.json").read_text())["figures"] is True
+    assert main(["gather", str(result.folder), "--no-figures", "--no-verify", "--quiet"]) == 0
+    assert figures_in(result.folder) == set()
+    assert json.loads((result.folder / "gathered.json").read_text())["figures"] is False
+
+
+def test_no_figures_on_the_command_line(mine):
+    for name in ("shells", "pushbacks", "schedule", "sensitivity"):
+        assert main([name, str(mine), "--no-figures", "--no-verify", "--quiet"]) == 0
+    assert not list(mine.parent.rglob("*.png"))
+    assert main(["scenarios", str(mine), "--no-figures", "--on", "parallel", "--quiet"]) == 0
