@@ -36,31 +36,66 @@ The library `libpitshell` solves where it is there, else the program `pitshell`;
 This layer, which makes that of a table, is not proved; `plan.notes` says what it rounded, dropped and clipped.
 """
 
-from .analyse import blocks, shells, years
-from .commands.audit import audit
-from .commands.export import export
-from .commands.pit import write_pit
-from .commands.pushbacks import write_pushbacks
-from .commands.report import write_report
-from .commands.scenarios import gather, write_scenarios
-from .commands.schedule import write_block_schedule, write_schedule
-from .commands.sensitivity import write_sensitivity
-from .commands.shells import write_shells
-from .commands.verify import verify
-from .commands.view import view
-from .commands.writing import Writing
-from .errors import BudgetUsedUp, MissingPackage, PlanError, ProgramError
-from .mine import solve
-from .plan import Plan, prepare
-from .project import Project, load
-from .run import Solution
-from .simulation.on_dask import Where
-from .simulation.request import Request
-from .simulation.result import ScenarioResult
-from .stages import Shape
-from .verification import Rule
+from __future__ import annotations
+
+from importlib import import_module
+from importlib.util import find_spec
+from typing import TYPE_CHECKING, Any
+
+if TYPE_CHECKING:
+    from .analyse import blocks, shells, years
+    from .commands.audit import audit
+    from .commands.export import export
+    from .commands.pit import write_pit
+    from .commands.pushbacks import write_pushbacks
+    from .commands.report import write_report
+    from .commands.scenarios import gather, write_scenarios
+    from .commands.schedule import write_block_schedule, write_schedule
+    from .commands.sensitivity import write_sensitivity
+    from .commands.shells import write_shells
+    from .commands.verify import verify
+    from .commands.view import view
+    from .commands.writing import Writing
+    from .errors import BudgetUsedUp, MissingPackage, PlanError, ProgramError
+    from .mine import solve
+    from .plan import Plan, prepare
+    from .project import Project, load
+    from .run import Solution
+    from .simulation.on_dask import Where
+    from .simulation.request import Request
+    from .simulation.result import ScenarioResult
+    from .stages import Shape
+    from .verification import Rule
 
 __version__ = "0.1.0"
+
+# The public names by their modules, which are imported on first use: `import pitplan` alone takes neither pandas nor matplotlib.
+MODULES = {
+    "analyse": ("blocks", "shells", "years"),
+    "commands.audit": ("audit",),
+    "commands.export": ("export",),
+    "commands.pit": ("write_pit",),
+    "commands.pushbacks": ("write_pushbacks",),
+    "commands.report": ("write_report",),
+    "commands.scenarios": ("gather", "write_scenarios"),
+    "commands.schedule": ("write_block_schedule", "write_schedule"),
+    "commands.sensitivity": ("write_sensitivity",),
+    "commands.shells": ("write_shells",),
+    "commands.verify": ("verify",),
+    "commands.view": ("view",),
+    "commands.writing": ("Writing",),
+    "errors": ("BudgetUsedUp", "MissingPackage", "PlanError", "ProgramError"),
+    "mine": ("solve",),
+    "plan": ("Plan", "prepare"),
+    "project": ("Project", "load"),
+    "run": ("Solution",),
+    "simulation.on_dask": ("Where",),
+    "simulation.request": ("Request",),
+    "simulation.result": ("ScenarioResult",),
+    "stages": ("Shape",),
+    "verification": ("Rule",),
+}
+PLACES = {name: module for module, names in MODULES.items() for name in names}
 
 __all__ = [
     "BudgetUsedUp",
@@ -96,3 +131,19 @@ __all__ = [
     "write_shells",
     "years",
 ]
+
+
+def __getattr__(name: str) -> Any:
+    """Imports a public name, or a module of the package, on first use."""
+    if name in PLACES:
+        found = getattr(import_module(f".{PLACES[name]}", __name__), name)
+    elif not name.startswith("_") and find_spec(f"{__name__}.{name}"):
+        return import_module(f".{name}", __name__)
+    else:
+        raise AttributeError(f"module {__name__!r} has no attribute {name!r}")
+    globals()[name] = found
+    return found
+
+
+def __dir__() -> list[str]:
+    return __all__

@@ -6,7 +6,9 @@ import subprocess
 
 from conftest import ROOT
 
-from pitplan import cli
+from pitplan import exports, solver, stages
+from pitplan.cli import parser as arguments
+from pitplan.project import REFERENCE_FACTOR
 
 PAGE = ROOT / "man" / "pitplan.1"
 # convert minelib has a command line of its own (python/minelib), with --out alone.
@@ -22,7 +24,7 @@ def options(parser: argparse.ArgumentParser) -> set[str]:
 
 
 def test_the_page_has_each_subcommand_and_option_and_no_others():
-    top = cli.parser()
+    top = arguments.parser()
     text = PAGE.read_text().replace("\\-", "-")
     listed = text.partition(".SH SUBCOMMANDS")[2].partition(".SH OPTIONS")[0]
     assert set(re.findall(r'^\.BI "?(\w+)', listed, re.MULTILINE)) == set(subparsers(top))
@@ -37,10 +39,23 @@ def test_the_page_is_shown_without_warnings():
     assert "pitplan init [--out FILE] TABLE" in shown.stdout
 
 
+def test_help_lists_each_subcommand_once():
+    top = arguments.parser()
+    listed = [line.split()[0] for line in top.format_help().splitlines() if re.match(r"  [a-z]+ +[a-z]", line)]
+    assert listed == list(subparsers(top)) and "usage: pitplan [-h] [--version] SUBCOMMAND ..." in top.format_help()
+    assert subparsers(top)["shells"].format_usage().startswith("usage: pitplan shells [-h]")
+
+
+def test_the_words_of_options_are_those_of_the_modules():
+    assert arguments.FORMATS == tuple(exports.WRITERS)
+    assert (arguments.STAGES, arguments.SURFACES) == (stages.KINDS, (stages.PIT, stages.GROUND))
+    assert (arguments.SOLVERS, arguments.REFERENCE_FACTOR) == (solver.BY, REFERENCE_FACTOR)
+
+
 def test_help_says_what_each_option_is_for_and_which_folder_is_taken(tmp_path):
-    subs = subparsers(cli.parser())
+    subs = subparsers(arguments.parser())
     silent = [(name, action.dest) for name, sub in subs.items() for action in sub._actions if not action.help and name != "convert"]
     assert silent == []
     # As --out of the page says, under OPTIONS.
     for name in ("pit", "pushbacks", "schedule", "sensitivity"):
-        assert f"(default: {name} in the project's output folder)" in " ".join(subs[name].format_help().split())
+        assert f"(default: {name} in the project's output folder" in " ".join(subs[name].format_help().split())

@@ -505,11 +505,11 @@ def test_a_scenario_has_the_status_of_the_program_s_own(error, status):
 @pytest.mark.parametrize(
     ("words", "said"),
     [
-        (["scenarios", "project.toml", "--on", "cloud"], "cloud is none of local, tcp://host:port, slurm, parallel"),
-        (["scenarios", "project.toml", "--workers", "0"], "0 is no whole number from 1 on"),
-        (["scenarios", "project.toml", "--workers", "-1"], "-1 is no whole number from 1 on"),
-        (["scenario", "folder", "0"], "0 is no whole number from 1 on"),
-        (["scenario", "folder", "one"], "one is no whole number from 1 on"),
+        (["scenarios", "project.toml", "--on", "cloud"], 'found "cloud", expected local, tcp://host:port, slurm or parallel'),
+        (["scenarios", "project.toml", "--workers", "0"], 'found "0", expected a whole number from 1 on'),
+        (["scenarios", "project.toml", "--workers", "-1"], 'found "-1", expected a whole number from 1 on'),
+        (["scenario", "folder", "0"], 'found "0", expected a whole number from 1 on'),
+        (["scenario", "folder", "one"], 'found "one", expected a whole number from 1 on'),
     ],
 )
 def test_a_mistake_on_the_command_line_is_told(capsys, words, said):

@@ -244,7 +244,7 @@ def test_cases_over_dask_are_those_of_one_after_the_other(small, capsys):
 def test_cases_are_solved_here_or_over_dask_alone(small, capsys):
     with pytest.raises(SystemExit):
         main(["sensitivity", str(small()), "--on", "slurm"])
-    assert "slurm is none of local, tcp://host:port" in capsys.readouterr().err
+    assert 'found "slurm", expected local or tcp://host:port' in capsys.readouterr().err
 
 
 @pytest.mark.parametrize(

@@ -1,4 +1,4 @@
-"""`pitplan scenarios`, `gather` and `scenario`: pits or schedules of simulated models at several prices."""
+"""`pitplan scenarios` and `gather`: pits or schedules of simulated models at several prices."""
 
 from __future__ import annotations
 
@@ -6,7 +6,7 @@ from pathlib import Path
 from typing import Optional
 
 from .. import staging
-from ..simulation import run, work
+from ..simulation import run
 from ..simulation.folder import BLOCK, FOLDERS, read_shared
 from ..simulation.request import Request
 from ..simulation.result import ScenarioResult
@@ -85,8 +85,3 @@ def gathered(folder: Path, request: Request, writing: Writing) -> list[str]:
     """Gathers the answers of a folder; returns notes on them."""
     shared = read_shared(folder)
     return write_schedules(shared, request, writing) if shared.is_by_block else write_pits(shared, request, writing)
-
-
-def solve_scenario(folder: Place, number: int) -> work.Outcome:
-    """Solves one scenario of a folder that `write_scenarios` has prepared, counted from 1. Raises no PlanError: the outcome has the status."""
-    return work.solve(str(folder), number)

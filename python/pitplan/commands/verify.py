@@ -3,13 +3,13 @@
 from __future__ import annotations
 
 from pathlib import Path
+from typing import Union
 
 from .. import verification
 from ..verification import Rule
-from .writing import Place
 
 
-def verify(folder: Place) -> list[Rule]:
+def verify(folder: Union[str, Path]) -> list[Rule]:
     """Recalculates every number of a folder of shells, of a pit, of a sensitivity or of scenarios independently.
 
     Returns

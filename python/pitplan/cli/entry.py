@@ -1,0 +1,49 @@
+"""Runs a subcommand, and ends with its status."""
+
+from __future__ import annotations
+
+import argparse
+from importlib.util import find_spec
+from typing import Optional, Sequence
+
+import minelib
+from minelib.ending import ended
+
+from ..errors import MissingPackage, PlanError
+from .parser import parser
+
+# Packages of Python that every subcommand but `convert` requires, with those of Debian.
+REQUIRED = {
+    "numpy": "python3-numpy",
+    "pandas": "python3-pandas",
+    "matplotlib": "python3-matplotlib",
+    "scipy": "python3-scipy",
+    "openpyxl": "python3-openpyxl",
+    "jinja2": "python3-jinja2",
+}
+
+
+def main(arguments: Optional[Sequence[str]] = None) -> int:
+    """Runs one subcommand.
+
+    Returns
+    -------
+    int
+        0 if it is done; 1 if it is refused, with a sentence on standard error; 130 if it was interrupted. `scenario` ends with the status
+        of its scenario.
+    """
+    return ended("pitplan", lambda: run(parser().parse_args(arguments)), (PlanError, minelib.MinelibError))
+
+
+def run(options: argparse.Namespace) -> int:
+    """Runs the subcommand of these options; returns its status. Raises MissingPackage if a required package is not installed."""
+    if options.command != "convert":
+        demand_packages()
+    status: int = options.run(options)
+    return status
+
+
+def demand_packages() -> None:
+    missing = [name for name in REQUIRED if find_spec(name) is None]
+    if missing:
+        raise MissingPackage(f"{', '.join(missing)}: not installed: apt-get install {' '.join(REQUIRED[name] for name in missing)}")

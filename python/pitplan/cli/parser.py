@@ -1,0 +1,288 @@
+"""The arguments of `pitplan` and of each subcommand.
+
+Words that other modules define stand here too, so that help needs none of these modules; tests compare them.
+"""
+
+from __future__ import annotations
+
+import argparse
+from pathlib import Path
+from typing import Callable
+
+from minelib.__main__ import add_arguments as add_minelib
+
+from .. import __version__
+from . import subcommands
+
+DESCRIPTION = "Plan an open-pit mine: from a block model, prices, costs and slope angles to pit shells, pushbacks and schedules."
+FORMATS = ("table", "csv", "xlsx", "vti", "vtu", "dxf", "stl", "obj", "gpkg", "str", "lines")
+STAGES = ("factor", "phase", "year")
+SURFACES = ("pit", "ground")
+SOLVERS = ("library", "program")
+REFERENCE_FACTOR = 1000
+# The column at which the words on a subcommand begin.
+INDENT = 15
+
+Parser = argparse.ArgumentParser
+Run = Callable[[argparse.Namespace], int]
+
+
+class Subparsers:
+    """The subcommands of a parser, which its help lists in groups."""
+
+    def __init__(self, top: Parser) -> None:
+        self.top = top
+        self.actions = top.add_subparsers(dest="command", required=True, metavar="SUBCOMMAND", help=argparse.SUPPRESS, prog=top.prog)
+        self.lines: list[str] = []
+
+    def group(self, title: str, *adders: Callable[[Subparsers], None]) -> None:
+        """Begins a group of the help, and adds its subcommands."""
+        self.lines += ["", f"{title}:"]
+        for add in adders:
+            add(self)
+        self.top.epilog = "\n".join(self.lines[1:])
+
+    def add(self, name: str, does: str, run: Run, more: str = "") -> Parser:
+        """Adds a subcommand: what it does, the function that runs it, and what its own help says besides."""
+        self.lines.append(f"  {name:<{INDENT - 2}}{does}")
+        sub: Parser = self.actions.add_parser(name, description=f"{does[0].upper()}{does[1:]}.{f' {more}' if more else ''}")
+        sub.set_defaults(run=run)
+        return sub
+
+
+def parser() -> Parser:
+    """The parser of the whole command line."""
+    usage = "pitplan [-h] [--version] SUBCOMMAND ..."
+    top = Parser(prog="pitplan", usage=usage, description=DESCRIPTION, formatter_class=argparse.RawDescriptionHelpFormatter)
+    top.add_argument("--version", action="version", version=f"pitplan {__version__}", help="print the version and exit")
+    subs = Subparsers(top)
+    subs.group("set up", add_init)
+    subs.group("plan", add_prepare, add_shells, add_pit, add_pushbacks, add_schedule)
+    subs.group("studies", add_sensitivity, add_scenarios, add_gather, add_scenario)
+    subs.group("outputs", add_report, add_view, add_export, add_audit, add_verify)
+    subs.group("other formats", add_convert)
+    return top
+
+
+def add_init(subs: Subparsers) -> None:
+    sub = subs.add("init", "write a project for a table of blocks, with each guess marked", subcommands.init)
+    sub.add_argument("table", type=Path, help="table of blocks (.csv, .csv.gz, .zip)")
+    sub.add_argument("--out", type=Path, metavar="FILE", help="project to write (default: project.toml next to the table)")
+
+
+def add_prepare(subs: Subparsers) -> None:
+    more = "It lists what was rounded, dropped and clipped."
+    sub = subs.add("prepare", "write the solver's input files and prepare.json, without solving", subcommands.prepare, more)
+    add_project(sub)
+    add_out(sub, "the project's output folder")
+    add_quiet(sub)
+
+
+def add_shells(subs: Subparsers) -> None:
+    sub = subs.add("shells", "find the nested pit shells; write tables, figures and the report", subcommands.shells)
+    add_project(sub)
+    add_out(sub, "the project's output folder")
+    add_writing(sub)
+    add_figures(sub)
+    add_solver(sub)
+
+
+def add_pit(subs: Subparsers) -> None:
+    sub = subs.add("pit", "solve the pit of one factor with the fixed blocks and without, and compare the two", subcommands.pit)
+    add_project(sub)
+    add_out(sub, "pit in the project's output folder")
+    add_writing(sub)
+    add_solver(sub)
+    add_factor(sub, positive)
+
+
+def add_pushbacks(subs: Subparsers) -> None:
+    does = "divide the pit of one factor into pushbacks; write tables, figures and the report"
+    sub = subs.add("pushbacks", does, subcommands.pushbacks)
+    add_project(sub)
+    add_out(sub, "pushbacks in the project's output folder")
+    add_writing(sub)
+    add_figures(sub)
+    add_solver(sub)
+
+
+def add_schedule(subs: Subparsers) -> None:
+    more = "An interruption while programmes are solved ends these only, and the best schedule so far is written."
+    does = "schedule pushbacks or blocks by years; write tables, figures and the report"
+    sub = subs.add("schedule", does, subcommands.schedule, more)
+    add_project(sub)
+    add_out(sub, "schedule in the project's output folder, or block_schedule")
+    add_writing(sub)
+    add_figures(sub)
+    add_solver(sub)
+    text = "schedule the benches of pushbacks (phase), or single blocks, with an upper bound on the NPV of all such schedules (block) (default: phase)"
+    sub.add_argument("--by", choices=("phase", "block"), default="phase", help=text)
+
+
+def add_sensitivity(subs: Subparsers) -> None:
+    more = "Draw tornado and spider plots. A case that has an answer in the folder is not solved again."
+    does = "vary price, cost, recovery, slope angle and capacity, and compare the selected pit shell"
+    sub = subs.add("sensitivity", does, subcommands.sensitivity, more)
+    add_project(sub)
+    add_out(sub, "sensitivity in the project's output folder")
+    add_writing(sub)
+    add_figures(sub)
+    add_solver(sub)
+    text = "solve the cases on local (processes of this machine, by Dask) or tcp://host:port (a Dask scheduler) (default: one by one)"
+    sub.add_argument("--on", type=scheduler_of, metavar="WHERE", help=text)
+    add_workers(sub)
+
+
+def add_scenarios(subs: Subparsers) -> None:
+    does = "solve simulated models at several prices: inclusion probabilities, or schedules"
+    sub = subs.add("scenarios", does, subcommands.scenarios)
+    sub.add_argument("project", type=Path, metavar="PROJECT", help="project.toml, with [scenarios]")
+    add_out(sub, "scenarios in the project's output folder, or block_scenarios")
+    add_writing(sub)
+    add_figures(sub)
+    add_solver(sub)
+    text = "find the pits of each scenario (pit), or schedule its blocks and make one schedule for all (block) (default: pit)"
+    sub.add_argument("--by", choices=("pit", "block"), default="pit", help=text)
+    text = "solve on local (processes of this machine, by Dask) or tcp://host:port (a Dask scheduler), or write lists of jobs for slurm or "
+    sub.add_argument("--on", default="local", type=where_of, metavar="WHERE", help=f"{text}parallel (default: local)")
+    add_workers(sub)
+    add_gathering(sub)
+
+
+def add_gather(subs: Subparsers) -> None:
+    sub = subs.add("gather", "write tables and figures of scenarios that others have solved", subcommands.gather)
+    add_folder(sub, "folder that pitplan scenarios wrote")
+    add_writing(sub)
+    add_figures(sub)
+    add_gathering(sub)
+
+
+def add_scenario(subs: Subparsers) -> None:
+    more = (
+        "Exit status: 0, the solver's own 1 to 4, 5 if pitplan refuses, or 75 if the program was killed, so that another try may help. "
+        "The lists of jobs of Slurm and GNU parallel call it."
+    )
+    sub = subs.add("scenario", "solve one scenario of a folder", subcommands.scenario, more)
+    add_folder(sub, "folder that pitplan scenarios wrote")
+    sub.add_argument("number", type=positive, metavar="NUMBER", help="the scenario, from 1")
+    add_quiet(sub)
+
+
+def add_report(subs: Subparsers) -> None:
+    sub = subs.add("report", "write the report again, with the sensitivity that was run since", subcommands.report)
+    add_project(sub)
+    add_plan_folder(sub)
+    add_quiet(sub)
+    text = "folder of the sensitivity that the report shows (default: sensitivity in the project's output folder, if its inputs are the same)"
+    sub.add_argument("--sensitivity", type=Path, metavar="FOLDER", help=text)
+
+
+def add_view(subs: Subparsers) -> None:
+    sub = subs.add("view", "write a page that shows the shells in 3D (requires libjs-three)", subcommands.view)
+    add_project(sub)
+    add_plan_folder(sub)
+    add_quiet(sub)
+
+
+def add_export(subs: Subparsers) -> None:
+    sub = subs.add("export", "write the shells for other programs", subcommands.export)
+    add_project(sub)
+    add_plan_folder(sub)
+    add_quiet(sub)
+    text = "format; table is the planner's own table with the factor, pushback and year of each block"
+    sub.add_argument("--to", required=True, choices=FORMATS, help=text)
+    add_factor(sub, int)
+    text = "export the pit of the factor, or all pushbacks (phase) or years (default: factor)"
+    sub.add_argument("--of", choices=STAGES, default=STAGES[0], help=text)
+    text = "export the mined blocks (pit), or the open surface of the ground with the pit in it (ground) (default: pit)"
+    sub.add_argument("--surface", choices=SURFACES, default=SURFACES[0], help=text)
+    sub.add_argument("--smooth", action="store_true", help="smooth the steps of blocks; requires --surface ground")
+
+
+def add_audit(subs: Subparsers) -> None:
+    sub = subs.add("audit", "write a folder by which others can check one shell", subcommands.audit)
+    add_project(sub)
+    add_plan_folder(sub)
+    add_quiet(sub)
+    sub.add_argument("--factor", type=int, required=True, help="price factor of the shell, in per mille")
+
+
+def add_verify(subs: Subparsers) -> None:
+    more = "The folder is one that shells, pit, pushbacks, schedule, sensitivity, scenarios or gather has written."
+    sub = subs.add("verify", "recalculate the results of a folder independently", subcommands.verify, more)
+    add_folder(sub, "folder of the plan, the sensitivity or the scenarios")
+
+
+def add_convert(subs: Subparsers) -> None:
+    sub = subs.add("convert", "convert published files of MineLib to those of pitshell", subcommands.convert)
+    kinds = sub.add_subparsers(dest="kind", required=True, metavar="KIND", help="minelib")
+    text = "convert MineLib's .upit, .cpit, .pcpsp, .prec and .blocks files, as published"
+    add_minelib(kinds.add_parser("minelib", help=text, description=text))
+
+
+def add_project(sub: Parser) -> None:
+    sub.add_argument("project", type=Path, metavar="PROJECT", help="project.toml")
+
+
+def add_folder(sub: Parser, text: str) -> None:
+    sub.add_argument("folder", type=Path, metavar="FOLDER", help=text)
+
+
+def add_out(sub: Parser, default: str) -> None:
+    sub.add_argument("--out", type=Path, metavar="FOLDER", help=f"output folder (default: {default})")
+
+
+def add_plan_folder(sub: Parser) -> None:
+    sub.add_argument("--out", type=Path, metavar="FOLDER", help="folder of the plan (default: the project's output folder)")
+
+
+def add_quiet(sub: Parser) -> None:
+    sub.add_argument("--quiet", action="store_true", help="print no progress on standard error")
+
+
+def add_writing(sub: Parser) -> None:
+    add_quiet(sub)
+    sub.add_argument("--no-verify", action="store_true", help="skip the independent recalculation of the results")
+
+
+def add_figures(sub: Parser) -> None:
+    sub.add_argument("--no-figures", action="store_true", help="draw no figures, and remove those of an earlier run in the folder")
+
+
+def add_solver(sub: Parser) -> None:
+    default = "the one that PITSHELL_LIBRARY or PITSHELL names, otherwise the library if it is installed"
+    text = f"solve by the library, on arrays, or by the program, on files, which are kept (default: {default})"
+    sub.add_argument("--solver", choices=SOLVERS, help=text)
+
+
+def add_factor(sub: Parser, kind: Callable[[str], int]) -> None:
+    text = f"price factor of the pit, in per mille (default: {REFERENCE_FACTOR})"
+    sub.add_argument("--factor", type=kind, default=REFERENCE_FACTOR, help=text)
+
+
+def add_workers(sub: Parser) -> None:
+    sub.add_argument("--workers", type=positive, metavar="NUMBER", help="number of processes of local (default: one for each processor)")
+
+
+def add_gathering(sub: Parser) -> None:
+    text = "price factor whose probabilities are drawn, in per mille (default: the project's chosen one, otherwise 1000)"
+    sub.add_argument("--factor", type=int, help=text)
+    sub.add_argument("--partial", action="store_true", help="gather although scenarios have no answer")
+
+
+def where_of(text: str) -> str:
+    if text in ("local", "slurm", "parallel") or "://" in text:
+        return text
+    raise argparse.ArgumentTypeError(f'found "{text}", expected local, tcp://host:port, slurm or parallel')
+
+
+def scheduler_of(text: str) -> str:
+    if text == "local" or "://" in text:
+        return text
+    raise argparse.ArgumentTypeError(f'found "{text}", expected local or tcp://host:port')
+
+
+def positive(text: str) -> int:
+    if not text.isdigit() or int(text) < 1:
+        raise argparse.ArgumentTypeError(f'found "{text}", expected a whole number from 1 on')
+    return int(text)

@@ -1,0 +1,228 @@
+"""One function a subcommand: it takes the options, calls the command, prints its answer, and returns the exit status.
+
+Each imports its command itself, so that a subcommand loads only the libraries that it uses, and help loads none.
+"""
+
+from __future__ import annotations
+
+from argparse import Namespace
+from pathlib import Path
+from typing import TYPE_CHECKING
+
+from minelib.ending import tell
+
+from ..progress import Progress, on_standard_error, silent
+
+if TYPE_CHECKING:
+    from ..commands.writing import Writing
+    from ..project import Project
+    from ..simulation.result import ScenarioResult
+
+
+def progress_of(options: Namespace) -> Progress:
+    return silent if options.quiet else on_standard_error()
+
+
+def project_of(options: Namespace) -> Project:
+    """The project, with the solver that is asked for."""
+    from dataclasses import replace
+
+    from ..project import load
+
+    return replace(load(options.project), solver=getattr(options, "solver", None))
+
+
+def folder_of(options: Namespace) -> Path:
+    """The folder of the plan that is read. Raises PlanError if the project is not usable."""
+    project = project_of(options)
+    return options.out or project.folder
+
+
+def writing_of(options: Namespace) -> Writing:
+    from ..commands.writing import Writing
+
+    return Writing(progress_of(options), not options.no_verify, not getattr(options, "no_figures", False))
+
+
+def init(options: Namespace) -> int:
+    from .. import init as wizard
+    from .printing import print_notes
+
+    project_file = options.out or options.table.parent / "project.toml"
+    print_notes(wizard.write(options.table, project_file))
+    print(project_file)
+    return 0
+
+
+def prepare(options: Namespace) -> int:
+    from ..commands.prepare import write_plan
+    from .printing import print_notes
+
+    project = project_of(options)
+    folder = options.out or project.folder
+    print_notes(write_plan(project, folder, progress_of(options))["notes"])
+    print(folder)
+    return 0
+
+
+def shells(options: Namespace) -> int:
+    from ..commands.shells import write_shells
+    from ..report import columns_of
+    from .printing import print_answer
+
+    project = project_of(options)
+    folder = options.out or project.folder
+    table = write_shells(project, folder, writing_of(options))
+    print_answer(table, columns_of(table, project), folder)
+    return 0
+
+
+def pit(options: Namespace) -> int:
+    from .. import files
+    from ..commands.pit import write_pit
+    from ..commands.writing import PITS
+    from ..report import cells_of, columns_of
+    from .printing import print_notes, print_table
+
+    project = project_of(options)
+    folder = options.out or project.folder / "pit"
+    table = write_pit(project, options.factor, folder, writing_of(options))
+    columns = columns_of(table, project)
+    lines = [[name, *row] for name, row in zip(table["fixed_blocks"], cells_of(table, columns))]
+    print_table(["fixed, blocks", *(heading for _, heading, _, _ in columns)], lines)
+    print_notes(files.read_record(folder)["notes"])
+    print(folder / PITS)
+    return 0
+
+
+def pushbacks(options: Namespace) -> int:
+    from ..commands.pushbacks import write_pushbacks
+    from ..report import columns_of_phases
+    from .printing import print_answer
+
+    project = project_of(options)
+    folder = options.out or project.folder / "pushbacks"
+    table = write_pushbacks(project, folder, writing_of(options))
+    print_answer(table, columns_of_phases(table, project), folder)
+    return 0
+
+
+def schedule(options: Namespace) -> int:
+    """Raises KeyboardInterrupt after the best schedule is written if the search was interrupted."""
+    from .. import files
+    from ..commands.schedule import write_block_schedule, write_schedule
+    from ..report import columns_by_block, columns_of_ways
+    from .printing import print_answer
+
+    project, by_block = project_of(options), options.by == "block"
+    folder = options.out or project.folder / ("block_schedule" if by_block else "schedule")
+    table = (write_block_schedule if by_block else write_schedule)(project, folder, writing_of(options))
+    print_answer(table, (columns_by_block if by_block else columns_of_ways)(table, project), folder)
+    if files.read_json(folder / (files.BLOCK_SCHEDULE if by_block else files.SCHEDULE_RECORD))["interrupted"]:
+        raise KeyboardInterrupt
+    return 0
+
+
+def sensitivity(options: Namespace) -> int:
+    from .. import files, report, sensitivity_files
+    from ..commands.sensitivity import write_sensitivity
+    from ..simulation.on_dask import Where
+    from .printing import print_notes, print_table
+
+    project = project_of(options)
+    folder = options.out or project.folder / "sensitivity"
+    where = Where(options.on, options.workers) if options.on else None
+    table = report.of_cases(write_sensitivity(project, folder, where, writing_of(options)))
+    columns = report.columns_of_cases(table, project)
+    print_table([heading for _, heading, _, _ in columns], report.cells_of(table, columns))
+    print_notes(files.read_json(folder / sensitivity_files.RECORD)["notes"])
+    print(folder / sensitivity_files.TABLE)
+    return 0
+
+
+def scenarios(options: Namespace) -> int:
+    from ..commands.scenarios import write_scenarios
+    from ..simulation.request import Request
+
+    request = Request(options.on, options.workers, options.factor, options.partial, options.by)
+    return print_scenarios(write_scenarios(project_of(options), options.out, request, writing_of(options)))
+
+
+def gather(options: Namespace) -> int:
+    from ..commands.scenarios import gather as gather_answers
+    from ..simulation.request import Request
+
+    request = Request(factor=options.factor, partial=options.partial)
+    return print_scenarios(gather_answers(options.folder, request, writing_of(options)))
+
+
+def print_scenarios(result: ScenarioResult) -> int:
+    """Prints the notes, and the folder or the script to start."""
+    from .printing import print_notes
+
+    print_notes(list(result.notes))
+    print(result.start or result.folder)
+    return 0
+
+
+def scenario(options: Namespace) -> int:
+    from ..commands.scenario import solve_scenario
+
+    outcome = solve_scenario(options.folder, options.number)
+    if outcome.why:
+        tell(f"pitplan: {outcome.why}")
+    return outcome.status
+
+
+def report(options: Namespace) -> int:
+    from ..commands.report import write_report
+
+    print(write_report(folder_of(options), options.sensitivity, progress_of(options)))
+    return 0
+
+
+def view(options: Namespace) -> int:
+    from ..commands.view import view as write_view
+
+    print(write_view(folder_of(options), progress_of(options)))
+    return 0
+
+
+def export(options: Namespace) -> int:
+    from ..commands.export import export as write_export
+    from ..stages import Shape
+    from .printing import print_path
+
+    shape = Shape(options.of, options.surface, options.smooth)
+    folder = folder_of(options)
+    print_path(write_export(folder, options.to, options.factor, progress_of(options), shape))
+    return 0
+
+
+def audit(options: Namespace) -> int:
+    from ..commands.audit import audit as write_audit
+    from .printing import print_path
+
+    print_path(write_audit(folder_of(options), options.factor, progress_of(options)))
+    return 0
+
+
+def verify(options: Namespace) -> int:
+    """Prints a line for each rule that holds. Raises PlanError if one does not."""
+    from ..commands.verify import verify as recalculate
+    from ..verification import demand
+
+    rules = recalculate(options.folder)
+    demand(rules)
+    for rule in rules:
+        print(f"{rule.name}: {rule.holds}")
+    return 0
+
+
+def convert(options: Namespace) -> int:
+    import minelib
+
+    for note in minelib.convert(options.files, options.out)["notes"]:
+        tell(note)
+    print(options.out)
+    return 0

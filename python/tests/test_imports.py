@@ -1,0 +1,52 @@
+"""`import pitplan` and its help take Python alone; each public name is imported on first use."""
+
+import ast
+import subprocess
+import sys
+
+import pytest
+from conftest import ROOT
+
+import pitplan
+from pitplan.cli import entry, main
+
+HEAVY = ("numpy", "pandas", "scipy", "matplotlib")
+REPORT = f"import sys; print(*[name for name in {HEAVY} if name in sys.modules])"
+
+
+def loaded(code):
+    """The heavy packages that a Python process of its own has loaded after the code."""
+    ran = subprocess.run([sys.executable, "-c", f"{code}\n{REPORT}"], cwd=ROOT / "python", capture_output=True, text=True, check=True)
+    return ran.stdout.splitlines()[-1].split()
+
+
+@pytest.mark.parametrize("words", [["--version"], ["-h"], ["shells", "-h"], ["convert", "minelib", "-h"]])
+def test_help_loads_no_package(words):
+    assert loaded(f"from pitplan.cli import main\ntry:\n    main({words})\nexcept SystemExit:\n    pass") == []
+
+
+def test_names_are_imported_on_first_use():
+    assert loaded("import pitplan; dir(pitplan); pitplan.PlanError") == []
+    assert "pandas" in loaded("import pitplan; pitplan.shells") and "matplotlib" in loaded("import pitplan; pitplan.write_shells")
+    assert loaded("import pitplan; pitplan.errors.PlanError") == [], "modules too"
+
+
+def test_every_public_name_is_there_and_no_other():
+    assert dir(pitplan) == sorted(pitplan.__all__) == sorted(pitplan.PLACES)
+    assert all(getattr(pitplan, name) is not None for name in pitplan.__all__)
+    with pytest.raises(AttributeError, match="module 'pitplan' has no attribute 'nowhere'"):
+        pitplan.nowhere
+    with pytest.raises(ImportError, match="nowhere"):
+        from pitplan import nowhere  # noqa: F401
+
+
+def test_type_checkers_see_the_same_names():
+    tree = ast.parse((ROOT / "python" / "pitplan" / "__init__.py").read_text())
+    (checked,) = [node for node in tree.body if isinstance(node, ast.If)]
+    assert {node.module: tuple(name.name for name in node.names) for node in checked.body} == pitplan.MODULES
+
+
+def test_a_missing_package_is_named_by_debians(monkeypatch, capsys):
+    monkeypatch.setitem(entry.REQUIRED, "nowhere_at_all", "python3-nowhere")
+    assert main(["verify", "folder"]) == 1
+    assert capsys.readouterr().err == "pitplan: nowhere_at_all: not installed: apt-get install python3-nowhere\n"
