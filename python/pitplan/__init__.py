@@ -8,8 +8,9 @@
     pitplan.shells(plan, solution)              # one row a factor: tonnes, grades, strip ratio, worth, NPV
     pitplan.years(plan, solution)               # one row a case, factor and year: rock, ore, metal, cash
 
-Functions write what the subcommands do, by default into the project's own folder:
+Functions write what the subcommands do, by default into the project's own folder; `check` writes nothing:
 
+    notes = pitplan.check("project.toml")                  # reads and validates all inputs, without solving
     table = pitplan.write_shells("project.toml", "out")    # as pitplan shells, verified: one row a factor
     pitplan.view("out")                                    # the path of view.html; write_report("out") that of report.html
     pitplan.export("out", "csv")                           # that of pit.csv; or table, xlsx, vti, vtu; with a factor or `shape=Shape(...)` dxf, stl or obj
@@ -45,6 +46,7 @@ from typing import TYPE_CHECKING, Any
 if TYPE_CHECKING:
     from .analyse import blocks, shells, years
     from .commands.audit import audit
+    from .commands.check import check
     from .commands.export import export
     from .commands.pit import write_pit
     from .commands.pushbacks import write_pushbacks
@@ -73,6 +75,7 @@ __version__ = "0.1.0"
 MODULES = {
     "analyse": ("blocks", "shells", "years"),
     "commands.audit": ("audit",),
+    "commands.check": ("check",),
     "commands.export": ("export",),
     "commands.pit": ("write_pit",),
     "commands.pushbacks": ("write_pushbacks",),
@@ -113,6 +116,7 @@ __all__ = [
     "Writing",
     "audit",
     "blocks",
+    "check",
     "export",
     "gather",
     "load",

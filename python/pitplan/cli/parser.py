@@ -56,7 +56,7 @@ def parser() -> Parser:
     top = Parser(prog="pitplan", usage=usage, description=DESCRIPTION, formatter_class=argparse.RawDescriptionHelpFormatter)
     top.add_argument("--version", action="version", version=f"pitplan {__version__}", help="print the version and exit")
     subs = Subparsers(top)
-    subs.group("set up", add_init)
+    subs.group("set up", add_init, add_check)
     subs.group("plan", add_prepare, add_shells, add_pit, add_pushbacks, add_schedule)
     subs.group("studies", add_sensitivity, add_scenarios, add_gather, add_scenario)
     subs.group("outputs", add_report, add_view, add_export, add_audit, add_verify)
@@ -68,6 +68,13 @@ def add_init(subs: Subparsers) -> None:
     sub = subs.add("init", "write a project for a table of blocks, with each guess marked", subcommands.init)
     sub.add_argument("table", type=Path, help="table of blocks (.csv, .csv.gz, .zip)")
     sub.add_argument("--out", type=Path, metavar="FILE", help="project to write (default: project.toml next to the table)")
+
+
+def add_check(subs: Subparsers) -> None:
+    more = "Print what prepare notes, and write nothing."
+    sub = subs.add("check", "read and validate a project and its files, without solving", subcommands.check, more)
+    add_project(sub)
+    add_quiet(sub)
 
 
 def add_prepare(subs: Subparsers) -> None:

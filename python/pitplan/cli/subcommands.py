@@ -54,6 +54,16 @@ def init(options: Namespace) -> int:
     return 0
 
 
+def check(options: Namespace) -> int:
+    from ..commands.check import check as check_project
+    from .printing import print_notes
+
+    project = project_of(options)
+    print_notes(check_project(project, progress_of(options)))
+    print(f"{project.path}: no errors")
+    return 0
+
+
 def prepare(options: Namespace) -> int:
     from ..commands.prepare import write_plan
     from .printing import print_notes

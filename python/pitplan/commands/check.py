@@ -1,0 +1,37 @@
+"""`pitplan check`: a project and its files, read and validated without solving."""
+
+from __future__ import annotations
+
+from ..mine import counted_rows
+from ..picture_bounds import demand_within
+from ..plan import prepare
+from ..progress import Progress, silent
+from .writing import Source, read
+
+
+def check(project: Source, progress: Progress = silent) -> list[str]:
+    """Reads and validates a project, its table, slopes and survey files, as every command does before it solves. Nothing is written.
+
+    Parameters
+    ----------
+    project : Project, str or Path
+        A project, or the path of its project.toml.
+    progress : Progress
+        Reports the steps.
+
+    Returns
+    -------
+    list of str
+        The notes that `pitplan prepare` prints: what was rounded, dropped and clipped, and warnings.
+
+    Raises
+    ------
+    PlanError
+        If the input is not usable.
+    """
+    project = read(project)
+    plan = prepare(project, progress=progress)
+    demand_within(project, plan.grid)
+    with progress.step("counting the precedences"):
+        _, pairs = counted_rows(plan.needs, plan)
+    return list(plan.record(pairs)["notes"])

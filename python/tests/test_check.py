@@ -1,0 +1,61 @@
+"""`pitplan check`: the notes and refusals of `prepare`, without a file."""
+
+import pytest
+from conftest import rows
+
+import pitplan
+from pitplan import PlanError, load
+from pitplan.cli import main
+from pitplan.commands.prepare import write_plan
+
+ORE = {"cu": lambda i, j, k: {(3, 3, 1): 6, (4, 3, 1): 2.5, (3, 4, 0): 9}.get((i, j, k), 0)}
+
+
+@pytest.fixture
+def mine(plan_folder):
+    return plan_folder(rows(7, 7, 4, **ORE))
+
+
+def test_it_notes_what_prepare_notes_and_writes_nothing(mine):
+    before = {path: path.read_bytes() for path in mine.parent.iterdir()}
+    notes = pitplan.check(mine)
+    assert {path: path.read_bytes() for path in mine.parent.iterdir()} == before
+    assert notes == write_plan(load(mine), mine.parent / "plan")["notes"] and any("clipped" in note for note in notes)
+
+
+def test_the_command_line(mine, capsys):
+    assert main(["check", str(mine)]) == 0
+    told = capsys.readouterr()
+    assert told.out == f"{mine}: no errors\n"
+    assert told.err.startswith("reading ") and told.err.count("blocks lie on a grid") == 1
+    assert main(["check", str(mine), "--quiet"]) == 0
+    assert capsys.readouterr().err.splitlines() == pitplan.check(mine)
+
+
+@pytest.mark.parametrize(
+    ("change", "said"),
+    [
+        (("price = 8000", 'price = "much"'), "[metals 1] price: 'much' is not a number"),
+        (("levels = 3", "levels = 0"), "[slopes] levels: must be a whole number from 1 to 40"),
+        (("rate = 0.1", "rate = 0.1\nrates = 1"), "[shells] rates: is no key here"),
+        (('region = "region"', 'region = "region"\ntopography = "nowhere.csv"'), "nowhere.csv"),
+        (("[shells]", '[fixed]\nforced = "must"\n[shells]'), "must"),
+        (("[shells]", "[pictures]\nlevels = [900]\n[shells]"), "[pictures] levels: 900 is beyond the model"),
+    ],
+)
+def test_what_prepare_refuses_it_refuses(mine, change, said, capsys):
+    text = mine.read_text()
+    assert text.count(change[0]) == 1
+    mine.write_text(text.replace(*change))
+    assert main(["check", str(mine), "--quiet"]) == 1
+    refusal = capsys.readouterr().err
+    assert said in refusal and "Traceback" not in refusal
+    assert main(["prepare", str(mine), "--quiet"]) == 1
+    assert capsys.readouterr().err == refusal
+
+
+def test_a_table_is_read_whole(mine):
+    table = mine.parent / "blocks.csv"
+    table.write_text(table.read_text() + "last,5,5,5,many,0,R,1\n")
+    with pytest.raises(PlanError, match="blocks.csv"):
+        pitplan.check(mine)
