@@ -104,7 +104,9 @@ def read(path: Path, second: Optional[str] = None) -> ScheduleModel:
 def demand_kind(draft: Draft) -> None:
     """Refuses other models than a CPIT and a PCPSP, headers of the one in the other, and general side constraints."""
     if draft.kind not in ("CPIT", "PCPSP"):
-        raise MinelibError(f"{draft.path}: is {f'a {draft.kind}' if draft.kind else 'of no type'}, and schedules are read of a CPIT or a PCPSP")
+        raise MinelibError(
+            f"{draft.path}: is {f'a {draft.kind}' if draft.kind else 'of no type'}, and schedules are read of a CPIT or a PCPSP"
+        )
     for key in OF_PCPSP:
         if draft.kind == "CPIT" and key in draft.headers:
             raise draft.headers[key].wrong(f"{key}: is no header of a CPIT")
@@ -114,7 +116,9 @@ def demand_kind(draft: Draft) -> None:
         raise draft.header(GENERAL).wrong("general side constraints are not scheduled, but limits of resources alone")
     for key in OF_GENERAL:
         if draft.sections.get(key):
-            raise draft.sections[key][0].wrong("general side constraints are not scheduled, but limits of resources alone")
+            raise draft.sections[key][0].wrong(
+                "general side constraints are not scheduled, but limits of resources alone"
+            )
 
 
 def drafted(path: Path) -> Draft:
@@ -128,7 +132,9 @@ def drafted(path: Path) -> Draft:
             continue
         section = header[1].upper().replace(" ", "_")
         if section in draft.headers or section not in KNOWN:
-            raise line.wrong(f"{section}: {'stands twice' if section in KNOWN else 'is no header of a CPIT or a PCPSP'}")
+            raise line.wrong(
+                f"{section}: {'stands twice' if section in KNOWN else 'is no header of a CPIT or a PCPSP'}"
+            )
         draft.headers[section], draft.sections[section] = Line(path, line.number, header[2]), []
     return draft
 
@@ -165,7 +171,9 @@ def taken_by_destination(draft: Draft, second: str) -> list[dict[tuple[int, int]
         place = draft.below(line, block, BLOCKS), draft.below(line, destination, DESTINATIONS)
         mine = found[draft.below(line, resource, RESOURCES)]
         if place in mine:
-            raise line.wrong(f"block {place[0]} has an amount of resource {resource} in destination {destination} already")
+            raise line.wrong(
+                f"block {place[0]} has an amount of resource {resource} in destination {destination} already"
+            )
         mine[place] = line.decimal(amount)
     return found
 
@@ -180,7 +188,10 @@ def second_of(draft: Draft) -> str:
     Raises MinelibError where both fit, and the sentence of the first line where none does.
     """
     lines_of = draft.sections.get(TAKEN, [])
-    pairs = [tuple(map(line.whole, fields_of(line, "a block, a destination, a resource and an amount", 4)[1:3])) for line in lines_of]
+    pairs = [
+        tuple(map(line.whole, fields_of(line, "a block, a destination, a resource and an amount", 4)[1:3]))
+        for line in lines_of
+    ]
     first, then = (max((pair[k] for pair in pairs), default=0) for k in (0, 1))
     destinations, resources = draft.destinations, draft.count(RESOURCES)
     counts = ((destinations, resources), (resources, destinations))
@@ -194,7 +205,9 @@ def second_of(draft: Draft) -> str:
 def limits_of(draft: Draft) -> dict[tuple[int, int], Bounds]:
     found: dict[tuple[int, int], Bounds] = {}
     for line in draft.sections.get(LIMITS, []):
-        resource, period, kind, *bounds = fields_of(line, "a resource, a period, L, G or I, and a limit, or of I two", 4, 5)
+        resource, period, kind, *bounds = fields_of(
+            line, "a resource, a period, L, G or I, and a limit, or of I two", 4, 5
+        )
         place = draft.below(line, resource, RESOURCES), draft.below(line, period, PERIODS)
         if place in found:
             raise line.wrong(f"resource {resource} has a limit in period {period} already")

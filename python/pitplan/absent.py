@@ -54,7 +54,9 @@ def notes(frame: pd.DataFrame, grid: Grid, project: Project) -> list[str]:
     elif len(left) and absent == "air":
         found.append(f"WARNING: {len(left):,} cells below a row, or in columns without rows, are taken as air")
     elif len(left):
-        found.append(f"{len(left):,} cells below a row, or in columns without rows, are not known: no shell may reach them")
+        found.append(
+            f"{len(left):,} cells below a row, or in columns without rows, are not known: no shell may reach them"
+        )
     return found
 
 
@@ -75,6 +77,6 @@ def demand_known(entry: np.ndarray, grid: Grid, project: Project, source: str) -
     x, y, z = (f"{float(axis):.10g}" for axis in grid.centres(first))
     raise PlanError(
         f"{source}: the shells reach {len(reached):,} cells that have no row and are not above the highest of their column, the first "
-        f"at {x}, {y}, {z} from factor {factors.min()} on: give their rows, or say what they are by [table] absent = \"air\" or "
+        f'at {x}, {y}, {z} from factor {factors.min()} on: give their rows, or say what they are by [table] absent = "air" or '
         "absent = { tonnes = .., region = .. }"
     )

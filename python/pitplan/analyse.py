@@ -72,12 +72,22 @@ def cells_of(plan: Plan, solution: Solution) -> Cells:
         metal.name: values.undiluted * plan.grid.spread(plan.table[metal.column].to_numpy())
         for metal in plan.project.metals
     }
-    return Cells(factor, processed, values.pays, (gain - values.mining) / MILLION, values.tonnes, values.feed, values.best, content)
+    return Cells(
+        factor,
+        processed,
+        values.pays,
+        (gain - values.mining) / MILLION,
+        values.tonnes,
+        values.feed,
+        values.best,
+        content,
+    )
 
 
 def blocks(plan: Plan, solution: Solution) -> pd.DataFrame:
     """`plan.blocks` with `factor`, the least factor whose pit holds the block (0: none), and `process_factor`, the least
-    at which it is processed (0: never), per mille; and of several processes `process`, that at the price as given ("": none)."""
+    at which it is processed (0: never), per mille; and of several processes `process`, that at the price as given ("": none).
+    """
     cells = cells_of(plan, solution)
     frame = plan.blocks
     ids = frame["id"].to_numpy()
@@ -152,7 +162,11 @@ def feeds_of(plan: Plan, cells: Cells) -> dict[str, np.ndarray]:
 def amounts(plan: Plan, cells: Cells) -> pd.DataFrame:
     """One row a factor: tonnes, grades and worth of its pit, without time."""
     pit, ore, content = cells.factor, np.where(cells.ore, cells.factor, 0), cells.content
-    tonnes, ore_tonnes, in_situ = within(plan, pit, cells.tonnes), within(plan, ore, cells.feed), within(plan, ore, cells.tonnes)
+    tonnes, ore_tonnes, in_situ = (
+        within(plan, pit, cells.tonnes),
+        within(plan, ore, cells.feed),
+        within(plan, ore, cells.tonnes),
+    )
     columns = {
         "blocks": within(plan, pit, cells.tonnes > 0).astype(np.int64),
         "tonnes": tonnes,

@@ -106,9 +106,15 @@ class Surface:
         """How many columns of the table's blocks have no point over them."""
         over = np.unique(grid.rows % grid.per_level)
         between, unknown = np.count_nonzero(self.between[over]), np.count_nonzero(np.isinf(self.height[over]))
-        found = [f"{file}: over {between:,} columns of blocks the surface was laid between the points round them"] if between else []
+        found = (
+            [f"{file}: over {between:,} columns of blocks the surface was laid between the points round them"]
+            if between
+            else []
+        )
         if unknown:
-            found.append(f"WARNING: {file}: {unknown:,} columns of blocks lie beyond all points and are taken as not mined")
+            found.append(
+                f"WARNING: {file}: {unknown:,} columns of blocks lie beyond all points and are taken as not mined"
+            )
         return found
 
 

@@ -126,7 +126,11 @@ def notes(folder: Path) -> list[str]:
     """That the shells were found by another release than that of the program which audits, where it is so."""
     record = files.read_json(folder / RECORD)
     found, audited = (record[name]["version"] for name in ("solver", "program"))
-    return [] if found.split()[-1] == audited.split()[-1] else [f"WARNING: {found} found the shells, and {audited} has audited them"]
+    return (
+        []
+        if found.split()[-1] == audited.split()[-1]
+        else [f"WARNING: {found} found the shells, and {audited} has audited them"]
+    )
 
 
 def demand_same(stage: Path, folder: Folder, factor: int) -> Decimal:

@@ -47,7 +47,15 @@ def plot_tonnes(made: ScheduledBlocks, ax: Axes) -> None:
         if name in limits.most and limits.most[name] <= FAR_ABOVE * top:
             most = limits.of_years(len(edges) - 1)[:, list(limits.most).index(name)] / size
             label = f"{label}: {round(limits.most[name] / size, 3):,.12g} {sign}t a year"
-            ax.plot(edges, np.append(most, most[-1]), drawstyle="steps-post", color=colour, linestyle="--", linewidth=1.3, label=label)
+            ax.plot(
+                edges,
+                np.append(most, most[-1]),
+                drawstyle="steps-post",
+                color=colour,
+                linestyle="--",
+                linewidth=1.3,
+                label=label,
+            )
             top = max(top, limits.most[name])
     ax.set_ylim(0, 1.2 * MARGIN * top / size)
     ax.set_ylabel(f"rock in the year, {sign}t")
@@ -60,7 +68,13 @@ def plot_value(made: ScheduledBlocks, ax: Axes) -> None:
     currency = made.planned.plan.project.money.currency
     marks = {"color": ORE, "marker": "o", "markersize": 3, "linewidth": 1.4}
     ax.plot(np.arange(len(earned)), earned / size, label=f"schedule: {earned[-1] / size:,.2f}", **marks)
-    ax.axhline(made.found.bound / size, color=PLAIN, linestyle="--", linewidth=1.2, label=f"upper bound, any schedule by block: {made.found.bound / size:,.2f}")
+    ax.axhline(
+        made.found.bound / size,
+        color=PLAIN,
+        linestyle="--",
+        linewidth=1.2,
+        label=f"upper bound, any schedule by block: {made.found.bound / size:,.2f}",
+    )
     ax.axhline(0, color="black", linewidth=0.8)
     ax.xaxis.set_major_locator(MaxNLocator(integer=True))
     ax.set_xlabel("end of year")

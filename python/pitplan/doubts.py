@@ -35,8 +35,13 @@ def of_prices(pays: np.ndarray, metals: Sequence[Metal], grades: Sequence[np.nda
     """Warns if blocks have metal and processing pays in none of them."""
     if pays.any() or not any((grade > 0).any() for grade in grades):
         return []
-    listed = ", ".join(f"{metal.name} at {metal.price.normalize():f} {currency} per {METAL_UNITS[metal.unit]}" for metal in metals)
-    hints = {"t": f"a price per lb is multiplied by {POUNDS_IN_A_TONNE:,}", "g": f"one per oz divided by {GRAMS_IN_AN_OUNCE}"}
+    listed = ", ".join(
+        f"{metal.name} at {metal.price.normalize():f} {currency} per {METAL_UNITS[metal.unit]}" for metal in metals
+    )
+    hints = {
+        "t": f"a price per lb is multiplied by {POUNDS_IN_A_TONNE:,}",
+        "g": f"one per oz divided by {GRAMS_IN_AN_OUNCE}",
+    }
     units = dict.fromkeys(METAL_UNITS[metal.unit] for metal in metals)
     return [f"{WARNING}processing pays in no block, {listed}: {', '.join(hints[unit] for unit in units)}"]
 

@@ -26,7 +26,10 @@ def write_dxf(path: Path, folder: Folder, shape: Shape) -> list[str]:
     drawing = ezdxf.new("R2010", units=6)
     space, said = drawing.modelspace(), []
     if shape.surface == GROUND:
-        said = [f"{path.name}, {stage.name}: {add_ground(space, folder, stage, shape)}" for stage in stages_of(folder, shape)]
+        said = [
+            f"{path.name}, {stage.name}: {add_ground(space, folder, stage, shape)}"
+            for stage in stages_of(folder, shape)
+        ]
     else:
         for line in lines_of(folder, shape):
             layer = f"{line.stage.prefix}{line.kind.upper()}_{metres(line.bench)}"

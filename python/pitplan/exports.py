@@ -98,12 +98,18 @@ def write_vtu(path: Path, folder: Folder, shape: Shape) -> None:
     levels, rows, columns = grid.shape
     column, row, level = grid.indices(blocks["id"].to_numpy())
     corners = np.stack([column, row, levels - 1 - level], axis=1)[:, None] + CORNERS
-    used, at = np.unique((corners[..., 2] * (rows + 1) + corners[..., 1]) * (columns + 1) + corners[..., 0], return_inverse=True)
-    steps = np.stack([used % (columns + 1), used // (columns + 1) % (rows + 1), used // ((columns + 1) * (rows + 1))], axis=1)
+    used, at = np.unique(
+        (corners[..., 2] * (rows + 1) + corners[..., 1]) * (columns + 1) + corners[..., 0], return_inverse=True
+    )
+    steps = np.stack(
+        [used % (columns + 1), used // (columns + 1) % (rows + 1), used // ((columns + 1) * (rows + 1))], axis=1
+    )
     points, cells = vtk.vtkPoints(), vtk.vtkCellArray()
     points.SetData(numpy_support.numpy_to_vtk(places_of(grid, steps), deep=True))
     each = np.arange(0, 8 * len(blocks) + 1, 8, dtype=np.int64)
-    cells.SetData(*(numpy_support.numpy_to_vtkIdTypeArray(part.ravel().astype(np.int64), deep=True) for part in (each, at)))
+    cells.SetData(
+        *(numpy_support.numpy_to_vtkIdTypeArray(part.ravel().astype(np.int64), deep=True) for part in (each, at))
+    )
     mesh = vtk.vtkUnstructuredGrid()
     mesh.SetPoints(points)
     mesh.SetCells(vtk.VTK_VOXEL, cells)

@@ -59,7 +59,9 @@ def demand_no_folders(folder: Path, names: Iterable[str]) -> None:
     """Raises PlanError if a folder has another in place of one of these files."""
     for place in (folder / name for name in names):
         if place.is_dir() and not place.is_symlink():
-            raise PlanError(f"{place}: found a folder, expected a file or nothing: move it away, or give another folder by --out")
+            raise PlanError(
+                f"{place}: found a folder, expected a file or nothing: move it away, or give another folder by --out"
+            )
 
 
 def take_away(folder: Path, names: list[str]) -> None:

@@ -9,7 +9,6 @@ from typing import Optional
 from .section import Section
 from .survey_rules import SurveyFile, read_survey
 
-
 # The original ground is the tops of the blocks.
 BLOCKS = "blocks"
 
@@ -50,7 +49,9 @@ def read_fixed(section: Section, folder: Path) -> FixedRules:
         surface=read_survey(section, "surface", folder) if section.has("surface") else None,
         areas=tuple(read_area(area, folder) for area in section.sections("areas")) if section.has("areas") else (),
         by_blocks=section.has("topography") and section.get("topography") == BLOCKS,
-        topography=read_survey(section, "topography", folder) if section.has("topography") and section.get("topography") != BLOCKS else None,
+        topography=read_survey(section, "topography", folder)
+        if section.has("topography") and section.get("topography") != BLOCKS
+        else None,
     )
     if (rules.topography or rules.by_blocks) and not rules.surface:
         raise section.wrong("topography", "is the original ground of an as-mined surface: give surface too")

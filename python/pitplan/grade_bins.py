@@ -47,7 +47,9 @@ def of_phases(phases: Phases, benches: PhaseBenches, count: int) -> Parcels:
     edges = edges_of(gain / tonnes, tonnes, count)
     bench_at = np.full((len(phases.factors) + 1, plan.grid.shape[0]), -1)
     bench_at[benches.phase, benches.level] = np.arange(len(benches))
-    place = bench_at[phases.phase[ore], ore // plan.grid.per_level] * (len(edges) + 1) + bins_of(gain / tonnes, edges) - 1
+    place = (
+        bench_at[phases.phase[ore], ore // plan.grid.per_level] * (len(edges) + 1) + bins_of(gain / tonnes, edges) - 1
+    )
     used, parcel = np.unique(place, return_inverse=True)
     flows = {ORE: tonnes} | {f"metal_{name}": metal[ore] for name, metal in plan.values.metal.items()} | {GAIN: gain}
     sums = np.column_stack([np.bincount(parcel, flow, minlength=len(used)) for flow in flows.values()])
@@ -61,7 +63,11 @@ def edges_of(worth: np.ndarray, tonnes: np.ndarray, count: int) -> np.ndarray:
         return np.zeros(0)
     through = np.cumsum(np.bincount(place, tonnes))
     shares = through[-1] * np.arange(1, count) / count
-    last = np.unique(np.abs(through[None, :-1] - shares[:, None]).argmin(axis=1)) if count > 1 else np.zeros(0, dtype=np.int64)
+    last = (
+        np.unique(np.abs(through[None, :-1] - shares[:, None]).argmin(axis=1))
+        if count > 1
+        else np.zeros(0, dtype=np.int64)
+    )
     return (found[last] + found[last + 1]) / 2
 
 

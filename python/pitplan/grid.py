@@ -143,7 +143,9 @@ def of_table(frame: pd.DataFrame, project: Project, source: str = "table", any_s
     try:
         return laid(frame, project, source, any_size, azimuth)
     except PlanError as error:
-        raise PlanError(f"{error}; the centres lie on a grid that is turned by {azimuth:.10g} degrees clockwise") from error
+        raise PlanError(
+            f"{error}; the centres lie on a grid that is turned by {azimuth:.10g} degrees clockwise"
+        ) from error
 
 
 def laid(frame: pd.DataFrame, project: Project, source: str, any_size: bool, azimuth: float = 0.0) -> Grid:
@@ -189,7 +191,9 @@ def axis_of(frame: pd.DataFrame, name: str, k: int, rules: GridRules, source: st
     if rules.size is not None:
         size = rules.size[k]
     elif len(gaps) == 0:
-        raise PlanError(f"{source} column {name}: all blocks lie at {metres(first)}: give the blocks' size as [grid] size")
+        raise PlanError(
+            f"{source} column {name}: all blocks lie at {metres(first)}: give the blocks' size as [grid] size"
+        )
     else:
         size = step_of(values, gaps, rules.tolerance)
         size = float(distinct[-1] - first) / round(float(distinct[-1] - first) / size)

@@ -64,7 +64,9 @@ def heights_of(rock: np.ndarray, stage: Stage, grid: Grid) -> Heights:
     if stays.any():
         level, row, column = np.argwhere(stays)[0]
         x, y, z = grid.centres(np.ravel_multi_index((level, row, column), grid.shape))
-        raise PlanError(f"the block at {metres(x)}, {metres(y)}, {metres(z)} stays over one that is dug: the ground is no surface")
+        raise PlanError(
+            f"the block at {metres(x)}, {metres(y)}, {metres(z)} stays over one that is dug: the ground is no surface"
+        )
     return Heights(before, after)
 
 
@@ -107,7 +109,8 @@ def walls(heights: Heights, axis: int, step: int) -> tuple[np.ndarray, np.ndarra
 
 def smoothed(surface: Surface) -> Surface:
     """The same faces with corners that have given way to those beside them, by turns inwards and outwards (Taubin 1995), so that volumes stay
-    near; by at most half a block along each axis, and not at all at the rims of the surface, which are the model's sides."""
+    near; by at most half a block along each axis, and not at all at the rims of the surface, which are the model's sides.
+    """
     sides = sides_of(surface.faces)
     edges, uses = np.unique(np.sort(sides, axis=1), axis=0, return_counts=True)
     ends = np.concatenate([edges, edges[:, ::-1]])
@@ -154,4 +157,7 @@ def of_stage(rock: np.ndarray, stage: Stage, grid: Grid, smooth: bool) -> tuple[
     volume = (volume_under(smoothed(stepped(untouched))) - volume_under(found)) * cell
     more = f", {100 * (volume / expected - 1):+.2f} %" if expected else ""
     said = f"smoothed within half a block, {volume:,.0f} m3 lie between it and the ground as it was, smoothed too"
-    return found, f"{len(found.faces):,} triangles; {said}; the {heights.cells:,} cells that are dug hold {expected:,.0f} m3{more}"
+    return (
+        found,
+        f"{len(found.faces):,} triangles; {said}; the {heights.cells:,} cells that are dug hold {expected:,.0f} m3{more}",
+    )

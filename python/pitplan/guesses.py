@@ -81,10 +81,14 @@ def columns_of(frame: pd.DataFrame) -> Columns:
         centres = {**by_values(frame, centres), **centres}
     sizes = {axis: found for axis, names in SIZES.items() if (found := by_name(plain, names))}
     named = {key: found for key, names in OTHERS.items() if (found := by_name(plain, names))}
-    named = {key: found for key, found in named.items() if key in ("id", "rock", "region") or is_number(frame, found.column)}
+    named = {
+        key: found for key, found in named.items() if key in ("id", "rock", "region") or is_number(frame, found.column)
+    }
     taken = {guess.column for group in (centres, sizes, named) for guess in group.values()}
     metals = [found for name in map(str, frame.columns) if name not in taken and (found := metal_of(frame, name))]
-    texts = tuple(name for name in map(str, frame.columns) if not is_number(frame, name) and is_called_like_an_amount(name))
+    texts = tuple(
+        name for name in map(str, frame.columns) if not is_number(frame, name) and is_called_like_an_amount(name)
+    )
     return Columns(centres, sizes if len(sizes) == 3 else {}, named, first_of_each(metals), texts)
 
 
@@ -147,7 +151,12 @@ def metal_of(frame: pd.DataFrame, name: str) -> Optional[MetalGuess]:
         return MetalGuess(metal, name, unit, "unit by the column's name")
     mean = float(frame.loc[frame[name] > 0, name].mean())
     if metal in PRECIOUS or mean > RICH.get(metal, RICHEST):
-        return MetalGuess(metal, name, "gram_per_tonne", "unit as is usual for this metal" if metal in PRECIOUS else "unit by its values")
+        return MetalGuess(
+            metal,
+            name,
+            "gram_per_tonne",
+            "unit as is usual for this metal" if metal in PRECIOUS else "unit by its values",
+        )
     return MetalGuess(metal, name, "percent", "unit as is usual for this metal")
 
 

@@ -32,7 +32,10 @@ class Roads:
 
     @staticmethod
     def of(grid: Grid, rules: Haulage) -> Roads:
-        metres = flat_lengths(grid, rules)[grid.rows % grid.per_level] + ramp_lengths(grid, rules)[grid.rows // grid.per_level]
+        metres = (
+            flat_lengths(grid, rules)[grid.rows % grid.per_level]
+            + ramp_lengths(grid, rules)[grid.rows // grid.per_level]
+        )
         return Roads(Exact(np.rint(metres * 10**LENGTH_PLACES).astype(np.int64), LENGTH_PLACES), rules)
 
     @property

@@ -44,7 +44,9 @@ def read_haulage(section: Section) -> Haulage:
     gradient = section.number("gradient")
     section.finish()
     if not 0 < gradient <= STEEPEST:
-        raise section.wrong("gradient", f"{gradient} is no rise for a metre in plan from above 0 to {STEEPEST}, such as 0.1 for 10 %")
+        raise section.wrong(
+            "gradient", f"{gradient} is no rise for a metre in plan from above 0 to {STEEPEST}, such as 0.1 for 10 %"
+        )
     ore, waste = (Road(costs[kind], beyond[kind]) for kind in KINDS)
     return Haulage((x, y, z), gradient, ore, waste)
 

@@ -114,13 +114,17 @@ def demand_enough(model: Model) -> None:
         raise PlanError(f"{model.file}: has no blocks")
     missing = [axis for axis in "xyz" if axis not in columns.centres]
     if missing:
-        raise PlanError(f"{model.file} row 1: no column seems to hold {' and '.join(missing)} of the centres; the columns are {there}")
+        raise PlanError(
+            f"{model.file} row 1: no column seems to hold {' and '.join(missing)} of the centres; the columns are {there}"
+        )
     if "tonnes" not in columns.named and "density" not in columns.named:
         demand_numbers(model, list(columns.texts))
         raise PlanError(f"{model.file} row 1: no column seems to hold tonnes or a density; the columns are {there}")
     if not columns.metals:
         demand_numbers(model, list(columns.texts))
-        raise PlanError(f"{model.file} row 1: no column seems to hold grades, such as cu_pct or AU; the columns are {there}")
+        raise PlanError(
+            f"{model.file} row 1: no column seems to hold grades, such as cu_pct or AU; the columns are {there}"
+        )
 
 
 def demand_numbers(model: Model, names: list[str]) -> None:
@@ -172,14 +176,26 @@ def table_lines(model: Model) -> list[tuple[str, str, str]]:
     lines += [(axis, guess.column, guess.why) for axis, guess in sorted(columns.centres.items())]
     keys = ["tonnes"] if "tonnes" in columns.named else ["density", "volume"]
     units = {"density": ", in tonnes a cubic metre", "volume": ", in cubic metres"}
-    lines += [(key, columns.named[key].column, columns.named[key].why + units.get(key, "")) for key in keys if key in columns.named]
+    lines += [
+        (key, columns.named[key].column, columns.named[key].why + units.get(key, ""))
+        for key in keys
+        if key in columns.named
+    ]
     if "id" in columns.named and not model.frame[columns.named["id"].column].duplicated().any():
         lines.append(("id", columns.named["id"].column, columns.named["id"].why))
-    lines += [(key, columns.named[key].column, columns.named[key].why) for key in ("rock", "region") if key in columns.named]
+    lines += [
+        (key, columns.named[key].column, columns.named[key].why) for key in ("rock", "region") if key in columns.named
+    ]
     if model.form.encoding != "utf-8-sig":
         lines.append(("encoding", model.form.encoding, "by its bytes"))
     if empty_fields(model):
-        lines.append(("empty", "zero", f"{empty_fields(model):,} tonnes or grades are empty: taken as 0; left out, they are refused"))
+        lines.append(
+            (
+                "empty",
+                "zero",
+                f"{empty_fields(model):,} tonnes or grades are empty: taken as 0; left out, they are refused",
+            )
+        )
     return lines
 
 
@@ -216,7 +232,9 @@ def turned_grid(model: Model) -> Optional[Places]:
     """The blocks' places on a grid that is turned; None where their rows go east, or where they have several sizes."""
     if has_several_sizes(model):
         return None
-    centres = np.stack([model.frame[model.columns.centres[axis].column].to_numpy(dtype=np.float64) for axis in "xy"], axis=1)
+    centres = np.stack(
+        [model.frame[model.columns.centres[axis].column].to_numpy(dtype=np.float64) for axis in "xy"], axis=1
+    )
     rules = GridRules(None, TOLERANCE)
     azimuth = None if np.isnan(centres).any() else azimuth_of(centres, rules.tolerance)
     try:
@@ -251,7 +269,13 @@ def price_of(metal: MetalGuess) -> float:
 
 
 def priced(metal: MetalGuess) -> dict[str, str]:
-    return {"metal": metal.metal, "column": metal.column, "unit": metal.unit, "why": metal.why, "price": f"{price_of(metal):.10g}"}
+    return {
+        "metal": metal.metal,
+        "column": metal.column,
+        "unit": metal.unit,
+        "why": metal.why,
+        "price": f"{price_of(metal):.10g}",
+    }
 
 
 def regions_of(model: Model) -> list[Optional[str]]:
@@ -283,14 +307,26 @@ def summary(model: Model) -> list[str]:
         said.append(f"{Axis(name, guess.column, values.min(), values.max(), step).line}, {guess.why}")
     if turned:
         east, north = (f"{side:.10g}" for side in turned.size)
-        said.append(f"blocks of {east} x {north} m lie on a grid whose north has azimuth {turned.azimuth:.10g}, as the centres tell")
+        said.append(
+            f"blocks of {east} x {north} m lie on a grid whose north has azimuth {turned.azimuth:.10g}, as the centres tell"
+        )
     grades = []
     for metal in columns.metals:
         values = np.nan_to_num(model.frame[metal.column].to_numpy(dtype=np.float64))
         grades.append(Grade(metal.metal, metal.column, metal.unit, mean_of(values, tonnes), float(values.max())))
         said.append(f"{grades[-1].line}, {metal.why}")
-    codes = [line for metal in columns.metals for line in of_codes(metal.column, model.frame[metal.column].to_numpy(dtype=np.float64))]
-    return [*said, *(doubt for grade in grades for doubt in grade.doubts), *codes, *of_codes("tonnes", tonnes), *doubts(model)]
+    codes = [
+        line
+        for metal in columns.metals
+        for line in of_codes(metal.column, model.frame[metal.column].to_numpy(dtype=np.float64))
+    ]
+    return [
+        *said,
+        *(doubt for grade in grades for doubt in grade.doubts),
+        *codes,
+        *of_codes("tonnes", tonnes),
+        *doubts(model),
+    ]
 
 
 def step_along(model: Model, axis: str) -> Optional[float]:

@@ -19,7 +19,11 @@ def program() -> Path:
     Raises ProgramError where there is none, or where it may not be run.
     """
     named = os.environ.get("PITSHELL")
-    beside = [PACKAGES / "pitshell" / "pitshell", PACKAGES.parent / "build" / "pitshell", PACKAGES.parents[2] / "bin" / "pitshell"]
+    beside = [
+        PACKAGES / "pitshell" / "pitshell",
+        PACKAGES.parent / "build" / "pitshell",
+        PACKAGES.parents[2] / "bin" / "pitshell",
+    ]
     found = named or next((str(place) for place in beside if place.is_file()), None) or shutil.which("pitshell")
     if not found:
         raise ProgramError(

@@ -38,7 +38,10 @@ def integer_programme(problem: Problem, years: int) -> tuple[Programme, float]:
         upper=np.concatenate([shares.upper, (shares.upper > SLIGHT).astype(float)]),
         whole=np.repeat([False, True], size),
     )
-    limits = [(hstack([matrix, csr_matrix((years, size))]), most) for matrix, most in limit_rows(problem.benches, problem.limits, years)]
+    limits = [
+        (hstack([matrix, csr_matrix((years, size))]), most)
+        for matrix, most in limit_rows(problem.benches, problem.limits, years)
+    ]
     return with_running_years(programme, iter(limits), problem.costs_of_years(years) / unit), unit
 
 

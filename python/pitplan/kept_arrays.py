@@ -12,7 +12,19 @@ import numpy as np
 
 KEY = "key"
 # What Python and numpy raise of a file that is cut short or bent.
-BENT = (OSError, EOFError, ValueError, LookupError, TypeError, ArithmeticError, RuntimeError, SyntaxError, zipfile.BadZipFile, zlib.error, struct.error)
+BENT = (
+    OSError,
+    EOFError,
+    ValueError,
+    LookupError,
+    TypeError,
+    ArithmeticError,
+    RuntimeError,
+    SyntaxError,
+    zipfile.BadZipFile,
+    zlib.error,
+    struct.error,
+)
 
 
 class NoAnswer(ValueError):

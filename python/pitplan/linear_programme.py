@@ -66,9 +66,12 @@ def by_end(worths: np.ndarray) -> np.ndarray:
     return -np.diff(worths, axis=-1, append=0.0)
 
 
-def with_running_years(programme: Programme, limits: Iterator[tuple[csr_matrix, np.ndarray]], costs: np.ndarray) -> Programme:
+def with_running_years(
+    programme: Programme, limits: Iterator[tuple[csr_matrix, np.ndarray]], costs: np.ndarray
+) -> Programme:
     """The same with an unknown for each year behind the others: how far the mine runs, which is at least as far as any limit is used and
-    as it runs in the next year, and costs so much where it runs in full. Where years cost nothing, the same programme."""
+    as it runs in the next year, and costs so much where it runs in full. Where years cost nothing, the same programme.
+    """
     if not costs.any():
         return programme
     size, years = len(programme.gain), len(costs)
@@ -94,7 +97,9 @@ def furthest(benches: PhaseBenches, limits: Limits, years: int) -> np.ndarray:
         result = np.minimum(result, left_over(takes[:, number], benches.before, most[:, number]))
     if np.isfinite(limits.sinking_rate):
         above = benches.before & (benches.phase[:, None] == benches.phase)
-        result = np.minimum(result, left_over(np.ones(len(benches)), above, limits.sinking_rate * np.arange(1, years + 1)))
+        result = np.minimum(
+            result, left_over(np.ones(len(benches)), above, limits.sinking_rate * np.arange(1, years + 1))
+        )
     return result
 
 
@@ -147,11 +152,15 @@ def yearly_rows(amounts: np.ndarray, years: int) -> csr_matrix:
 def relaxed(problem: Problem, years: int) -> Relaxed:
     """The optimum over so many years. Raises KeyboardInterrupt where it is interrupted."""
     programme, unit = programme_of(problem, years)
-    unknowns, bound = with_costs(programme, limit_rows(problem.benches, problem.limits, years), problem.costs_of_years(years) / unit)
+    unknowns, bound = with_costs(
+        programme, limit_rows(problem.benches, problem.limits, years), problem.costs_of_years(years) / unit
+    )
     return of_unknowns(problem, unknowns, years, bound * unit)
 
 
-def with_costs(programme: Programme, limits: Iterator[tuple[csr_matrix, np.ndarray]], costs: np.ndarray) -> tuple[np.ndarray, float]:
+def with_costs(
+    programme: Programme, limits: Iterator[tuple[csr_matrix, np.ndarray]], costs: np.ndarray
+) -> tuple[np.ndarray, float]:
     """The optimum where years cost so much, all in units of the gain: the unknowns, with how far the mine runs in each year behind them, and
     a bound. Whatever is dug, the first year costs the whole; where nothing is, nothing."""
     later = np.append(0.0, costs[1:])
@@ -228,7 +237,10 @@ def without_loss(sequence: Sequence, shares: np.ndarray, problem: Problem, years
         earned = (problem.worths(shares.shape[1]) * shares).sum(axis=1)
         pays = paying(earned, problem.benches)
         sequence = replace(sequence, order=sequence.order[pays[sequence.order]])
-        best = max((ended(part, problem) for part in (shares * pays[:, None], dig(problem, sequence, years))), key=problem.value)
+        best = max(
+            (ended(part, problem) for part in (shares * pays[:, None], dig(problem, sequence, years))),
+            key=problem.value,
+        )
         if problem.value(best) <= problem.value(shares) * (1 + HAIR) + HAIR:
             last = np.flatnonzero(shares.any(axis=0))
             return shares[:, : last[-1] + 1 if len(last) else 0]

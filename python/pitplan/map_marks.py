@@ -24,7 +24,14 @@ def mark_map(ax: Axes, grid: Grid) -> None:
     """An arrow to the north and a scale bar."""
     west, east, south, north, _, _ = grid.extent()
     arrow = {"arrowstyle": "-|>", "color": "black", "linewidth": 1.3, "shrinkA": 0, "shrinkB": 0}
-    at = {"xycoords": "axes fraction", "textcoords": "axes fraction", "ha": "center", "va": "top", "fontsize": 9, "fontweight": "bold"}
+    at = {
+        "xycoords": "axes fraction",
+        "textcoords": "axes fraction",
+        "ha": "center",
+        "va": "top",
+        "fontsize": 9,
+        "fontweight": "bold",
+    }
     if grid.azimuth:
         turned_arrow(ax, grid, arrow, at)
     else:
@@ -79,7 +86,12 @@ def mark_sections(ax: Axes, grid: Grid, north_of: float, east_of: float) -> None
     ax.plot([west, east], [north_of, north_of], **look)
     ax.plot([east_of, east_of], [south, north], **look)
     words = {"color": SECTION, "fontsize": 9, "fontweight": "bold", "path_effects": HALO, "textcoords": "offset points"}
-    for name, at, shift in (("A", (west, north_of), (7, 3)), ("A'", (east, north_of), (-9, 3)), ("B", (east_of, south), (6, 4)), ("B'", (east_of, north), (7, -11))):
+    for name, at, shift in (
+        ("A", (west, north_of), (7, 3)),
+        ("A'", (east, north_of), (-9, 3)),
+        ("B", (east_of, south), (6, 4)),
+        ("B'", (east_of, north), (7, -11)),
+    ):
         ax.annotate(name, at, xytext=shift, ha="center", **words)
 
 

@@ -18,7 +18,19 @@ from scipy.sparse import bmat, csr_matrix, diags, eye, identity, kron
 
 from .grade_bins import GAIN, Parcels
 from .highs import Programme
-from .linear_programme import Relaxed, by_end, cash_of, furthest, joined, limit_rows, order_rows, paying, sequences, with_costs, yearly_rows
+from .linear_programme import (
+    Relaxed,
+    by_end,
+    cash_of,
+    furthest,
+    joined,
+    limit_rows,
+    order_rows,
+    paying,
+    sequences,
+    with_costs,
+    yearly_rows,
+)
 from .optimiser import solve
 from .phase_benches import CASH, ORE, ROCK, PhaseBenches
 from .schedule import year_discounts
@@ -61,7 +73,10 @@ class Milling:
                 flows[:, :, number] = benches.of(ROCK)[:, None] * shares
             elif name == CASH:
                 flows[:, :, number] = self.mining(benches)[:, None] * shares
-                gain = self.parcels.of(GAIN)[:, None] * self.milled - self.cost * self.parcels.of(ORE)[:, None] * self.reclaimed
+                gain = (
+                    self.parcels.of(GAIN)[:, None] * self.milled
+                    - self.cost * self.parcels.of(ORE)[:, None] * self.reclaimed
+                )
                 np.add.at(flows[:, :, number], place, gain)
             else:
                 np.add.at(flows[:, :, number], place, self.parcels.of(name)[:, None] * self.milled)
@@ -143,11 +158,17 @@ class MillingProblem:
         each = identity(count)
         nothing = csr_matrix((count * years, count * years))
         rest = [nothing] if self.cost is not None else []
-        yield csr_matrix(bmat([[csr_matrix((count * years, self.dug)), -kron(each, step), *rest]])), np.zeros(count * years)
+        yield csr_matrix(bmat([[csr_matrix((count * years, self.dug)), -kron(each, step), *rest]])), np.zeros(
+            count * years
+        )
         yield csr_matrix(bmat([[-kron(bench, step), kron(each, step), *rest]])), np.zeros(count * years)
         if self.cost is not None:
-            yield csr_matrix(bmat([[csr_matrix((count * years, self.dug)), nothing, -kron(each, step)]])), np.zeros(count * years)
-            yield csr_matrix(bmat([[-kron(bench, before), kron(each, before), identity(count * years)]])), np.zeros(count * years)
+            yield csr_matrix(bmat([[csr_matrix((count * years, self.dug)), nothing, -kron(each, step)]])), np.zeros(
+                count * years
+            )
+            yield csr_matrix(bmat([[-kron(bench, before), kron(each, before), identity(count * years)]])), np.zeros(
+                count * years
+            )
 
     def mill_rows(self) -> Iterator[tuple[csr_matrix, np.ndarray]]:
         """What is milled keeps to the limits of ore and metals."""
@@ -167,7 +188,9 @@ class MillingProblem:
         unknowns, bound = with_costs(programme, limits, self.problem.costs_of_years(self.years) / unit)
         cumulative = np.maximum.accumulate(np.clip(unknowns[: self.dug].reshape(-1, self.years), 0.0, 1.0), axis=1)
         flows = np.diff(unknowns[:size].reshape(-1, self.years), axis=1, prepend=0.0)
-        return Relaxed(cumulative, bound * unit, cash_of((self.worths * flows).sum(axis=0), unknowns[size:], self.problem))
+        return Relaxed(
+            cumulative, bound * unit, cash_of((self.worths * flows).sum(axis=0), unknowns[size:], self.problem)
+        )
 
     @cached_property
     def worths(self) -> np.ndarray:
@@ -181,7 +204,10 @@ class MillingProblem:
     @property
     def gains(self) -> np.ndarray:
         """What each parcel gains where it is milled in each year, in money: an array of parcels and years."""
-        return self.parcels.of(GAIN)[:, None] + self.parcels.amounts @ self.problem.money.premium(self.parcels.names, self.years).T
+        return (
+            self.parcels.of(GAIN)[:, None]
+            + self.parcels.amounts @ self.problem.money.premium(self.parcels.names, self.years).T
+        )
 
     def milling(self, dug: np.ndarray) -> Milling:
         """The best that can become of the ore of what is dug in all years. Raises KeyboardInterrupt where it is interrupted."""
@@ -190,7 +216,13 @@ class MillingProblem:
         some = np.flatnonzero(np.diff(programme.matrix[:, self.dug :].indptr))
         most = programme.most - matrix[:, : self.dug] @ dug.cumsum(axis=1).ravel()
         size = len(programme.gain) - self.dug
-        rest = Programme(programme.gain[self.dug :], matrix[:, self.dug :].tocsr()[some], most[some], np.ones(size), np.zeros(size, dtype=bool))
+        rest = Programme(
+            programme.gain[self.dug :],
+            matrix[:, self.dug :].tocsr()[some],
+            most[some],
+            np.ones(size),
+            np.zeros(size, dtype=bool),
+        )
         found = solve(rest)
         assert found.unknowns is not None
         parts = np.diff(found.unknowns.reshape(self.kinds, len(self.parcels), self.years), axis=2, prepend=0.0)
@@ -261,7 +293,11 @@ class MillingProblem:
     def best_first(self, dug: np.ndarray) -> Milling:
         """What becomes of the ore if each year mills the best that there is, of what is dug and of the stockpile."""
         parcels, limits = self.parcels, self.problem.limits
-        tonnes, straight, reclaimed = parcels.of(ORE), np.zeros((len(parcels), self.years)), np.zeros((len(parcels), self.years))
+        tonnes, straight, reclaimed = (
+            parcels.of(ORE),
+            np.zeros((len(parcels), self.years)),
+            np.zeros((len(parcels), self.years)),
+        )
         stock = np.zeros(len(parcels))
         for year, worth in enumerate((self.gains / tonnes[:, None]).T):
             worths = np.concatenate([worth, worth - (self.cost or 0.0)])
@@ -274,7 +310,11 @@ class MillingProblem:
             shares = np.zeros(2 * len(parcels))
             shares[order] = taken / np.tile(tonnes, 2)[order]
             straight[:, year], reclaimed[:, year] = np.split(shares, 2)
-            stock = stock + dug[parcels.bench, year] - straight[:, year] - reclaimed[:, year] if self.cost is not None else stock
+            stock = (
+                stock + dug[parcels.bench, year] - straight[:, year] - reclaimed[:, year]
+                if self.cost is not None
+                else stock
+            )
         return self.kept(dug, straight, reclaimed)
 
     def value(self, dug: np.ndarray, milling: Milling) -> float:
@@ -284,5 +324,7 @@ class MillingProblem:
 
     def earned(self, dug: np.ndarray, milling: Milling) -> np.ndarray:
         """What each bench earns, discounted, in money."""
-        flows = self.problem.priced(milling.flows(self.problem.benches, dug))[:, :, self.problem.benches.names.index(CASH)]
+        flows = self.problem.priced(milling.flows(self.problem.benches, dug))[
+            :, :, self.problem.benches.names.index(CASH)
+        ]
         return flows @ year_discounts(self.problem.settings, self.years)

@@ -249,7 +249,9 @@ class Rows:
             revenue = revenue.plus(metal[m.name].times(self.every(m.price * (1 - costs.royalty))))
             selling = selling.plus(metal[m.name].times(self.every(m.selling_cost)))
         yields = np.array(revenue.whole > 0, dtype=bool)
-        a_tonne = self.by_code(costs.processing_cost, yields, "processing_cost").plus(self.every(costs.royalty_per_tonne))
+        a_tonne = self.by_code(costs.processing_cost, yields, "processing_cost").plus(
+            self.every(costs.royalty_per_tonne)
+        )
         if self.roads:
             a_tonne = self.with_haulage(a_tonne, yields)
         amounts = {"revenue": revenue, "processing cost": feed.tonnes.times(a_tonne).plus(selling)}
@@ -272,7 +274,10 @@ class Rows:
         """Roads and what hauling costs, by cell, and what was rounded of that."""
         if self.roads is None:
             return None, {}
-        amounts = {"haulage cost": self.tonnes.times(self.roads.waste), "haulage cost of ore": feed.tonnes.times(self.roads.ore_more)}
+        amounts = {
+            "haulage cost": self.tonnes.times(self.roads.waste),
+            "haulage cost of ore": feed.tonnes.times(self.roads.ore_more),
+        }
         (waste, first), (more, second) = (self.millionths(value, name) for name, value in amounts.items())
         road, waste, more = (self.grid.spread(values) for values in (self.roads.metres.whole, waste, more))
         return Hauled(road, waste, more), dict(zip(amounts, (first, second)))
@@ -415,9 +420,13 @@ def feed_notes(project: Project) -> list[str]:
             "grade 0 (dilution); ore tonnes, grades and processing cost are those of what comes to the mill"
         )
     if money.royalty:
-        notes.append(f"a royalty of {(100 * money.royalty).normalize():f} % is taken off the gross revenue of every block, before selling costs, at every factor")
+        notes.append(
+            f"a royalty of {(100 * money.royalty).normalize():f} % is taken off the gross revenue of every block, before selling costs, at every factor"
+        )
     if money.royalty_per_tonne:
-        notes.append(f"a royalty of {money.royalty_per_tonne:f} {money.currency} a tonne of ore is part of the processing cost")
+        notes.append(
+            f"a royalty of {money.royalty_per_tonne:f} {money.currency} a tonne of ore is part of the processing cost"
+        )
     return notes
 
 
@@ -440,7 +449,9 @@ def recovery_notes(rows: Rows, feed: Feed) -> list[str]:
         of_rocks = metal.recovery if isinstance(metal.recovery, dict) else {"": metal.recovery}
         notes += [curve_note(rows, feed, metal, rock) for rock, share in of_rocks.items() if isinstance(share, Curve)]
         if metal.fixed_tail:
-            notes.append(f"of each tonne that comes to the mill {said_of(metal.fixed_tail)} {metal.sign} of {metal.name} are lost, whatever it holds")
+            notes.append(
+                f"of each tonne that comes to the mill {said_of(metal.fixed_tail)} {metal.sign} of {metal.name} are lost, whatever it holds"
+            )
     return notes
 
 

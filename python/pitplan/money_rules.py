@@ -133,7 +133,9 @@ def read_money(section: Section, has_processes: bool = False) -> Money:
     )
     section.finish()
     if money.mining_cost_reference is not None and not section.has("mining_cost_per_level"):
-        raise section.wrong("mining_cost_reference", "says from where on mining_cost_per_level is added, which is missing")
+        raise section.wrong(
+            "mining_cost_reference", "says from where on mining_cost_per_level is added, which is missing"
+        )
     if money.mining_cost_by_elevation and section.has("mining_cost_per_level"):
         raise section.wrong("mining_cost_by_elevation", "give it or mining_cost_per_level, not both")
     if money.royalty >= 1:

@@ -39,7 +39,9 @@ def slices(grid: Grid, walls: Walls, blocks: np.ndarray) -> Iterator[Slice]:
 
 def slice_of(grid: Grid, walls: Walls, ids: np.ndarray) -> Slice:
     mine = walls.list_of[ids]
-    found = [(mine == number, listed(grid, walls, ids[mine == number], walls.lists[number])) for number in np.unique(mine)]
+    found = [
+        (mine == number, listed(grid, walls, ids[mine == number], walls.lists[number])) for number in np.unique(mine)
+    ]
     needs = np.full((len(ids), max(part.shape[1] for _, (part, _) in found)), ABSENT, dtype=np.int64)
     for rows, (part, _) in found:
         needs[rows, : part.shape[1]] = part

@@ -34,7 +34,9 @@ STAGES = (("phase", "viridis_r", (0.08, 0.95)), ("year", "plasma_r", (0.05, 0.95
 def write(path: Path, folder: Folder) -> None:
     """Raises MissingPackage without libjs-three, and PlanError where there are more factors than the page can tell apart."""
     scripts = three_scripts()
-    page = TEMPLATES.get_template("view.html").render(title=folder.record["title"], scripts=scripts, model=model_of(folder))
+    page = TEMPLATES.get_template("view.html").render(
+        title=folder.record["title"], scripts=scripts, model=model_of(folder)
+    )
     path.write_text(page, encoding="utf-8")
 
 
@@ -43,7 +45,9 @@ def model_of(folder: Folder) -> dict[str, Any]:
     grid, blocks = folder.grid, folder.blocks
     factors = folder.factors
     if len(factors) > MOST_FACTORS:
-        raise PlanError(f"the 3D page can show {MOST_FACTORS} shells, and there are {len(factors):,}: give fewer factors")
+        raise PlanError(
+            f"the 3D page can show {MOST_FACTORS} shells, and there are {len(factors):,}: give fewer factors"
+        )
     place = np.searchsorted(factors, blocks["factor"].to_numpy()) + 1
     solid = (blocks[folder.record["tonnes"]] > 0).to_numpy()
     shell = np.where(solid, np.where(blocks["factor"] > 0, place, 0), AIR).astype(np.uint8)
@@ -80,7 +84,11 @@ def stage_of(folder: Folder, name: str, shades: str, ends: tuple[float, float]) 
     """A byte of phase or year for each cell, 0 where it has none, and a colour for each. What a byte does not hold has the last that it does."""
     number = np.clip(folder.blocks[name].to_numpy(), 0, 254)
     last = max(int(number.max()), 1)
-    return {"name": name, "cells": encoded(folder.grid.spread(number, 0)), "colours": colours(shades, np.linspace(*ends, last))}
+    return {
+        "name": name,
+        "cells": encoded(folder.grid.spread(number, 0)),
+        "colours": colours(shades, np.linspace(*ends, last)),
+    }
 
 
 def rows_of(folder: Folder) -> str:
@@ -89,12 +97,18 @@ def rows_of(folder: Folder) -> str:
     blocks = folder.blocks
     written = pd.read_csv(folder.path / TABLE, dtype=str, keep_default_na=False, na_values={})
     written["worth"] = worths(blocks).round(6)
-    return written[(blocks["factor"] > 0).to_numpy() | (len(blocks) <= MOST_ROWS)].to_csv(index=False, lineterminator="\n")
+    return written[(blocks["factor"] > 0).to_numpy() | (len(blocks) <= MOST_ROWS)].to_csv(
+        index=False, lineterminator="\n"
+    )
 
 
 def worths(blocks: pd.DataFrame) -> pd.Series:
     """Of each block what its best process earns, where that pays, less its mining."""
-    pairs = [(name, name.replace("revenue", "processing_cost", 1)) for name in blocks if name == "revenue" or name.startswith("revenue_")]
+    pairs = [
+        (name, name.replace("revenue", "processing_cost", 1))
+        for name in blocks
+        if name == "revenue" or name.startswith("revenue_")
+    ]
     gains = [blocks[revenue] - blocks[cost] for revenue, cost in pairs if cost in blocks]
     return pd.concat(gains, axis=1).max(axis=1).clip(lower=0) - blocks["mining_cost"]
 

@@ -19,7 +19,19 @@ from .map_marks import axes_of_map, contours, floor_of, mark_map, mark_section_c
 from .outlines import edges
 from .phases import Phases
 from .picture_rules import PictureRules
-from .pictures import GROUND, MAP, MOST_TICKS, STYLE, finish, list_of, name_axes, section_column, section_levels, section_row, write_maps
+from .pictures import (
+    GROUND,
+    MAP,
+    MOST_TICKS,
+    STYLE,
+    finish,
+    list_of,
+    name_axes,
+    section_column,
+    section_levels,
+    section_row,
+    write_maps,
+)
 
 Extent = tuple[float, float, float, float]
 LEAST_SHARE, GREATEST_SHARE = 0.18, 0.9
@@ -155,7 +167,9 @@ def draw(scene: PhaseScene, plane: tuple[np.ndarray, np.ndarray], extent: Extent
         lines = edges((phase > 0) & (phase <= number) & solid) * size + (left, low)
         ax.add_collection(LineCollection(lines, colors="black", linewidths=1.3 if number == scene.count else 0.6))
     # Beside a map that is wide and low a bar would be higher than the map.
-    place = {"location": "bottom", "shrink": 0.6, "aspect": 30} if right - left > WIDE * (high - low) else {"shrink": 0.85}
+    place = (
+        {"location": "bottom", "shrink": 0.6, "aspect": 30} if right - left > WIDE * (high - low) else {"shrink": 0.85}
+    )
     bar = ax.figure.colorbar(image, ax=ax, label="phase", **place)
     bar.set_ticks(list(range(1, scene.count + 1, -(-scene.count // MOST_TICKS))))
     bar.minorticks_off()

@@ -48,7 +48,9 @@ def read_phases(section: Section, most_factor: int) -> PhaseRules:
         last=section.whole("last", 1000, 1, most_factor) if section.has("last") else None,
         width=read_metres(section, "width"),
         bottom=read_metres(section, "bottom"),
-        mining_cost_added=section.amounts("mining_cost_added", "with what a tonne costs more in each phase, such as [0, 0.15]"),
+        mining_cost_added=section.amounts(
+            "mining_cost_added", "with what a tonne costs more in each phase, such as [0, 0.15]"
+        ),
     )
     section.finish()
     if rules.tonnes is not None and rules.tonnes <= 0:

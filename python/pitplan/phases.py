@@ -66,7 +66,9 @@ class Phases:
 def rules_of(project: Project) -> PhaseRules:
     """Raises PlanError where the project says nothing of phases."""
     if project.phases is None:
-        raise PlanError(f"{project.path}: [pushbacks] is missing: it says by count, tonnes or factors which phases are asked for")
+        raise PlanError(
+            f"{project.path}: [pushbacks] is missing: it says by count, tonnes or factors which phases are asked for"
+        )
     return project.phases
 
 
@@ -103,7 +105,9 @@ def selected(plan: Plan, mine: Mine, progress: Progress) -> tuple[Plan, list[str
 
 
 def with_factors(project: Project, factors: tuple[int, ...]) -> Project:
-    return replace(project, schedule=replace(project.schedule, factors=factors, chosen=factors[-1], reference_added=False))
+    return replace(
+        project, schedule=replace(project.schedule, factors=factors, chosen=factors[-1], reference_added=False)
+    )
 
 
 def divide(plan: Plan, mine: Optional[Mine] = None, progress: Progress = silent) -> Phases:
@@ -154,7 +158,9 @@ def not_empty(tonnes: dict[int, float], project: Project) -> tuple[tuple[int, ..
             notes.append(f"the shell of factor {factor} has no rock that the one before has not: it makes no phase")
         before = rock
     if not kept:
-        raise PlanError(f"{project.path}: [pushbacks] the pit of factor {max(tonnes)} is empty: there is nothing to divide")
+        raise PlanError(
+            f"{project.path}: [pushbacks] the pit of factor {max(tonnes)} is empty: there is nothing to divide"
+        )
     return tuple(kept), notes
 
 
@@ -171,7 +177,9 @@ def notes_of_added(rules: PhaseRules, factors: tuple[int, ...], project: Project
     return [f"by phase a tonne costs {told} {project.money.currency} more to dig: {where}"]
 
 
-def even_shells(rules: PhaseRules, last: int, tonnes_at: TonnesAt, project: Project) -> tuple[dict[int, float], list[str]]:
+def even_shells(
+    rules: PhaseRules, last: int, tonnes_at: TonnesAt, project: Project
+) -> tuple[dict[int, float], list[str]]:
     """Factors and tonnes of the shells that come nearest to even shares of the last one's tonnes, and notes of the shares that none comes
     near to."""
     known = tonnes_at(tuple(sorted({LEAST_FACTOR, last})))
@@ -245,7 +253,10 @@ def table(phases: Phases) -> pd.DataFrame:
     """
     plan, cells = phases.plan, analyse.cells_of(phases.plan, phases.solution)
     ore = np.where(cells.ore, phases.phase, 0)
-    tonnes, ore_tonnes, in_situ = (added(of, amounts, phases) for of, amounts in ((phases.phase, cells.tonnes), (ore, cells.feed), (ore, cells.tonnes)))
+    tonnes, ore_tonnes, in_situ = (
+        added(of, amounts, phases)
+        for of, amounts in ((phases.phase, cells.tonnes), (ore, cells.feed), (ore, cells.tonnes))
+    )
     columns = {
         "phase": np.arange(1, len(phases.factors) + 1),
         "factor": np.array(phases.factors),
@@ -265,7 +276,9 @@ def table(phases: Phases) -> pd.DataFrame:
         columns["mining_cost_added"] = added(phases.phase, phases.mining_cost_added, phases)
     lacking = analyse.within(plan, cells.factor, cells.worth) - np.cumsum(columns["worth"])
     is_last = columns["phase"] == len(phases.factors)
-    columns["deferred_value"], columns["cost_of_width"] = np.where(is_last, 0.0, lacking), np.where(is_last, lacking, 0.0)
+    columns["deferred_value"], columns["cost_of_width"] = np.where(is_last, 0.0, lacking), np.where(
+        is_last, lacking, 0.0
+    )
     return pd.DataFrame(columns | shapes(phases))
 
 

@@ -12,7 +12,11 @@ def demand_within(project: Project, grid: Grid) -> None:
     """Raises PlanError if `[pictures]` names a level or a section beyond the model."""
     rules = project.pictures or PictureRules()
     west, east, south, north, floor, top = grid.extent()
-    asked = (("levels", rules.levels, floor, top), ("north", (rules.north,), south, north), ("east", (rules.east,), west, east))
+    asked = (
+        ("levels", rules.levels, floor, top),
+        ("north", (rules.north,), south, north),
+        ("east", (rules.east,), west, east),
+    )
     for key, values, least, most in asked:
         for value in values:
             if value is not None and not least <= value <= most:

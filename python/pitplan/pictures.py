@@ -50,7 +50,10 @@ STYLE = {
 }
 # In what formats pictures are written besides PNG, and what these would tell of the library and the day.
 ALSO: ContextVar[tuple[str, ...]] = ContextVar("ALSO", default=())
-UNDATED: dict[str, dict[str, None]] = {"pdf": {"Creator": None, "Producer": None, "CreationDate": None}, "svg": {"Date": None, "Creator": None}}
+UNDATED: dict[str, dict[str, None]] = {
+    "pdf": {"Creator": None, "Producer": None, "CreationDate": None},
+    "svg": {"Date": None, "Creator": None},
+}
 MOST_TICKS = 11
 MOST_COORDINATES = 6
 # Rows are shown from the bottom of the picture up, each cell as it is.
@@ -135,7 +138,9 @@ def scene_of(plan: Plan, solution: Solution, chosen: Optional[int] = None) -> Sc
         solid=grid.cube(cells.tonnes > 0),
         grade=grid.cube(grid.spread(plan.table[first.column].to_numpy())),
         metal=first,
-        chosen=analyse.chosen_factor(analyse.shells(plan, solution), plan.project.schedule) if chosen is None else chosen,
+        chosen=analyse.chosen_factor(analyse.shells(plan, solution), plan.project.schedule)
+        if chosen is None
+        else chosen,
         rules=rules,
     )
 
@@ -144,7 +149,11 @@ def place_of(coordinate: float, grid: Grid, axis: int) -> int:
     """The column from the west (axis 0), row from the south (1) or level from the top (2) that holds a coordinate in metres; of two that
     meet there the second."""
     west, _, south, _, _, top = grid.extent()
-    steps = ((coordinate - west) / grid.size[0], (coordinate - south) / grid.size[1], (top - coordinate) / grid.size[2])[axis]
+    steps = (
+        (coordinate - west) / grid.size[0],
+        (coordinate - south) / grid.size[1],
+        (top - coordinate) / grid.size[2],
+    )[axis]
     return min(int(steps), grid.shape[2 - axis] - 1)
 
 

@@ -12,8 +12,24 @@ from typing import Any, Optional, Union
 import numpy as np
 import pandas as pd
 
-from . import absent, as_mined, doubts, files, fixed as fixing, grid as grids, haulage, money, reach, reblock, summary as summaries, table as tables
-from . import topography, trim, walls as laying, yearly_money
+from . import (
+    absent,
+    as_mined,
+    doubts,
+    files,
+    fixed as fixing,
+    grid as grids,
+    haulage,
+    money,
+    reach,
+    reblock,
+    summary as summaries,
+    table as tables,
+    topography,
+    trim,
+    walls as laying,
+    yearly_money,
+)
 from .conventions import IN_WORDS
 from .errors import PlanError
 from .files import MOST_PAIRS, Needs, Pairs
@@ -28,7 +44,16 @@ from .walls import Walls
 MILLION = 1_000_000
 # The columns that blocks.csv has of its own; one of the planner's with such a name is called planner_NAME there.
 OWN_COLUMNS = (
-    *("id", "mining_cost", "revenue", "processing_cost", "factor", "process_factor", "free_factor", "free_process_factor"),
+    *(
+        "id",
+        "mining_cost",
+        "revenue",
+        "processing_cost",
+        "factor",
+        "process_factor",
+        "free_factor",
+        "free_process_factor",
+    ),
     "phase",
     "year",
     "process",
@@ -91,7 +116,11 @@ class Plan:
         """A hash of all that the shells depend on: grid, values, walls, fixed blocks and factors."""
         values, walls, grid = self.values, self.walls, self.grid
         arrays = [*values.nodes(), values.processed, walls.code, self.used, self.fixed.forced, self.fixed.barred]
-        record = {"grid": grid.as_json(), "walls": [it.as_json() for it in walls.patterns], "factors": list(self.project.schedule.factors)}
+        record = {
+            "grid": grid.as_json(),
+            "walls": [it.as_json() for it in walls.patterns],
+            "factors": list(self.project.schedule.factors),
+        }
         return hash_of_all(json.dumps(record, default=repr), arrays)
 
     @property
@@ -109,7 +138,10 @@ class Plan:
             frame[f"processing_cost_{way.name}"] = way.cost[ids] / MILLION
         if hauled := self.values.hauled:
             frame["road"] = hauled.road[ids] / 10**haulage.LENGTH_PLACES
-            frame["haulage_cost"], frame["ore_haulage_cost"] = hauled.waste[ids] / MILLION, hauled.ore_more[ids] / MILLION
+            frame["haulage_cost"], frame["ore_haulage_cost"] = (
+                hauled.waste[ids] / MILLION,
+                hauled.ore_more[ids] / MILLION,
+            )
         return frame.sort_values("id").reset_index(drop=True)
 
     @property
@@ -137,7 +169,9 @@ class Plan:
         pairs = self.write_needs(folder / files.PREC, self.needs)
         if self.settled is not None:
             fixing.write(folder / files.FIXED, self.fixed)
-            files.write_blocks(folder / files.REST_BLOCKS, self.grid, processed, self.values.nodes_of_rest(self.settled))
+            files.write_blocks(
+                folder / files.REST_BLOCKS, self.grid, processed, self.values.nodes_of_rest(self.settled)
+            )
             self.write_needs(folder / files.REST_PREC, self.needs_of_rest)
         return pairs
 
@@ -243,7 +277,10 @@ def prepare(
         summary = summaries.of_table(checked, bare, project)
         frame, grid = absent.with_rows(frame, bare, project)
     # Warnings come last, with the notes.
-    warnings = [*(line for line in summary if line.startswith(doubts.WARNING)), *doubts.of_tonnes(frame[project.table.tonnes].to_numpy(), grid)]
+    warnings = [
+        *(line for line in summary if line.startswith(doubts.WARNING)),
+        *doubts.of_tonnes(frame[project.table.tonnes].to_numpy(), grid),
+    ]
     summary = [line for line in summary if not line.startswith(doubts.WARNING)]
     progress.lines(summary)
     cut: list[str] = []
@@ -315,8 +352,14 @@ def notes_of(plan: Plan) -> list[str]:
     notes += absent.notes(plan.table, grid, plan.project)
     if plan.values.cutoff == "moving":
         steps = len(plan.values.processed) - len(plan.values.ore)
-        more = f", and {steps:,} nodes more for processes that are better from a greater price on" if plan.project.processes else ""
-        notes.append(f"{len(plan.values.ore):,} blocks have a node for processing: the cut-off moves with the price{more}")
+        more = (
+            f", and {steps:,} nodes more for processes that are better from a greater price on"
+            if plan.project.processes
+            else ""
+        )
+        notes.append(
+            f"{len(plan.values.ore):,} blocks have a node for processing: the cut-off moves with the price{more}"
+        )
     else:
         notes.append("the cut-off is fixed at the price as given, whatever the factor")
     if plan.filled:
@@ -339,7 +382,9 @@ def notes_of(plan: Plan) -> list[str]:
         notes.append("factor 1000, the price as given, was added to the factors")
     notes += yearly_money.notes(plan.project)
     settings = plan.project.schedule
-    notes.append(f"net present values: {100 * settings.rate:.10g} % a year, cash discounted {IN_WORDS[settings.discounting]}")
+    notes.append(
+        f"net present values: {100 * settings.rate:.10g} % a year, cash discounted {IN_WORDS[settings.discounting]}"
+    )
     for name, rounding in plan.values.roundings.items():
         if rounding.changed:
             notes.append(

@@ -248,19 +248,26 @@ def demand_agreement(project: Project) -> None:
     money = project.money
     priced = [money.mining_cost, money.mining_recovery, money.dilution]
     for way in project.ways:
-        priced += [way.money.processing_cost, *(share for metal in way.metals for share in (metal.recovery, metal.fixed_tail))]
+        priced += [
+            way.money.processing_cost,
+            *(share for metal in way.metals for share in (metal.recovery, metal.fixed_tail)),
+        ]
     if project.table.rock is None and any(isinstance(price, dict) for price in priced):
         raise PlanError(f"{path}: [table] rock: is missing, and prices or recoveries are given by rock")
     if project.table.region is None and any(isinstance(price, ByRegion) for price in priced):
         raise PlanError(f"{path}: [table] region: is missing, and mining recovery or dilution is given by region")
     if project.table.density and not project.table.volume and project.grid.size is None:
-        raise PlanError(f"{path}: [grid] size: is missing, by which a density gives tonnes, unless [table] names a volume")
+        raise PlanError(
+            f"{path}: [grid] size: is missing, by which a density gives tonnes, unless [table] names a volume"
+        )
     if project.table.reblock and project.scenarios:
         raise PlanError(f"{path}: [table] reblock: is not done of [scenarios]: give a table that is reblocked")
     if project.table.topography and project.scenarios:
         raise PlanError(f"{path}: [table] topography: is not taken by [scenarios]: give a table of blocks that are cut")
     if project.fixed and project.fixed.surface and project.scenarios:
-        raise PlanError(f"{path}: [fixed] surface: is not taken by [scenarios]: give a table of what remains, and forced")
+        raise PlanError(
+            f"{path}: [fixed] surface: is not taken by [scenarios]: give a table of what remains, and forced"
+        )
     demand_ground(project)
     demand_processes_agree(project)
     names = [metal.name for metal in project.metals]
@@ -268,11 +275,17 @@ def demand_agreement(project: Project) -> None:
         raise PlanError(f"{path}: two [[metals]] have one name")
     demand_sums_agree(project)
     varied = project.sensitivity
-    if varied and not project.haulage and "haulage" in {*varied.vary, *(name for pair in varied.pairs for name in pair)}:
+    if (
+        varied
+        and not project.haulage
+        and "haulage" in {*varied.vary, *(name for pair in varied.pairs for name in pair)}
+    ):
         raise PlanError(f"{path}: [sensitivity] varies haulage, and there is no section [haulage]")
     for name in project.schedule_rules.metal_per_year if project.schedule_rules else ():
         if name not in names:
-            raise PlanError(f"{path}: [schedule] metal_per_year names {name}, which is none of the [[metals]] {', '.join(names)}")
+            raise PlanError(
+                f"{path}: [schedule] metal_per_year names {name}, which is none of the [[metals]] {', '.join(names)}"
+            )
     if project.scenarios is not None:
         named = [*project.scenarios.columns, *(name for prices in project.scenarios.prices for name in prices)]
         for name in named:
@@ -287,7 +300,9 @@ def demand_ground(project: Project) -> None:
         return
     named = bool(rules.topography or rules.by_blocks)
     if named and project.table.topography:
-        raise PlanError(f"{path}: [fixed] topography: [table] topography is the original ground already: leave one of them out")
+        raise PlanError(
+            f"{path}: [fixed] topography: [table] topography is the original ground already: leave one of them out"
+        )
     if not named and not project.table.topography:
         raise PlanError(
             f"{path}: [fixed] topography: is missing: the mined volume lies between the original ground and the as-mined surface. Give the file "
@@ -306,14 +321,20 @@ def demand_sums_agree(project: Project) -> None:
     several = "stands for several things: call the metal or the process otherwise"
     for name, least in rules.least.items():
         if name not in ("ore", "rock", *metals, *names):
-            raise PlanError(f"{project.path}: [schedule.least] {name}: is none of {', '.join(('ore', 'rock', *metals, *names))}")
+            raise PlanError(
+                f"{project.path}: [schedule.least] {name}: is none of {', '.join(('ore', 'rock', *metals, *names))}"
+            )
         if ("ore", "rock", *metals, *names).count(name) > 1:
             raise PlanError(f"{project.path}: [schedule.least] {name}: {several}")
         if (limit := most.get(name)) and least > limit:
-            raise PlanError(f"{project.path}: [schedule.least] {name}: {least:.10g} is above the most of a year, {limit:.10g}")
+            raise PlanError(
+                f"{project.path}: [schedule.least] {name}: {least:.10g} is above the most of a year, {limit:.10g}"
+            )
     for it in rules.sums:
         if it.of not in ("ore", "rock", *names):
-            raise PlanError(f"{project.path}: [schedule.sums] {it.name}: of {it.of} is none of {', '.join(('rock', 'ore', *names))}")
+            raise PlanError(
+                f"{project.path}: [schedule.sums] {it.name}: of {it.of} is none of {', '.join(('rock', 'ore', *names))}"
+            )
         if ("ore", "rock", *names).count(it.of) > 1:
             raise PlanError(f"{project.path}: [schedule.sums] {it.name}: of {it.of} {several}")
     demand_sums_of_parts(project, rules)
@@ -340,12 +361,16 @@ def demand_processes_agree(project: Project) -> None:
     for process in project.processes:
         for name in process.recovery:
             if name not in metals:
-                raise PlanError(f"{path}: [[processes]] {process.name} recovers {name}, which is none of the [[metals]] {', '.join(metals)}")
+                raise PlanError(
+                    f"{path}: [[processes]] {process.name} recovers {name}, which is none of the [[metals]] {', '.join(metals)}"
+                )
     if names and project.scenarios:
         raise PlanError(f"{path}: [scenarios] are solved with one process: leave out [[processes]]")
     rules = project.schedule_rules
     if names and rules and (rules.bins is not None or rules.ore_per_year is not None):
-        raise PlanError(f"{path}: [schedule] bins and ore_per_year are of one process: leave them out, or [[processes]]")
+        raise PlanError(
+            f"{path}: [schedule] bins and ore_per_year are of one process: leave them out, or [[processes]]"
+        )
 
 
 def read_table(section: Section, folder: Path) -> TableColumns:
@@ -394,8 +419,16 @@ def read_encoding(section: Section) -> str:
 def read_separator(section: Section) -> Optional[str]:
     """One sign of ASCII that is no part of a number or a name."""
     sign = section.optional_text("separator")
-    if sign is not None and (len(sign) != 1 or not sign.isascii() or sign.isalnum() or sign in '".+-_' or not (sign.isprintable() or sign == "\t")):
-        raise section.wrong("separator", f'{shown(sign)} parts no fields: give one sign, such as ",", ";", "|" or "\\t"')
+    if sign is not None and (
+        len(sign) != 1
+        or not sign.isascii()
+        or sign.isalnum()
+        or sign in '".+-_'
+        or not (sign.isprintable() or sign == "\t")
+    ):
+        raise section.wrong(
+            "separator", f'{shown(sign)} parts no fields: give one sign, such as ",", ";", "|" or "\\t"'
+        )
     return sign
 
 
@@ -421,7 +454,9 @@ def read_reblock(section: Section) -> Optional[Reblock]:
         return Reblock(None, (east, north, up), (x, y, z))
     counts = section.numbers("reblock", 3)
     if any(count != int(count) or count < 1 for count in counts) or max(counts) == 1:
-        raise section.wrong("reblock", "must be whole numbers of blocks east, north and up, such as [2, 2, 1], or a size and a corner")
+        raise section.wrong(
+            "reblock", "must be whole numbers of blocks east, north and up, such as [2, 2, 1], or a size and a corner"
+        )
     east, north, up = map(int, counts)
     return Reblock((east, north, up))
 
@@ -455,7 +490,9 @@ def read_schedule(section: Section, processes: tuple[Process, ...] = ()) -> Sche
         factors=factors,
         chosen=chosen,
         rate=read_rate(section),
-        ore_per_year=sum(it.per_year for it in processes) if processes else float(section.number("ore_per_year", least=1)),
+        ore_per_year=sum(it.per_year for it in processes)
+        if processes
+        else float(section.number("ore_per_year", least=1)),
         per_process=tuple(process.per_year for process in processes),
         rock_per_year=float(section.number("rock_per_year", least=1)) if section.has("rock_per_year") else None,
         discounting=section.choice("discounting", DISCOUNTINGS, DISCOUNTINGS[0]),

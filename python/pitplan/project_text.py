@@ -80,7 +80,9 @@ def as_run_or_edited(folder: Path, record: dict[str, Any]) -> Project:
 def lines_of(values: Values, name: str) -> list[str]:
     """The keys of a section, and behind them its own lists of sections."""
     given = {key: value for key, value in values.items() if value is not None}
-    of_sections = {key: value for key, value in given.items() if isinstance(value, list) and value and isinstance(value[0], dict)}
+    of_sections = {
+        key: value for key, value in given.items() if isinstance(value, list) and value and isinstance(value[0], dict)
+    }
     lines = [f"{key_of(key)} = {shown(value)}" for key, value in given.items() if key not in of_sections]
     for key, several in of_sections.items():
         for one in several:
@@ -181,7 +183,11 @@ def of_process(process: Process) -> Values:
 
 
 def of_slopes(slopes: Slopes) -> Values:
-    return {"levels": slopes.levels, "never_steeper": slopes.never_steeper, "walls": [of_wall(wall) for wall in slopes.walls]}
+    return {
+        "levels": slopes.levels,
+        "never_steeper": slopes.never_steeper,
+        "walls": [of_wall(wall) for wall in slopes.walls],
+    }
 
 
 def of_wall(wall: Wall) -> Values:
@@ -209,7 +215,10 @@ def of_shells(schedule: Schedule) -> Values:
 
 def of_haulage(haulage: Haulage) -> Values:
     roads = {kind: getattr(haulage, kind) for kind in KINDS}
-    by_kind = {"cost": {kind: road.cost for kind, road in roads.items()}, "beyond": {kind: road.beyond for kind, road in roads.items()}}
+    by_kind = {
+        "cost": {kind: road.cost for kind, road in roads.items()},
+        "beyond": {kind: road.beyond for kind, road in roads.items()},
+    }
     return {"exit": haulage.exit, "gradient": haulage.gradient, **by_kind}
 
 

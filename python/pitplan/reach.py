@@ -46,7 +46,9 @@ class Box:
 
 def is_too_large(model: Model, project: Project) -> bool:
     """Whether blocks and nodes for processing may be more than the program takes."""
-    nodes = model.grid.count + (np.count_nonzero(with_metal(model.frame, project)) if project.money.cutoff == "moving" else 0)
+    nodes = model.grid.count + (
+        np.count_nonzero(with_metal(model.frame, project)) if project.money.cutoff == "moving" else 0
+    )
     return nodes > grids.MOST_BLOCKS
 
 
@@ -65,7 +67,9 @@ def left(model: Model, walls: Walls, project: Project) -> tuple[Model, str]:
     wanted[fixing.of_table(model.frame, grid, project, model.source).forced] = True
     if not wanted.any():
         most = f"the program takes at most {grids.MOST_BLOCKS:,} blocks"
-        raise PlanError(f"{model.source}: the grid has {grid.count:,} cells, and {most}: none pays for its processing, so all could be left out")
+        raise PlanError(
+            f"{model.source}: the grid has {grid.count:,} cells, and {most}: none pays for its processing, so all could be left out"
+        )
     box = box_of(trim.used_blocks(grid, walls, wanted), grid)
     inside = grid.cube(np.arange(grid.count))[box.parts]
     if inside.size > grids.MOST_BLOCKS:
@@ -120,7 +124,10 @@ def named_anew(model: Model, project: Project) -> Model:
     """The same with the ids of blocks that stand for cells without rows by their cells' numbers in the box."""
     if project.table.id is None:
         return model
-    ids = [*model.frame[project.table.id].iloc[: model.known], *(f"absent-{cell}" for cell in model.grid.rows[model.known :])]
+    ids = [
+        *model.frame[project.table.id].iloc[: model.known],
+        *(f"absent-{cell}" for cell in model.grid.rows[model.known :]),
+    ]
     return replace(model, frame=model.frame.assign(**{project.table.id: ids}))
 
 
@@ -134,9 +141,13 @@ def note_of(model: Model, box: Box) -> str:
     names = grid.frame.names if grid.azimuth else ("x", "y")
     for name, part, axis, edge in ((names[0], box.columns, 0, west), (names[1], box.rows, 1, south)):
         west = edge + part.start * grid.size[axis]
-        parts.append(f"{name} from {grids.metres(west)} to {grids.metres(west + (part.stop - part.start) * grid.size[axis])}")
+        parts.append(
+            f"{name} from {grids.metres(west)} to {grids.metres(west + (part.stop - part.start) * grid.size[axis])}"
+        )
     top = grid.origin[2] - (box.levels.start - 0.5) * grid.size[2]
-    parts.append(f"z from {grids.metres(top - (box.levels.stop - box.levels.start) * grid.size[2])} to {grids.metres(top)} m")
+    parts.append(
+        f"z from {grids.metres(top - (box.levels.stop - box.levels.start) * grid.size[2])} to {grids.metres(top)} m"
+    )
     return (
         f"{np.count_nonzero(~kept):,} of {len(kept):,} blocks, which no shell can reach at any factor, were left out: all "
         f"but {', '.join(parts)}"

@@ -70,7 +70,9 @@ def of_counts(table: Table, project: Project, rules: Reblock) -> Lattice:
     column, row, level = grid.indices(grid.rows)
     places = [place // count for place, count in zip((column, row, grid.shape[0] - 1 - level), rules.counts)]
     west, _, south, _, floor, _ = grid.extent()
-    return lattice_of((west, south, floor), [side * count for side, count in zip(grid.size, rules.counts)], places, grid.frame)
+    return lattice_of(
+        (west, south, floor), [side * count for side, count in zip(grid.size, rules.counts)], places, grid.frame
+    )
 
 
 def of_corner(table: Table, project: Project, rules: Reblock) -> Lattice:
@@ -123,7 +125,9 @@ def put_together(frame: pd.DataFrame, lattice: Lattice, project: Project) -> tup
         result[columns.id] = [f"{east + 1}-{north + 1}-{up + 1}" for east, north, up in places.tolist()]
     for name, centre in zip((columns.x, columns.y, columns.z), lattice.centres(places)):
         result[name] = centre
-    result = result.assign(**{columns.tonnes: parts.sums(parts.tonnes, TONNES_PLACES)}, **amounts(frame, parts, project))
+    result = result.assign(
+        **{columns.tonnes: parts.sums(parts.tonnes, TONNES_PLACES)}, **amounts(frame, parts, project)
+    )
     for name in (columns.rock, columns.region):
         if name:
             result[name], other = parts.most(frame[name].to_numpy())
@@ -185,7 +189,9 @@ class Parts:
         nothing all rows count alike."""
         names, code = np.unique(codes, return_inverse=True)
         weights = np.where(self.whole[self.block] > 0, self.tonnes, 1.0)
-        sums = np.bincount(self.block * len(names) + code, weights, minlength=self.count * len(names)).reshape(self.count, -1)
+        sums = np.bincount(self.block * len(names) + code, weights, minlength=self.count * len(names)).reshape(
+            self.count, -1
+        )
         best = sums.round(TONNES_PLACES).argmax(axis=1)
         return names[best], float(self.tonnes[code != best[self.block]].sum())
 

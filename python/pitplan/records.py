@@ -43,7 +43,9 @@ def is_number(value: Any) -> bool:
 
 
 def whole(least: int, most: int) -> Kind:
-    return Kind(f"a whole number from {least:,} to {most:,}", lambda value: type(value) is int and least <= value <= most)
+    return Kind(
+        f"a whole number from {least:,} to {most:,}", lambda value: type(value) is int and least <= value <= most
+    )
 
 
 def is_plain_name(value: Any) -> bool:
@@ -61,10 +63,22 @@ FACTOR = whole(0, GREATEST_FACTOR)
 ALONG = whole(1, MOST_ALONG)
 RISING = Kind(
     "factors, each greater than the one before",
-    lambda value: isinstance(value, list) and len(value) > 0 and all(map(FACTOR.holds, value)) and all(a < b for a, b in zip(value, value[1:])),
+    lambda value: isinstance(value, list)
+    and len(value) > 0
+    and all(map(FACTOR.holds, value))
+    and all(a < b for a, b in zip(value, value[1:])),
 )
-GRID = {"shape": (ALONG, ALONG, ALONG), "origin": (NUMBER, NUMBER, NUMBER), "size": (LENGTH, LENGTH, LENGTH), "azimuth": Lacking(NUMBER)}
-SOLVER = {"by": Kind("library or program", lambda value: value in ("library", "program")), "version": TEXT, "sha256": SHA256}
+GRID = {
+    "shape": (ALONG, ALONG, ALONG),
+    "origin": (NUMBER, NUMBER, NUMBER),
+    "size": (LENGTH, LENGTH, LENGTH),
+    "azimuth": Lacking(NUMBER),
+}
+SOLVER = {
+    "by": Kind("library or program", lambda value: value in ("library", "program")),
+    "version": TEXT,
+    "sha256": SHA256,
+}
 SHELLS = {"factors": RISING, "chosen": FACTOR, "solver": SOLVER}
 PLAN = {
     "title": TEXT,
@@ -136,7 +150,9 @@ class Reader:
     def demand_list(self, value: Any, kinds: Any, where: str) -> None:
         count = len(kinds) if isinstance(kinds, tuple) else None
         if not isinstance(value, list) or (count is not None and len(value) != count):
-            raise self.wrong(where, f"found {cut(json.dumps(value))}, expected a list{'' if count is None else f' of {count}'}")
+            raise self.wrong(
+                where, f"found {cut(json.dumps(value))}, expected a list{'' if count is None else f' of {count}'}"
+            )
         for number, item in enumerate(value):
             self.demand(item, kinds[number] if count is not None else kinds[0], f"{where}[{number}]")
 

@@ -61,7 +61,11 @@ def columns_of_phases(table: pd.DataFrame, project: Project) -> Columns:
         ("factor", "factor, per mille", 1.0, 0),
         *columns_of_rock(table, project),
         ("worth", f"worth, {currency}", money, 1),
-        *([("mining_cost_added", f"mining cost of phases, {currency}", money, 2)] if "mining_cost_added" in table else []),
+        *(
+            [("mining_cost_added", f"mining cost of phases, {currency}", money, 2)]
+            if "mining_cost_added" in table
+            else []
+        ),
         ("deferred_value", f"value deferred by width, {currency}", money, 2),
         ("cost_of_width", f"value lost to width, {currency}", money, 2),
         ("pieces", "pieces", 1.0, 0),
@@ -138,7 +142,8 @@ def of_cases(table: pd.DataFrame) -> pd.DataFrame:
 
 def cases_in_words(table: pd.DataFrame) -> list[str]:
     return [
-        ", ".join(f"{name.replace('_', ' ')} {100 * share:+g} %" for name, share in ((one, by), (other, also)) if name) or "as given"
+        ", ".join(f"{name.replace('_', ' ')} {100 * share:+g} %" for name, share in ((one, by), (other, also)) if name)
+        or "as given"
         for one, by, other, also in zip(table["number"], table["share"], table["second"], table["second_share"])
     ]
 

@@ -66,7 +66,9 @@ class Sensitivity:
     record: dict[str, Any]
 
 
-def sensitivity_beside(project: Project, inputs: dict[str, str], folder: Optional[Path]) -> tuple[Optional[Sensitivity], str]:
+def sensitivity_beside(
+    project: Project, inputs: dict[str, str], folder: Optional[Path]
+) -> tuple[Optional[Sensitivity], str]:
     """The sensitivity of a folder, by default of that in the project's own, and else why there is none, in words.
 
     Raises PlanError if a folder that is given has none, or one of other inputs.
@@ -164,7 +166,9 @@ def of_answer(folder: Path, project: Project, record: dict[str, Any]) -> dict[st
     """Figures and tables of shells, and where there are such of phases and of a schedule."""
     chosen = record["shells"]["chosen"]
     shells, years = read_table(folder, files.SHELLS), read_table(folder, files.YEARS)
-    marks = shells.frame["factor"].map(lambda factor: " ".join(["chosen"] * (factor == chosen) + ["given"] * (factor == REFERENCE_FACTOR)))
+    marks = shells.frame["factor"].map(
+        lambda factor: " ".join(["chosen"] * (factor == chosen) + ["given"] * (factor == REFERENCE_FACTOR))
+    )
     found: dict[str, Any] = {"shells": parts_of(shells, report.columns_of, project, marks)}
     cases, figures = ["best", "worst"], of_shell(shells, chosen, project)
     if files.PHASES in record["files"]:
@@ -173,18 +177,26 @@ def of_answer(folder: Path, project: Project, record: dict[str, Any]) -> dict[st
         ways = read_table(folder, files.WAYS)
         shown = record.get("schedule", BY_BLOCK)
         of_ways = report.columns_by_block if shown == BY_BLOCK else report.columns_of_ways
-        found["ways"], found["shown"] = parts_of(ways, of_ways, project, ways.frame["way"].map({shown: "chosen"}).fillna("")), shown
+        found["ways"], found["shown"] = (
+            parts_of(ways, of_ways, project, ways.frame["way"].map({shown: "chosen"}).fillna("")),
+            shown,
+        )
         found["way"] = schedule_pictures.NAMES.get(shown, shown)
         # What is scheduled by block is the pit of the price as given, whichever shell is shown.
         pit = REFERENCE_FACTOR if shown == BY_BLOCK else chosen
         cases, figures = [shown], [*of_way(ways, shown, project), *grades(shells, pit, project)]
-    dug = years.frame[years.frame["case"].isin(cases) & ((years.frame["factor"] == chosen) | (years.frame["case"] == BY_BLOCK))]
+    dug = years.frame[
+        years.frame["case"].isin(cases) & ((years.frame["factor"] == chosen) | (years.frame["case"] == BY_BLOCK))
+    ]
     found["years"] = parts_of(Written(years.file, dug), report.columns_of_years, project) if len(dug) else []
     return found | {"figures": figures}
 
 
 def parts_of(
-    table: Written, columns_of: Callable[[pd.DataFrame, Project], Columns], project: Project, marks: Optional[pd.Series] = None
+    table: Written,
+    columns_of: Callable[[pd.DataFrame, Project], Columns],
+    project: Project,
+    marks: Optional[pd.Series] = None,
 ) -> list[dict[str, Any]]:
     """A table of the page with its file, headings and rows; several, each with the first column, where it is too wide for a page."""
     first, *others = columns_of(table.frame, project)
@@ -227,20 +239,32 @@ def of_shell(shells: Written, chosen: int, project: Project) -> list[Figure]:
 def grades(shells: Written, factor: int, project: Project) -> list[Figure]:
     row = int(shells.frame.index[shells.frame["factor"] == factor][0])
     return [
-        shells.figure(f"{metal.name.capitalize()} in the ore of the pit of factor {factor}", row, (f"grade_{metal.name}", f"grade, {metal.sign}", 1.0, 3))
+        shells.figure(
+            f"{metal.name.capitalize()} in the ore of the pit of factor {factor}",
+            row,
+            (f"grade_{metal.name}", f"grade, {metal.sign}", 1.0, 3),
+        )
         for metal in project.metals
     ]
 
 
-def recovered(table: Written, row: int, columns: dict[str, tuple[str, str, float, int]], project: Project) -> list[Figure]:
-    return [table.figure(f"{metal.name.capitalize()} recovered", row, columns[f"metal_{metal.name}"]) for metal in project.metals]
+def recovered(
+    table: Written, row: int, columns: dict[str, tuple[str, str, float, int]], project: Project
+) -> list[Figure]:
+    return [
+        table.figure(f"{metal.name.capitalize()} recovered", row, columns[f"metal_{metal.name}"])
+        for metal in project.metals
+    ]
 
 
 def of_way(ways: Written, shown: str, project: Project) -> list[Figure]:
     """What the board asks first of a schedule."""
     row = int(ways.frame.index[ways.frame["way"] == shown][0])
     only = ways.frame.loc[[row]]
-    columns = {column[0]: column for column in (report.columns_by_block if shown == BY_BLOCK else report.columns_of_ways)(only, project)}
+    columns = {
+        column[0]: column
+        for column in (report.columns_by_block if shown == BY_BLOCK else report.columns_of_ways)(only, project)
+    }
     bound = "Upper bound, any schedule by block" if shown == BY_BLOCK else "Upper bound, these pushbacks and processes"
     names = {"value": "Net present value", "bound": bound, "tonnes": "Rock", "ore_tonnes": "Mill feed"}
     names |= {"left_tonnes": "Rock that is left"} if "left_tonnes" in columns else {}

@@ -23,7 +23,13 @@ def shown(table: pd.DataFrame) -> pd.DataFrame:
         result["worth_at_factor"] = result["worth_at_factor"].map("{:f}".format)
     for name in result.columns:
         if result[name].dtype == np.float64:
-            places = 6 if name.startswith("grade_") or name in ("strip_ratio", "years") else 9 if name in ("share", "below_bound") else 3
+            places = (
+                6
+                if name.startswith("grade_") or name in ("strip_ratio", "years")
+                else 9
+                if name in ("share", "below_bound")
+                else 3
+            )
             # A hair below nothing is rounded to -0.0, which is no amount.
             result[name] = result[name].round(places) + 0.0
     return with_share_below(result) if "below_bound" in result else result

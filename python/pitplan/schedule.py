@@ -125,7 +125,10 @@ def mean_discount(start: np.ndarray, end: np.ndarray, rate: float) -> np.ndarray
 
 def capacity_years(amounts: np.ndarray, settings: Schedule) -> np.ndarray:
     """Years of each capacity that each piece uses, shape (pieces, capacities): all ore, then each process, then total material."""
-    capacities = [(ORE, settings.ore_per_year), *((ORE + 1 + k, capacity) for k, capacity in enumerate(settings.per_process))]
+    capacities = [
+        (ORE, settings.ore_per_year),
+        *((ORE + 1 + k, capacity) for k, capacity in enumerate(settings.per_process)),
+    ]
     capacities += [] if settings.rock_per_year is None else [(ROCK, settings.rock_per_year)]
     return np.stack([amounts[..., place] / capacity for place, capacity in capacities], axis=-1)
 
@@ -170,7 +173,9 @@ class Terms:
         ends = np.clip(years.end, starts, starts + 1)
         fixed = self.money.fixed_cost * (ends - starts)
         spent = self.money.spent(len(amounts)) * (amounts[:, ROCK].sum() > 0)
-        worth = (cash - fixed) * discounts_between(starts, ends, self.settings) - spent * (1 + self.settings.rate) ** -starts
+        worth = (cash - fixed) * discounts_between(starts, ends, self.settings) - spent * (
+            1 + self.settings.rate
+        ) ** -starts
         of_years = [fixed, spent] if self.money.columns else []
         return Years(years.end, np.column_stack([amounts[:, :CASH], *of_years, cash - fixed - spent, worth]))
 

@@ -133,7 +133,15 @@ def plot_tonnes(schedule: YearlySchedule, axes: Any) -> list[Axes]:
         draw_bars(left, shown, reclaimed_of(schedule, way), size)
         draw_limits(left, schedule, len(shown), (size, sign))
         left.set_title(TITLES.get(way, way))
-        right.plot(shown["year"], recovered(shown, metal), color=GRADE, marker="o", markersize=3.5, linewidth=1.4, label=f"{metal.name} recovered")
+        right.plot(
+            shown["year"],
+            recovered(shown, metal),
+            color=GRADE,
+            marker="o",
+            markersize=3.5,
+            linewidth=1.4,
+            label=f"{metal.name} recovered",
+        )
         right.set_ylim(0, 1.25 * most or 1.0)
         right.spines["top"].set_visible(False)
     top = max((bar.get_y() + bar.get_height() for ax in found for bars in ax.containers for bar in bars), default=0.0)
@@ -176,9 +184,25 @@ def draw_bars(ax: Axes, shown: pd.DataFrame, reclaimed: Optional[np.ndarray], si
     rest = shown["rock_tonnes"] / size - (milled - from_stock)
     ax.bar(shown["year"], milled - from_stock, 0.8, color=ORE, label="ore", linewidth=0)
     if reclaimed is not None:
-        ax.bar(shown["year"], from_stock, 0.8, bottom=milled - from_stock, color=STOCKED, label="ore from the stockpile", linewidth=0)
+        ax.bar(
+            shown["year"],
+            from_stock,
+            0.8,
+            bottom=milled - from_stock,
+            color=STOCKED,
+            label="ore from the stockpile",
+            linewidth=0,
+        )
     rest = rest.clip(lower=0)
-    ax.bar(shown["year"], rest, 0.8, bottom=milled, color=WASTE, label="waste" if reclaimed is None else "waste or stocked", linewidth=0)
+    ax.bar(
+        shown["year"],
+        rest,
+        0.8,
+        bottom=milled,
+        color=WASTE,
+        label="waste" if reclaimed is None else "waste or stocked",
+        linewidth=0,
+    )
     ax.xaxis.set_major_locator(MaxNLocator(integer=True))
     ax.set_xlim(0.4, float(shown["year"].max()) + 0.6)
 
@@ -193,7 +217,15 @@ def draw_limits(ax: Axes, schedule: YearlySchedule, count: int, unit: tuple[floa
         if name in limits.most:
             most = limits.of_years(max(count, 1))[:, list(limits.most).index(name)] / size
             label = f"{label}: {round(limits.most[name] / size, 3):,.12g} {sign}t a year"
-            ax.plot(edges, np.append(most, most[-1]), drawstyle="steps-post", color=colour, linestyle="--", linewidth=1.3, label=label)
+            ax.plot(
+                edges,
+                np.append(most, most[-1]),
+                drawstyle="steps-post",
+                color=colour,
+                linestyle="--",
+                linewidth=1.3,
+                label=label,
+            )
 
 
 def write_cumulative(schedule: YearlySchedule, years: pd.DataFrame, path: Path) -> None:
@@ -208,14 +240,22 @@ def plot_cumulative(schedule: YearlySchedule, years: pd.DataFrame, ax: Axes) -> 
     """What has been earned by the end of each year, discounted, by the cases of a table of years as years.csv has it, and by the optimum of
     the linear programme, which ends at the bound; gives `ax`."""
     shown = years[years["factor"] == schedule.factor]
-    curves = {case: np.append(0.0, shown["discounted"][shown["case"] == case].cumsum()) for case in NAMES if case != "bound"}
+    curves = {
+        case: np.append(0.0, shown["discounted"][shown["case"] == case].cumsum()) for case in NAMES if case != "bound"
+    }
     if schedule.optimum is not None:
         cash = schedule.optimum.cash
         curves["bound"] = np.append(0.0, np.cumsum(cash * schedule.discounts(len(cash))))
     size, sign = scaled(max(float(np.abs(curve).max()) for curve in curves.values()))
     for case, curve in curves.items():
         if len(curve) > 1:
-            ax.plot(np.arange(len(curve)), curve / size, color=COLOURS[case], label=f"{NAMES[case]}: {curve[-1] / size:,.2f}", **LINES[case])
+            ax.plot(
+                np.arange(len(curve)),
+                curve / size,
+                color=COLOURS[case],
+                label=f"{NAMES[case]}: {curve[-1] / size:,.2f}",
+                **LINES[case],
+            )
     if schedule.optimum is not None:
         ax.axhline(schedule.optimum.bound / size, color=COLOURS["bound"], linewidth=0.8, linestyle=":")
     ax.axhline(0, color="black", linewidth=0.8)

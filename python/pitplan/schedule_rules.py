@@ -129,10 +129,14 @@ def read_least(section: Section) -> dict[str, float]:
 def read_sum(section: Section) -> Sum:
     column = section.text("column")
     least, most = (float(section.number(key, least=0)) if section.has(key) else None for key in ("least", "most"))
-    found = Sum(section.text("name", column), column, section.text("of", ROCK), section.truth("a_tonne", False), least, most)
+    found = Sum(
+        section.text("name", column), column, section.text("of", ROCK), section.truth("a_tonne", False), least, most
+    )
     section.finish()
     if not re.fullmatch(r"\w[\w-]*", found.name):
-        raise section.wrong("name", f'"{found.name}" is not one word of letters, digits, _ and -, as columns are named by it')
+        raise section.wrong(
+            "name", f'"{found.name}" is not one word of letters, digits, _ and -, as columns are named by it'
+        )
     if least is None and most is None:
         raise section.wrong("most", "is missing, and so is least: give one or both")
     if least is not None and most is not None and least > most:

@@ -107,8 +107,12 @@ class Section:
 
     def as_number(self, key: str, value: Any) -> Decimal:
         if isinstance(value, Absurd):
-            raise self.wrong(key, f"{value!r} is no amount: amounts end at 10^18 and have at most {-LEAST_POWER} decimals")
-        is_number = value.is_finite() if isinstance(value, Decimal) else isinstance(value, int) and not isinstance(value, bool)
+            raise self.wrong(
+                key, f"{value!r} is no amount: amounts end at 10^18 and have at most {-LEAST_POWER} decimals"
+            )
+        is_number = (
+            value.is_finite() if isinstance(value, Decimal) else isinstance(value, int) and not isinstance(value, bool)
+        )
         if not is_number:
             raise self.wrong(key, f"{shown(value)} is not a number")
         if not -GREATEST <= value <= GREATEST:

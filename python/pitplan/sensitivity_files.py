@@ -26,7 +26,11 @@ def record(found: Sensitivity, project: str) -> dict[str, Any]:
         "skin": (skin := skin_of(found)),
         "notes": [*found.plan.notes, told_of_skin(skin, found.project.money.currency)],
         "cases": [
-            {"changes": [[name, str(share)] for name, share in case.changes], "key": found.keys[case], "walls": answer.walls}
+            {
+                "changes": [[name, str(share)] for name, share in case.changes],
+                "key": found.keys[case],
+                "walls": answer.walls,
+            }
             for case, answer in found.answers.items()
         ],
         "verified": [],
@@ -37,7 +41,12 @@ def skin_of(found: Sensitivity) -> dict[str, Any]:
     """The skin of the pit as given: the factor of the shell within it, tonnes of rock, their share of the pit's, and worth."""
     skin, row = found.answers[Case()].skin, found.answers[Case()].row
     tonnes = float(found.plan.values.tonnes[skin.cells].sum())
-    return {"factor": skin.factor, "tonnes": tonnes, "share": tonnes / row["tonnes"] if tonnes else 0.0, "worth": row[SKIN_WORTH]}
+    return {
+        "factor": skin.factor,
+        "tonnes": tonnes,
+        "share": tonnes / row["tonnes"] if tonnes else 0.0,
+        "worth": row[SKIN_WORTH],
+    }
 
 
 def told_of_skin(skin: dict[str, Any], currency: str) -> str:
@@ -50,5 +59,7 @@ def shown(cases: pd.DataFrame) -> pd.DataFrame:
     result = cases.copy()
     for name in result.columns:
         if result[name].dtype == np.float64 and name not in ("share", "second_share"):
-            result[name] = result[name].round(6 if name.startswith("grade_") or name.endswith(("ratio", "years")) else 3) + 0.0
+            result[name] = (
+                result[name].round(6 if name.startswith("grade_") or name.endswith(("ratio", "years")) else 3) + 0.0
+            )
     return result

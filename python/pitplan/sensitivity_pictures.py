@@ -59,14 +59,18 @@ def plot_tornado(table: pd.DataFrame, currency: str, axes: Axes) -> Axes:
     size, sign = scaled(float(table["npv"].abs().max()))
     order = sorted(curves, key=lambda name: np.ptp([curves[name].iloc[0], base, curves[name].iloc[-1]]))
     for place, name in enumerate(order):
-        for share, npv, colour in ((c.index[k], c.iloc[k], (LESS, MORE)[k]) for c in (curves[name],) for k in (0, -1) if c.index[k]):
+        for share, npv, colour in (
+            (c.index[k], c.iloc[k], (LESS, MORE)[k]) for c in (curves[name],) for k in (0, -1) if c.index[k]
+        ):
             axes.barh(place, (npv - base) / size, left=base / size, height=0.62, color=colour, linewidth=0)
             at_left = npv < base
             words = {"ha": "right" if at_left else "left", "va": "center", "fontsize": 8, "textcoords": "offset points"}
             axes.annotate(PER_CENT(share), (npv / size, place), xytext=(-4 if at_left else 4, 0), **words)
     axes.axvline(base / size, color="black", linewidth=0.9)
     axes.set_yticks(range(len(order)), [spoken(name) for name in order])
-    axes.set_xlabel(f"NPV, {sign} {currency} (mean of best and worst case; as given {base / size:,.1f})".replace(",  ", ", "))
+    axes.set_xlabel(
+        f"NPV, {sign} {currency} (mean of best and worst case; as given {base / size:,.1f})".replace(",  ", ", ")
+    )
     axes.margins(x=0.14)
     axes.spines[["left", "right", "top"]].set_visible(False)
     axes.tick_params(axis="y", length=0)
@@ -84,7 +88,12 @@ def plot_spider(table: pd.DataFrame, currency: str, axes: Axes) -> Axes:
     """A curve of net present value by share for each number, through the project as given."""
     curves, (size, sign) = singles(table), scaled(float(table["npv"].abs().max()))
     for number, (name, curve) in enumerate(curves.items()):
-        look = {"color": COLOURS[number % len(COLOURS)], "marker": MARKS[number % len(MARKS)], "markersize": 4.5, "linewidth": 1.5}
+        look = {
+            "color": COLOURS[number % len(COLOURS)],
+            "marker": MARKS[number % len(MARKS)],
+            "markersize": 4.5,
+            "linewidth": 1.5,
+        }
         axes.plot(curve.index, curve / size, label=spoken(name), **look)
     axes.axvline(0, color="black", linewidth=0.8)
     axes.set_xticks(sorted({share for curve in curves.values() for share in curve.index}))
@@ -122,7 +131,9 @@ def plot_grid(table: pd.DataFrame, pair: tuple[str, str], currency: str, axes: A
     for (row, column), amount in np.ndenumerate(amounts):
         axes.text(column, row, f"{amount:,.1f}", ha="center", va="center", fontsize=9)
     row, column = grid.index.get_loc(0.0), grid.columns.get_loc(0.0)
-    axes.add_patch(matplotlib.patches.Rectangle((column - 0.5, row - 0.5), 1, 1, fill=False, edgecolor="black", linewidth=1.6))
+    axes.add_patch(
+        matplotlib.patches.Rectangle((column - 0.5, row - 0.5), 1, 1, fill=False, edgecolor="black", linewidth=1.6)
+    )
     axes.set_yticks(range(len(grid.index)), [PER_CENT(share) for share in grid.index])
     axes.set_xticks(range(len(grid.columns)), [PER_CENT(share) for share in grid.columns])
     axes.set_ylabel(spoken(pair[0]))

@@ -47,7 +47,9 @@ def read_shares(section: Section) -> tuple[Decimal, ...]:
         return SHARES
     value = section.get("by")
     if not isinstance(value, list) or not value or len(value) > MOST_SHARES:
-        raise section.wrong("by", f"must be a list of up to {MOST_SHARES} shares, such as [-0.1, 0.1] for 10 % less and more")
+        raise section.wrong(
+            "by", f"must be a list of up to {MOST_SHARES} shares, such as [-0.1, 0.1] for 10 % less and more"
+        )
     shares = sorted(section.as_number("by", item) for item in value)
     if any(not -1 < share <= 10 or share == 0 for share in shares) or len(set(shares)) < len(shares):
         raise section.wrong("by", "shares are above -1 and up to 10, none is 0, and each stands once")
@@ -57,7 +59,9 @@ def read_shares(section: Section) -> tuple[Decimal, ...]:
 def read_skin(section: Section) -> Decimal:
     share = section.as_number("skin", section.get("skin")) if section.has("skin") else SKIN
     if not 0 < share < 1:
-        raise section.wrong("skin", "must be a share of the pit's rock above 0 and below 1, such as 0.05 for its last 5 %")
+        raise section.wrong(
+            "skin", "must be a share of the pit's rock above 0 and below 1, such as 0.05 for its last 5 %"
+        )
     return share
 
 
@@ -67,7 +71,9 @@ def read_pairs(section: Section, metals: tuple[str, ...]) -> tuple[tuple[str, st
     value = section.get("pairs")
     if not isinstance(value, list) or any(not isinstance(pair, list) or len(pair) != 2 for pair in value):
         raise section.wrong("pairs", 'must be a list of pairs of names, such as [["price", "mining_cost"]]')
-    pairs = tuple((named(section, "pairs", one, metals), named(section, "pairs", other, metals)) for one, other in value)
+    pairs = tuple(
+        (named(section, "pairs", one, metals), named(section, "pairs", other, metals)) for one, other in value
+    )
     for one, other in pairs:
         if one.partition(" ")[0] == other.partition(" ")[0] and (" " not in one or " " not in other or one == other):
             raise section.wrong("pairs", f"{one} and {other} are not two numbers")

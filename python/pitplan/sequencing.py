@@ -39,7 +39,10 @@ class Limits:
 
     def least_of_years(self, count: int) -> dict[str, np.ndarray]:
         """By name the least amounts of years, from the first."""
-        return {name: np.array([amount * self.share(name, year) for year in range(1, count + 1)]) for name, amount in self.least.items()}
+        return {
+            name: np.array([amount * self.share(name, year) for year in range(1, count + 1)])
+            for name, amount in self.least.items()
+        }
 
     def share(self, name: str, number: int) -> float:
         """The share of an amount's limit that a year has."""
@@ -141,7 +144,9 @@ class Digging:
 
     def year(self, sequence: Sequence, pending: list[int], number: int) -> np.ndarray:
         """Digs one year, numbered from 1, of what is pending; gives the share of each bench."""
-        pace = np.inf if sequence.pace is None else max(0.0, sequence.pace[number - 1] - self.benches.of(ROCK) @ self.done)
+        pace = (
+            np.inf if sequence.pace is None else max(0.0, sequence.pace[number - 1] - self.benches.of(ROCK) @ self.done)
+        )
         left = np.append(self.limits.of_year(number), pace)
         depth = np.full(int(self.benches.phase.max()) + 1, self.limits.sinking_rate)
         shares = np.zeros(len(self.benches))
@@ -171,7 +176,9 @@ def dig(problem: Problem, sequence: Sequence, years: Optional[int] = None) -> np
     pending = sequence.order.tolist()
     while pending and (years is None or len(found) < years):
         if len(found) == MOST_YEARS:
-            raise PlanError(f"[schedule] the pit would take more than {MOST_YEARS:,} years: are the limits in tonnes a year?")
+            raise PlanError(
+                f"[schedule] the pit would take more than {MOST_YEARS:,} years: are the limits in tonnes a year?"
+            )
         found.append(digging.year(sequence, pending, len(found) + 1))
         pending = [bench for bench in pending if digging.done[bench] < 1]
     return np.column_stack(found) if found else np.zeros((len(problem.benches), 0))

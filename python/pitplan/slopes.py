@@ -165,7 +165,9 @@ def from_grid_north(wall: Wall, azimuth: float) -> Wall:
     """A wall whose azimuths are counted from the north of a grid, which has an azimuth of its own."""
     if not azimuth or len(wall.angles) < 2:
         return wall
-    return replace(wall, angles=tuple(sorted((round((of_wall - azimuth) % 360, 9) % 360, angle) for of_wall, angle in wall.angles)))
+    return replace(
+        wall, angles=tuple(sorted((round((of_wall - azimuth) % 360, 9) % 360, angle) for of_wall, angle in wall.angles))
+    )
 
 
 def pattern_of(asked_wall: Wall, size: tuple[float, float, float], slopes: Slopes, azimuth: float = 0.0) -> Pattern:
@@ -178,7 +180,13 @@ def pattern_of(asked_wall: Wall, size: tuple[float, float, float], slopes: Slope
         return Pattern(f"{where}, {wall.pattern}", cones.of_steps(offsets), offsets, angles, np.zeros(0))
     if wall.steps:
         cells = cones.of_steps(wall.steps)
-        return Pattern(f"{where}, {len(wall.steps)} steps of the project", cells, offsets_of(cells), angles_of_cone(cells, size), np.zeros(0))
+        return Pattern(
+            f"{where}, {len(wall.steps)} steps of the project",
+            cells,
+            offsets_of(cells),
+            angles_of_cone(cells, size),
+            np.zeros(0),
+        )
     asked = np.degrees(np.arctan2(1.0, cotangents(wall.angles, AZIMUTHS)))
     levels = levels_of(wall, size, asked) if slopes.levels is None else slopes.levels
     widened = widening(wall, size, levels, asked) if slopes.never_steeper else 1.0

@@ -59,7 +59,9 @@ class Grade:
         whole = {"gram_per_tonne": 1e6}.get(self.unit, 1 / float(GRADE_UNITS[self.unit]))
         if self.greatest <= whole:
             return []
-        return [f"WARNING: {self.metal}: {self.greatest:.4g} {GRADE_SIGNS[self.unit]} is more than the block: the unit may be another"]
+        return [
+            f"WARNING: {self.metal}: {self.greatest:.4g} {GRADE_SIGNS[self.unit]} is more than the block: the unit may be another"
+        ]
 
 
 def grade_of(metal: Metal, grades: np.ndarray, tonnes: np.ndarray) -> Grade:
@@ -83,7 +85,9 @@ def of_table(table: Table, grid: Grid, project: Project) -> list[str]:
 def of_ground(table: Table, grid: Grid, project: Project) -> list[str]:
     """The lines that no grade alters: blocks, tonnes, extents, columns, and what was told by looking at the text."""
     columns, tonnes = project.table, table.frame[project.table.tonnes].to_numpy()
-    lines = [f"{table.source}: {len(table.frame):,} blocks in {grid.count:,} cells, {tonnes.sum():,.0f} tonnes in {rock_of(columns)}"]
+    lines = [
+        f"{table.source}: {len(table.frame):,} blocks in {grid.count:,} cells, {tonnes.sum():,.0f} tonnes in {rock_of(columns)}"
+    ]
     lines += [turned_line(grid, project)] if grid.azimuth else []
     lines += [axis.line for axis in axes_of(grid, columns)]
     lines += not_used(table.unused)
@@ -113,7 +117,10 @@ def axes_of(grid: Grid, columns: TableColumns) -> list[Axis]:
     if grid.azimuth:
         flat = f"{columns.x} and {columns.y}"
         axes, names = (*grid.frame.names, "z"), (flat, flat, columns.z)
-    return [Axis(axis, names[k], edges[k][0] + size[k] / 2, edges[k][1] - size[k] / 2, size[k]) for k, axis in enumerate(axes)]
+    return [
+        Axis(axis, names[k], edges[k][0] + size[k] / 2, edges[k][1] - size[k] / 2, size[k])
+        for k, axis in enumerate(axes)
+    ]
 
 
 def rock_of(columns: TableColumns) -> str:

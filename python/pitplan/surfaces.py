@@ -51,7 +51,9 @@ def write_each(path: Path, folder: Folder, shape: Shape, kind: str, writer_of: A
         if shape.surface != GROUND and not stage.dug.any():
             said.append(f"{stage.name}: nothing is dug by its end: it has no surface")
             continue
-        surface, told = of_ground(folder, stage, shape) if shape.surface == GROUND else of_pit(place.name, folder, stage)
+        surface, told = (
+            of_ground(folder, stage, shape) if shape.surface == GROUND else of_pit(place.name, folder, stage)
+        )
         save(writer_of(), place, surface)
         said.append(f"{place.name}: {told}")
     return said
@@ -64,7 +66,10 @@ def of_ground(folder: Folder, stage: Stage, shape: Shape) -> tuple[Any, str]:
     points, triangles, mesh = vtk.vtkPoints(), vtk.vtkCellArray(), vtk.vtkPolyData()
     points.SetData(numpy_support.numpy_to_vtk(places_of(folder.grid, surface.corners), deep=True))
     starts = np.arange(0, 3 * len(surface.faces) + 1, 3, dtype=np.int64)
-    arrays = (numpy_support.numpy_to_vtkIdTypeArray(part.ravel().astype(np.int64), deep=True) for part in (starts, surface.faces))
+    arrays = (
+        numpy_support.numpy_to_vtkIdTypeArray(part.ravel().astype(np.int64), deep=True)
+        for part in (starts, surface.faces)
+    )
     triangles.SetData(*arrays)
     mesh.SetPoints(points)
     mesh.SetPolys(triangles)
@@ -80,7 +85,9 @@ def of_pit(name: str, folder: Folder, stage: Stage) -> tuple[Any, str]:
     measured.SetInputData(surface)
     blocks = int(np.count_nonzero(stage.dug))
     volume, expected = measured.GetVolume(), blocks * float(np.prod(grid.size))
-    said = f"{surface.GetNumberOfCells():,} triangles hold {volume:,.0f} m3, and the {blocks:,} blocks {expected:,.0f} m3"
+    said = (
+        f"{surface.GetNumberOfCells():,} triangles hold {volume:,.0f} m3, and the {blocks:,} blocks {expected:,.0f} m3"
+    )
     if abs(volume - expected) > TOLERANCE * expected:
         raise PlanError(f"{name}: {said}: please report this")
     return surface, said

@@ -15,8 +15,8 @@ import numpy as np
 
 from . import survey_dxf, survey_gdal, survey_strings
 from .errors import PlanError
-from .survey_layers import Layer, chosen, named
 from .section import FARTHEST
+from .survey_layers import Layer, chosen, named
 from .survey_rules import SurveyFile
 from .table import at_row, demand_columns, numbers_of, read_columns
 from .table_format import TableFormat, guessed_separator
@@ -97,7 +97,11 @@ def areas(file: SurveyFile) -> Areas:
     for ring in (ring for polygon in polygons for ring in polygon):
         demand_near(ring, file.path)
     count = sum(number for layer in some.values() for kind, number in layer.kinds.items() if kind.endswith("(open)"))
-    passed = [f"WARNING: {file.path}: {count:,} open lines of {in_layers(some)} are passed over: close them"] if count else []
+    passed = (
+        [f"WARNING: {file.path}: {count:,} open lines of {in_layers(some)} are passed over: close them"]
+        if count
+        else []
+    )
     return Areas(polygons, (told(file, f"{len(polygons):,} polygons of {in_layers(some)}"), *notes, *passed))
 
 
@@ -133,7 +137,9 @@ def reading(path: Path) -> Iterator[None]:
         raise
     except Exception as error:
         said = " ".join(f"{type(error).__name__} {error}".split())
-        raise PlanError(f"{path}: cannot be read to its end by {reader_of(path)} ({said}): it is cut short or bent: export it again") from error
+        raise PlanError(
+            f"{path}: cannot be read to its end by {reader_of(path)} ({said}): it is cut short or bent: export it again"
+        ) from error
 
 
 def demand_near(places: np.ndarray, path: Path) -> None:

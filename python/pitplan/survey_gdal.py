@@ -47,7 +47,9 @@ def demand_metres(system: Any, path: Path, places: np.ndarray) -> None:
             why = f"is in degrees ({system.GetName()}), and nothing is transformed: give it in the table's own coordinates"
             raise PlanError(f"{path}: {why}")
     elif abs(system.GetLinearUnits() - 1) > 1e-9:
-        raise PlanError(f"{path}: is in {system.GetLinearUnitsName()} ({system.GetName()}), and lengths are in metres: convert it")
+        raise PlanError(
+            f"{path}: is in {system.GetLinearUnitsName()} ({system.GetName()}), and lengths are in metres: convert it"
+        )
 
 
 def layers_of(file: SurveyFile) -> dict[str, Layer]:
@@ -66,7 +68,9 @@ def read_layer(layer: Any, file: SurveyFile) -> Layer:
         number = fields.GetFieldIndex(file.height)
         if number < 0:
             names = ", ".join(fields.GetFieldDefn(place).GetName() for place in range(fields.GetFieldCount()))
-            raise PlanError(f"{file.path}: its layer {layer.GetName()} has no field {file.height}; its fields are {names or 'none'}")
+            raise PlanError(
+                f"{file.path}: its layer {layer.GetName()} has no field {file.height}; its fields are {names or 'none'}"
+            )
     for feature in layer:
         geometry = feature.GetGeometryRef()
         if geometry is None:
@@ -130,7 +134,9 @@ def raster(path: Path, around: tuple[float, float, float, float]) -> tuple[np.nd
     west, north, width, height = window(place, around, (source.RasterXSize, source.RasterYSize))
     if min(width, height) < 1:
         return np.zeros((0, 3)), np.zeros((0, 3), dtype=np.int64)
-    z = band.ReadAsArray(west, north, width, height).astype(float) * (band.GetScale() or 1.0) + (band.GetOffset() or 0.0)
+    z = band.ReadAsArray(west, north, width, height).astype(float) * (band.GetScale() or 1.0) + (
+        band.GetOffset() or 0.0
+    )
     is_known = (band.GetMaskBand().ReadAsArray(west, north, width, height) > 0) & np.isfinite(z)
     column, row = np.meshgrid(west + np.arange(width) + 0.5, north + np.arange(height) + 0.5)
     return between(np.stack([*at(place, column, row), z], axis=-1), is_known)
@@ -141,7 +147,9 @@ def at(place: tuple[float, ...], column: Any, row: Any) -> tuple[Any, Any]:
     return place[0] + column * place[1] + row * place[2], place[3] + column * place[4] + row * place[5]
 
 
-def window(place: tuple[float, ...], around: tuple[float, float, float, float], size: tuple[int, int]) -> tuple[int, int, int, int]:
+def window(
+    place: tuple[float, ...], around: tuple[float, float, float, float], size: tuple[int, int]
+) -> tuple[int, int, int, int]:
     """The first column and row of a raster, and how many, that reach round a box, two cells beyond it."""
     turn = np.linalg.inv(np.array([[place[1], place[2]], [place[4], place[5]]]))
     corners = np.array([(x - place[0], y - place[3]) for x in around[:2] for y in around[2:]]) @ turn.T

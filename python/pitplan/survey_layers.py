@@ -48,7 +48,9 @@ class Layer:
     def places(self) -> np.ndarray:
         """x and y of all corners."""
         rings = [ring for polygon in self.polygons for ring in polygon]
-        return np.concatenate([np.zeros((0, 2)), *rings, *(part.reshape(-1, 3)[:, :2] for part in (*self.points, *self.faces))])
+        return np.concatenate(
+            [np.zeros((0, 2)), *rings, *(part.reshape(-1, 3)[:, :2] for part in (*self.points, *self.faces))]
+        )
 
 
 def named(layers: dict[str, Layer], file: SurveyFile) -> dict[str, Layer]:
@@ -56,7 +58,11 @@ def named(layers: dict[str, Layer], file: SurveyFile) -> dict[str, Layer]:
     for wanted in file.layers:
         if not any(is_called(name, wanted) for name in layers):
             raise PlanError(f"{file.path}: has no layer {wanted}; the layers are {listed(list(layers))}")
-    return {name: layer for name, layer in layers.items() if not file.layers or any(is_called(name, it) for it in file.layers)}
+    return {
+        name: layer
+        for name, layer in layers.items()
+        if not file.layers or any(is_called(name, it) for it in file.layers)
+    }
 
 
 def is_called(name: str, wanted: str) -> bool:
@@ -75,7 +81,9 @@ def chosen(layers: dict[str, Layer], file: SurveyFile, part: str, called: str) -
         raise PlanError(f"{file.path}: has no {called}: {there if not some else f'its layer {there}'}")
     if len(found) > 1 and not file.layers:
         one = f'{{ file = "{file.path.name}", layer = "{next(iter(found))}" }}'
-        raise PlanError(f'{file.path}: has {called} in the layers {listed(list(found))}: name one, a list, or "*" for all, by {one}')
+        raise PlanError(
+            f'{file.path}: has {called} in the layers {listed(list(found))}: name one, a list, or "*" for all, by {one}'
+        )
     return found
 
 

@@ -41,6 +41,8 @@ def read_survey(section: Section, key: str, folder: Path, heights: bool = True) 
     if not isinstance(section.get(key), dict):
         return SurveyFile(folder / section.text(key))
     inner = section.section(key)
-    file = SurveyFile(folder / inner.text("file"), inner.names("layer") or (), inner.optional_text("height") if heights else None)
+    file = SurveyFile(
+        folder / inner.text("file"), inner.names("layer") or (), inner.optional_text("height") if heights else None
+    )
     inner.finish()
     return file

@@ -21,7 +21,19 @@ from .exact import Exact
 from .fields import HEADER_ROWS, at_row, holds_texts, numbers_of, without_truths
 from .project import Project, TableColumns
 from .section import FARTHEST
-from .table_format import NAMES, UNREADABLE, NulByte, TableFormat, WholeText, format_of, names_in_header, nul_byte, opened, unreadable, wrong_encoding
+from .table_format import (
+    NAMES,
+    UNREADABLE,
+    NulByte,
+    TableFormat,
+    WholeText,
+    format_of,
+    names_in_header,
+    nul_byte,
+    opened,
+    unreadable,
+    wrong_encoding,
+)
 
 # Tonnes that are computed are kept to a gram, halves to the even one.
 TONNES_PLACES = 6
@@ -60,7 +72,10 @@ def read(project: Project) -> Table:
     if parquet.is_parquet(columns.file):
         frame, names = parquet.read(columns.file, codes, names_of(project))
         demand_columns(pd.DataFrame(columns=names), names_of(project), str(columns.file))
-        return replace(checked(frame, project, str(columns.file)), unused=tuple(name for name in names if name not in names_of(project)))
+        return replace(
+            checked(frame, project, str(columns.file)),
+            unused=tuple(name for name in names if name not in names_of(project)),
+        )
     frame, form = read_as_written(columns.file, columns, codes, names_of(project))
     table = checked(frame, project, str(columns.file))
     return replace(table, notes=tuple(notes_of(form, columns)))
@@ -277,7 +292,9 @@ def demand_near(frame: pd.DataFrame, project: Project, source: str) -> None:
         far = np.abs(frame[name].to_numpy()) > FARTHEST
         if far.any():
             row = int(far.argmax())
-            raise at_row(source, row, name, f"{frame[name].iloc[row]:g} is no coordinate in metres: it is beyond {FARTHEST:,}")
+            raise at_row(
+                source, row, name, f"{frame[name].iloc[row]:g} is no coordinate in metres: it is beyond {FARTHEST:,}"
+            )
 
 
 def demand_not_negative(frame: pd.DataFrame, project: Project, source: str) -> None:

@@ -109,7 +109,9 @@ def opened(file: Path) -> Iterator[IO[bytes]]:
     else:
         with open(file, "rb") as data:
             if data.peek()[: len(PACKED[0])] in PACKED:
-                raise PlanError(f"{file}: is a workbook or another packed file: save the sheet, or what it packs, as CSV")
+                raise PlanError(
+                    f"{file}: is a workbook or another packed file: save the sheet, or what it packs, as CSV"
+                )
             yield data
 
 
@@ -123,7 +125,9 @@ def unpacked(file: Path, packed: zipfile.ZipFile) -> IO[bytes]:
     try:
         return packed.open(there[0])
     except NotImplementedError as error:
-        raise PlanError(f"{file}: is packed in a way that is not read here ({error}): pack it by deflate, or unpack it") from error
+        raise PlanError(
+            f"{file}: is packed in a way that is not read here ({error}): pack it by deflate, or unpack it"
+        ) from error
 
 
 def demand_text(file: Path, purpose: str) -> None:
@@ -138,4 +142,6 @@ def unreadable(file: Path, error: Exception) -> PlanError:
 
 def wrong_encoding(file: Path, encoding: str) -> PlanError:
     named = "UTF-8" if encoding == "utf-8-sig" else encoding
-    return PlanError(f'{file}: is not written in {named}: name its encoding by [table] encoding, such as "cp1252" or "utf-16"')
+    return PlanError(
+        f'{file}: is not written in {named}: name its encoding by [table] encoding, such as "cp1252" or "utf-16"'
+    )

@@ -88,7 +88,9 @@ def heights(triangles: np.ndarray, grid: Grid) -> np.ndarray:
     found = np.full(grid.per_level, -np.inf)
     for some, place in pairs(corners, grid, HAIR):
         a, b, c = (some[:, corner, :2] for corner in range(3))
-        parts = np.stack([one[:, 0] * two[:, 1] - one[:, 1] * two[:, 0] for one, two in ((b, c), (c, a), (a, b))], axis=1)
+        parts = np.stack(
+            [one[:, 0] * two[:, 1] - one[:, 1] * two[:, 0] for one, two in ((b, c), (c, a), (a, b))], axis=1
+        )
         shares = parts / parts.sum(axis=1, keepdims=True)
         inside = (shares >= -HAIR).all(axis=1)
         np.maximum.at(found, place[inside], (shares * some[..., 2]).sum(axis=1)[inside])
@@ -120,7 +122,9 @@ def below(triangles: np.ndarray, grid: Grid) -> Below:
         one = area > 0
         sums.add(fans[one][..., 2], area[one], np.repeat(place, area.shape[1]).reshape(area.shape)[one])
     covered, above = sums.covered, sums.above()
-    share = np.divide(above[:-1] - above[1:], covered, out=np.ones((grid.shape[0], grid.per_level)), where=covered > HAIR)
+    share = np.divide(
+        above[:-1] - above[1:], covered, out=np.ones((grid.shape[0], grid.per_level)), where=covered > HAIR
+    )
     height = np.divide(above[0], covered, out=np.zeros(grid.per_level), where=covered > HAIR)
     return Below(np.where(share < HAIR, 0.0, np.where(share > 1 - HAIR, 1.0, share)), covered, height)
 

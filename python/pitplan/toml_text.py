@@ -4,10 +4,11 @@ from __future__ import annotations
 
 import re
 import sys
-import tomllib
 from decimal import Decimal
 from pathlib import Path
 from typing import Any
+
+import tomllib
 
 from .errors import PlanError
 
@@ -50,19 +51,25 @@ def read(path: Path) -> dict[str, Any]:
         raise PlanError(f"{str(path)!r}: is no name of a file: {error}") from error
     long = LONG_KEY.search(text)
     if long:
-        raise PlanError(f"{path}: a key of more than {MOST_PARTS} parts (at line {line_of(text, long.start())}): a project's keys have three at most")
+        raise PlanError(
+            f"{path}: a key of more than {MOST_PARTS} parts (at line {line_of(text, long.start())}): a project's keys have three at most"
+        )
     try:
         return tomllib.loads(text, parse_float=number)
     except tomllib.TOMLDecodeError as error:
         raise PlanError(f"{path}: {error}") from error
     except RecursionError as error:
-        raise PlanError(f"{path}: lists or tables lie within each other too deeply: a project's lie three deep at most") from error
+        raise PlanError(
+            f"{path}: lists or tables lie within each other too deeply: a project's lie three deep at most"
+        ) from error
     except ValueError as error:
         # Python converts no text of more digits than its limit.
         digits = sys.get_int_max_str_digits()
         long = re.search(rf"\d(?:_?\d){{{digits}}}", text)
         where = f" (at line {line_of(text, long.start())})" if long else ""
-        raise PlanError(f"{path}: a whole number of more than {digits:,} digits{where}: amounts end at 10^18") from error
+        raise PlanError(
+            f"{path}: a whole number of more than {digits:,} digits{where}: amounts end at 10^18"
+        ) from error
 
 
 def line_of(text: str, place: int) -> int:

@@ -43,7 +43,11 @@ def cut(frame: pd.DataFrame, grid: Grid, project: Project, file: SurveyFile) -> 
     after = np.where(share < 1, (before * share).round(TONNES_PLACES), before)
     if not after.any():
         raise PlanError(f"{file.path}: all blocks lie above it: are its heights the table's, in metres?")
-    notes = [*read.notes, f"{file.path}: {told(before, after)}", *(f"WARNING: {file.path}: {said}" for said in doubts(found, grid))]
+    notes = [
+        *read.notes,
+        f"{file.path}: {told(before, after)}",
+        *(f"WARNING: {file.path}: {said}" for said in doubts(found, grid)),
+    ]
     return frame.assign(**{project.table.tonnes: after}), notes
 
 
@@ -90,4 +94,8 @@ def doubts(found: Below, grid: Grid) -> list[str]:
         "columns of blocks are covered in part, and their blocks cut by that part": part,
         "columns of blocks it lies more than a block above their highest row: rock there is not in the table": higher,
     }
-    return [f"{'over ' if some is higher else ''}{np.count_nonzero(some):,} {words}" for words, some in said.items() if some.any()]
+    return [
+        f"{'over ' if some is higher else ''}{np.count_nonzero(some):,} {words}"
+        for words, some in said.items()
+        if some.any()
+    ]

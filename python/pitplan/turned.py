@@ -72,7 +72,9 @@ def azimuth_of(centres: np.ndarray, tolerance: float) -> Optional[float]:
     size = steps_along(places, angle)
     if size[0] is None and size[1] is None:
         return None
-    axes = fitted(places, Axes(middle_of(places), angle, (size[0] or size[1] or 1.0, size[1] or size[0] or 1.0)), tolerance)
+    axes = fitted(
+        places, Axes(middle_of(places), angle, (size[0] or size[1] or 1.0, size[1] or size[0] or 1.0)), tolerance
+    )
     return None if abs(np.sin(axes.angle)) * reach_of(places, axes) <= tolerance else rounded(axes, places, tolerance)
 
 
@@ -88,7 +90,9 @@ def of_centres(centres: np.ndarray, azimuth: float, rules: GridRules, where: tup
     size = rules.size[:2] if rules.size else found
     for axis, name in zip(size, ("east", "north")):
         if axis is None:
-            raise PlanError(f"{where[0]}: blocks have no neighbours along the grid's {name}: give the blocks' size as [grid] size")
+            raise PlanError(
+                f"{where[0]}: blocks have no neighbours along the grid's {name}: give the blocks' size as [grid] size"
+            )
     axes = Axes(middle_of(places), angle + off, (float(size[0] or 0), float(size[1] or 0)))
     if guess is not None:
         axes = fitted(places, axes, rules.tolerance)
@@ -100,7 +104,9 @@ def of_centres(centres: np.ndarray, azimuth: float, rules: GridRules, where: tup
 
 def demand_azimuth(azimuth: float, axes: Axes, places: np.ndarray, rules: GridRules, source: str) -> None:
     """Refuses an azimuth that would move a centre by more than the tolerance."""
-    if abs(np.angle(np.exp(1j * (np.radians(azimuth) + axes.angle)))) * reach_of(places, axes) > max(rules.tolerance, 10.0**-PLACES):
+    if abs(np.angle(np.exp(1j * (np.radians(azimuth) + axes.angle)))) * reach_of(places, axes) > max(
+        rules.tolerance, 10.0**-PLACES
+    ):
         why = f"the centres lie on a grid whose north has azimuth {rounded(axes, places, rules.tolerance):.10g}"
         raise PlanError(f"{source}: [grid] azimuth is {azimuth:.10g} degrees, and {why}")
 
@@ -118,7 +124,9 @@ def middle_of(places: np.ndarray) -> complex:
 
 def neighbours(places: np.ndarray, count: int) -> np.ndarray:
     """From some centres the vectors to the nearest others, an array of centres and these."""
-    tree = load("scipy.spatial", "python3-scipy", "a grid that is turned").cKDTree(np.stack([places.real, places.imag], axis=1))
+    tree = load("scipy.spatial", "python3-scipy", "a grid that is turned").cKDTree(
+        np.stack([places.real, places.imag], axis=1)
+    )
     some = places[:: max(1, len(places) // CENTRES)]
     _, at = tree.query(np.stack([some.real, some.imag], axis=1), k=min(count, len(places)))
     return places[at[:, 1:]] - some[:, None]
@@ -219,7 +227,10 @@ class Allowed:
         return Allowed(places[on], min(tolerance, 1.5 * float(worst[on].max(initial=0.0)) + 1e-4))
 
     def holds(self, axes: Axes) -> bool:
-        return bool(off_grid(centred(self.places, axes), self.places).max(initial=np.inf if not len(self.places) else 0.0) <= self.most)
+        return bool(
+            off_grid(centred(self.places, axes), self.places).max(initial=np.inf if not len(self.places) else 0.0)
+            <= self.most
+        )
 
 
 def off_grid(axes: Axes, places: np.ndarray) -> np.ndarray:
@@ -242,7 +253,12 @@ def laid(centres: np.ndarray, axes: Axes, told: tuple[float, float], where: tupl
         row = int((worst > tolerance).argmax())
         at = f"{centres[row].real:.15g}, {centres[row].imag:.15g}"
         blocks = f"blocks of {axes.size[0]:.10g} x {axes.size[1]:.10g} m turned by {azimuth:.10g} degrees"
-        raise at_row(source, row, columns, f"{at} is off the grid of {blocks} by {worst[row]:.4g} m: sub-blocks need [table] reblock")
+        raise at_row(
+            source,
+            row,
+            columns,
+            f"{at} is off the grid of {blocks} by {worst[row]:.4g} m: sub-blocks need [table] reblock",
+        )
     least = whole.min(axis=1)
     first = axes.start + axes.off + complex(*(least * axes.size)) * turn_of(azimuth)
     column, row_of = (whole - least[:, None]).astype(np.int64)

@@ -44,7 +44,9 @@ def of_rock(recovery: Recovery, by: Decimal) -> Recovery:
 
 def with_metals(project: Project, name: str, change: Callable[[Metal], Metal]) -> Project:
     """One metal changed, or all where none is named."""
-    return replace(project, metals=tuple(change(metal) if name in ("", metal.name) else metal for metal in project.metals))
+    return replace(
+        project, metals=tuple(change(metal) if name in ("", metal.name) else metal for metal in project.metals)
+    )
 
 
 def with_processes(project: Project, change: Callable[[Process], Process]) -> Project:
@@ -54,7 +56,9 @@ def with_processes(project: Project, change: Callable[[Process], Process]) -> Pr
 
 def price(project: Project, by: Decimal, metal: str) -> Project:
     """With the prices of years."""
-    return with_metals(project, metal, lambda it: replace(it, price=it.price * by, prices=tuple(price * by for price in it.prices)))
+    return with_metals(
+        project, metal, lambda it: replace(it, price=it.price * by, prices=tuple(price * by for price in it.prices))
+    )
 
 
 def selling_cost(project: Project, by: Decimal, metal: str) -> Project:
@@ -68,7 +72,9 @@ def recovery(project: Project, by: Decimal, metal: str) -> Project:
         changed = {name: recovered(it, by) if metal in ("", name) else it for name, it in process.recovery.items()}
         return replace(process, recovery=changed)
 
-    return with_processes(with_metals(project, metal, lambda it: replace(it, recovery=recovered(it.recovery, by))), change)
+    return with_processes(
+        with_metals(project, metal, lambda it: replace(it, recovery=recovered(it.recovery, by))), change
+    )
 
 
 def mining_cost(project: Project, by: Decimal, metal: str) -> Project:
@@ -76,7 +82,9 @@ def mining_cost(project: Project, by: Decimal, metal: str) -> Project:
     money = project.money
     deeper = tuple((elevation, cost * by) for elevation, cost in money.mining_cost_by_elevation)
     level = money.mining_cost_per_level * by
-    changed = replace(money, mining_cost=times(money.mining_cost, by), mining_cost_per_level=level, mining_cost_by_elevation=deeper)
+    changed = replace(
+        money, mining_cost=times(money.mining_cost, by), mining_cost_per_level=level, mining_cost_by_elevation=deeper
+    )
     return replace(project, money=changed)
 
 

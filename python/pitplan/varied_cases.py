@@ -22,9 +22,9 @@ from .plan import Plan, prepare
 from .progress import Progress, silent
 from .project import Project
 from .sensitivity_rules import SensitivityRules
-from .skin import Skin, of_pit
 from .simulation import on_dask
 from .simulation.folder import key_of
+from .skin import Skin, of_pit
 from .solver import Solver
 from .varied import Change, given, varied
 
@@ -96,7 +96,11 @@ def cases_of(rules: SensitivityRules) -> list[Case]:
     singles = [Case(((name, share),)) for name, share in product(rules.vary, rules.by)]
     of_pairs = {name for pair in rules.pairs for name in pair if name not in rules.vary}
     beside = [Case(((name, share),)) for name, share in product(sorted(of_pairs), rules.by)]
-    both = [Case(((one, first), (other, second))) for one, other in rules.pairs for first, second in product(rules.by, rules.by)]
+    both = [
+        Case(((one, first), (other, second)))
+        for one, other in rules.pairs
+        for first, second in product(rules.by, rules.by)
+    ]
     return [Case(), *singles, *beside, *both]
 
 
@@ -129,7 +133,13 @@ def solve(project: Project, folder: Path, where: on_dask.Where | None, progress:
     factor = analyse.chosen_factor(analyse.shells(plan, solution), project.schedule)
     asked = Asked(up_to(project, factor), frame, found_by)
     rules = rules_of(project)
-    begun = {"project": project.to_toml(), "inputs": files.hashes_of(project.named_inputs), "solver": found_by.sha256, "factor": factor, "skin": str(rules.skin)}
+    begun = {
+        "project": project.to_toml(),
+        "inputs": files.hashes_of(project.named_inputs),
+        "solver": found_by.sha256,
+        "factor": factor,
+        "skin": str(rules.skin),
+    }
     cases = cases_of(rules)
     keys = {case: key_of({**begun, "changes": [[name, str(share)] for name, share in case.changes]}) for case in cases}
     paths = {case: folder / CASES / f"{keys[case]}.npz" for case in cases}
@@ -143,7 +153,15 @@ def solve(project: Project, folder: Path, where: on_dask.Where | None, progress:
                 answer(case, asked, path)
     elif missing:
         over_dask(missing, asked, where, progress)
-    return Sensitivity(asked.project, plan, factor, {case: read(path, plan.grid.count) for case, path in paths.items()}, keys, found_by, given_project)
+    return Sensitivity(
+        asked.project,
+        plan,
+        factor,
+        {case: read(path, plan.grid.count) for case, path in paths.items()},
+        keys,
+        found_by,
+        given_project,
+    )
 
 
 def answer(case: Case, asked: Asked, path: Path) -> None:
@@ -156,7 +174,10 @@ def over_dask(missing: dict[Case, Path], asked: Asked, where: on_dask.Where, pro
     distributed = load("distributed", on_dask.PACKAGE, "sensitivity --on local or a Dask scheduler")
     with progress.step(f"solving {len(missing):,} cases"), on_dask.client_of(distributed, where) as client:
         shared = client.scatter(asked, broadcast=True)
-        tasks = [client.submit(answer, case, shared, path.resolve(), pure=False, retries=on_dask.RETRIES) for case, path in missing.items()]
+        tasks = [
+            client.submit(answer, case, shared, path.resolve(), pure=False, retries=on_dask.RETRIES)
+            for case, path in missing.items()
+        ]
         for task in distributed.as_completed(tasks):
             task.result()
 
@@ -181,7 +202,9 @@ def find(case: Case, asked: Asked) -> Found:
     skin = of_pit(plan, rules_of(asked.project).skin) if asked.as_given is None else asked.as_given.skin
     worth = analyse.cells_of(plan, solution).worth[skin.cells].sum()
     row[SKIN_WORTH] = np.nan if case.moves_walls else worth
-    return Found(row, entry, [pattern.as_json() for pattern in plan.walls.patterns], skin if asked.as_given is None else None)
+    return Found(
+        row, entry, [pattern.as_json() for pattern in plan.walls.patterns], skin if asked.as_given is None else None
+    )
 
 
 def of_last(table: pd.DataFrame) -> dict[str, Any]:
@@ -196,7 +219,9 @@ def write(path: Path, found: Found) -> None:
     texts = {"worth_at_factor": f"{found.row['worth_at_factor']:f}", "walls": json.dumps(found.walls)}
     skin = {} if found.skin is None else {"skin": found.skin.cells, "skin_factor": found.skin.factor}
     with files.staged_file(path) as place:
-        kept_arrays.write(place, path.stem, entry=found.entry, names=list(numbers), amounts=list(numbers.values()), **texts, **skin)
+        kept_arrays.write(
+            place, path.stem, entry=found.entry, names=list(numbers), amounts=list(numbers.values()), **texts, **skin
+        )
 
 
 def read(path: Path, cells: int) -> Found:
@@ -208,7 +233,9 @@ def read(path: Path, cells: int) -> Found:
         skin = Skin(int(said["skin_factor"]), said["skin"]) if "skin" in said else None
         if said["entry"].shape != (cells,):
             raise kept_arrays.NoAnswer("it holds other blocks")
-        return Found(row | {"worth_at_factor": str(said["worth_at_factor"])}, said["entry"], json.loads(str(said["walls"])), skin)
+        return Found(
+            row | {"worth_at_factor": str(said["worth_at_factor"])}, said["entry"], json.loads(str(said["walls"])), skin
+        )
     except (OSError, ValueError, KeyError, TypeError) as error:
         raise PlanError(f"{path}: is no answer: remove it, and run pitplan sensitivity again: {error}") from error
 
@@ -220,7 +247,9 @@ def table(found: Sensitivity) -> pd.DataFrame:
     rows = []
     for case, answer in found.answers.items():
         (name, share), (second, other) = (*case.changes, ("", 0), ("", 0))[:2]
-        rows.append({"number": name, "share": float(share), "second": second, "second_share": float(other), **answer.row})
+        rows.append(
+            {"number": name, "share": float(share), "second": second, "second_share": float(other), **answer.row}
+        )
     frame = pd.DataFrame(rows)
     kept = [name for name in frame if name.startswith("kept_") or name == SKIN_WORTH]
     order = [name for name in frame if name not in (*kept, "npv")]

@@ -95,14 +95,18 @@ def read_steps(section: Section) -> tuple[tuple[int, int, int], ...]:
     value, far = section.get("steps"), MOST_STEPS
     is_list = isinstance(value, list) and value and all(isinstance(step, list) and len(step) == 3 for step in value)
     if not is_list or any(isinstance(item, bool) or not isinstance(item, int) for step in value for item in step):
-        raise section.wrong("steps", "must be a list of steps [east, north, up] in whole blocks, such as [[0, 0, 1], [1, 0, 1]]")
+        raise section.wrong(
+            "steps", "must be a list of steps [east, north, up] in whole blocks, such as [[0, 0, 1], [1, 0, 1]]"
+        )
     if any(not 1 <= up <= MOST_LEVELS or max(abs(east), abs(north)) > far for east, north, up in value):
         raise section.wrong("steps", f"go up by 1 to {MOST_LEVELS} blocks, and by at most {far} to a side")
     return tuple(sorted({(east, north, up) for east, north, up in value}))
 
 
 def read_bench(section: Section) -> Bench:
-    bench = Bench(float(section.number("height")), float(section.number("face")), float(section.number("berm", least=0)))
+    bench = Bench(
+        float(section.number("height")), float(section.number("face")), float(section.number("berm", least=0))
+    )
     section.finish()
     if bench.height <= 0:
         raise section.wrong("height", "is above 0 metres")

@@ -108,7 +108,9 @@ def widened(phase: np.ndarray, plan: Plan, rules: PhaseRules) -> tuple[np.ndarra
     found = wide_pits(pits, ground)
     if not ((ground.tonnes > 0) & found[-1]).any():
         factor = plan.project.schedule.factors[-1]
-        raise PlanError(f"{plan.project.path}: [pushbacks] width, bottom: no part of the pit of factor {factor} is so wide: ask for less")
+        raise PlanError(
+            f"{plan.project.path}: [pushbacks] width, bottom: no part of the pit of factor {factor} is so wide: ask for less"
+        )
     result = np.zeros(plan.grid.shape, dtype=np.int16)
     for number in range(count, 0, -1):
         result[found[number - 1]] = number
@@ -246,7 +248,11 @@ def is_wide(mask: np.ndarray, free: np.ndarray, shape: Rectangle) -> bool:
 def notes_of(before: np.ndarray, after: np.ndarray, ground: Ground, rules: PhaseRules) -> list[str]:
     """What the widths moved, and the pieces that are left for them."""
     rock, tonnes = ground.tonnes > 0, ground.tonnes
-    asked = [f"{name} {metres(wide)} m" for name, wide in (("width", rules.width), ("bottom", rules.bottom)) if wide is not None]
+    asked = [
+        f"{name} {metres(wide)} m"
+        for name, wide in (("width", rules.width), ("bottom", rules.bottom))
+        if wide is not None
+    ]
     moved = (
         ("earlier", (after > 0) & (before > after)),
         ("later", (before > 0) & (after > before)),
@@ -272,10 +278,14 @@ def left_pieces(left: np.ndarray, tonnes: np.ndarray, ground: Ground) -> list[st
         cells = np.flatnonzero(pieces.ravel() == number)
         x, y, z = (metres(axis.mean().round(1)) for axis in ground.plan.grid.centres(cells))
         weight = float(tonnes.ravel()[cells].sum())
-        found.append((weight, f"{len(cells):,} block{'s' if len(cells) > 1 else ''}, {weight:,.0f} t, about {x}, {y}, {z}"))
+        found.append(
+            (weight, f"{len(cells):,} block{'s' if len(cells) > 1 else ''}, {weight:,.0f} t, about {x}, {y}, {z}")
+        )
     found.sort(key=lambda piece: -piece[0])
     notes = [f"too small to mine and left: {text}" for _, text in found[:NAMED]]
     if count > NAMED:
         rest = found[NAMED:]
-        notes.append(f"too small to mine and left: {len(rest):,} pieces more, together {sum(weight for weight, _ in rest):,.0f} t")
+        notes.append(
+            f"too small to mine and left: {len(rest):,} pieces more, together {sum(weight for weight, _ in rest):,.0f} t"
+        )
     return notes

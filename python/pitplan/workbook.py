@@ -11,7 +11,14 @@ from .packages import load
 
 WIDEST = 24
 # By the beginning of a column's name how its numbers are shown; others have thousands and no decimals.
-SHOWN = {"share": "0.0000", "grade_": "0.000", "strip_ratio": "0.00", "below_bound": "0.0000", "metal_": "#,##0.00", "years": "0.0"}
+SHOWN = {
+    "share": "0.0000",
+    "grade_": "0.000",
+    "strip_ratio": "0.00",
+    "below_bound": "0.0000",
+    "metal_": "#,##0.00",
+    "years": "0.0",
+}
 PLAIN = ("factor", "year", "phase", "bench", "pieces", "least_width", "process_factor")
 
 

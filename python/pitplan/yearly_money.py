@@ -55,7 +55,9 @@ def of_project(project: Project) -> YearlyMoney:
         for metal in project.metals
         if metal.prices
     }
-    return YearlyMoney(float(money.fixed_cost_per_year), tuple((year, float(amount)) for year, amount in money.capital), premiums)
+    return YearlyMoney(
+        float(money.fixed_cost_per_year), tuple((year, float(amount)) for year, amount in money.capital), premiums
+    )
 
 
 def notes(project: Project) -> list[str]:
@@ -66,4 +68,6 @@ def notes(project: Project) -> list[str]:
     parts += ["prices of their own"] if money.premiums else []
     if not parts:
         return []
-    return [f"years have {' and '.join(parts)}: in years, net present values and schedules, not in the worth of blocks, shells and phases"]
+    return [
+        f"years have {' and '.join(parts)}: in years, net present values and schedules, not in the worth of blocks, shells and phases"
+    ]

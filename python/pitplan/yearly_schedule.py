@@ -111,7 +111,9 @@ def make(phases: Phases, progress: Progress = silent) -> YearlySchedule:
     """
     project, rules = phases.plan.project, rules_of(phases.plan.project)
     if rules.least or rules.sums:
-        raise PlanError(f"{project.path}: [schedule] least, sums: are kept by --by block alone: leave them out, or schedule by block")
+        raise PlanError(
+            f"{project.path}: [schedule] least, sums: are kept by --by block alone: leave them out, or schedule by block"
+        )
     benches = phase_benches.of_phases(phases, rules.lag)
     problem = Problem(benches, limits_of(project, rules), project.schedule, yearly_money.of_project(project))
     with progress.step(f"scheduling {len(benches):,} benches of {len(phases.factors)} phases by rule"):
@@ -154,7 +156,9 @@ def with_bins(schedule: YearlySchedule, rules: ScheduleRules, progress: Progress
     parcels = grade_bins.of_phases(schedule.phases, schedule.benches, rules.bins)
     problem = MillingProblem(schedule.problem, parcels, schedule.years, rules.rehandling)
     unknowns = problem.dug + problem.kinds * len(parcels) * problem.years
-    with progress.step(f"solving the linear programme of {schedule.years} years and {len(parcels):,} parcels, {unknowns:,} unknowns"):
+    with progress.step(
+        f"solving the linear programme of {schedule.years} years and {len(parcels):,} parcels, {unknowns:,} unknowns"
+    ):
         optimum = problem.relaxed()
     with progress.step("making a schedule that can be dug of it"):
         shares, milling = problem.diggable(optimum)
@@ -191,7 +195,9 @@ def years(schedule: YearlySchedule) -> pd.DataFrame:
     found = []
     for way in schedule.shares:
         years = schedule.yearly(way)
-        for place, (name, values) in enumerate({"case": way, "factor": schedule.factor, "year": years.index + 1}.items()):
+        for place, (name, values) in enumerate(
+            {"case": way, "factor": schedule.factor, "year": years.index + 1}.items()
+        ):
             years.insert(place, name, values)
         found.append(years)
     return pd.concat(found, ignore_index=True)
@@ -222,7 +228,8 @@ def ways(schedule: YearlySchedule) -> pd.DataFrame:
 
 def milling(schedule: YearlySchedule) -> pd.DataFrame:
     """Of the ways that divide ore into bins one row for a bin of a bench in a year: way; year; phase; bench, the z of its centres in metres;
-    bin, from 1, the poorest; dug_tonnes of it; milled_tonnes, of these, and reclaimed_tonnes, which are milled from the stockpile."""
+    bin, from 1, the poorest; dug_tonnes of it; milled_tonnes, of these, and reclaimed_tonnes, which are milled from the stockpile.
+    """
     found = []
     for way, made in schedule.milling.items():
         parcels, tonnes = made.parcels, made.parcels.of(ORE)
@@ -256,14 +263,20 @@ def record(schedule: YearlySchedule) -> dict[str, Any]:
     """What schedule.json says: of each way the value, the years and the tonnes that are left; the bound; and the limits."""
     limits, bound = schedule.problem.limits, None if schedule.optimum is None else round(schedule.optimum.bound, 3)
     found = {
-        way: {"value": round(schedule.value(way), 3), "years": shares.shape[1], "left_tonnes": round(schedule.left(way), 3)}
+        way: {
+            "value": round(schedule.value(way), 3),
+            "years": shares.shape[1],
+            "left_tonnes": round(schedule.left(way), 3),
+        }
         for way, shares in schedule.shares.items()
     }
     return {
         "factor": schedule.factor,
         "ways": found,
         "bound": bound,
-        "milp_bound": None if schedule.milp_bound is None or math.isinf(schedule.milp_bound) else round(schedule.milp_bound, 3),
+        "milp_bound": None
+        if schedule.milp_bound is None or math.isinf(schedule.milp_bound)
+        else round(schedule.milp_bound, 3),
         "years": schedule.years,
         "shown": schedule.shown,
         "lead": schedule.lead,
@@ -279,7 +292,11 @@ def record(schedule: YearlySchedule) -> dict[str, Any]:
 
 def record_of(made: Milling) -> dict[str, Any]:
     """Of a way that divides ore into bins what a tonne is worth between two of them, and at the cut-off of each year."""
-    return {"edges": made.parcels.edges.tolist(), "cutoffs": made.cutoffs, "rehandling_cost": made.cost if made.is_stocked else None}
+    return {
+        "edges": made.parcels.edges.tolist(),
+        "cutoffs": made.cutoffs,
+        "rehandling_cost": made.cost if made.is_stocked else None,
+    }
 
 
 def notes(schedule: YearlySchedule) -> list[str]:
@@ -297,11 +314,15 @@ def notes(schedule: YearlySchedule) -> list[str]:
         found.append(f"upper bound of the integer programme, for the same schedules: {schedule.milp_bound:,.0f}")
     for way, made in [pair for pair in schedule.milling.items() if pair[1].cutoffs]:
         told = ", ".join("-" if worth is None else f"{worth:.2f}" for worth in made.cutoffs)
-        found.append(f"{way} mills at once what a tonne of ore is worth in the mill from these amounts on, year by year: {told}")
+        found.append(
+            f"{way} mills at once what a tonne of ore is worth in the mill from these amounts on, year by year: {told}"
+        )
     for way in schedule.shares:
         rock = schedule.left(way)
         if not schedule.shares[way].any():
-            found.append(f"{way} mines nothing: at these prices and costs no schedule that it finds earns more than it spends")
+            found.append(
+                f"{way} mines nothing: at these prices and costs no schedule that it finds earns more than it spends"
+            )
         elif rock > 0.5:
             found.append(f"{way} leaves {rock:,.0f} t of the phases undug")
     return found

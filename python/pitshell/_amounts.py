@@ -8,8 +8,7 @@ import numpy as np
 from numpy.typing import ArrayLike, NDArray
 
 from ._arrays import PLAIN, array_of
-from ._decimals import millionths_of as millionths_of_decimal
-from ._decimals import of_number
+from ._decimals import millionths_of as millionths_of_decimal, of_number
 
 MILLION = 1_000_000
 MOST_MILLIONTHS = 2**63 - 1
@@ -59,7 +58,9 @@ def _not_finite(name: str, block: int) -> ValueError:
 
 def _as_they_are(array: NDArray, name: str) -> Millionths:
     """Integers of any width as 64 bits, without a copy where they have these."""
-    if array.dtype == object and all(isinstance(number, (int, np.integer)) and not isinstance(number, bool) for number in array):
+    if array.dtype == object and all(
+        isinstance(number, (int, np.integer)) and not isinstance(number, bool) for number in array
+    ):
         beyond = [block for block, number in enumerate(array) if not -MOST_MILLIONTHS - 1 <= number <= MOST_MILLIONTHS]
         if beyond:
             raise _too_large(name, beyond[0])

@@ -108,7 +108,9 @@ def rows_of(needs: Any, blocks: int) -> Rows:
     if pairs.size == 0:
         return Rows(np.zeros(blocks + 1, dtype=np.uint32), np.zeros(0, dtype=np.uint32))
     if pairs.ndim != 2 or pairs.shape[1] != 2:
-        raise ValueError(f"needs have shape {pairs.shape}: hand in a CSR matrix, (indptr, indices) or pairs of shape (pairs, 2)")
+        raise ValueError(
+            f"needs have shape {pairs.shape}: hand in a CSR matrix, (indptr, indices) or pairs of shape (pairs, 2)"
+        )
     return _of_pairs(pairs, blocks)
 
 

@@ -52,10 +52,14 @@ def certificate(values: ArrayLike, needs: Any, *, millionths: bool = False) -> C
     number = _library.certificate(*(part for array in arrays for part in (array, len(array))), ctypes.byref(found))
     if number:
         raise refused(number, found.place, rows, blocks)
-    return Certificate(marks.view(np.bool_), scaled(found.worth, PLACES), rows.back(_joined(high, low)), amounts.rounded)
+    return Certificate(
+        marks.view(np.bool_), scaled(found.worth, PLACES), rows.back(_joined(high, low)), amounts.rounded
+    )
 
 
-def check(values: ArrayLike, needs: Any, in_pit: ArrayLike, flow: Sequence[int] | NDArray[Any], *, millionths: bool = False) -> bool:
+def check(
+    values: ArrayLike, needs: Any, in_pit: ArrayLike, flow: Sequence[int] | NDArray[Any], *, millionths: bool = False
+) -> bool:
     """Whether a flow shows that the blocks in the pit are the smallest closed set of greatest worth.
 
     in_pit: truth for each block, or 0 and 1, shape (blocks,). flow: whole millionths for each need, in the order in which the needs are
@@ -109,7 +113,9 @@ def _whole(number: Any, need: int) -> int:
 def _marks(in_pit: ArrayLike) -> NDArray[np.uint8]:
     array = array_of(in_pit, "in_pit")
     if array.ndim != 1 or (array.size and array.dtype != np.bool_ and not np.issubdtype(array.dtype, np.integer)):
-        raise ValueError(f"in_pit is {array.dtype} of shape {array.shape}: hand in a truth for each block, shape (blocks,)")
+        raise ValueError(
+            f"in_pit is {array.dtype} of shape {array.shape}: hand in a truth for each block, shape (blocks,)"
+        )
     if array.dtype != np.bool_:
         array = np.where((array < 0) | (array > 255), 255, array)
     return np.require(array.astype(np.uint8), np.uint8, PLAIN)

@@ -8,7 +8,9 @@ from decimal import MAX_EMAX, MAX_PREC, MIN_EMIN, ROUND_HALF_EVEN, Context, Deci
 import numpy as np
 
 # Every operation of this package fits these limits, so nothing but the rounding to millionths rounds.
-EXACT = Context(prec=MAX_PREC, rounding=ROUND_HALF_EVEN, Emin=MIN_EMIN, Emax=MAX_EMAX, clamp=0, traps=[InvalidOperation])
+EXACT = Context(
+    prec=MAX_PREC, rounding=ROUND_HALF_EVEN, Emin=MIN_EMIN, Emax=MAX_EMAX, clamp=0, traps=[InvalidOperation]
+)
 PLACES = 6
 # A number of more digits before the point fits no 64 bits of millionths; one that begins so far behind the point rounds to 0.
 MOST_DIGITS, LEAST_PLACE = 13, -8

@@ -18,7 +18,6 @@ from ._arrays import MOST_WHOLE, demand_unmasked, rows_of
 from ._decimals import scaled
 from ._refusals import refused
 
-
 # A factor in per mille times millionths.
 WORTH_PLACES = 9
 
@@ -34,7 +33,9 @@ class Shells:
     rounded: int
 
 
-def shells(revenues: ArrayLike, costs: ArrayLike, needs: Any, factors: Iterable[int], *, millionths: bool = False) -> Shells:
+def shells(
+    revenues: ArrayLike, costs: ArrayLike, needs: Any, factors: Iterable[int], *, millionths: bool = False
+) -> Shells:
     """Nested pits: at a factor, in per mille, a block is worth factor / 1000 * revenue - cost, and each pit lies within the next.
 
     revenues, costs: of each block, shape (blocks,), from 0 to 10^12 of their unit; in the forms of `values` of `solve`.

@@ -56,7 +56,9 @@ class Refusal(ValueError):
         if words.endswith("block "):
             words = words + str(block) if block is not None else words.removesuffix(" at block ")
         elif block is not None:
-            words += f": block {block}" + ("" if needed is None else f" needs {needed if needed <= MOST_OF_SIGNED else OUTSIDE}")
+            words += f": block {block}" + (
+                "" if needed is None else f" needs {needed if needed <= MOST_OF_SIGNED else OUTSIDE}"
+            )
         elif cycle is not None:
             words += f": blocks {', '.join(map(str, cycle[:MOST_NAMED]))}{', ..' if len(cycle) > MOST_NAMED else ''}"
         if need is not None:
@@ -80,5 +82,7 @@ def refused(number: int, place: int, rows: Rows, blocks: int) -> Refusal | NoMem
     if number == CYCLE:
         return Refusal(number, cycle=_library.cycle_of(rows.starts, rows.needs, blocks))
     if number in (8, 9, 10):
-        return Refusal(number, block=int(np.searchsorted(rows.starts, place, side="right")) - 1, needed=int(rows.needs[place]))
+        return Refusal(
+            number, block=int(np.searchsorted(rows.starts, place, side="right")) - 1, needed=int(rows.needs[place])
+        )
     return Refusal(number, block=place) if number in (3, 15, 21) else Refusal(number)

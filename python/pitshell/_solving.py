@@ -76,7 +76,9 @@ def _numbers(fixed: ArrayLike | None, blocks: int) -> NDArray[np.uint8]:
         return np.zeros(0, dtype=np.uint8)
     array = array_of(fixed, "fixed")
     if array.ndim != 1 or (array.size and not np.issubdtype(array.dtype, np.integer)):
-        raise ValueError(f"fixed is {array.dtype} of shape {array.shape}: hand in 0, 1 or 2 for each block, shape (blocks,)")
+        raise ValueError(
+            f"fixed is {array.dtype} of shape {array.shape}: hand in 0, 1 or 2 for each block, shape (blocks,)"
+        )
     if len(array) != blocks:
         raise Refusal(17)
     if array.dtype != np.uint8:

@@ -50,7 +50,9 @@ class Browser:
         """What it answers, once it has done what it was asked."""
         self.count += 1
         words = {"id": self.count, "method": method, "params": given}
-        return self.loop.run_until_complete(self.answered(words | ({"sessionId": self.session} if self.session else {})))
+        return self.loop.run_until_complete(
+            self.answered(words | ({"sessionId": self.session} if self.session else {}))
+        )
 
     async def answered(self, words):
         await self.socket.write_message(json.dumps(words))

@@ -134,7 +134,9 @@ def scheduled_hill(tmp_path_factory):
     place = tmp_path_factory.mktemp("ground")
     grades = {(3, 4, 1): 6, (7, 4, 1): 2, (5, 2, 2): 0.9}
     table = rows(11, 9, 4, cu=lambda i, j, k: grades.get((i, j, k), 0))
-    table = table[(table["z"] < 30) | (table["x"] < 60)].assign(x=lambda it: it["x"] + 430_000.5, y=lambda it: it["y"] + 6_512_000.25)
+    table = table[(table["z"] < 30) | (table["x"] < 60)].assign(
+        x=lambda it: it["x"] + 430_000.5, y=lambda it: it["y"] + 6_512_000.25
+    )
     table.to_csv(place / "blocks.csv", index=False)
     (place / "project.toml").write_text(PROJECT + "[pushbacks]\ncount = 2\n[schedule]\nrock_per_year = 2000\n")
     pitplan.write_schedule(place / "project.toml", writing=pitplan.Writing(verifies=False, figures=False))

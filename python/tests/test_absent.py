@@ -4,8 +4,7 @@ import numpy as np
 import pandas as pd
 import pytest
 from conftest import PROJECT, rows
-from hypothesis import given
-from hypothesis import strategies as st
+from hypothesis import given, strategies as st
 
 import pitplan
 from pitplan import PlanError, absent
@@ -46,7 +45,10 @@ def test_shells_that_reach_a_hole_are_refused(plan_folder, capsys):
     path = plan_folder(table[~((table["x"] == 25) & (table["z"] == 15))])
     assert main(["shells", str(path), "--quiet"]) == 1
     said = capsys.readouterr().err
-    assert "blocks.csv: the shells reach 1 cells that have no row and are not above the highest of their column, the first at 25, 5, 15 from factor 500 on" in said
+    assert (
+        "blocks.csv: the shells reach 1 cells that have no row and are not above the highest of their column, the first at 25, 5, 15 from factor 500 on"
+        in said
+    )
     assert 'absent = "air"' in said
     assert not (path.parent / "plan" / "shells.csv").exists()
 
@@ -100,7 +102,10 @@ def test_rock_on_request_in_scenarios(plan_folder):
     [
         ('absent = "rock"', '[table] absent: "rock" is none of refuse, air'),
         ("absent = { tonnes = -1 }", "[table.absent] tonnes: -1 is below 0"),
-        ("absent = { tonnes = 1 }", "[table] absent: needs a rock where, and only where, a column of the table is its rock"),
+        (
+            "absent = { tonnes = 1 }",
+            "[table] absent: needs a rock where, and only where, a column of the table is its rock",
+        ),
         ('absent = { tonnes = 1, rock = "R" }', "[table] absent: needs a region where"),
         ('absent = { tonnes = 1, rocks = "R" }', "[table.absent] rocks: is no key here; rock is"),
     ],

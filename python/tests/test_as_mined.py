@@ -87,7 +87,10 @@ def test_tonnes_that_the_table_has_cut_already(mine):
     plan = mine(ground_less(4), text, tonnes=below(slope))
     blocks = plan.blocks
     inside = blocks[(blocks["x"] > 30) & (blocks["x"] < 60)]
-    expected = [below(lambda x, y: slope(x, y) - 4)(round((x - 5) / 10), 0, round((z - 5) / 10)) for x, z in zip(inside["x"], inside["z"])]
+    expected = [
+        below(lambda x, y: slope(x, y) - 4)(round((x - 5) / 10), 0, round((z - 5) / 10))
+        for x, z in zip(inside["x"], inside["z"])
+    ]
     assert inside["tonnes"].tolist() == pytest.approx(expected, abs=1e-4)
     assert mine(slope, text, tonnes=below(slope)).fixed.forced.size == 0
 
@@ -112,9 +115,18 @@ def test_what_a_run_writes_of_it_is_verified(plan_folder, tmp_path, without_figu
 @pytest.mark.parametrize(
     ("text", "said"),
     [
-        ('[fixed]\ntopography = "ground.csv"\n', r"\[fixed\] topography: is the original ground of an as-mined surface: give surface too"),
-        ('[fixed]\nsurface = "mined.csv"\ntopography = "ground.csv"\n', r"\[table\] topography is the original ground already"),
-        ('[fixed]\nsurface = "mined.csv"\ntopography = "blocks"\n', r"\[table\] topography is the original ground already"),
+        (
+            '[fixed]\ntopography = "ground.csv"\n',
+            r"\[fixed\] topography: is the original ground of an as-mined surface: give surface too",
+        ),
+        (
+            '[fixed]\nsurface = "mined.csv"\ntopography = "ground.csv"\n',
+            r"\[table\] topography is the original ground already",
+        ),
+        (
+            '[fixed]\nsurface = "mined.csv"\ntopography = "blocks"\n',
+            r"\[table\] topography is the original ground already",
+        ),
     ],
 )
 def test_two_original_grounds_or_none_to_mine_are_refused(plan_folder, text, said):

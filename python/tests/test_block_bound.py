@@ -5,13 +5,11 @@ from itertools import product
 
 import numpy as np
 import pytest
-from hypothesis import given
-from hypothesis import strategies as st
+from hypothesis import given, strategies as st
 from scipy.optimize import Bounds, LinearConstraint, linprog, milp
 
 from pitplan import PlanError
-from pitplan.block_schedule import master
-from pitplan.block_schedule import nodes as node_module
+from pitplan.block_schedule import master, nodes as node_module
 from pitplan.block_schedule.closure import priced
 from pitplan.block_schedule.master import Master
 from pitplan.block_schedule.nodes import nodes_of
@@ -34,7 +32,11 @@ def problem_of(values, pairs, *limits):
     found = []
     for number, (amounts, most) in enumerate(limits):
         amounts = np.array(amounts, dtype=float).reshape(blocks, -1)
-        found.append(Limit(f"limit {number}", np.broadcast_to(amounts, (blocks, destinations)).copy(), np.array(most, dtype=float)))
+        found.append(
+            Limit(
+                f"limit {number}", np.broadcast_to(amounts, (blocks, destinations)).copy(), np.array(most, dtype=float)
+            )
+        )
     return BlockProblem(values, needs_of(blocks, pairs), tuple(found))
 
 
@@ -54,7 +56,9 @@ def random_problem(seed, most=60, years=4, destinations=3):
     rng = np.random.default_rng(seed)
     blocks, years, destinations = (int(rng.integers(1, top + 1)) for top in (most, years, destinations))
     pairs = [(user, needed) for user in range(blocks) for needed in range(user) if rng.random() < 2 / user]
-    values = rng.integers(-100, 150, (blocks, destinations, 1)) * (1 + rng.choice([0.0, 0.1, 0.3])) ** -np.arange(1.0, years + 1)
+    values = rng.integers(-100, 150, (blocks, destinations, 1)) * (1 + rng.choice([0.0, 0.1, 0.3])) ** -np.arange(
+        1.0, years + 1
+    )
     if rng.random() < 0.3:
         values = values * rng.uniform(0.7, 1.3, (1, destinations, years))
     limits = []
@@ -102,7 +106,12 @@ def linear_optimum(problem, first=None):
 def integer_optimum(problem):
     """The most that a schedule earns whose blocks each go to one destination whole."""
     gain, rows, most, upper = programme(problem)
-    found = milp(-gain, integrality=np.ones(len(gain)), bounds=Bounds(0, upper), constraints=LinearConstraint(rows, -np.inf, most))
+    found = milp(
+        -gain,
+        integrality=np.ones(len(gain)),
+        bounds=Bounds(0, upper),
+        constraints=LinearConstraint(rows, -np.inf, most),
+    )
     assert found.status == 0, found.message
     return -found.fun
 
@@ -123,7 +132,9 @@ def first_years(problem):
     found = np.zeros(problem.blocks, dtype=int)
     for block, limit in product(range(problem.blocks), problem.limits):
         whole, done = limit.amounts[cone_of(problem, block)].min(axis=1).sum(), limit.most.cumsum()
-        found[block] = max(found[block], next((year for year in range(problem.years) if whole <= done[year] + 1e-9), problem.years))
+        found[block] = max(
+            found[block], next((year for year in range(problem.years) if whole <= done[year] + 1e-9), problem.years)
+        )
     return found
 
 
@@ -139,7 +150,9 @@ def test_bound_and_relaxation_are_the_optimum_of_the_whole_programme(batch):
         found = relaxed(without_first(problem), EXACT)
         optimum = linear_optimum(problem)
         slack = 1e-6 * max(1.0, abs(optimum))
-        assert found.bound == pytest.approx(optimum, abs=slack) and found.rounds[-1].value == pytest.approx(optimum, abs=slack), seed
+        assert found.bound == pytest.approx(optimum, abs=slack) and found.rounds[-1].value == pytest.approx(
+            optimum, abs=slack
+        ), seed
         assert all(one.bound >= optimum - slack >= one.value - 2 * slack for one in found.rounds), seed
 
 
@@ -173,15 +186,20 @@ signed = st.builds(lambda sign, size: sign * size, st.sampled_from([-1, 1]), awk
 def test_at_any_prices_the_bound_is_above_all_schedules_exactly(data):
     """What a schedule earns at the prices, and they times the limits, in fractions."""
     blocks, destinations, years = data.draw(st.sampled_from([(3, 1, 2), (2, 2, 2), (4, 1, 1), (1, 3, 3)]))
-    values = np.array(data.draw(st.lists(signed, min_size=blocks * destinations * years, max_size=blocks * destinations * years)))
+    values = np.array(
+        data.draw(st.lists(signed, min_size=blocks * destinations * years, max_size=blocks * destinations * years))
+    )
     amounts = np.array(data.draw(st.lists(awkward, min_size=blocks * destinations, max_size=blocks * destinations)))
     pairs = [(user, needed) for user in range(blocks) for needed in range(user) if data.draw(st.booleans())]
-    problem = problem_of(values.reshape(blocks, destinations, years), pairs, (amounts.reshape(blocks, destinations), np.full(years, 3.7)))
+    problem = problem_of(
+        values.reshape(blocks, destinations, years), pairs, (amounts.reshape(blocks, destinations), np.full(years, 3.7))
+    )
     prices = np.array(data.draw(st.lists(awkward, min_size=years, max_size=years)))
     sold = sum((Fraction(price) * Fraction(3.7) for price in prices.tolist()), Fraction(0))
     earned = [
         sum(
-            Fraction(problem.values[block][place]) - Fraction(prices[place[1]]) * Fraction(problem.limits[0].amounts[block, place[0]])
+            Fraction(problem.values[block][place])
+            - Fraction(prices[place[1]]) * Fraction(problem.limits[0].amounts[block, place[0]])
             for block, place in enumerate(choice)
             if place is not None
         )
@@ -195,7 +213,8 @@ def test_at_any_prices_the_bound_is_above_all_schedules_exactly(data):
 
 def test_years_whose_pits_do_not_nest_are_solved_together():
     """At a price that is high in the second year alone, what pays in the first does not pay in the second, and would not wait for it: dug
-    in the first, block 0 earns 5, and 100 less at the price of the second. The pits of the years for themselves are [0] and none."""
+    in the first, block 0 earns 5, and 100 less at the price of the second. The pits of the years for themselves are [0] and none.
+    """
     problem = problem_of([[5.0, 4.0, 3.0], [-9.0, 4.0, 1.0]], [], ([1, 1], [1, 1, 1]))
     found = priced(without_first(problem), np.array([[0.0, 100.0, 0.0]]))
     assert found.parts < 3 and found.bound == pytest.approx(5 + 1 + 100)
@@ -296,7 +315,10 @@ def test_seconds_end_the_relaxation_behind_a_round():
         (dict(values=np.zeros((1, 1, 0))), "one year at least"),
         (dict(limits=(Limit("rock", np.array([[-1.0]]), np.array([1.0])),)), "rock: an amount is negative"),
         (dict(limits=(Limit("rock", np.array([[1.0]]), np.array([-1.0])),)), "rock: the most of a year is negative"),
-        (dict(limits=(Limit("rock", np.array([[1.0]]), np.array([1.0, 2.0])),)), "rock: amounts are by block and destination"),
+        (
+            dict(limits=(Limit("rock", np.array([[1.0]]), np.array([1.0, 2.0])),)),
+            "rock: amounts are by block and destination",
+        ),
     ],
 )
 def test_what_has_no_bound_is_refused(change, said):

@@ -49,7 +49,11 @@ def test_three_pillars_by_hand(plan_folder):
     years = years_of(folder)
     assert years["year"].tolist() == [1, 2, 3] and years["factor"].tolist() == [1000] * 3
     assert years["rock_tonnes"].tolist() == [200] * 3 and years["ore_tonnes"].tolist() == [100] * 3
-    assert years["metal_copper"].tolist() == pytest.approx([0.5, 0.35, 0.25]) and years["cash"].tolist() == [2600, 1400, 600]
+    assert years["metal_copper"].tolist() == pytest.approx([0.5, 0.35, 0.25]) and years["cash"].tolist() == [
+        2600,
+        1400,
+        600,
+    ]
     assert years["discounted"].tolist() == pytest.approx([2600 / 1.1, 1400 / 1.21, 600 / 1.331], abs=1e-3)
     blocks = pd.read_csv(folder / "blocks.csv").set_index("name")
     assert blocks["year"].to_dict() == {f"b{i}-0-{k}": i + 1 for i in range(3) for k in range(2)}
@@ -62,9 +66,12 @@ def test_three_pillars_by_hand(plan_folder):
 
 def test_money_in_thousands_has_the_share_below_the_bound_of_what_is_told(plan_folder):
     """The shovels take a block and a half a year, so a block a year: waste costs 0.2, and the ore under it earns 2.8, 1.6 and 0.8. The
-    bound, of shares of blocks, is more; files have both to a thousandth, and the share by which they differ is that of these."""
+    bound, of shares of blocks, is more; files have both to a thousandth, and the share by which they differ is that of these.
+    """
     text = YEARLY.replace("rock_per_year = 200", "rock_per_year = 150").replace("price = 8000", "price = 8")
-    text = text.replace("mining_cost = 2", "mining_cost = 0.002").replace("processing_cost = 10", "processing_cost = 0.01")
+    text = text.replace("mining_cost = 2", "mining_cost = 0.002").replace(
+        "processing_cost = 10", "processing_cost = 0.01"
+    )
     row, folder = scheduled(plan_folder, "[schedule]\nyears = 6\n", text)
     earned = [-0.2, 2.8, -0.2, 1.6, -0.2, 0.8]
     assert row["value"] == pytest.approx(sum(cash / 1.1**year for year, cash in enumerate(earned, 1)))
@@ -132,7 +139,9 @@ def test_a_block_goes_to_the_process_that_has_room(plan_folder):
     assert blocks["share_leach"][["b0-0-0", "b1-0-0", "b2-0-0"]].tolist() == [0, 1, 1]
     assert row["value"] == pytest.approx((7200 - 1300 + 2240 - 300 + 1600 - 300 - 6 * 200) / 1.1)
     assert row["bound"] == pytest.approx(row["value"]) and wrong(folder) == set()
-    assert years_of(folder)[["ore_tonnes", "ore_tonnes_leach", "ore_tonnes_mill"]].to_numpy().tolist() == [[300, 200, 100]]
+    assert years_of(folder)[["ore_tonnes", "ore_tonnes_leach", "ore_tonnes_mill"]].to_numpy().tolist() == [
+        [300, 200, 100]
+    ]
 
 
 @pytest.mark.parametrize(
@@ -163,7 +172,10 @@ def test_the_command_line_tells_value_bound_and_gap(plan_folder, capsys):
     said = capsys.readouterr()
     lines = [line.split() for line in said.out.splitlines()]
     assert lines[0][:3] == ["NPV", "bound", "below"] and lines[2][:4] == ["3,971.45", "3,971.45", "0.00", "3"]
-    assert "no schedule by block of up to 4 years that keeps these limits earns more than 3,971, wherever it sends its blocks; this one earns 3,971, 0.00 %" in said.err
+    assert (
+        "no schedule by block of up to 4 years that keeps these limits earns more than 3,971, wherever it sends its blocks; this one earns 3,971, 0.00 %"
+        in said.err
+    )
     assert "round 1: bound " in said.err and "relaxation 3,971 over" in said.err
     page = (path.parent / "plan" / "block_schedule" / "report.html").read_text()
     assert "in the ore of the pit of factor 1000</span>" in page and 'title="ways.csv row 2 column value"' in page
@@ -197,7 +209,10 @@ def written(without_figures, tmp_path_factory):
     grades = {(3, 4, 1): 6, (7, 4, 1): 2, (5, 2, 2): 0.9, (3, 3, 2): 1.5, (8, 4, 2): 0.8}
     table = rows(11, 9, 4, cu=lambda i, j, k: grades.get((i, j, k), 0))
     table.to_csv(place / "blocks.csv", index=False)
-    text = PROJECT + "[schedule]\nrock_per_year = 1000\nramp_up = [0.5, 1]\nore_per_year = 200\nmetal_per_year = { copper = 3.5 }\n"
+    text = (
+        PROJECT
+        + "[schedule]\nrock_per_year = 1000\nramp_up = [0.5, 1]\nore_per_year = 200\nmetal_per_year = { copper = 3.5 }\n"
+    )
     (place / "project.toml").write_text(text)
     pitplan.write_block_schedule(place / "project.toml")
     return place
@@ -214,7 +229,9 @@ def test_what_is_right_passes(copied, capsys):
     told = [line.split(":")[0] for line in capsys.readouterr().out.splitlines()]
     assert told[-3:] == RULES
     record = files.read_record(copied)
-    assert "block_schedule.json" in record["files"] and any(line.startswith("block order") for line in record["verified"])
+    assert "block_schedule.json" in record["files"] and any(
+        line.startswith("block order") for line in record["verified"]
+    )
     assert pd.read_csv(copied / "blocks.csv")["year"].max() > 2
 
 
@@ -283,10 +300,11 @@ def test_a_ramp_up_that_is_not_the_projects_is_found(copied):
 
 
 def test_the_view_and_the_table_have_the_years(copied):
-
-
     table = pd.read_csv(pitplan.export(copied, "table"))
-    assert table["year"].tolist() == pd.read_csv(copied / "blocks.csv").set_index("name")["year"].loc[table["name"]].tolist()
+    assert (
+        table["year"].tolist()
+        == pd.read_csv(copied / "blocks.csv").set_index("name")["year"].loc[table["name"]].tolist()
+    )
 
 
 def test_a_pit_without_ore_has_an_empty_schedule(plan_folder, capsys):
@@ -305,11 +323,24 @@ def test_a_pit_of_too_many_years_is_refused(plan_folder, monkeypatch):
         scheduled(plan_folder)
 
 
-@pytest.mark.parametrize(("change", "said"), [("ore_per_year = 99", "100 of ore_tonnes, and a year at most 99"), ("rock_per_year = 90", "100 of rock_tonnes, and a year at most 90")])
+@pytest.mark.parametrize(
+    ("change", "said"),
+    [
+        ("ore_per_year = 99", "100 of ore_tonnes, and a year at most 99"),
+        ("rock_per_year = 90", "100 of rock_tonnes, and a year at most 90"),
+    ],
+)
 def test_a_block_that_a_year_cannot_hold_is_refused(plan_folder, change, said):
     """Each block has 100 t. It would never be mined whole, and what lies below it neither."""
-    text = YEARLY.replace("ore_per_year = 100", change) if "ore" in change else YEARLY.replace("rock_per_year = 200", change)
-    with pytest.raises(PlanError, match=rf"by block each is mined in one year: give smaller blocks .*: block b\d-0-\d \(row \d\) holds {said}"):
+    text = (
+        YEARLY.replace("ore_per_year = 100", change)
+        if "ore" in change
+        else YEARLY.replace("rock_per_year = 200", change)
+    )
+    with pytest.raises(
+        PlanError,
+        match=rf"by block each is mined in one year: give smaller blocks .*: block b\d-0-\d \(row \d\) holds {said}",
+    ):
         scheduled(plan_folder, text=text)
 
 
@@ -319,7 +350,9 @@ def test_both_notations_of_one_mine_have_the_same_value_and_bound(plan_folder):
     table = pillars(as_ppm=lambda i, j, k: [10, 90, 20][i])
     sums = '[[schedule.sums]]\ncolumn = "as_ppm"\na_tonne = true\nof = "ore"\nmost = 4000\n[schedule]\nyears = 3\n'
     plain, folder = scheduled(plan_folder, sums, table=table)
-    named = YEARLY.replace("processing_cost = 10\n", "").replace("recovery = 0.5\n", "").replace("ore_per_year = 100\n", "")
+    named = (
+        YEARLY.replace("processing_cost = 10\n", "").replace("recovery = 0.5\n", "").replace("ore_per_year = 100\n", "")
+    )
     named += '[[processes]]\nname = "mill"\ncost = 10\nper_year = 100\nrecovery = { copper = 0.5 }\n'
     other, _ = scheduled(plan_folder, sums, text=named, table=table)
     assert plain["value"] == pytest.approx(other["value"]) and plain["bound"] == pytest.approx(other["bound"])

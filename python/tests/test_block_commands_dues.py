@@ -41,7 +41,9 @@ def test_each_least_amount_by_hand(plan_folder, words, cash):
 
 
 def test_what_none_can_keep_is_told(plan_folder):
-    with pytest.raises(PlanError, match="^no schedule keeps what must be held at least: ore_tonnes in years 1, 2, 3, 4$"):
+    with pytest.raises(
+        PlanError, match="^no schedule keeps what must be held at least: ore_tonnes in years 1, 2, 3, 4$"
+    ):
         scheduled(plan_folder, "[schedule]\nyears = 4\nleast = { ore = 100 }\n", WIDE)
 
 
@@ -53,7 +55,10 @@ def test_a_block_that_does_not_pay_is_dug_for_a_least_amount(plan_folder):
     assert row["value"] == pytest.approx(4000 / 1.1 + 200 / 1.21) == pytest.approx(row["bound"])
 
 
-ARSENIC = {"as_kg": lambda i, j, k: 0 if k else (5, 4, 1)[i], "as_ppm": lambda i, j, k: 0 if k else (0.05, 0.04, 0.01)[i]}
+ARSENIC = {
+    "as_kg": lambda i, j, k: 0 if k else (5, 4, 1)[i],
+    "as_ppm": lambda i, j, k: 0 if k else (0.05, 0.04, 0.01)[i],
+}
 
 
 @pytest.mark.parametrize("words", ['column = "as_kg"', 'column = "as_ppm"\na_tonne = true\nname = "as_kg"'])
@@ -63,7 +68,11 @@ def test_a_sum_of_a_column_by_hand(plan_folder, words, of):
     2600 and 2000, which is 49.6 less."""
     text = f'[schedule]\nyears = 3\n[[schedule.sums]]\n{words}\nof = "{of}"\nmost = 6\n'
     row, folder = scheduled(plan_folder, text, WIDE, pillars(**ARSENIC))
-    assert years(folder) == [1, 2, 1] and row["value"] == pytest.approx(3200 / 1.1 + 1400 / 1.21) and wrong(folder) == set()
+    assert (
+        years(folder) == [1, 2, 1]
+        and row["value"] == pytest.approx(3200 / 1.1 + 1400 / 1.21)
+        and wrong(folder) == set()
+    )
     assert years_of(folder)["sum_as_kg"].tolist() == pytest.approx([6, 4])
     assert json.loads((folder / "block_schedule.json").read_text())["limits"]["sum_as_kg"] == 6
 
@@ -78,12 +87,16 @@ HALVES = {
 def test_a_sum_of_blocks_that_are_put_together(plan_folder, words):
     """The same three pillars in halves of 50 t each, of 5, 4 and 1 kg in all: the richest and the poorest first. A bent number is found."""
     table = rows(6, 1, 2, tonnes=lambda i, j, k: 50, cu=lambda i, j, k: 0 if k else (1, 0.7, 0.5)[i // 2], **HALVES)
-    text = f'[schedule]\nyears = 3\n[[schedule.sums]]\n{words}\nmost = 6\n'
+    text = f"[schedule]\nyears = 3\n[[schedule.sums]]\n{words}\nmost = 6\n"
     wide = WIDE.replace('file = "blocks.csv"', 'file = "blocks.csv"\nreblock = [2, 1, 1]')
     row, folder = scheduled(plan_folder, text, wide, table)
     blocks = pd.read_csv(folder / "blocks.csv", dtype={"region": str})
     ore = blocks[blocks["name"].isin(["1-1-1", "2-1-1", "3-1-1"])].sort_values("x")
-    assert ore["year"].tolist() == [1, 2, 1] and row["value"] == pytest.approx(3200 / 1.1 + 1400 / 1.21) and wrong(folder) == set()
+    assert (
+        ore["year"].tolist() == [1, 2, 1]
+        and row["value"] == pytest.approx(3200 / 1.1 + 1400 / 1.21)
+        and wrong(folder) == set()
+    )
     assert years_of(folder)["sum_as_kg"].tolist() == pytest.approx([6, 4])
     column = "as_kg" if "as_ppm" not in words else "as_ppm"
     blocks.assign(**{column: blocks[column] + 1e-5}).to_csv(folder / "blocks.csv", index=False)
@@ -102,14 +115,18 @@ def test_the_least_of_a_sum_by_hand(plan_folder):
 
 def test_hours_of_one_process(plan_folder):
     """The mill takes 2 hours for the richest and 1 for the others, of 2 a year; leach none. A per cent and tonne earns 40 more in the mill,
-    less 10 a tonne: 3000, 1800 and 1000, which are 1500, 1800 and 1000 an hour. So the second is milled and half of the richest."""
+    less 10 a tonne: 3000, 1800 and 1000, which are 1500, 1800 and 1000 an hour. So the second is milled and half of the richest.
+    """
     hours = pillars(hours=lambda i, j, k: 0 if k else (2, 1, 1)[i])
     text = with_processes().replace("per_year = 100\n", "per_year = 300\n")
     assert text.count("per_year = 300") >= 1
     words = '[schedule]\nyears = 1\n[[schedule.sums]]\ncolumn = "hours"\nof = "mill"\nmost = 2\n'
     _, folder = scheduled(plan_folder, words, text, hours)
     blocks = pd.read_csv(folder / "blocks.csv").set_index("name")
-    assert blocks["share_mill"][["b0-0-0", "b1-0-0", "b2-0-0"]].tolist() == pytest.approx([0.5, 1, 0]) and wrong(folder) == set()
+    assert (
+        blocks["share_mill"][["b0-0-0", "b1-0-0", "b2-0-0"]].tolist() == pytest.approx([0.5, 1, 0])
+        and wrong(folder) == set()
+    )
     assert years_of(folder)["sum_hours"].tolist() == pytest.approx([2])
 
 
@@ -129,11 +146,26 @@ def test_fixed_blocks_by_hand(plan_folder):
     table = rows(4, 1, 2, cu=lambda i, j, k: 0 if k or i == 3 else (1, 0.7, 0.5)[i], **fixed)
     row, folder = scheduled(plan_folder, FIXED + "[schedule]\nyears = 4\n", YEARLY, table)
     blocks = pd.read_csv(folder / "blocks.csv").set_index("name")["year"]
-    assert blocks.to_dict() == {"b0-0-0": 0, "b0-0-1": 0, "b1-0-0": 1, "b1-0-1": 1, "b2-0-0": 2, "b2-0-1": 2, "b3-0-0": 4, "b3-0-1": 4}
-    assert row["value"] == pytest.approx(1400 / 1.1 + 600 / 1.21 - 400 / 1.1**4) == pytest.approx(row["bound"]) and wrong(folder) == set()
+    assert blocks.to_dict() == {
+        "b0-0-0": 0,
+        "b0-0-1": 0,
+        "b1-0-0": 1,
+        "b1-0-1": 1,
+        "b2-0-0": 2,
+        "b2-0-1": 2,
+        "b3-0-0": 4,
+        "b3-0-1": 4,
+    }
+    assert (
+        row["value"] == pytest.approx(1400 / 1.1 + 600 / 1.21 - 400 / 1.1**4) == pytest.approx(row["bound"])
+        and wrong(folder) == set()
+    )
     for name in ("b3-0-0", "b0-0-1"):
         kept = (folder / "blocks.csv").read_text()
-        rewrite(folder / "blocks.csv", lambda it: it.__setitem__("year", it["year"].where(it["name"] != name, 0 if name[1] == "3" else 3)))
+        rewrite(
+            folder / "blocks.csv",
+            lambda it: it.__setitem__("year", it["year"].where(it["name"] != name, 0 if name[1] == "3" else 3)),
+        )
         assert "block fixed" in wrong(folder)
         (folder / "blocks.csv").write_text(kept)
 
@@ -164,15 +196,27 @@ def test_a_sum_that_is_not_that_of_its_blocks_is_found(plan_folder, name):
 @pytest.mark.parametrize(
     ("words", "said"),
     [
-        ("least = { ore = 100 }", r"\[schedule\] years: is missing: in each of so many years there must be what is asked for at least"),
+        (
+            "least = { ore = 100 }",
+            r"\[schedule\] years: is missing: in each of so many years there must be what is asked for at least",
+        ),
         ("years = 2\nleast = { gold = 1 }", r"\[schedule.least\] gold: is none of ore, rock, copper"),
         ("years = 2\nleast = { ore = 400 }", r"\[schedule.least\] ore: 400 is above the most of a year, 300"),
         ("years = 2\nleast = { ore = -1 }", r"\[schedule.least\] ore: -1 is below 0"),
         ('[[schedule.sums]]\ncolumn = "cu"', r"\[schedule.sums 1\] most: is missing, and so is least"),
-        ('[[schedule.sums]]\ncolumn = "cu"\nmost = 1\nof = "mill"', r"\[schedule.sums\] cu: of mill is none of rock, ore"),
-        ('[[schedule.sums]]\ncolumn = "cu"\nmost = 1\nleast = 2', r"\[schedule.sums 1\] least: 2 is above the most of 1"),
+        (
+            '[[schedule.sums]]\ncolumn = "cu"\nmost = 1\nof = "mill"',
+            r"\[schedule.sums\] cu: of mill is none of rock, ore",
+        ),
+        (
+            '[[schedule.sums]]\ncolumn = "cu"\nmost = 1\nleast = 2',
+            r"\[schedule.sums 1\] least: 2 is above the most of 1",
+        ),
         ('[[schedule.sums]]\ncolumn = "as t"\nmost = 1', r'\[schedule.sums 1\] name: "as t" is not one word'),
-        ('[[schedule.sums]]\ncolumn = "cu"\nmost = 1\n[[schedule.sums]]\ncolumn = "cu"\nmost = 2', r"\[schedule\] sums: two have one name"),
+        (
+            '[[schedule.sums]]\ncolumn = "cu"\nmost = 1\n[[schedule.sums]]\ncolumn = "cu"\nmost = 2',
+            r"\[schedule\] sums: two have one name",
+        ),
         ('[[schedule.sums]]\ncolumn = "lead"\nmost = 1', "there is no column lead"),
     ],
 )
@@ -183,14 +227,23 @@ def test_what_is_refused(plan_folder, words, said):
 
 @pytest.mark.parametrize("name", ["ore", "rock"])
 def test_a_least_amount_of_a_name_that_is_a_metals_too_is_refused(plan_folder, name):
-    path = plan_folder(pillars(), WIDE.replace('name = "copper"', f'name = "{name}"') + f"[schedule]\nyears = 2\nleast = {{ {name} = 1 }}\n")
-    with pytest.raises(PlanError, match=rf"\[schedule.least\] {name}: stands for several things: call the metal or the process otherwise"):
+    path = plan_folder(
+        pillars(),
+        WIDE.replace('name = "copper"', f'name = "{name}"') + f"[schedule]\nyears = 2\nleast = {{ {name} = 1 }}\n",
+    )
+    with pytest.raises(
+        PlanError,
+        match=rf"\[schedule.least\] {name}: stands for several things: call the metal or the process otherwise",
+    ):
         load(path)
 
 
 def test_a_sum_of_a_name_that_is_a_processes_too_is_refused(plan_folder):
     process = '[[processes]]\nname = "ore"\ncost = 3\nper_year = 100\nrecovery = { copper = 0.5 }\n'
-    text = WIDE.replace("processing_cost = 10\n", "").replace("recovery = 0.5\n", "").replace("ore_per_year = 300\n", "") + process
+    text = (
+        WIDE.replace("processing_cost = 10\n", "").replace("recovery = 0.5\n", "").replace("ore_per_year = 300\n", "")
+        + process
+    )
     path = plan_folder(pillars(), text + '[[schedule.sums]]\ncolumn = "cu"\nof = "ore"\nmost = 1\n')
     with pytest.raises(PlanError, match=r"\[schedule.sums\] cu: of ore stands for several things"):
         load(path)
@@ -198,26 +251,42 @@ def test_a_sum_of_a_name_that_is_a_processes_too_is_refused(plan_folder):
 
 def test_a_least_amount_to_which_no_block_adds_is_refused(plan_folder):
     """There is rock enough, and no copper in it."""
-    with pytest.raises(PlanError, match="no schedule keeps what must be held at least: no block that adds to it can be dug in time"):
+    with pytest.raises(
+        PlanError, match="no schedule keeps what must be held at least: no block that adds to it can be dug in time"
+    ):
         scheduled(plan_folder, "[schedule]\nyears = 2\nleast = { copper = 0.1 }\n", WIDE, pillars().assign(cu=0))
 
 
 def test_an_amount_below_0_is_refused(plan_folder):
     with pytest.raises(PlanError, match="row 2 column as_kg: -1 is negative"):
-        scheduled(plan_folder, '[schedule]\n[[schedule.sums]]\ncolumn = "as_kg"\nmost = 1\n', WIDE, pillars(as_kg=lambda i, j, k: -1))
+        scheduled(
+            plan_folder,
+            '[schedule]\n[[schedule.sums]]\ncolumn = "as_kg"\nmost = 1\n',
+            WIDE,
+            pillars(as_kg=lambda i, j, k: -1),
+        )
 
 
 def test_phases_keep_no_least_amounts(plan_folder):
-    project = load(plan_folder(pillars(), WIDE + "[pushbacks]\ncount = 2\n[schedule]\nyears = 2\nleast = { ore = 10 }\n"))
+    project = load(
+        plan_folder(pillars(), WIDE + "[pushbacks]\ncount = 2\n[schedule]\nyears = 2\nleast = { ore = 10 }\n")
+    )
     with pytest.raises(PlanError, match=r"\[schedule\] least, sums: are kept by --by block alone"):
         pitplan.write_schedule(project)
 
 
 def test_a_hill_with_all_of_it_passes_the_second_look(plan_folder):
     grades = {(3, 4, 1): 6, (7, 4, 1): 2, (5, 2, 2): 0.9, (3, 3, 2): 1.5, (8, 4, 2): 0.8}
-    more = {"must": lambda i, j, k: int((i, j, k) == (9, 7, 2)), "never": lambda i, j, k: int(i == 0), "arsenic": lambda i, j, k: 0.1 * i}
+    more = {
+        "must": lambda i, j, k: int((i, j, k) == (9, 7, 2)),
+        "never": lambda i, j, k: int(i == 0),
+        "arsenic": lambda i, j, k: 0.1 * i,
+    }
     table = rows(11, 9, 4, cu=lambda i, j, k: grades.get((i, j, k), 0), **more)
-    words = FIXED + "[schedule]\nyears = 5\nrock_per_year = 1200\nleast = { rock = 400 }\n[[schedule.sums]]\ncolumn = 'arsenic'\nmost = 7\n"
+    words = (
+        FIXED
+        + "[schedule]\nyears = 5\nrock_per_year = 1200\nleast = { rock = 400 }\n[[schedule.sums]]\ncolumn = 'arsenic'\nmost = 7\n"
+    )
     row, folder = scheduled(plan_folder, words, PROJECT, table)
     assert wrong(folder) == set() and row["value"] <= row["bound"] and row["years"] == 5
     assert years_of(folder)["rock_tonnes"].min() >= 400 and years_of(folder)["sum_arsenic"].max() <= 7 + 1e-9

@@ -23,11 +23,19 @@ def with_dues(problem, seed):
     """The same where some years must hold a part of what the blocks have of a limit's sum, and some blocks must be dug."""
     rng, limits, dues = np.random.default_rng(seed), [], ()
     for limit in problem.limits:
-        least = rng.uniform(0.0, 0.25, problem.years) * limit.amounts.max(axis=1).sum() * (rng.random(problem.years) < 0.5)
+        least = (
+            rng.uniform(0.0, 0.25, problem.years) * limit.amounts.max(axis=1).sum() * (rng.random(problem.years) < 0.5)
+        )
         limits.append(replace(limit, least=np.minimum(least, limit.most)))
     if rng.random() < 0.6:
         must = rng.random(problem.blocks) < 0.1
-        dues = (Due("blocks that must be dug", np.repeat(must[:, None], problem.destinations, axis=1).astype(float), float(must.sum())),)
+        dues = (
+            Due(
+                "blocks that must be dug",
+                np.repeat(must[:, None], problem.destinations, axis=1).astype(float),
+                float(must.sum()),
+            ),
+        )
     return replace(problem, limits=tuple(limits), dues=dues)
 
 
@@ -59,7 +67,12 @@ def linear_optimum(problem):
 
 def integer_optimum(problem):
     gain, rows, most, upper = whole_programme(problem)
-    found = milp(-gain, integrality=np.ones(len(gain)), bounds=Bounds(0, upper), constraints=LinearConstraint(rows, -np.inf, most))
+    found = milp(
+        -gain,
+        integrality=np.ones(len(gain)),
+        bounds=Bounds(0, upper),
+        constraints=LinearConstraint(rows, -np.inf, most),
+    )
     assert found.status in (0, 2), found.message
     return -found.fun if found.status == 0 else None
 
@@ -77,7 +90,9 @@ def test_the_bound_is_the_optimum_of_the_whole_programme(batch):
             continue
         found = relaxed(without_first(problem), EXACT)
         slack = 1e-6 * max(1.0, abs(optimum))
-        assert found.bound == pytest.approx(optimum, abs=slack) and found.rounds[-1].value == pytest.approx(optimum, abs=slack), seed
+        assert found.bound == pytest.approx(optimum, abs=slack) and found.rounds[-1].value == pytest.approx(
+            optimum, abs=slack
+        ), seed
         assert all(one.bound >= optimum - slack >= one.value - 2 * slack for one in found.rounds), seed
         kept += problem.owes
     assert 3 <= kept <= 19
@@ -123,7 +138,9 @@ def test_small_schedules_are_the_best_that_keep_what_is_due(batch):
         problem = with_dues(random_problem(seed, most=12, destinations=1), seed)
         best = integer_optimum(problem)
         if best is None:
-            with pytest.raises(PlanError, match="^no schedule (keeps|of whole blocks was found that keeps) what must be held at least"):
+            with pytest.raises(
+                PlanError, match="^no schedule (keeps|of whole blocks was found that keeps) what must be held at least"
+            ):
                 solve(problem, Effort(0.0, 60.0))
             continue
         found = solve(problem, Effort(0.0, 60.0))
@@ -154,13 +171,18 @@ def test_schedules_of_several_destinations_keep_what_is_due(batch):
 
 def test_a_mill_that_may_not_stand_still_by_hand():
     """Three blocks of ore of 10 t, which earn 9, 5 and -2, in years discounted by half; of 20 t a year at most, with 10 t due in each of
-    three years one comes a year: 9 + 5 / 2 - 2 / 4. With nothing due the last stays, and two come in the first year: 14."""
+    three years one comes a year: 9 + 5 / 2 - 2 / 4. With nothing due the last stays, and two come in the first year: 14.
+    """
     values = np.array([9.0, 5.0, -2.0])[:, None] * 0.5 ** np.arange(3)
     problem = problem_of(values, [], ([10, 10, 10], [20, 20, 20]))
     assert solve(problem).value == 14
     problem = replace(problem, limits=(replace(problem.limits[0], least=np.full(3, 10.0)),))
     found = solve(problem)
-    assert found.value == pytest.approx(11) and found.bound == pytest.approx(11, abs=1e-6) and found.schedule.year.tolist() == [0, 1, 2]
+    assert (
+        found.value == pytest.approx(11)
+        and found.bound == pytest.approx(11, abs=1e-6)
+        and found.schedule.year.tolist() == [0, 1, 2]
+    )
 
 
 def test_more_than_there_is_by_hand():
@@ -175,7 +197,9 @@ def test_more_than_there_is_by_hand():
     assert sorted(solve(problem).schedule.year.tolist()) == [0, 1]
     problem = problem_of(np.ones((1, 2)), [], ([12], [24, 24]))
     problem = replace(problem, limits=(replace(problem.limits[0], least=np.array([6.0, 6.0])),))
-    with pytest.raises(PlanError, match="no schedule of whole blocks was found .*: year 2 has 0 of limit 0 for 6: ask for less"):
+    with pytest.raises(
+        PlanError, match="no schedule of whole blocks was found .*: year 2 has 0 of limit 0 for 6: ask for less"
+    ):
         solve(problem)
 
 
@@ -185,7 +209,11 @@ def test_a_block_that_must_be_dug_is_dug_with_its_cone_as_late_as_may_be():
     problem = problem_of(values, [(0, 1)], ([1, 1, 1], [2, 2, 2]))
     problem = replace(problem, dues=(Due("blocks that must be dug", np.array([[1.0], [0.0], [0.0]]), 1.0),))
     found = solve(problem)
-    assert found.schedule.year.tolist() == [2, 2, 0] and found.value == pytest.approx(6.5) and found.bound == pytest.approx(6.5, abs=1e-6)
+    assert (
+        found.schedule.year.tolist() == [2, 2, 0]
+        and found.value == pytest.approx(6.5)
+        and found.bound == pytest.approx(6.5, abs=1e-6)
+    )
     assert reduced(problem).problem.blocks == 3 and pairs_of(problem) == [(0, 1)]
 
 

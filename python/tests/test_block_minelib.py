@@ -69,7 +69,9 @@ def test_a_cpit_is_read_as_it_stands(published):
 
 def test_its_problem_is_discounted_from_the_second_period_on(published):
     problem = of_minelib(*published())
-    assert problem.values[:, 0].tolist() == [[pytest.approx(value / 1.1**period) for period in range(3)] for value in (-1, 10, -1, 5)]
+    assert problem.values[:, 0].tolist() == [
+        [pytest.approx(value / 1.1**period) for period in range(3)] for value in (-1, 10, -1, 5)
+    ]
     assert [limit.most.tolist() for limit in problem.limits] == [[2, 2, 2], [7.5, np.inf, np.inf]]
     assert [limit.amounts[:, 0].tolist() for limit in problem.limits] == [[1, 1, 1, 1], [0, 7, 0, 7]]
     assert list(zip(problem.needs.users, problem.needs.needed)) == [(1, 0), (3, 2)]
@@ -80,7 +82,10 @@ def test_bound_and_schedule_of_two_pillars_by_hand(published, tmp_path, capsys):
     paths = [str(path) for path in published()]
     assert main([*paths, "--out", str(tmp_path / "periods.csv"), "--quiet", "--seconds", "60"]) == 0
     said = dict(line.split(": ") for line in capsys.readouterr().out.splitlines())
-    assert float(said["BOUND"]) == pytest.approx(9 + 4 / 1.1, abs=1e-5) == float(said["VALUE"]) and said["GAP"] == "0.0000 %"
+    assert (
+        float(said["BOUND"]) == pytest.approx(9 + 4 / 1.1, abs=1e-5) == float(said["VALUE"])
+        and said["GAP"] == "0.0000 %"
+    )
     assert pd.read_csv(tmp_path / "periods.csv").to_numpy().tolist() == [[0, 0], [1, 0], [2, 1], [3, 1]]
 
 
@@ -89,10 +94,16 @@ def test_bound_and_schedule_of_two_pillars_by_hand(published, tmp_path, capsys):
     [
         (("NPERIODS: 3\n", ""), "mine.cpit: has no header NPERIODS:"),
         (("NPERIODS: 3\n", "NPERIODS: 3\nNPERIODS: 4\n"), "mine.cpit line 5: NPERIODS: stands twice"),
-        (("NPERIODS: 3\n", "NPERIODS: 3\nGENERAL_CONSTRAINTS: 4\n"), "mine.cpit line 5: GENERAL_CONSTRAINTS: is no header of a CPIT"),
+        (
+            ("NPERIODS: 3\n", "NPERIODS: 3\nGENERAL_CONSTRAINTS: 4\n"),
+            "mine.cpit line 5: GENERAL_CONSTRAINTS: is no header of a CPIT",
+        ),
         (("TYPE: CPIT", "TYPE:"), "mine.cpit: is of no type, and schedules are read of a CPIT or a PCPSP"),
         (("TYPE: CPIT", "TYPE: UPIT"), "mine.cpit: is a UPIT, and schedules are read of a CPIT or a PCPSP"),
-        (("NPERIODS: 3\n", "NPERIODS: 3\nNDESTINATIONS: 1\n"), "mine.cpit line 5: NDESTINATIONS: is no header of a CPIT"),
+        (
+            ("NPERIODS: 3\n", "NPERIODS: 3\nNDESTINATIONS: 1\n"),
+            "mine.cpit line 5: NDESTINATIONS: is no header of a CPIT",
+        ),
         (("3 5\n", "4 5\n"), "mine.cpit line 8: 4, where NBLOCKS: is 4 and numbers count from 0"),
         (("3 5\n", "3 5 6\n"), "mine.cpit line 8: 3 fields, where a block and its value are due"),
         (("3 5\n", "0 5\n"), "mine.cpit line 9: block 0 has a value already"),
@@ -171,7 +182,10 @@ EOF
 
 def taken(order):
     """A block each of resource 0 in each destination, and 10 of resource 1 of both ores in the mill."""
-    lines = [(block, destination, 0, 1) for block in range(4) for destination in range(3)] + [(1, 1, 1, 10), (3, 1, 1, 10)]
+    lines = [(block, destination, 0, 1) for block in range(4) for destination in range(3)] + [
+        (1, 1, 1, 10),
+        (3, 1, 1, 10),
+    ]
     return "".join(f"{b} {d} {r} {v}\n" if order == "destination" else f"{b} {r} {d} {v}\n" for b, d, r, v in lines)
 
 
@@ -188,12 +202,16 @@ def test_a_pcpsp_is_read_in_either_order(with_destinations, order):
     """There are three destinations and two resources, so a 2 is a destination."""
     model = schedule_models.read(with_destinations(order)[0])
     assert model.values == [(-1, -1, -1), (-1, 20, 8), (-1, -1, -1), (-1, 12, 9)] and model.rate == Decimal("0.25")
-    assert model.taken == [{(block, destination): 1 for block in range(4) for destination in range(3)}, {(1, 1): 10, (3, 1): 10}]
+    assert model.taken == [
+        {(block, destination): 1 for block in range(4) for destination in range(3)},
+        {(1, 1): 10, (3, 1): 10},
+    ]
 
 
 def test_bound_and_schedule_of_destinations_by_hand(with_destinations, tmp_path, capsys):
     """All four blocks may be dug in the first period, and the mill takes one ore of 10: 20 there, and 9 in leach for the other, less 2 for
-    the waste: 27. Milled in the second period the other were (12 - 1) / 1.25, 8.8, where leach earns 9 - 1 at once: so 19 + 8.8."""
+    the waste: 27. Milled in the second period the other were (12 - 1) / 1.25, 8.8, where leach earns 9 - 1 at once: so 19 + 8.8.
+    """
     paths = [str(path) for path in with_destinations()]
     assert main([*paths, "--out", str(tmp_path / "periods.csv"), "--quiet", "--seconds", "60"]) == 0
     said = dict(line.split(": ") for line in capsys.readouterr().out.splitlines())
@@ -205,7 +223,10 @@ def test_bound_and_schedule_of_destinations_by_hand(with_destinations, tmp_path,
 @pytest.mark.parametrize(
     ("change", "said"),
     [
-        (("NGENERAL_SIDE_CONSTRAINTS: 0", "NGENERAL_SIDE_CONSTRAINTS: 2"), "mine.pcpsp line 7: general side constraints are not scheduled"),
+        (
+            ("NGENERAL_SIDE_CONSTRAINTS: 0", "NGENERAL_SIDE_CONSTRAINTS: 2"),
+            "mine.pcpsp line 7: general side constraints are not scheduled",
+        ),
         (
             ("RESOURCE_CONSTRAINT_LIMITS:", "GENERAL_CONSTRAINT_COEFFICIENTS:\n0 0 0 1\nRESOURCE_CONSTRAINT_LIMITS:"),
             "line 30: general side constraints are not scheduled",
@@ -213,8 +234,14 @@ def test_bound_and_schedule_of_destinations_by_hand(with_destinations, tmp_path,
         (("NDESTINATIONS: 3\n", ""), "mine.pcpsp: has no header NDESTINATIONS:"),
         (("NDESTINATIONS: 3", "NDESTINATIONS: 0"), "mine.pcpsp line 5: there is no destination"),
         (("1 -1 20 8\n", "1 -1 20\n"), "mine.pcpsp line 11: 3 fields, where a block and 3 values are due"),
-        (("3 1 1 10\n", "3 1 10\n"), "mine.pcpsp line 28: 3 fields, where a block, a destination, a resource and an amount are due"),
-        (("3 1 1 10\n", "1 1 1 10\n"), "mine.pcpsp line 28: block 1 has an amount of resource 1 in destination 1 already"),
+        (
+            ("3 1 1 10\n", "3 1 10\n"),
+            "mine.pcpsp line 28: 3 fields, where a block, a destination, a resource and an amount are due",
+        ),
+        (
+            ("3 1 1 10\n", "1 1 1 10\n"),
+            "mine.pcpsp line 28: block 1 has an amount of resource 1 in destination 1 already",
+        ),
         (("3 1 1 10\n", "3 5 1 10\n"), "mine.pcpsp line 28: 5, where NDESTINATIONS: is 3 and numbers count from 0"),
     ],
 )

@@ -85,9 +85,14 @@ def test_two_models_by_hand(plan_folder):
     folder = answered(plan_folder, pillars([1, 0.5, 0], [0, 0.5, 1]))
     table, told = table_of(folder), record_of(folder)
     assert table["value"].tolist() == pytest.approx([EACH] * 2) == table["bound"].tolist()
-    assert table[["status", "years", "blocks", "tonnes", "ore_tonnes"]].to_numpy().tolist() == [["solved", 2, 4, 400, 200]] * 2
+    assert (
+        table[["status", "years", "blocks", "tonnes", "ore_tonnes"]].to_numpy().tolist()
+        == [["solved", 2, 4, 400, 200]] * 2
+    )
     planned = (3000 - 800) / 1.1 + 600 / 1.21
-    assert table["one_value"].tolist() == pytest.approx([planned] * 2) and told["value_as_planned"] == pytest.approx(planned, abs=1e-3)
+    assert table["one_value"].tolist() == pytest.approx([planned] * 2) and told["value_as_planned"] == pytest.approx(
+        planned, abs=1e-3
+    )
     assert told["perfect_information"] == pytest.approx(400 / 1.1, abs=1e-3)
     assert told["bound_as_planned"] == pytest.approx(planned, abs=1e-3)
     assert table[["one_ore_tonnes", "one_ore_left_tonnes", "one_years_short"]].to_numpy().tolist() == [[200, 0, 0]] * 2
@@ -105,9 +110,18 @@ def test_ore_above_the_mill_stays_waste_and_is_told(plan_folder):
     assert table["one_value"].tolist() == pytest.approx([rich, poor])
     assert told["value_as_planned"] == pytest.approx(rich, abs=1e-3)
     assert table["bound"].tolist() == pytest.approx([2600 / 1.1 + 2600 / 1.21, 600 / 1.1])
-    assert table[["one_ore_tonnes", "one_ore_left_tonnes", "one_years_short"]].to_numpy().tolist() == [[200, 100, 0], [100, 0, 1]]
+    assert table[["one_ore_tonnes", "one_ore_left_tonnes", "one_years_short"]].to_numpy().tolist() == [
+        [200, 100, 0],
+        [100, 0, 1],
+    ]
     first = years_of(folder, "sim_1").loc[1]
-    assert first[["rock_tonnes", "ore_tonnes", "ore_left_tonnes", "planned_ore_tonnes", "cash"]].tolist() == [400, 100, 100, 100, 2200]
+    assert first[["rock_tonnes", "ore_tonnes", "ore_left_tonnes", "planned_ore_tonnes", "cash"]].tolist() == [
+        400,
+        100,
+        100,
+        100,
+        2200,
+    ]
     assert years_of(folder, "sim_2")["cash"].tolist() == [-800, 600]
     mean = (sum(table["bound"]) - sum(table["one_value"])) / 2
     assert told["perfect_information"] == pytest.approx(mean, abs=1e-3) == pytest.approx(2528.926 - 1132.231, abs=2e-3)
@@ -177,7 +191,9 @@ def test_no_schedule_of_all_earns_more_than_a_scenario_s_bound(tmp_path_factory,
     """Of six blocks in two years every schedule is tried, each milling its best ore: the bounds hold for all of them, and so the mean of
     bounds for any one schedule in both."""
     place = tmp_path_factory.mktemp("all")
-    text = TWO_YEARS.replace("ore_per_year = 100", f"ore_per_year = {ore}").replace("rock_per_year = 400", f"rock_per_year = {rock}")
+    text = TWO_YEARS.replace("ore_per_year = 100", f"ore_per_year = {ore}").replace(
+        "rock_per_year = 400", f"rock_per_year = {rock}"
+    )
     (place / "project.toml").write_text(text)
     table = rows(3, 1, 2).drop(columns="cu").assign(sim_1=one, sim_2=other)
     table.to_csv(place / "blocks.csv", index=False)
@@ -218,7 +234,8 @@ def test_the_best_ore_is_that_of_a_linear_programme_of_all_limits(case):
 
 def test_a_limit_of_metal_holds_in_each_scenario(plan_folder):
     """Half a tonne of metal a block of grade 1, and three quarters a year: of two blocks of grade 1 the second goes by half to
-    the mill where both are dug. That scenario's own schedule digs one alone, since years are filled with whole blocks."""
+    the mill where both are dug. That scenario's own schedule digs one alone, since years are filled with whole blocks.
+    """
     text = TWO_YEARS.replace("ore_per_year = 100", "ore_per_year = 300")
     text = text.replace("years = 2", "years = 1\nmetal_per_year = { copper = 0.75 }")
     folder = answered(plan_folder, pillars([1, 0, 1], [0.5, 0, 0.5]), text)
@@ -276,7 +293,7 @@ def test_it_goes_on_where_it_stopped(plan_folder):
 @pytest.mark.parametrize(
     ("old", "new"),
     [
-        ("discounting = \"end_of_year\"", "discounting = \"mid_year\""),
+        ('discounting = "end_of_year"', 'discounting = "mid_year"'),
         ("years = 2", "years = 3"),
         ("years = 2", "years = 2\nramp_up = [0.5, 1.0]"),
         ("years = 2", "years = 2\nmetal_per_year = { copper = 1 }"),
@@ -307,7 +324,9 @@ def test_a_schedule_that_is_searched_for_by_other_code_has_another_name(plan_fol
 def test_factors_are_no_part_of_a_schedule(plan_folder):
     table = pillars([1, 0.5, 0])
     keys = [job.key for job in prepared(plan_folder(table, TWO_YEARS)).jobs]
-    assert keys == [job.key for job in prepared(plan_folder(table, TWO_YEARS, ("[500, 1000, 1500]", "[700, 1000]"))).jobs]
+    assert keys == [
+        job.key for job in prepared(plan_folder(table, TWO_YEARS, ("[500, 1000, 1500]", "[700, 1000]"))).jobs
+    ]
 
 
 @pytest.mark.parametrize(
@@ -333,10 +352,16 @@ def test_what_is_refused(plan_folder, words, said):
 @pytest.mark.parametrize(
     ("changes", "said"),
     [
-        ([("mining_cost = 2\n", "mining_cost = 2\nfixed_cost_per_year = 5\n")], "fixed_cost_per_year, capital: what years cost"),
+        (
+            [("mining_cost = 2\n", "mining_cost = 2\nfixed_cost_per_year = 5\n")],
+            "fixed_cost_per_year, capital: what years cost",
+        ),
         ([("price = 8000", "price = 8000\nprices = [8000, 9000]")], "[[metals]] prices: of years"),
         ([(COLUMNS, "")], "[scenarios] is missing: it names the models"),
-        ([("years = 2\n", "years = 2\n" + MILL), ("processing_cost = 10\n", ""), *IN_MILL], "[scenarios] are solved with one process"),
+        (
+            [("years = 2\n", "years = 2\n" + MILL), ("processing_cost = 10\n", ""), *IN_MILL],
+            "[scenarios] are solved with one process",
+        ),
     ],
 )
 def test_what_else_is_refused(plan_folder, changes, said):
@@ -357,7 +382,9 @@ def test_a_factor_another_kind_of_folder_and_the_program_are_refused(plan_folder
     path = plan_folder(pillars([1, 0.5, 0]), TWO_YEARS)
     words = ["scenarios", str(path), "--by", "block", "--quiet"]
     assert main([*words, "--factor", "1000"]) == 1
-    assert "pitplan: --factor: schedules by block are made at the price as given: leave it out" in capsys.readouterr().err
+    assert (
+        "pitplan: --factor: schedules by block are made at the price as given: leave it out" in capsys.readouterr().err
+    )
     assert main([*words, "--solver", "program"]) == 1
     assert "pitplan: --solver program: finds pits alone" in capsys.readouterr().err
     folder = prepared(path).folder
@@ -414,7 +441,9 @@ def test_some_schedules_are_gathered_on_request_alone(plan_folder):
     """The second model and the one schedule have answers; the first still digs it, and has no bound beside."""
     shared = prepared(plan_folder(pillars([1, 0.5, 0], [0, 0.5, 1]), TWO_YEARS))
     assert work.solve(str(shared.folder), 2).status == 0
-    with pytest.raises(PlanError, match="the one schedule for all was not made: was not solved: run pitplan scenarios again"):
+    with pytest.raises(
+        PlanError, match="the one schedule for all was not made: was not solved: run pitplan scenarios again"
+    ):
         gather(shared.folder, Request(partial=True))
     assert work.solve(str(shared.folder), 3).status == 0
     notes = gather(shared.folder, Request(partial=True)).notes
@@ -423,7 +452,9 @@ def test_some_schedules_are_gathered_on_request_alone(plan_folder):
     assert table.columns[:4].tolist() == ["scenario", "status", "value", "bound"]
     assert table["status"].tolist() == ["was not solved", "solved"] and np.isnan(table["bound"]["sim_1"])
     assert table["one_value"].tolist() == pytest.approx([(3000 - 800) / 1.1 + 600 / 1.21] * 2)
-    assert record_of(shared.folder)["answered"] == 1 and record_of(shared.folder)["bound"]["mean"] == pytest.approx(EACH, abs=1e-3)
+    assert record_of(shared.folder)["answered"] == 1 and record_of(shared.folder)["bound"]["mean"] == pytest.approx(
+        EACH, abs=1e-3
+    )
 
 
 def test_fixed_blocks_hold_in_every_schedule(plan_folder):
@@ -460,9 +491,18 @@ def test_the_command_line_tells_what_a_planner_should_know(plan_folder):
     assert out.getvalue() == f"{folder}\n"
     said = err.getvalue()
     assert "3 of 3 schedules have their answer already" in said
-    assert "the one schedule for all earns 1,132 on the mean of 2 scenarios, from -231 to 2,496; 2,496 as it was planned" in said
-    assert "of its ore 50 t are left as waste on the mean, since the mill is full, and in 0.5 of its years less is milled" in said
-    assert "earns 2,529 on the mean, and at most 2,529: so to know the ground would be worth at most 1,397, 55.23 %" in said
+    assert (
+        "the one schedule for all earns 1,132 on the mean of 2 scenarios, from -231 to 2,496; 2,496 as it was planned"
+        in said
+    )
+    assert (
+        "of its ore 50 t are left as waste on the mean, since the mill is full, and in 0.5 of its years less is milled"
+        in said
+    )
+    assert (
+        "earns 2,529 on the mean, and at most 2,529: so to know the ground would be worth at most 1,397, 55.23 %"
+        in said
+    )
 
 
 def test_an_interrupted_schedule_is_no_answer(plan_folder, monkeypatch):

@@ -49,7 +49,9 @@ def test_small_schedules_are_the_best_that_there_are(batch):
         best = integer_optimum(problem)
         slack = 1e-6 * max(1.0, abs(best))
         assert demand_sound(problem, found.schedule) == pytest.approx(found.value, abs=slack)
-        assert best - slack <= found.value <= found.bound + slack and (problem.destinations > 1 or found.value <= best + slack), seed
+        assert best - slack <= found.value <= found.bound + slack and (
+            problem.destinations > 1 or found.value <= best + slack
+        ), seed
 
 
 def test_ore_waits_for_room_in_the_mill_where_it_could_be_dug_as_waste():
@@ -60,7 +62,9 @@ def test_ore_waits_for_room_in_the_mill_where_it_could_be_dug_as_waste():
     problem = problem_of(earned[:, :, None] * discounts, [], (takes, [100, 100]), (np.full((3, 2), 100), [300, 300]))
     found = solve(problem)
     assert found.value == pytest.approx(2600 / 1.1 + 2600 / 1.21) == found.bound
-    assert sorted(found.schedule.year.tolist()) == [0, 1, 2] and demand_sound(problem, found.schedule) == pytest.approx(found.value)
+    assert sorted(found.schedule.year.tolist()) == [0, 1, 2] and demand_sound(problem, found.schedule) == pytest.approx(
+        found.value
+    )
 
 
 def test_what_was_filled_in_either_way_is_moved():
@@ -74,7 +78,10 @@ def test_what_was_filled_in_either_way_is_moved():
         relaxation, values = relaxed(part.nodes, Effort(1e-4)), []
         soon = Filling(part.problem, preferences(part.problem, relaxation.prices))
         for filling in (soon, replace(soon, waits=True)):
-            filled = [filling.without_loss(sequence) for sequence in sequences(part.problem, part.ranks, relaxation.cumulative)]
+            filled = [
+                filling.without_loss(sequence)
+                for sequence in sequences(part.problem, part.ranks, relaxation.cumulative)
+            ]
             best = moved(soon, part.ranks, max(filled, key=lambda it: it.value(part.problem)))
             values.append(with_best_shares(part.problem, best).value(part.problem))
         assert found >= max(values) - 1e-9
@@ -129,7 +136,12 @@ def test_a_block_goes_to_the_destination_that_has_room():
 def test_what_does_not_pay_at_its_time_is_left():
     """Block 1 pays for block 0 above it, and not for block 2 too."""
     problem = problem_of([[-5.0], [9.0], [-6.0], [1.0]], [(1, 0), (3, 1), (3, 2)])
-    assert paying(problem, schedule_of(problem, np.zeros(4, dtype=int), np.zeros(4, dtype=int))).year.tolist() == [0, 0, 1, 1]
+    assert paying(problem, schedule_of(problem, np.zeros(4, dtype=int), np.zeros(4, dtype=int))).year.tolist() == [
+        0,
+        0,
+        1,
+        1,
+    ]
 
 
 def test_waste_is_moved_back_and_ore_forward():
@@ -146,7 +158,9 @@ def test_destinations_are_shared_where_that_earns_more():
     problem = problem_of(values, [], ([[0, 1], [0, 1]], [1.5]))
     schedule = schedule_of(problem, np.array([0, 0]), np.array([0, 1]))
     better = with_best_shares(problem, schedule)
-    assert better.share.tolist() == [[0, 1], [pytest.approx(0.5), pytest.approx(0.5)]] and better.value(problem) == pytest.approx(11)
+    assert better.share.tolist() == [[0, 1], [pytest.approx(0.5), pytest.approx(0.5)]] and better.value(
+        problem
+    ) == pytest.approx(11)
 
 
 def test_orders_hold_each_block_behind_what_it_needs():
@@ -158,7 +172,9 @@ def test_orders_hold_each_block_behind_what_it_needs():
     place = np.argsort(order)
     assert sorted(order.tolist()) == list(range(problem.blocks))
     assert all(place[user] > place[needed] for user, needed in pairs_of(problem))
-    assert all(set(sequence.order.tolist()) <= set(range(problem.blocks)) for sequence in sequences(problem, ranks, cumulative))
+    assert all(
+        set(sequence.order.tolist()) <= set(range(problem.blocks)) for sequence in sequences(problem, ranks, cumulative)
+    )
 
 
 def test_a_circle_has_no_ranks():
@@ -170,7 +186,9 @@ def test_what_keeps_to_a_problem():
     problem = problem_of([[1.0, 1.0], [1.0, 1.0]], [(1, 0)], ([1, 1], [1, 1]))
     assert nothing(problem).keeps(problem)
     cases = [([0, 1], [1, 1]), ([1, 0], [1, 1]), ([0, 0], [1, 1]), ([0, 1], [1, 0.5]), ([2, 1], [0, 1])]
-    found = [BlockSchedule(np.array(year), np.array(share, dtype=float)[:, None]).keeps(problem) for year, share in cases]
+    found = [
+        BlockSchedule(np.array(year), np.array(share, dtype=float)[:, None]).keeps(problem) for year, share in cases
+    ]
     assert found == [True, False, False, False, False]
 
 
@@ -192,7 +210,9 @@ def test_a_window_frees_blocks_of_its_years_and_keeps_the_others():
 
 def test_an_empty_window_is_passed_over(monkeypatch):
     monkeypatch.setattr("pitplan.block_schedule.windows.MOST_UNKNOWNS", 1)
-    found = solve(problem_of(np.outer([1.0, 1.0], [1.0, 0.9, 0.8, 0.7]), [], ([1, 1], [2, 2, 2, 2])), Effort(-1.0, 60.0))
+    found = solve(
+        problem_of(np.outer([1.0, 1.0], [1.0, 0.9, 0.8, 0.7]), [], ([1, 1], [2, 2, 2, 2])), Effort(-1.0, 60.0)
+    )
     assert found.schedule.year.tolist() == [0, 0]
 
 
@@ -204,7 +224,9 @@ def test_windows_find_what_filling_misses(monkeypatch):
     for seed in range(4000, 4012):
         problem = random_problem(seed, most=50, destinations=1)
         before, after = solve(problem), solve(problem, Effort(0.0, 60.0))
-        assert demand_sound(problem, after.schedule) == pytest.approx(after.value) and after.value <= after.bound + 1e-6 * abs(after.bound)
+        assert demand_sound(problem, after.schedule) == pytest.approx(
+            after.value
+        ) and after.value <= after.bound + 1e-6 * abs(after.bound)
         gains.append(after.value - before.value)
     assert min(gains) > -1e-6 and max(gains) > 1
 
@@ -234,7 +256,11 @@ def test_an_interruption_while_a_window_is_solved_ends_its_process(monkeypatch):
     monkeypatch.setattr(optimiser.subprocess, "Popen", sleep)
     problem = next(it for it in map(random_problem, range(3000, 3100)) if it.years > 1 and solve(it).gap > 1e-3)
     found = solve(problem, Effort(0.0, 600.0))
-    assert found.interrupted and begun[0].wait(5) != 0 and demand_sound(problem, found.schedule) == pytest.approx(solve(problem).value)
+    assert (
+        found.interrupted
+        and begun[0].wait(5) != 0
+        and demand_sound(problem, found.schedule) == pytest.approx(solve(problem).value)
+    )
 
 
 def test_an_interruption_before_there_is_a_bound_is_passed_on(monkeypatch):

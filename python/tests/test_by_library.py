@@ -71,7 +71,11 @@ def test_shells_are_the_same_to_the_byte(tmp_path, example):
     assert [(it["by"], it["sha256"]) for it in told] == [("library", hashes[0]), ("program", hashes[1])]
     for place, it in zip((arrays, texts), told):
         page = (place / "report.html").read_text()
-        assert it["sha256"] in page and f"Proved of the {it['by']}, for" in page and ("mine.prec" in page) == (it["by"] == "program")
+        assert (
+            it["sha256"] in page
+            and f"Proved of the {it['by']}, for" in page
+            and ("mine.prec" in page) == (it["by"] == "program")
+        )
 
 
 def test_a_pit_with_fixed_blocks_and_without_is_the_same(tmp_path):
@@ -100,7 +104,9 @@ def test_a_sensitivity_is_the_same_and_keeps_answers_apart(plan_folder, tmp_path
 def test_scenarios_are_the_same_and_keep_answers_apart(tmp_path):
     pytest.importorskip("distributed", reason="needs the Debian package python3-distributed")
     arrays, texts = by_both(tmp_path, "scenarios", EXAMPLES / "scenarios" / "project.toml", "--workers", "1")
-    assert {"probability.csv", "scenarios.csv", "quantiles.csv", "gathered.json", "blocks.csv"} <= written(arrays).keys()
+    assert {"probability.csv", "scenarios.csv", "quantiles.csv", "gathered.json", "blocks.csv"} <= written(
+        arrays
+    ).keys()
     answers = [{it.name for it in (place / "done").iterdir()} for place in (arrays, texts)]
     assert len(answers[0]) == len(answers[1]) > 3 and not answers[0] & answers[1]
     assert (arrays / "needs.npy").is_file() and not (arrays / "mine.prec").exists() and (texts / "mine.prec").is_file()
@@ -116,7 +122,9 @@ def test_rows_are_the_lines_of_the_program_s_files(tmp_path, example):
         lines = (list(map(int, line.split())) for line in open(tmp_path / name))
         listed = {block: needed for block, _, *needed in lines}
         starts, ends = found.starts[:-1].tolist(), found.starts[1:].tolist()
-        assert [listed.get(node, []) for node in range(len(starts))] == [found.needs[a:b].tolist() for a, b in zip(starts, ends)]
+        assert [listed.get(node, []) for node in range(len(starts))] == [
+            found.needs[a:b].tolist() for a, b in zip(starts, ends)
+        ]
         assert pairs == written or plan.settled
         assert found.starts.dtype == found.needs.dtype == np.uint32
 
@@ -147,7 +155,11 @@ def test_shells_of_arrays_by_hand():
     listed = Rows(np.array([0, 0, 1], dtype=np.uint32), np.array([0], dtype=np.uint32))
     found = library.shells((millions[0], millions[1]), listed, (500, 700, 1000))
     assert found.entry.tolist() == [700, 700] and found.answer is None
-    assert found.worth.to_dict() == {500: 0, 700: Decimal("0.5"), 1000: 2} and found.nodes.to_dict() == {500: 0, 700: 2, 1000: 2}
+    assert found.worth.to_dict() == {500: 0, 700: Decimal("0.5"), 1000: 2} and found.nodes.to_dict() == {
+        500: 0,
+        700: 2,
+        1000: 2,
+    }
     forced = library.pit(np.array([-3 * 10**9, 2 * 10**9]), listed, np.array([0, 1], dtype=np.uint8), 700)
     assert forced.entry.tolist() == [700, 700] and forced.worth[700] == -1 and forced.nodes[700] == 2
 
@@ -171,7 +183,10 @@ def test_refusals_are_those_of_the_program(tmp_path, lines, starts, needs, said)
     told = []
     listed = Rows(np.array(starts, dtype=np.uint32), np.array(needs, dtype=np.uint32))
     amounts = np.array([0, 5]), np.array([3, 0])
-    for solve in (lambda: run.solve_files(*lines_of(tmp_path, *lines)), lambda: library.shells(amounts, listed, (1000,))):
+    for solve in (
+        lambda: run.solve_files(*lines_of(tmp_path, *lines)),
+        lambda: library.shells(amounts, listed, (1000,)),
+    ):
         with pytest.raises(ProgramError, match=f"^pitshell shells ended with status 1: {said}") as refused:
             solve()
         told.append((type(refused.value), refused.value.status, work.status_of(refused.value)))
@@ -180,7 +195,9 @@ def test_refusals_are_those_of_the_program(tmp_path, lines, starts, needs, said)
 
 def test_a_block_that_must_be_dug_and_may_not_be_is_refused_as_by_the_program():
     listed = Rows(np.array([0, 0, 1], dtype=np.uint32), np.array([0], dtype=np.uint32))
-    with pytest.raises(ProgramError, match="^pitshell solve ended with status 1: error 21: fixed blocks clash at block 0$"):
+    with pytest.raises(
+        ProgramError, match="^pitshell solve ended with status 1: error 21: fixed blocks clash at block 0$"
+    ):
         library.pit(np.array([-1, 1]), listed, np.array([2, 1], dtype=np.uint8), 1000)
 
 
@@ -206,7 +223,9 @@ def by_itself(text: str, **options) -> subprocess.Popen:
     """A script in an interpreter of its own, which heeds interruptions."""
     heeding = {"preexec_fn": lambda: signal.signal(signal.SIGINT, signal.default_int_handler)}
     environment = {**os.environ, "PYTHONPATH": str(ROOT / "python")}
-    return subprocess.Popen([sys.executable, "-c", text], env=environment, stdout=subprocess.PIPE, text=True, **heeding, **options)
+    return subprocess.Popen(
+        [sys.executable, "-c", text], env=environment, stdout=subprocess.PIPE, text=True, **heeding, **options
+    )
 
 
 def test_memory_that_is_refused_is_the_program_s_status_of_it():
@@ -214,14 +233,18 @@ def test_memory_that_is_refused_is_the_program_s_status_of_it():
     assert out == "1 pitshell shells ended with status 1: error 1: no memory\n"
 
 
-@pytest.mark.parametrize(("asked", "status", "said"), [(signal.SIGINT, 130, "pitplan: interrupted"), (signal.SIGTERM, 143, None)])
+@pytest.mark.parametrize(
+    ("asked", "status", "said"), [(signal.SIGINT, 130, "pitplan: interrupted"), (signal.SIGTERM, 143, None)]
+)
 def test_a_solve_that_takes_long_is_ended_at_once(plan_folder, asked, status, said):
     """A single column of blocks, the deeper half ore, takes the library many seconds, and time that grows with the square of its depth."""
     deep = 40_000
     table = rows(1, 1, deep, cu=lambda i, j, k: 2 if k < deep // 2 else 0)
     path = plan_folder(table, PROJECT, UPRIGHT, ("levels = 3", "levels = 1"), ("[500, 1000, 1500]", "[1000]"))
     words = [sys.executable, str(ROOT / "tools" / "pitplan"), "shells", str(path), "--solver", "library"]
-    ran = subprocess.Popen(words, stderr=subprocess.PIPE, text=True, preexec_fn=lambda: signal.signal(signal.SIGINT, signal.SIG_DFL))
+    ran = subprocess.Popen(
+        words, stderr=subprocess.PIPE, text=True, preexec_fn=lambda: signal.signal(signal.SIGINT, signal.SIG_DFL)
+    )
     told = ""
     while not told.endswith("by the library .."):
         told += ran.stderr.read(1)
@@ -243,7 +266,9 @@ def test_what_is_asked_for_solves_else_what_is_named_else_the_library(monkeypatc
     monkeypatch.setattr(library, "package", lambda: None)
     library.identity.cache_clear()
     assert solver.chosen().by == "program"
-    with pytest.raises(ProgramError, match=r"there is no libpitshell.so: .*, build it by make library, or name it by PITSHELL_LIBRARY"):
+    with pytest.raises(
+        ProgramError, match=r"there is no libpitshell.so: .*, build it by make library, or name it by PITSHELL_LIBRARY"
+    ):
         solver.chosen("library")
     monkeypatch.setenv("PITSHELL_LIBRARY", "/nowhere/libpitshell.so")
     with pytest.raises(ProgramError, match="there is no libpitshell.so"):
@@ -263,9 +288,20 @@ def test_a_library_that_cannot_be_loaded_is_named(tmp_path):
     broken = tmp_path / "libpitshell.so"
     broken.write_text("no library")
     environment = {**os.environ, "PITSHELL_LIBRARY": str(broken)}
-    words = [sys.executable, str(ROOT / "tools" / "pitplan"), "shells", str(EXAMPLES / "plan" / "project.toml"), "--out", str(tmp_path)]
+    words = [
+        sys.executable,
+        str(ROOT / "tools" / "pitplan"),
+        "shells",
+        str(EXAMPLES / "plan" / "project.toml"),
+        "--out",
+        str(tmp_path),
+    ]
     ran = subprocess.run(words, env=environment, capture_output=True, text=True)
-    assert ran.returncode == 1 and f"libpitshell.so cannot be loaded: {broken}: " in ran.stderr and ran.stderr.count("\n") == 1
+    assert (
+        ran.returncode == 1
+        and f"libpitshell.so cannot be loaded: {broken}: " in ran.stderr
+        and ran.stderr.count("\n") == 1
+    )
 
 
 def test_both_packages_are_of_one_release():
@@ -299,7 +335,9 @@ def test_an_audit_is_refused_where_what_the_mine_was_made_of_has_changed(solved_
         file.write("\n")
     with pytest.raises(PlanError, match=f"{name}: has changed since .* was written: run pitplan again"):
         pitplan.audit(solved_by_library / "plan", 1000)
-    assert not (solved_by_library / "plan" / "audit-1000").exists() or not list((solved_by_library / "plan" / "audit-1000").iterdir())
+    assert not (solved_by_library / "plan" / "audit-1000").exists() or not list(
+        (solved_by_library / "plan" / "audit-1000").iterdir()
+    )
 
 
 def test_files_of_an_earlier_run_by_the_program_are_taken_away(plan_folder):
@@ -351,7 +389,10 @@ def test_jobs_name_the_solver_and_find_it(plan_folder, kind, by):
     pytest.importorskip("distributed")
     path = plan_folder(pillar(), PRICES, UPRIGHT)
     found = pitplan.write_scenarios(replace(load(path), solver=by), load(path).folder, pitplan.Request(where=kind))
-    named = {"library": f"PITSHELL_LIBRARY={pitshell.LIBRARY.resolve()} ", "program": f"PITSHELL={run.program().resolve()} "}
+    named = {
+        "library": f"PITSHELL_LIBRARY={pitshell.LIBRARY.resolve()} ",
+        "program": f"PITSHELL={run.program().resolve()} ",
+    }
     script = (found.folder / "scenario.sh").read_text()
     assert named[by] in script
     alone = {"PATH": "/usr/bin:/bin", "HOME": "/"}

@@ -3,12 +3,24 @@
 import numpy as np
 import pandas as pd
 import pytest
-from hypothesis import given
-from hypothesis import strategies as st
+from hypothesis import given, strategies as st
 
 from pitplan import csv_file
 
-ODD = [0.0, -0.0, np.nan, np.inf, -np.inf, 1e16, 1e-5, 0.1 + 0.2, 5e-324, 1.7976931348623157e308, 123456789012345680.0, 5010.0]
+ODD = [
+    0.0,
+    -0.0,
+    np.nan,
+    np.inf,
+    -np.inf,
+    1e16,
+    1e-5,
+    0.1 + 0.2,
+    5e-324,
+    1.7976931348623157e308,
+    123456789012345680.0,
+    5010.0,
+]
 floats = st.one_of(st.sampled_from(ODD), st.floats())
 SAID = ["", " ", "nan", "OX", "B001-002", "5.0", "Grün", "a,b", 'say "so"', "two\nlines", "\r"]
 texts = st.one_of(st.sampled_from(SAID), st.text(max_size=4))
@@ -31,7 +43,10 @@ def test_any_table_is_written_as_by_pandas(tmp_path_factory, rows, data):
     kinds = data.draw(st.lists(st.sampled_from(list(columns)), max_size=4))
     count = data.draw(st.integers(0, 5))
     names = data.draw(st.lists(texts, min_size=len(kinds), max_size=len(kinds)))
-    drawn = [pd.Series(data.draw(st.lists(columns[kind][0], min_size=count, max_size=count)), dtype=columns[kind][1]) for kind in kinds]
+    drawn = [
+        pd.Series(data.draw(st.lists(columns[kind][0], min_size=count, max_size=count)), dtype=columns[kind][1])
+        for kind in kinds
+    ]
     table = pd.concat(drawn, axis=1) if drawn else pd.DataFrame(index=range(count))
     table.columns = names
     path = tmp_path_factory.mktemp("table") / "table.csv"
@@ -44,7 +59,9 @@ def test_any_table_is_written_as_by_pandas(tmp_path_factory, rows, data):
 def test_pandas_is_asked_for_what_is_quoted_alone(tmp_path, monkeypatch):
     asked, plain = [], pd.DataFrame({"id": ["a", "b", "c", "d"], "x": [5.0, 15.0, np.nan, -0.0]})
     to_csv = pd.DataFrame.to_csv
-    monkeypatch.setattr(pd.DataFrame, "to_csv", lambda table, *words, **more: asked.append(len(table)) or to_csv(table, *words, **more))
+    monkeypatch.setattr(
+        pd.DataFrame, "to_csv", lambda table, *words, **more: asked.append(len(table)) or to_csv(table, *words, **more)
+    )
     monkeypatch.setattr(csv_file, "ROWS", 2)
     csv_file.write(tmp_path / "plain.csv", plain)
     csv_file.write(tmp_path / "quoted.csv", plain.assign(id=["a", "b", "c", "d,e"]))

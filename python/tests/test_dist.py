@@ -63,9 +63,26 @@ def test_the_debian_package_serves_where_it_is_unpacked(dist, tmp_path):
     said = run("dpkg", "--field", package, "Version", "Recommends", commands=tmp_path)
     assert f"Version: {VERSION}\n" in said and "python3-pandas" in said
     held = {line.split()[-1] for line in run("dpkg", "--contents", package, commands=tmp_path).splitlines()}
-    wanted = {"bin/pitshell", "bin/pitplan", "lib/libpitshell.so", "include/pitshell.h", "share/man/man1/pitshell.1.gz", "share/man/man1/pitplan.1.gz"}
-    wanted |= {"share/doc/pitshell/copyright", "share/doc/pitshell/version", "share/bash-completion/completions/pitshell"}
-    documents = ("README.md", "docs/FORMATS.md", "docs/PLANNING.md", "docs/pictures/plans.png", "examples/plan/project.toml")
+    wanted = {
+        "bin/pitshell",
+        "bin/pitplan",
+        "lib/libpitshell.so",
+        "include/pitshell.h",
+        "share/man/man1/pitshell.1.gz",
+        "share/man/man1/pitplan.1.gz",
+    }
+    wanted |= {
+        "share/doc/pitshell/copyright",
+        "share/doc/pitshell/version",
+        "share/bash-completion/completions/pitshell",
+    }
+    documents = (
+        "README.md",
+        "docs/FORMATS.md",
+        "docs/PLANNING.md",
+        "docs/pictures/plans.png",
+        "examples/plan/project.toml",
+    )
     wanted |= {f"share/doc/pitshell/{name}" for name in (*documents, "examples/scenarios/models/model_001.csv")}
     assert {f"./usr/{name}" for name in wanted} <= held
 

@@ -42,18 +42,25 @@ def test_a_reader_that_went_away_is_named(tmp_path, table):
 
 def test_a_full_standard_error_costs_the_words_alone(tmp_path, table):
     with open("/dev/full", "w") as full:
-        for command, said in ((["init", "m.csv"], "project.toml\n"), (["prepare", "project.toml", "--out", "out"], "out\n")):
+        for command, said in (
+            (["init", "m.csv"], "project.toml\n"),
+            (["prepare", "project.toml", "--out", "out"], "out\n"),
+        ):
             ran = subprocess.run([*PITPLAN, *command], cwd=tmp_path, stdout=subprocess.PIPE, stderr=full, text=True)
             assert (ran.returncode, ran.stdout) == (0, said)
     assert (tmp_path / "out" / "prepare.json").is_file()
 
 
 def test_with_standard_error_closed_standard_output_has_the_place_alone(tmp_path, table):
-    ran = subprocess.run(["sh", "-c", '"$@" 2>&-', "sh", *PITPLAN, "init", "m.csv"], cwd=tmp_path, stdout=subprocess.PIPE, text=True)
+    ran = subprocess.run(
+        ["sh", "-c", '"$@" 2>&-', "sh", *PITPLAN, "init", "m.csv"], cwd=tmp_path, stdout=subprocess.PIPE, text=True
+    )
     assert (ran.returncode, ran.stdout) == (0, "project.toml\n")
 
 
-@pytest.mark.parametrize("number, status, said", [(signal.SIGINT, 130, "pitplan: interrupted\n"), (signal.SIGTERM, 143, "")])
+@pytest.mark.parametrize(
+    "number, status, said", [(signal.SIGINT, 130, "pitplan: interrupted\n"), (signal.SIGTERM, 143, "")]
+)
 def test_a_conversion_that_is_ended_leaves_nothing(tmp_path, number, status, said):
     os.mkfifo(tmp_path / "mine.upit")
     command = [*CONVERT, "mine.upit", "--out", "out"]

@@ -4,8 +4,7 @@ from decimal import ROUND_HALF_EVEN, Context, Decimal, localcontext
 
 import numpy as np
 import pytest
-from hypothesis import given
-from hypothesis import strategies as st
+from hypothesis import given, strategies as st
 
 from pitplan import text
 from pitplan.exact import Exact, at_factor
@@ -35,7 +34,10 @@ def test_products_and_sums_are_exact(pairs):
 
 
 # Numbers of which some products and sums fit 64 bits and others do not, by some hairs.
-wide = st.one_of(st.integers(-3, 3), st.sampled_from([s * 2**k + d for k in (31, 32, 53, 62, 63, 64) for s in (1, -1) for d in (-1, 0, 1)]))
+wide = st.one_of(
+    st.integers(-3, 3),
+    st.sampled_from([s * 2**k + d for k in (31, 32, 53, 62, 63, 64) for s in (1, -1) for d in (-1, 0, 1)]),
+)
 decimals = st.builds(lambda whole, places: Decimal(whole).scaleb(-places), wide, st.integers(0, 12))
 
 
@@ -46,11 +48,16 @@ def test_what_64_bits_do_not_hold_is_as_exact(rows, places):
     with localcontext(Context(prec=200)):
         expected = [a * b - c for a, b, c in rows]
         assert [Decimal(int(whole)).scaleb(-found.places) for whole in found.whole] == expected
-        assert [Decimal(int(whole)).scaleb(-(found.places + places)) for whole in found.at(found.places + places)] == expected
+        assert [
+            Decimal(int(whole)).scaleb(-(found.places + places)) for whole in found.at(found.places + places)
+        ] == expected
         rounded, said = found.rounded(places)
         nearest = [number.quantize(Decimal(1).scaleb(-places), ROUND_HALF_EVEN) for number in expected]
         assert [Decimal(int(whole)).scaleb(-places) for whole in rounded] == nearest
-        assert (said.changed, said.largest) == (sum(a != b for a, b in zip(expected, nearest)), max(abs(a - b) for a, b in zip(expected, nearest)))
+        assert (said.changed, said.largest) == (
+            sum(a != b for a, b in zip(expected, nearest)),
+            max(abs(a - b) for a, b in zip(expected, nearest)),
+        )
     assert found.floats().tolist() == [float(number) for number in expected]
 
 
@@ -62,7 +69,10 @@ def test_nothing_may_have_any_number_of_places(places):
         assert [int(whole) for whole in found.whole] == [98765432109876543] and found.places == places
 
 
-@given(st.lists(st.tuples(st.integers(0, 10**17), st.integers(0, 10**17)), min_size=1, max_size=6), st.integers(0, 100_000))
+@given(
+    st.lists(st.tuples(st.integers(0, 10**17), st.integers(0, 10**17)), min_size=1, max_size=6),
+    st.integers(0, 100_000),
+)
 def test_values_at_a_factor_are_exact(amounts, factor):
     revenue, cost = np.array(amounts, dtype=np.int64).T
     assert at_factor(factor, revenue, cost).tolist() == [factor * a - 1000 * b for a, b in amounts]

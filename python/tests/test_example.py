@@ -4,13 +4,13 @@ import csv
 import re
 import subprocess
 import sys
-import tomllib
 from collections import Counter
 from dataclasses import replace
 from math import isclose
 
 import pandas as pd
 import pytest
+import tomllib
 from conftest import ROOT
 
 import pitplan
@@ -93,7 +93,9 @@ def test_the_large_example_prepares_a_table_of_its_own_command(tmp_path):
     assert command in (ROOT / "docs" / "PLANNING.md").read_text(encoding="utf-8")
     script, *words = command.split()
     smaller = {"155": "15", "130": "13", "60": "6"}
-    subprocess.run([sys.executable, ROOT / script, *(smaller.get(word, word) for word in words)], cwd=tmp_path, check=True)
+    subprocess.run(
+        [sys.executable, ROOT / script, *(smaller.get(word, word) for word in words)], cwd=tmp_path, check=True
+    )
     (tmp_path / "examples" / "large").mkdir(parents=True)
     (tmp_path / "examples" / "large" / "project.toml").write_text(text)
     plan = pitplan.prepare(tmp_path / "examples" / "large" / "project.toml")

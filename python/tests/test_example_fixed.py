@@ -80,7 +80,9 @@ def test_without_fixed_blocks_the_pit_is_that_of_the_plain_example_less_the_cut(
         assert pits[name]["free"] == pytest.approx(plain[name] - amount, rel=1e-9), name
     cost = pits["worth"]["free"] - pits["worth"]["kept"]
     page = (ROOT / "docs" / "PLANNING.md").read_text(encoding="utf-8")
-    assert cost > 0 and f"to keep to both costs {cost / 1e6:.1f} of {pits['worth']['free'] / 1e6:.1f} million USD" in page
+    assert (
+        cost > 0 and f"to keep to both costs {cost / 1e6:.1f} of {pits['worth']['free'] / 1e6:.1f} million USD" in page
+    )
 
 
 @pytest.mark.parametrize("factor", [400, 600, 800, 1000])

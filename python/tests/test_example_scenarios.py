@@ -28,7 +28,16 @@ PROCESSING = {"OX": Decimal("9.8"), "POR": Decimal("8.6"), "AND": Decimal("8.6")
 def folder(tmp_path_factory):
     """What the command line writes."""
     place = tmp_path_factory.mktemp("scenarios")
-    words = [ROOT / "tools" / "pitplan", "scenarios", EXAMPLE / "project.toml", "--out", place, "--workers", "2", "--quiet"]
+    words = [
+        ROOT / "tools" / "pitplan",
+        "scenarios",
+        EXAMPLE / "project.toml",
+        "--out",
+        place,
+        "--workers",
+        "2",
+        "--quiet",
+    ]
     subprocess.run([sys.executable, *words], check=True)
     return place
 
@@ -111,7 +120,11 @@ def test_quantiles_by_hand_from_the_oracle(folder, pits):
     for price, factor in table.index:
         counts = sorted(len(inside) for (_, at, of), (inside, _) in pits.items() if (at, of) == (price, factor))
         row = table.loc[(price, factor)]
-        assert (row["blocks_least"], row["blocks_greatest"], row["blocks_mean"]) == (counts[0], counts[3], sum(counts) / 4)
+        assert (row["blocks_least"], row["blocks_greatest"], row["blocks_mean"]) == (
+            counts[0],
+            counts[3],
+            sum(counts) / 4,
+        )
         assert row["blocks_quantile_0.5"] == (counts[1] + counts[2]) / 2
         assert row["blocks_quantile_0.1"] == pytest.approx(counts[0] + 0.3 * (counts[1] - counts[0]))
 
@@ -120,7 +133,18 @@ def test_quantiles_by_hand_from_the_oracle(folder, pits):
 def scheduled(tmp_path_factory):
     """What the command line writes by block."""
     place = tmp_path_factory.mktemp("schedules")
-    words = [ROOT / "tools" / "pitplan", "scenarios", EXAMPLE / "project.toml", "--by", "block", "--out", place, "--workers", "2", "--quiet"]
+    words = [
+        ROOT / "tools" / "pitplan",
+        "scenarios",
+        EXAMPLE / "project.toml",
+        "--by",
+        "block",
+        "--out",
+        place,
+        "--workers",
+        "2",
+        "--quiet",
+    ]
     subprocess.run([sys.executable, *words], check=True)
     return place
 
@@ -153,7 +177,9 @@ def bound_of(worth, leads):
     earned = np.stack([-mining[:, None] * discounts, (gain - mining)[:, None] * discounts], axis=1)
     place = np.arange(earned.size).reshape(earned.shape)
     rows, right = [], []
-    for one, other, year in ((one, other, year) for one in blocks for other in leads[one] if other in at for year in range(YEARS)):
+    for one, other, year in (
+        (one, other, year) for one in blocks for other in leads[one] if other in at for year in range(YEARS)
+    ):
         users, needed = (place[at[it], :, : year + 1].ravel() for it in (one, other))
         rows.append({**dict.fromkeys(users, 1.0), **dict.fromkeys(needed, -1.0)})
         right.append(0.0)

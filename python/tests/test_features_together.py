@@ -13,7 +13,12 @@ GOLD = '[[metals]]\nname = "gold"\ncolumn = "au"\nunit = "gram_per_tonne"\nprice
 def table_of(rng):
     """A hill of two rocks and regions; ore of copper and gold in the middle, forced and barred blocks, and rows that are lacking."""
     table = rows(
-        20, 12, 6, tonnes=lambda i, j, k: 99.7 + 0.013 * i, rock=lambda i, j, k: "RS"[(i + j + k) % 3 == 0], region=lambda i, j, k: "12"[i > 6]
+        20,
+        12,
+        6,
+        tonnes=lambda i, j, k: 99.7 + 0.013 * i,
+        rock=lambda i, j, k: "RS"[(i + j + k) % 3 == 0],
+        region=lambda i, j, k: "12"[i > 6],
     )
     ore = (table["z"] < 40) & table["x"].between(35, 95) & table["y"].between(35, 85) & (rng.random(len(table)) < 0.6)
     table["cu"] = np.where(ore, rng.lognormal(0.4, 0.8, len(table)).round(2), 0)
@@ -58,18 +63,51 @@ def project_of(rng):
     several = processes(rng)
     money = "mining_cost = { R = 2, S = 2.3 }\n" + pick(rng, "", "mining_cost_per_level = 0.11\n", by_elevation(rng))
     money += pick(rng, "", "mining_recovery = 0.943\n", "mining_recovery = { region = { 1 = 0.91, 2 = 0.97 } }\n")
-    money += pick(rng, "", "dilution = 0.057\n", "dilution = { R = 0.04, S = 0.11 }\n") + pick(rng, "", "royalty = 0.035\n")
-    money += pick(rng, "", "royalty_per_tonne = 0.37\n") + pick(rng, "", "fixed_cost_per_year = 777.5\n") + pick(rng, "", "capital = [[1, 4000], [3, 990]]\n")
+    money += pick(rng, "", "dilution = 0.057\n", "dilution = { R = 0.04, S = 0.11 }\n") + pick(
+        rng, "", "royalty = 0.035\n"
+    )
+    money += (
+        pick(rng, "", "royalty_per_tonne = 0.37\n")
+        + pick(rng, "", "fixed_cost_per_year = 777.5\n")
+        + pick(rng, "", "capital = [[1, 4000], [3, 990]]\n")
+    )
     money += pick(rng, "decimals = 2\n", "") + pick(rng, "", 'cutoff = "fixed"\n')
     tail = "" if several else pick(rng, "", "fixed_tail = 0.08\n")
-    metal = "price = 8000\n" + ("" if several else f"recovery = {recovery(rng)}\n") + tail + pick(rng, "", "prices = [8000, 9100, 7300]\n")
+    metal = (
+        "price = 8000\n"
+        + ("" if several else f"recovery = {recovery(rng)}\n")
+        + tail
+        + pick(rng, "", "prices = [8000, 9100, 7300]\n")
+    )
     gold = GOLD + ("" if several else f"recovery = {recovery(rng)}\n")
-    wall = pick(rng, 'pattern = "1:9"', "angle = 47", "bench = { height = 20, face = 66, berm = 7 }", "steps = [[0, 0, 1], [1, 0, 1], [-1, 1, 2]]")
-    changes = [("mining_cost = 2\nprocessing_cost = 10\n", money + ("" if several else "processing_cost = { R = 9, S = 11 }\n"))]
-    changes += [("price = 8000\nrecovery = 0.5\n", metal), ("[slopes]\n", f"{gold}{several}[slopes]\n"), ('pattern = "1:5"', wall)]
+    wall = pick(
+        rng,
+        'pattern = "1:9"',
+        "angle = 47",
+        "bench = { height = 20, face = 66, berm = 7 }",
+        "steps = [[0, 0, 1], [1, 0, 1], [-1, 1, 2]]",
+    )
+    changes = [
+        (
+            "mining_cost = 2\nprocessing_cost = 10\n",
+            money + ("" if several else "processing_cost = { R = 9, S = 11 }\n"),
+        )
+    ]
+    changes += [
+        ("price = 8000\nrecovery = 0.5\n", metal),
+        ("[slopes]\n", f"{gold}{several}[slopes]\n"),
+        ('pattern = "1:5"', wall),
+    ]
     changes += [("rate = 0.1", f'rate = 0.1\ndiscounting = "{pick(rng, "continuous", "mid_year", "end_of_year")}"')]
-    changes += [("ore_per_year = 100", ("" if several else "ore_per_year = 310\n") + pick(rng, "", "rock_per_year = 1900"))]
-    changes += [('file = "blocks.csv"', 'file = "blocks.csv"\n' + pick(rng, "", "", "reblock = [2, 1, 1]\n", 'absent = "air"\n'))]
+    changes += [
+        ("ore_per_year = 100", ("" if several else "ore_per_year = 310\n") + pick(rng, "", "rock_per_year = 1900"))
+    ]
+    changes += [
+        (
+            'file = "blocks.csv"',
+            'file = "blocks.csv"\n' + pick(rng, "", "", "reblock = [2, 1, 1]\n", 'absent = "air"\n'),
+        )
+    ]
     return changes, not several
 
 
@@ -81,10 +119,21 @@ def test_what_is_written_is_right(plan_folder, without_figures, monkeypatch, see
     if rng.random() < 0.3:
         # Of 1,440 cells what no shell can reach is left out: no cone above the ore goes beyond the 15th of 20 columns.
         monkeypatch.setattr(pitplan.grid, "MOST_BLOCKS", 1200)
-    rules = "[schedule]\nlag = 1\nyears = 9\n" + (pick(rng, "", "bins = 3\n", "bins = 3\nstockpile = { rehandling_cost = 0.4 }\n") if is_one else "")
-    text = PROJECT + haulage(rng) + f'[pushbacks]\nfactors = [500, 1000]\n{rules}[fixed]\nforced = "must"\nbarred = "never"\n'
+    rules = "[schedule]\nlag = 1\nyears = 9\n" + (
+        pick(rng, "", "bins = 3\n", "bins = 3\nstockpile = { rehandling_cost = 0.4 }\n") if is_one else ""
+    )
+    text = (
+        PROJECT
+        + haulage(rng)
+        + f'[pushbacks]\nfactors = [500, 1000]\n{rules}[fixed]\nforced = "must"\nbarred = "never"\n'
+    )
     path = plan_folder(table_of(rng), text, *changes)
-    ways = [(pitplan.write_shells, "plan"), (pitplan.write_pushbacks, "plan/pushbacks"), (pitplan.write_schedule, "plan/schedule"), (pitplan.write_pit, "plan/pit")]
+    ways = [
+        (pitplan.write_shells, "plan"),
+        (pitplan.write_pushbacks, "plan/pushbacks"),
+        (pitplan.write_schedule, "plan/schedule"),
+        (pitplan.write_pit, "plan/pit"),
+    ]
     command, folder = ways[seed % 4]
     table = command(path)
     assert len(table) and not any(rule.differences for rule in verify(path.parent / folder))

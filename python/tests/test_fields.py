@@ -9,8 +9,7 @@ import pytest
 from conftest import PROJECT, rows
 
 import pitplan
-from pitplan import PlanError
-from pitplan import init as beginning
+from pitplan import PlanError, init as beginning
 
 CODES = ("name", "rock", "region")
 
@@ -30,7 +29,16 @@ def text_with(row, column, field):
 
 @pytest.mark.parametrize(
     ("column", "field"),
-    [("tonnes", "159\x0000"), ("cu", "0\x00.668"), ("rock", "O\x00X"), ("name", "B\x00-1"), ("x", "25\x00"), ("cu", "\x00"), ("name", "\x00b"), ("region", "1\x00")],
+    [
+        ("tonnes", "159\x0000"),
+        ("cu", "0\x00.668"),
+        ("rock", "O\x00X"),
+        ("name", "B\x00-1"),
+        ("x", "25\x00"),
+        ("cu", "\x00"),
+        ("name", "\x00b"),
+        ("region", "1\x00"),
+    ],
 )
 def test_a_nul_byte_in_a_field_is_named_by_row_and_column(plan_folder, column, field):
     path = plan_folder(text_with(5, column, field))
@@ -47,9 +55,13 @@ def test_a_nul_byte_is_named_in_whatever_piece_form_and_place_it_stands(plan_fol
     path = plan_folder(text, PROJECT, packed)
     (path.parent / "blocks.csv.gz").write_bytes(gzip.compress(text.replace(",", ";").encode()))
     assert "blocks.csv.gz row 11 column tonnes: holds a NUL byte" in refused(path)
-    assert "blocks.csv row 1: holds a NUL byte" in refused(plan_folder(rows(2, 2, 2).to_csv(index=False).replace("tonnes", "ton\x00nes", 1)))
+    assert "blocks.csv row 1: holds a NUL byte" in refused(
+        plan_folder(rows(2, 2, 2).to_csv(index=False).replace("tonnes", "ton\x00nes", 1))
+    )
     # In a column that the project does not name, and in a line's end.
-    assert "row 3 column more: holds a NUL byte" in refused(plan_folder(rows(2, 2, 2).assign(more=["a", "b\x00c"] * 4).to_csv(index=False)))
+    assert "row 3 column more: holds a NUL byte" in refused(
+        plan_folder(rows(2, 2, 2).assign(more=["a", "b\x00c"] * 4).to_csv(index=False))
+    )
 
 
 def test_a_table_in_utf_16_without_a_mark_is_refused_with_the_remedy(plan_folder):
@@ -71,7 +83,10 @@ def test_points_of_a_surface_hold_no_nul_byte(plan_folder):
 @pytest.mark.parametrize("column", ["tonnes", "cu", "x"])
 def test_a_column_of_truths_is_none_of_numbers(plan_folder, column, word):
     path = plan_folder(rows(3, 2, 2).assign(**{column: word}))
-    assert f'row 2 column {column}: "{word.capitalize()}" is not a number (True and False are no numbers: write 1 and 0)' in refused(path)
+    assert (
+        f'row 2 column {column}: "{word.capitalize()}" is not a number (True and False are no numbers: write 1 and 0)'
+        in refused(path)
+    )
 
 
 def test_truths_in_one_piece_alone_are_refused_there(plan_folder, monkeypatch):
@@ -89,7 +104,9 @@ def test_codes_may_be_truths(plan_folder):
 @pytest.mark.parametrize("truths", [[True] * 12, [True, 5, 2.5] * 4, [np.True_, "1", None] * 4])
 def test_truths_of_a_frame_are_no_numbers(plan_folder, truths):
     table = rows(3, 2, 2)
-    assert 'table row 2 column cu: "True" is not a number' in refused(plan_folder(table), table=table.assign(cu=pd.Series(truths)))
+    assert 'table row 2 column cu: "True" is not a number' in refused(
+        plan_folder(table), table=table.assign(cu=pd.Series(truths))
+    )
 
 
 DTYPES = ["object", "string", "category"] + (["string[pyarrow]"] if importlib.util.find_spec("pyarrow") else [])
@@ -118,7 +135,11 @@ def test_an_empty_field_of_each_dtype_is_one(plan_folder, dtype):
 
 def test_columns_of_other_kinds_are_no_numbers(plan_folder):
     path, table = plan_folder(rows(3, 2, 2)), rows(3, 2, 2)
-    for column, text in ((pd.date_range("2020-01-01", periods=12), "2020-01-01"), (np.arange(12) + 2j, "2j"), (pd.to_timedelta(range(12), "D"), "0 days")):
+    for column, text in (
+        (pd.date_range("2020-01-01", periods=12), "2020-01-01"),
+        (np.arange(12) + 2j, "2j"),
+        (pd.to_timedelta(range(12), "D"), "0 days"),
+    ):
         assert f'table row 2 column cu: "{text}' in refused(path, table=table.assign(cu=pd.Series(column)))
 
 
@@ -142,7 +163,9 @@ def test_a_code_of_a_frame_holds_no_nul_byte(plan_folder, column):
     table = rows(3, 2, 2)
     table.loc[4, column] = "O\x00X"
     for given in (table, table.astype({column: "string"}), table.astype({column: "category"})):
-        assert f"table row 6 column {column}: holds a NUL byte, which no text has" in refused(plan_folder(rows(3, 2, 2)), table=given)
+        assert f"table row 6 column {column}: holds a NUL byte, which no text has" in refused(
+            plan_folder(rows(3, 2, 2)), table=given
+        )
 
 
 def begun(tmp_path, table):

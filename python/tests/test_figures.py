@@ -72,14 +72,19 @@ def test_a_sensitivity_without_figures(mine):
     assert figures_in(folder) == {"tornado.png", "spider.png", "grid-price-mining_cost.png"}
     assert json.loads((folder / "sensitivity.json").read_text())["figures"] is True
     pitplan.write_shells(mine, writing=BARE)
-    assert (mine.parent / "plan" / "report.html").read_text().count("<img") == 1, "the tornado, which the sensitivity has drawn"
+    assert (mine.parent / "plan" / "report.html").read_text().count(
+        "<img"
+    ) == 1, "the tornado, which the sensitivity has drawn"
     pitplan.write_sensitivity(mine, writing=BARE)
     assert figures_in(folder) == set() and json.loads((folder / "sensitivity.json").read_text())["figures"] is False
     page = pitplan.write_report(mine.parent / "plan").read_text()
     assert "<img" not in page and "sensitivity.csv" in page
 
 
-@pytest.mark.parametrize(("by", "names"), [("pit", {"probability_plans.png", "probability_sections.png", "spread.png"}), ("block", {"schedule_values.png"})])
+@pytest.mark.parametrize(
+    ("by", "names"),
+    [("pit", {"probability_plans.png", "probability_sections.png", "spread.png"}), ("block", {"schedule_values.png"})],
+)
 def test_scenarios_without_figures(mine, by, names):
     pytest.importorskip("distributed")
     result = pitplan.write_scenarios(mine, request=pitplan.Request(workers=1, by=by), writing=ONCE)

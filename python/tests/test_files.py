@@ -92,7 +92,9 @@ def test_a_file_changed_since_is_refused(solved):
     _, folder = solved
     with open(folder / "years.csv", "a") as file:
         file.write("\n")
-    with pytest.raises(PlanError, match="years.csv: has changed since prepare.json was written: run pitplan shells again"):
+    with pytest.raises(
+        PlanError, match="years.csv: has changed since prepare.json was written: run pitplan shells again"
+    ):
         files.read_folder(folder)
 
 
@@ -136,7 +138,9 @@ def test_an_audit_of_other_blocks_or_of_another_worth_is_refused(solved):
     shells = pd.read_csv(solved[1] / "shells.csv", dtype={"worth_at_factor": str})
     assert [worth] == shells.loc[shells["factor"] == 1000, "worth_at_factor"].map(Decimal).tolist()
     dug = folder.blocks["factor"] == 500
-    other = replace(folder, blocks=folder.blocks.assign(factor=folder.blocks["factor"].where(~dug | (dug.cumsum() > 1), 0)))
+    other = replace(
+        folder, blocks=folder.blocks.assign(factor=folder.blocks["factor"].where(~dug | (dug.cumsum() > 1), 0))
+    )
     with pytest.raises(PlanError, match="the audited pit is not the shell of factor 1000"):
         auditing.demand_same(stage, other, 1000)
     shells.assign(worth_at_factor=shells["worth_at_factor"] + "1").to_csv(solved[1] / "shells.csv", index=False)
@@ -148,14 +152,23 @@ def test_values_of_an_audit_are_exact(tmp_path):
     from pitplan.auditing import read_nodes
 
     (tmp_path / "mine.blocks").write_text("0 0 0 0 0 1.000001\n1 0 0 0 12345.678901 0.1\n")
-    assert mine.values_at(read_nodes(tmp_path / "mine.blocks"), 333).tolist() == [-1000001000, 333 * 12345678901 - 100000000]
+    assert mine.values_at(read_nodes(tmp_path / "mine.blocks"), 333).tolist() == [
+        -1000001000,
+        333 * 12345678901 - 100000000,
+    ]
     (tmp_path / "mine.blocks").write_text("0 0 0 0 999999999999 0\n")
     with pytest.raises(PlanError, match="does not fit a model: give prices and costs in a greater unit of money"):
         mine.values_at(read_nodes(tmp_path / "mine.blocks"), 1000)
     # Products that 64 bits would not hold, and the greatest and least value that a model takes.
     most = np.array([10**18 - 1]), np.array([0])
-    assert mine.values_at(most, 1).tolist() == [10**18 - 1] and mine.values_at((np.array([10**17 - 1]), np.array([10**17 - 10**12])), 1000).tolist() == [10**15 - 1000]
-    for amounts, factor in (((np.array([10**17]), np.array([0])), 100_000), ((np.array([0]), np.array([10**15])), 1), ((np.array([10**15]), np.array([0])), 1000)):
+    assert mine.values_at(most, 1).tolist() == [10**18 - 1] and mine.values_at(
+        (np.array([10**17 - 1]), np.array([10**17 - 10**12])), 1000
+    ).tolist() == [10**15 - 1000]
+    for amounts, factor in (
+        ((np.array([10**17]), np.array([0])), 100_000),
+        ((np.array([0]), np.array([10**15])), 1),
+        ((np.array([10**15]), np.array([0])), 1000),
+    ):
         with pytest.raises(PlanError, match=f"a value at factor {factor}, a thousandfold, is 10.12 or more"):
             mine.values_at(amounts, factor)
 
@@ -293,9 +306,7 @@ def test_what_is_above_a_limit_is_refused(plan_folder, monkeypatch, solved, modu
     monkeypatch.setattr(f"pitplan.{module}.{limit}", 2 if module == "page" else 100)
     path = plan_folder(rows(6, 6, 4, **ORE))
     with pytest.raises(PlanError, match=words):
-        pitplan.view(solved[1], silent) if module == "page" else write_plan(
-            load(path), path.parent / "out", silent
-        )
+        pitplan.view(solved[1], silent) if module == "page" else write_plan(load(path), path.parent / "out", silent)
 
 
 def test_levels_that_were_chosen_are_named_where_their_needs_are_too_many(plan_folder, monkeypatch):
@@ -377,14 +388,20 @@ def test_a_status_that_is_fine_gives_the_answer(tmp_path, monkeypatch):
 
 
 def test_amounts_are_written_to_a_thousandth_and_nothing_has_no_minus():
-    table = pd.DataFrame({"cash": [-0.0004, -0.0006, 1234.5678], "grade_copper": [0.1234567, 1e-7, -1e-9], "year": [1, 2, 3]})
+    table = pd.DataFrame(
+        {"cash": [-0.0004, -0.0006, 1234.5678], "grade_copper": [0.1234567, 1e-7, -1e-9], "year": [1, 2, 3]}
+    )
     written = shown(table.assign(worth_at_factor=[Decimal("1E+3"), Decimal("-0.5"), Decimal(7)])).to_csv(index=False)
     assert written.splitlines()[1:] == ["0.0,0.123457,1,1000", "-0.001,0.0,2,-0.5", "1234.568,0.0,3,7"]
 
 
 def test_the_share_below_a_bound_is_that_of_the_value_and_the_bound_that_are_told():
     """By hand: (5 + 500) / 5, (0.033 - 0.032) / 0.033, nothing of a bound that is told as 0, and nothing known without one."""
-    ways = {"value": [-500.0004, 0.0324, 0.0001, 7.0], "bound": [5.0004, 0.0334, 0.0003, np.nan], "below_bound": [100.99, 0.0299, 0.67, np.nan]}
+    ways = {
+        "value": [-500.0004, 0.0324, 0.0001, 7.0],
+        "bound": [5.0004, 0.0334, 0.0003, np.nan],
+        "below_bound": [100.99, 0.0299, 0.67, np.nan],
+    }
     assert shown(pd.DataFrame(ways))["below_bound"].fillna(-1).tolist() == [101.0, 0.03030303, 0.0, -1]
 
 
@@ -417,7 +434,9 @@ def test_the_command_line_writes_a_page_and_an_audit(solved, capsys):
     assert main(["audit", str(project.path), "--factor", "500", "--quiet"]) == 0
     said = capsys.readouterr()
     assert (said.out, said.err) == (f"{folder / 'view.html'}\n{folder / 'audit-500'}\n", "")
-    assert (folder / "view.html").is_file() and json.loads((folder / "audit-500" / "audit.json").read_text())["factor"] == 500
+    assert (folder / "view.html").is_file() and json.loads((folder / "audit-500" / "audit.json").read_text())[
+        "factor"
+    ] == 500
 
 
 def test_an_audit_by_another_release_is_warned_of_with_quiet_and_in_python(solved, capsys):
@@ -427,7 +446,9 @@ def test_an_audit_by_another_release_is_warned_of_with_quiet_and_in_python(solve
     files.write_json(folder / "prepare.json", record)
     path = pitplan.audit(folder, 500)
     assert path == folder / "audit-500"
-    assert [*path.notes] == [f"WARNING: libpitshell 0.0.7 found the shells, and {run.identity()['version']} has audited them"]
+    assert [*path.notes] == [
+        f"WARNING: libpitshell 0.0.7 found the shells, and {run.identity()['version']} has audited them"
+    ]
     assert main(["audit", str(project.path), "--factor", "500", "--quiet"]) == 0
     assert capsys.readouterr().err.splitlines() == [*path.notes]
 
@@ -444,7 +465,9 @@ def test_the_command_line_refuses_in_one_sentence(plan_folder, capsys):
     assert capsys.readouterr().err == f"pitplan: {path}: [money] mining_cost: may not be negative\n"
 
 
-@pytest.mark.parametrize(("asked", "status", "said"), [(signal.SIGINT, 130, "pitplan: interrupted"), (signal.SIGTERM, 143, "")])
+@pytest.mark.parametrize(
+    ("asked", "status", "said"), [(signal.SIGINT, 130, "pitplan: interrupted"), (signal.SIGTERM, 143, "")]
+)
 def test_a_run_that_is_ended_says_so_in_one_line_and_leaves_nothing(plan_folder, tmp_path, asked, status, said):
     """While a program runs that never ends."""
     slow = tmp_path / "slow"
@@ -454,7 +477,9 @@ def test_a_run_that_is_ended_says_so_in_one_line_and_leaves_nothing(plan_folder,
     words = [str(ROOT / "tools" / "pitplan"), "shells", str(path), "--quiet"]
     # A job that a shell has put behind ignores SIGINT, and so would what it starts.
     heeding = {"preexec_fn": lambda: signal.signal(signal.SIGINT, signal.SIG_DFL)}
-    ran = subprocess.Popen(words, env={**os.environ, "PITSHELL": str(slow)}, stderr=subprocess.PIPE, text=True, **heeding)
+    ran = subprocess.Popen(
+        words, env={**os.environ, "PITSHELL": str(slow)}, stderr=subprocess.PIPE, text=True, **heeding
+    )
     for _ in range(600):
         if (tmp_path / "began").exists():
             break

@@ -10,15 +10,14 @@ import numpy as np
 import pandas as pd
 import pytest
 from conftest import PROJECT, rows
-from hypothesis import given
-from hypothesis import strategies as st
+from hypothesis import given, strategies as st
 from test_shells import BOX, CLOSED, SMALL, best_by_trying, grades, project_of
 
 import pitplan
 from pitplan import files, fixed, load, mine, prepare, run
 from pitplan.cli import main
-from pitplan.fixed_rules import FixedRules
 from pitplan.errors import PlanError
+from pitplan.fixed_rules import FixedRules
 from pitplan.progress import Progress, silent
 
 
@@ -60,7 +59,9 @@ def test_rock_above_the_surface_must_be_dug(plan_folder, tmp_path):
     """Blocks of 10 m on levels with centres 5, 15 and 25: the ground lies at 20, at 5 on the mean, and is not known."""
     points = "x,y,z\n3,4,20\n12,2,0\n18,9,10\n-50,5,0\n"
     (tmp_path / "mined.csv").write_text(points)
-    plan = prepare(load(plan_folder(rows(3, 1, 3), with_section('[fixed]\nsurface = "mined.csv"\ntopography = "blocks"\n'))))
+    plan = prepare(
+        load(plan_folder(rows(3, 1, 3), with_section('[fixed]\nsurface = "mined.csv"\ntopography = "blocks"\n')))
+    )
     assert plan.fixed.forced.tolist() == [0, 1, 4]
     assert any("1 columns of blocks lie beyond all points" in note for note in plan.notes)
 
@@ -71,7 +72,9 @@ def test_each_column_has_the_surface_of_its_own_points(plan_folder, tmp_path):
     points = [(10 * i + 5 + a, 10 * j + 5 - a, height + a) for (i, j), height in heights.items() for a in (-4, 4)]
     points += [(-1, 5, -900), (41, 15, -900), (15, -1, -900), (25, 31, -900)]
     pd.DataFrame(points, columns=["x", "y", "z"]).to_csv(tmp_path / "mined.csv", index=False)
-    plan = prepare(load(plan_folder(rows(4, 3, 4), with_section('[fixed]\nsurface = "mined.csv"\ntopography = "blocks"\n'))))
+    plan = prepare(
+        load(plan_folder(rows(4, 3, 4), with_section('[fixed]\nsurface = "mined.csv"\ntopography = "blocks"\n')))
+    )
     blocks = plan.blocks
     ground = [heights[int(x // 10), int(y // 10)] for x, y in zip(blocks["x"], blocks["y"])]
     assert plan.fixed.forced.tolist() == blocks.loc[blocks["z"] > ground, "id"].tolist()
@@ -87,7 +90,9 @@ def test_a_surface_between_points_is_their_plane(plan_folder, tmp_path):
         return 21 - 0.4 * (x - east) + 0.3 * (y - north)
 
     corners = [(east + x, north + y) for x in (-17, 91) for y in (-23, 64)]
-    pd.DataFrame([(x, y, plane(x, y)) for x, y in corners], columns=["x", "y", "z"]).to_csv(tmp_path / "mined.csv", index=False)
+    pd.DataFrame([(x, y, plane(x, y)) for x, y in corners], columns=["x", "y", "z"]).to_csv(
+        tmp_path / "mined.csv", index=False
+    )
     table = rows(6, 4, 3).assign(x=lambda it: it["x"] + east, y=lambda it: it["y"] + north)
     plan = prepare(load(plan_folder(table, with_section('[fixed]\nsurface = "mined.csv"\ntopography = "blocks"\n'))))
     blocks = plan.blocks
@@ -99,8 +104,14 @@ def test_a_surface_between_points_is_their_plane(plan_folder, tmp_path):
 def test_points_that_make_no_triangle_say_nothing_beside_them(plan_folder, tmp_path, points):
     """Over the second and third column: one point, the same twice, and points on a line."""
     (tmp_path / "mined.csv").write_text("x,y,z\n" + points)
-    plan = prepare(load(plan_folder(rows(3, 3, 1), with_section('[fixed]\nsurface = "mined.csv"\ntopography = "blocks"\n'))))
-    over = {(int(x) // 10, int(y) // 10) for x, y, _ in np.atleast_2d(np.loadtxt(points.splitlines(), delimiter=",")) if x < 30}
+    plan = prepare(
+        load(plan_folder(rows(3, 3, 1), with_section('[fixed]\nsurface = "mined.csv"\ntopography = "blocks"\n')))
+    )
+    over = {
+        (int(x) // 10, int(y) // 10)
+        for x, y, _ in np.atleast_2d(np.loadtxt(points.splitlines(), delimiter=","))
+        if x < 30
+    }
     assert plan.fixed.forced.tolist() == sorted(3 * j + i for i, j in over)
     assert any(f"{9 - len(over)} columns of blocks lie beyond all points" in note for note in plan.notes)
 
@@ -108,7 +119,9 @@ def test_points_that_make_no_triangle_say_nothing_beside_them(plan_folder, tmp_p
 def test_a_triangle_bars_what_lies_in_it(plan_folder, tmp_path):
     """Below the line from 40 m in the north to 60 m in the east."""
     (tmp_path / "corner.csv").write_text("x,y\n0,0\n60,0\n0,40\n")
-    plan = prepare(load(plan_folder(rows(7, 5, 1), with_section('[[fixed.areas]]\npolygon = "corner.csv"\nbarred = "inside"\n'))))
+    plan = prepare(
+        load(plan_folder(rows(7, 5, 1), with_section('[[fixed.areas]]\npolygon = "corner.csv"\nbarred = "inside"\n')))
+    )
     blocks = plan.blocks
     assert plan.fixed.barred.tolist() == blocks.loc[blocks["x"] / 60 + blocks["y"] / 40 < 1, "id"].tolist()
 
@@ -124,9 +137,13 @@ def test_a_surface_of_few_points_is_laid_between_them(plan_folder, tmp_path):
     """A plane that falls from 31 m in the west to 1 m in the east, by its corners alone: over the columns at 5, 15 and 25 m it lies
     at 26, 16 and 6 m."""
     (tmp_path / "mined.csv").write_text("x,y,z\n0,-50,31\n0,50,31\n30,-50,1\n30,50,1\n")
-    plan = prepare(load(plan_folder(rows(3, 1, 3), with_section('[fixed]\nsurface = "mined.csv"\ntopography = "blocks"\n'))))
+    plan = prepare(
+        load(plan_folder(rows(3, 1, 3), with_section('[fixed]\nsurface = "mined.csv"\ntopography = "blocks"\n')))
+    )
     assert plan.fixed.forced.tolist() == [1, 2, 5]
-    assert any("over 3 columns of blocks the surface was laid between the points round them" in note for note in plan.notes)
+    assert any(
+        "over 3 columns of blocks the surface was laid between the points round them" in note for note in plan.notes
+    )
 
 
 def test_areas_on_the_map(plan_folder, tmp_path):
@@ -153,7 +170,11 @@ def test_a_polygon_with_a_bay():
         ('[fixed]\nforced = "mined"\n', "", "there is no column mined"),
         ('[fixed]\nforced = "must"\nbarred = "must"\n', "", "block b0-0-0 .row 2. must be dug and may not be dug"),
         ('[fixed]\nsurface = "area.csv"\ntopography = "blocks"\n', "x,y\n1,2\n", "there is no column z"),
-        ('[fixed]\nsurface = "area.csv"\ntopography = "blocks"\n', "x,y,z\n1,2,\n", "area.csv row 2 column z: is empty"),
+        (
+            '[fixed]\nsurface = "area.csv"\ntopography = "blocks"\n',
+            "x,y,z\n1,2,\n",
+            "area.csv row 2 column z: is empty",
+        ),
         ('[fixed]\nsurface = "none.csv"\ntopography = "blocks"\n', "", "cannot be read"),
         ('[[fixed.areas]]\npolygon = "area.csv"\nbarred = "inside"\n', "x,y\n1,2\n3,4\n", "has three corners or more"),
         ('[[fixed.areas]]\npolygon = "area.csv"\nbarred = "both"\n', "", "barred"),
@@ -217,7 +238,11 @@ def test_fixed_blocks_that_clash(plan_folder, capsys):
 
 
 @SMALL
-@given(grades, st.lists(st.sampled_from(["", "", "", "in", "out"]), min_size=9, max_size=9), st.sampled_from(["moving", "fixed"]))
+@given(
+    grades,
+    st.lists(st.sampled_from(["", "", "", "in", "out"]), min_size=9, max_size=9),
+    st.sampled_from(["moving", "fixed"]),
+)
 def test_shells_with_fixed_blocks_are_the_best_of_all_closed_sets_that_keep_to_them(tmp_path, by_id, words, cutoff):
     """100 t a block: mining 200, processing 1000, and 40,000 for each per cent of copper."""
     forced, barred = ({block for block in range(9) if words[block] == word} for word in ("in", "out"))
@@ -300,8 +325,13 @@ def test_an_audit_of_a_shell_with_fixed_blocks_is_confirmed_from_any_folder(plan
     (tmp_path / "bin").mkdir()
     (tmp_path / "bin" / "program").symlink_to(run.program().resolve())
     words = ["sh", str(target.relative_to(tmp_path) / "check.sh")]
-    ran = subprocess.run(words, cwd=tmp_path, env={**os.environ, "PITSHELL": "bin/program"}, capture_output=True, text=True)
-    assert (ran.returncode, ran.stdout) == (0, "hashes: yes\npitshell check: yes\ncheck_certificate.py: yes\n"), ran.stderr
+    ran = subprocess.run(
+        words, cwd=tmp_path, env={**os.environ, "PITSHELL": "bin/program"}, capture_output=True, text=True
+    )
+    assert (ran.returncode, ran.stdout) == (
+        0,
+        "hashes: yes\npitshell check: yes\ncheck_certificate.py: yes\n",
+    ), ran.stderr
 
 
 def test_scenarios_keep_to_fixed_blocks(plan_folder, tmp_path):

@@ -28,11 +28,17 @@ def test_a_text_that_begins_as_a_formula_is_named_once_by_row_and_column(plan_fo
 
 
 def test_names_of_columns_and_columns_that_are_not_used_count_too(plan_folder):
-    table = rows(3, 2, 2).assign(note=["", "ok", "-5", "=A1"] * 3, **{"@more": 1, "sign": [" =1", "a=b", "1-2", "e@f"] * 3})
+    table = rows(3, 2, 2).assign(
+        note=["", "ok", "-5", "=A1"] * 3, **{"@more": 1, "sign": [" =1", "a=b", "1-2", "e@f"] * 3}
+    )
     (said,) = warned(pitplan.prepare(plan_folder(table)))
     assert "row 1 column '@more': '@more' begins with =, +, - or @, as 3 other texts do" in said
     assert warned(pitplan.prepare(plan_folder(table.drop(columns=["note", "@more"])))) == []
-    (said,) = warned(pitplan.prepare(plan_folder(rows(3, 2, 2)), table=table[["note", *rows(3, 2, 2).columns]].astype({"note": "category"})))
+    (said,) = warned(
+        pitplan.prepare(
+            plan_folder(rows(3, 2, 2)), table=table[["note", *rows(3, 2, 2).columns]].astype({"note": "category"})
+        )
+    )
     assert "table row 5 column 'note': '=A1'" in said
 
 

@@ -6,8 +6,7 @@ import numpy as np
 import pandas as pd
 import pytest
 from conftest import rows
-from hypothesis import given, settings
-from hypothesis import strategies as st
+from hypothesis import given, settings, strategies as st
 from scipy.optimize import linprog
 from test_linear_programme import limits
 from test_pushbacks import UPRIGHT, with_phases
@@ -28,7 +27,9 @@ def test_bins_are_even_by_tonnes_as_far_as_worths_let_them():
     assert bins_of(worth, edges_of(worth, tonnes, 4)).tolist() == [4, 1, 2, 3, 2]
     # Ore of one worth is more than a bin; there are fewer then, and one where all is of one worth, or none is asked apart.
     assert edges_of(np.array([1.0, 10, 10]), np.array([100.0, 100, 100]), 5).tolist() == [5.5]
-    assert edges_of(np.array([7.0, 7]), np.array([1.0, 2]), 3).tolist() == [] and edges_of(worth, tonnes, 1).tolist() == []
+    assert (
+        edges_of(np.array([7.0, 7]), np.array([1.0, 2]), 3).tolist() == [] and edges_of(worth, tonnes, 1).tolist() == []
+    )
     assert edges_of(np.zeros(0), np.zeros(0), 3).tolist() == []
 
 
@@ -51,15 +52,22 @@ def two_benches():
 )
 def test_two_benches_by_hand(cost, years, value, reclaimed):
     benches, parcels = two_benches()
-    problem = mp.MillingProblem(problem_of(benches, Limits({"ore_tonnes": 100}, sinking_rate=1.0)), parcels, years, cost)
+    problem = mp.MillingProblem(
+        problem_of(benches, Limits({"ore_tonnes": 100}, sinking_rate=1.0)), parcels, years, cost
+    )
     optimum = problem.relaxed()
     dug, milling = problem.diggable(optimum)
     assert optimum.bound == pytest.approx(value) and dug[:, :2].tolist() == [[1, 0], [0, 1]]
     assert milling.straight[:, :2].tolist() == [[0, 0], [1, 0], [0, 1]]
-    assert milling.reclaimed.sum() == pytest.approx(reclaimed) and milling.reclaimed[0].sum() == pytest.approx(reclaimed)
+    assert milling.reclaimed.sum() == pytest.approx(reclaimed) and milling.reclaimed[0].sum() == pytest.approx(
+        reclaimed
+    )
     assert dug.shape[1] == years and milling.cutoffs[:2] == [5.5, 5.5]
     flows = milling.flows(benches, dug)
-    assert flows[:, 0].tolist() == [[200, 100, 1, 800], [0, 0, 0, 0]] and flows[:, 1].tolist() == [[0, 0, 0, 0], [100, 100, 1, 900]]
+    assert flows[:, 0].tolist() == [[200, 100, 1, 800], [0, 0, 0, 0]] and flows[:, 1].tolist() == [
+        [0, 0, 0, 0],
+        [100, 100, 1, 900],
+    ]
     if reclaimed:
         assert flows[0, 2].tolist() == pytest.approx([0, 100, 1, 50]) and milling.cutoffs[2] is None
 
@@ -96,7 +104,9 @@ def mine_of(pits, lag):
             amounts += [[tonnes, tonnes / 100, gain] for tonnes, gain in parcels]
             found.append((phase, top + k, waste + ore, ore, sum(gain for _, gain in parcels) - mining))
     place = np.array(of, dtype=np.int64).reshape(-1, 2)
-    return benches_of(*found, lag=lag), Parcels(place[:, 0], place[:, 1], NAMES, np.array(amounts, dtype=float).reshape(-1, 3), np.array([1.0]))
+    return benches_of(*found, lag=lag), Parcels(
+        place[:, 0], place[:, 1], NAMES, np.array(amounts, dtype=float).reshape(-1, 3), np.array([1.0])
+    )
 
 
 def bound_of(problem):
@@ -129,7 +139,11 @@ def bound_of(problem):
     for year in range(years):
         now, past = slice(year, year + 1), slice(0, year)
         mill = limits.most["ore_tonnes"] * limits.ramp_up[min(year, len(limits.ramp_up) - 1)]
-        tonnes = [(count + kind * len(parcels) + q, parcels.of("ore_tonnes")[q]) for q in range(len(parcels)) for kind in (0, 1)]
+        tonnes = [
+            (count + kind * len(parcels) + q, parcels.of("ore_tonnes")[q])
+            for q in range(len(parcels))
+            for kind in (0, 1)
+        ]
         add(mill, *((now, column, weight) for column, weight in tonnes))
         add(rock, *((now, b, benches.of("rock_tonnes")[b]) for b in range(count)))
         for phase in set(benches.phase.tolist()):
@@ -137,7 +151,10 @@ def bound_of(problem):
         for b in range(count):
             add(1.0, (up_to[year], b, 1.0))
             own = benches.of("rock_tonnes")[b]
-            add(max(0.0, (rock * (year + 1) - sum(benches.of("rock_tonnes")[other] for other in before[b])) / own), (up_to[year], b, 1.0))
+            add(
+                max(0.0, (rock * (year + 1) - sum(benches.of("rock_tonnes")[other] for other in before[b])) / own),
+                (up_to[year], b, 1.0),
+            )
             above = sum(benches.phase[other] == benches.phase[b] for other in before[b])
             add(max(0.0, limits.sinking_rate * (year + 1) - above), (up_to[year], b, 1.0))
             for other in before[b]:
@@ -155,7 +172,9 @@ def bound_of(problem):
         upper[:, count + len(parcels) :] = 0
     finite = np.isfinite(most)
     bounds = np.column_stack([np.zeros(gain.size), upper.ravel()])
-    answer = linprog(-gain, A_ub=np.array(table)[finite], b_ub=np.array(most)[finite], bounds=bounds, method="highs-ipm")
+    answer = linprog(
+        -gain, A_ub=np.array(table)[finite], b_ub=np.array(most)[finite], bounds=bounds, method="highs-ipm"
+    )
     assert answer.status == 0, answer.message
     return -answer.fun
 
@@ -199,7 +218,9 @@ def demand_milled(problem, dug, milling):
 
 
 # Two pillars of waste over ore, and the second has poor ore over the rich.
-TEXT = with_phases("count = 2", UPRIGHT.replace("ore_per_year = 100", 'ore_per_year = 100\ndiscounting = "end_of_year"'))
+TEXT = with_phases(
+    "count = 2", UPRIGHT.replace("ore_per_year = 100", 'ore_per_year = 100\ndiscounting = "end_of_year"')
+)
 WORDS = "[schedule]\nbins = 2\nstockpile = { rehandling_cost = 0.5 }\n"
 
 
@@ -227,14 +248,25 @@ def test_ore_in_bins_is_written_and_passes(written):
     assert told["bins"]["lp"]["edges"] == pytest.approx([(4 + 30) / 2])
     schedule = pd.read_csv(written / "schedule.csv")
     by_lp = schedule[schedule["way"] == "lp"]
-    assert by_lp["ore_tonnes"].sum() == pytest.approx(milling["milled_tonnes"].sum() + milling["reclaimed_tonnes"].sum())
+    assert by_lp["ore_tonnes"].sum() == pytest.approx(
+        milling["milled_tonnes"].sum() + milling["reclaimed_tonnes"].sum()
+    )
     assert (by_lp.groupby("year")["ore_tonnes"].sum() <= 100 + 1e-6).all()
     assert [rule.name for rule in verify(written) if rule.differences] == []
 
 
 @pytest.mark.parametrize(
     ("name", "by"),
-    [("dug_tonnes", 1.0), ("milled_tonnes", -1.0), ("milled_tonnes", 500.0), ("reclaimed_tonnes", 1.0), ("bin", 1), ("bin", 7), ("year", 1), ("bench", 0.2)],
+    [
+        ("dug_tonnes", 1.0),
+        ("milled_tonnes", -1.0),
+        ("milled_tonnes", 500.0),
+        ("reclaimed_tonnes", 1.0),
+        ("bin", 1),
+        ("bin", 7),
+        ("year", 1),
+        ("bench", 0.2),
+    ],
 )
 def test_milling_that_is_bent_is_found(written, name, by):
     kept = (written / "milling.csv").read_text()
@@ -306,7 +338,10 @@ def test_what_is_reclaimed_is_stocked_the_year_before_by_hand():
     table = pd.DataFrame(place | tonnes).astype({name: float for name in tonnes})
     whole = table.groupby(["phase", "level", "bin"])[["dug_tonnes"]].sum().set_axis(["ore_tonnes"], axis=1)
     said = milling.unlike_stock(table, whole, True)
-    assert said == [f"milling.csv: more is reclaimed of phase {at} than is stocked" for at in ("3, level 5, bin 2", "4, level 1, bin 1")]
+    assert said == [
+        f"milling.csv: more is reclaimed of phase {at} than is stocked"
+        for at in ("3, level 5, bin 2", "4, level 1, bin 1")
+    ]
     assert milling.unlike_stock(table, whole, False) == ["ore is reclaimed, and there is no stockpile"]
 
 

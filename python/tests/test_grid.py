@@ -93,7 +93,15 @@ def test_too_many_cells_are_refused(plan_folder):
 
 
 @pytest.mark.parametrize(
-    ("value", "said"), [(6512640.0, "6512640"), (6512640.12346, "6512640.1235"), (0.00004, "0"), (-0.00004, "0"), (0.00006, "0.0001"), (-2.5, "-2.5")]
+    ("value", "said"),
+    [
+        (6512640.0, "6512640"),
+        (6512640.12346, "6512640.1235"),
+        (0.00004, "0"),
+        (-0.00004, "0"),
+        (0.00006, "0.0001"),
+        (-2.5, "-2.5"),
+    ],
 )
 def test_a_coordinate_is_told_to_a_tenth_of_a_millimetre(value, said):
     assert metres(value) == said

@@ -49,7 +49,9 @@ def test_a_hole_of_one_block_by_hand():
     assert len(surface.faces) == 26 and Counter(surface.bench.tolist()) == {ground.NONE: 16, 1: 10}
     uses = Counter(edges_of(surface.faces).values())
     assert uses == {1: 12, 2: (26 * 3 - 12) // 2}
-    assert said == "26 triangles; 500 m3 lie between it and the ground as it was, and the 1 cells that are dug hold 500 m3"
+    assert (
+        said == "26 triangles; 500 m3 lie between it and the ground as it was, and the 1 cells that are dug hold 500 m3"
+    )
     triangles = stages.places_of(grid, surface.corners)[surface.faces]
     assert prisms(triangles) == pytest.approx(8 * 1000 + 500)
     normal = np.cross(triangles[:, 1] - triangles[:, 0], triangles[:, 2] - triangles[:, 0])
@@ -102,16 +104,22 @@ def test_the_difference_after_smoothing_is_told():
     grid = grid_of(rock.shape)
     surface, said = ground.of_stage(rock, Stage("year", 1, dug), grid, True)
     before, _ = ground.of_stage(rock, Stage("year", 0, dug & False), grid, True)
-    held = prisms(stages.places_of(grid, before.corners)[before.faces]) - prisms(stages.places_of(grid, surface.corners)[surface.faces])
+    held = prisms(stages.places_of(grid, before.corners)[before.faces]) - prisms(
+        stages.places_of(grid, surface.corners)[surface.faces]
+    )
     expected = 500 * int(dug.sum())
     assert f"smoothed within half a block, {held:,.0f} m3 lie between it and the ground as it was, smoothed too" in said
-    assert said.endswith(f"the {dug.sum():,} cells that are dug hold {expected:,} m3, {100 * (held / expected - 1):+.2f} %")
+    assert said.endswith(
+        f"the {dug.sum():,} cells that are dug hold {expected:,} m3, {100 * (held / expected - 1):+.2f} %"
+    )
 
 
 def test_rock_over_what_is_dug_is_refused():
     rock, dug = np.ones((3, 2, 2), dtype=bool), np.zeros((3, 2, 2), dtype=bool)
     dug[1, 1, 0] = True
-    with pytest.raises(PlanError, match="the block at 5, 15, 12.5 stays over one that is dug: the ground is no surface"):
+    with pytest.raises(
+        PlanError, match="the block at 5, 15, 12.5 stays over one that is dug: the ground is no surface"
+    ):
         ground.heights_of(rock, Stage("factor", 1000, dug), grid_of((3, 2, 2)))
 
 
@@ -144,9 +152,14 @@ def test_each_phase_and_each_year_has_a_surface(folder, kind, name, capsys):
     corner = before.reshape(-1, 3).min(axis=0)
     for number in range(1, last + 1):
         after = triangles_of(target / f"{name}-{number}.{kind}")
-        assert prisms(before - corner) - prisms(after - corner) == pytest.approx(volume_dug(folder, name, number), rel=1e-3)
+        assert prisms(before - corner) - prisms(after - corner) == pytest.approx(
+            volume_dug(folder, name, number), rel=1e-3
+        )
         assert (after[..., 0].min(), after[..., 0].max(), after[..., 1].min()) == (430_000.5, 430_110.5, 6_512_000.25)
-        assert f"{name}-{number}.{kind}: {len(after):,} triangles; {volume_dug(folder, name, number):,.0f} m3 lie between it" in said.err
+        assert (
+            f"{name}-{number}.{kind}: {len(after):,} triangles; {volume_dug(folder, name, number):,.0f} m3 lie between it"
+            in said.err
+        )
 
 
 def test_a_file_of_an_earlier_run_goes_and_those_of_others_stay(folder):
@@ -163,7 +176,9 @@ def test_phases_have_closed_bodies_too(folder):
     pytest.importorskip("vtk")
     target = pitplan.export(folder, "stl", shape=Shape("phase"))
     for number in (1, 2):
-        assert volume_of(triangles_of(target / f"phase-{number}.stl")) == pytest.approx(volume_dug(folder, "phase", number))
+        assert volume_of(triangles_of(target / f"phase-{number}.stl")) == pytest.approx(
+            volume_dug(folder, "phase", number)
+        )
     assert len(list(target.iterdir())) == 2
 
 
@@ -173,15 +188,22 @@ def test_a_drawing_has_a_layer_a_bench_and_phase(folder):
     faces = {}
     for face in drawing.modelspace().query("3DFACE"):
         faces.setdefault(face.dxf.layer, []).append([list(face.dxf.vtx0), list(face.dxf.vtx1), list(face.dxf.vtx2)])
-    assert {"BEFORE_GROUND", "PHASE_1_GROUND", "PHASE_2_GROUND"} < set(faces) and not any(name.startswith("BEFORE_BENCH") for name in faces)
+    assert {"BEFORE_GROUND", "PHASE_1_GROUND", "PHASE_2_GROUND"} < set(faces) and not any(
+        name.startswith("BEFORE_BENCH") for name in faces
+    )
     blocks = pd.read_csv(folder / "blocks.csv")
     for number in (1, 2):
         dug = blocks[(blocks["phase"] > 0) & (blocks["phase"] <= number)]
         layers = {f"PHASE_{number}_BENCH_{z - 5:g}" for z in dug["z"].unique()}
         assert layers == {name for name in faces if name.startswith(f"PHASE_{number}_BENCH")}
-        parts = [np.array(sum((faces[name] for name in faces if name.startswith(start)), [])) for start in (f"PHASE_{number}_", "BEFORE_")]
+        parts = [
+            np.array(sum((faces[name] for name in faces if name.startswith(start)), []))
+            for start in (f"PHASE_{number}_", "BEFORE_")
+        ]
         corner = parts[1].reshape(-1, 3).min(axis=0)
-        assert prisms(parts[1] - corner) - prisms(parts[0] - corner) == pytest.approx(volume_dug(folder, "phase", number))
+        assert prisms(parts[1] - corner) - prisms(parts[0] - corner) == pytest.approx(
+            volume_dug(folder, "phase", number)
+        )
         for name in layers:
             bench = np.array(faces[name])[..., 2]
             low = float(name.rpartition("_")[2])
@@ -191,7 +213,10 @@ def test_a_drawing_has_a_layer_a_bench_and_phase(folder):
 @pytest.mark.parametrize(
     ("words", "said"),
     [
-        (["--to", "csv", "--of", "phase"], "csv holds all factors, phases and years: of one kind of them are dxf, stl, obj, gpkg, str, lines"),
+        (
+            ["--to", "csv", "--of", "phase"],
+            "csv holds all factors, phases and years: of one kind of them are dxf, stl, obj, gpkg, str, lines",
+        ),
         (["--to", "vtu", "--surface", "ground"], "vtu has no surface of the ground: dxf, stl, obj have"),
         (["--to", "gpkg", "--surface", "ground"], "gpkg has no surface of the ground: dxf, stl, obj have"),
         (["--to", "stl", "--smooth"], "the surface round blocks is never smoothed: that of the ground may be"),
@@ -224,7 +249,9 @@ def test_by_how_much_smoothing_changes_the_volume_is_told_with_quiet_and_to_pyth
     words = ["export", project, "--out", str(folder), "--to", "stl", "--surface", "ground", "--smooth"]
     assert main([*words, "--quiet"]) == 0
     quiet = capsys.readouterr()
-    assert len(re.findall(r"smoothed within half a block, .* m3 lie between it and the ground as it was", quiet.err)) == 1
+    assert (
+        len(re.findall(r"smoothed within half a block, .* m3 lie between it and the ground as it was", quiet.err)) == 1
+    )
     assert main(words) == 0
     aloud = capsys.readouterr()
     assert aloud.err.count("smoothed within half a block") == 1 and aloud.out == quiet.out

@@ -50,7 +50,9 @@ def test_roads_are_kept_to_a_millimetre_and_costs_are_exact(plan_folder):
     plan = pitplan.prepare(hauled(plan_folder, rows(6, 2, 3, tonnes=lambda i, j, k: 100.1), section))
     block = plan.blocks.set_index("name").loc["b0-0-2"]
     assert block["road"] == 141.231 and block["haulage_cost"] == 5.230773
-    assert Decimal(str(block["mining_cost"])) == (Decimal("100.1") * 2 + Decimal("5.230772547")).quantize(Decimal("1e-6"))
+    assert Decimal(str(block["mining_cost"])) == (Decimal("100.1") * 2 + Decimal("5.230772547")).quantize(
+        Decimal("1e-6")
+    )
     assert block["ore_haulage_cost"] == 0
     said = plan.values.roundings["haulage cost"]
     assert said.values == 36 and said.changed > 0
@@ -69,7 +71,12 @@ def test_blocks_above_the_exit_have_a_ramp_down(plan_folder):
     """The exit at -5 m, below all floors: the top level's floor is 25 m above it, its ramp 250 m."""
     section = "[haulage]\nexit = [5, 5, -5]\ngradient = 0.1\ncost = 1\n"
     plan = pitplan.prepare(hauled(plan_folder, rows(3, 2, 3), section))
-    assert plan.blocks.set_index("name")["road"][["b0-0-2", "b0-0-1", "b0-0-0", "b1-0-0"]].tolist() == [250, 150, 50, 60]
+    assert plan.blocks.set_index("name")["road"][["b0-0-2", "b0-0-1", "b0-0-0", "b1-0-0"]].tolist() == [
+        250,
+        150,
+        50,
+        60,
+    ]
 
 
 def test_what_comes_to_the_mill_is_hauled_there(plan_folder):
@@ -77,7 +84,11 @@ def test_what_comes_to_the_mill_is_hauled_there(plan_folder):
     change = ("processing_cost = 10", "processing_cost = 10\nmining_recovery = 0.9\ndilution = 0.1")
     plan = pitplan.prepare(hauled(plan_folder, rows(6, 2, 3, cu=lambda i, j, k: 2.0), SECTION, change))
     block = plan.blocks.set_index("name").loc["b4-0-1"]
-    assert (block["haulage_cost"], block["ore_haulage_cost"], block["processing_cost"]) == (18, 44.055, 99 * 10 + 44.055)
+    assert (block["haulage_cost"], block["ore_haulage_cost"], block["processing_cost"]) == (
+        18,
+        44.055,
+        99 * 10 + 44.055,
+    )
 
 
 def ore_hill():
@@ -140,15 +151,25 @@ def test_scenarios_haul_too(plan_folder, tmp_path):
     assert likely[["x", "y", "z"]].to_numpy().tolist() == plan.blocks[["x", "y", "z"]].to_numpy().tolist()
     told = pd.read_csv(tmp_path / "many" / "scenarios.csv").set_index("factor")["worth"]
     shells = pitplan.shells(plan, pitplan.solve(plan)).set_index("factor")["worth"]
-    assert told.tolist() == pytest.approx(shells.tolist()) and json.loads((tmp_path / "many" / "scenarios.json").read_text())
+    assert told.tolist() == pytest.approx(shells.tolist()) and json.loads(
+        (tmp_path / "many" / "scenarios.json").read_text()
+    )
 
 
 @pytest.mark.parametrize(
     ("old", "new", "said"),
     [
         ("exit = [15, 45, 30]", "exit = [15, 45]", r"\[haulage\] exit: must be a list of 3 numbers, x, y and z"),
-        ("exit = [15, 45, 30]", "exit = [1e10, 45, 30]", r"\[haulage\] exit: 1E\+10 is no coordinate in metres: it is beyond 1,000,000,000"),
-        ("gradient = 0.1", "gradient = 10", r"\[haulage\] gradient: 10 is no rise for a metre in plan from above 0 to 0.5, such as 0.1"),
+        (
+            "exit = [15, 45, 30]",
+            "exit = [1e10, 45, 30]",
+            r"\[haulage\] exit: 1E\+10 is no coordinate in metres: it is beyond 1,000,000,000",
+        ),
+        (
+            "gradient = 0.1",
+            "gradient = 10",
+            r"\[haulage\] gradient: 10 is no rise for a metre in plan from above 0 to 0.5, such as 0.1",
+        ),
         ("waste = 0.4 }", "waste = -0.4 }", r"\[haulage.cost\] waste: -0.4 is below 0"),
         ("waste = 0.4 }", "dump = 0.4 }", r"\[haulage.cost\] waste: is missing"),
         ("gradient = 0.1", "gradient = 0.1\nroute = 3", r"\[haulage\] route: is no key here"),

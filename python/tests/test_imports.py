@@ -16,7 +16,9 @@ REPORT = f"import sys; print(*[name for name in {HEAVY} if name in sys.modules])
 
 def loaded(code):
     """The heavy packages that a Python process of its own has loaded after the code."""
-    ran = subprocess.run([sys.executable, "-c", f"{code}\n{REPORT}"], cwd=ROOT / "python", capture_output=True, text=True, check=True)
+    ran = subprocess.run(
+        [sys.executable, "-c", f"{code}\n{REPORT}"], cwd=ROOT / "python", capture_output=True, text=True, check=True
+    )
     return ran.stdout.splitlines()[-1].split()
 
 
@@ -27,7 +29,9 @@ def test_help_loads_no_package(words):
 
 def test_names_are_imported_on_first_use():
     assert loaded("import pitplan; dir(pitplan); pitplan.PlanError") == []
-    assert "pandas" in loaded("import pitplan; pitplan.shells") and "matplotlib" in loaded("import pitplan; pitplan.write_shells")
+    assert "pandas" in loaded("import pitplan; pitplan.shells") and "matplotlib" in loaded(
+        "import pitplan; pitplan.write_shells"
+    )
     assert loaded("import pitplan; pitplan.errors.PlanError") == [], "modules too"
 
 

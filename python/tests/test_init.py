@@ -24,9 +24,33 @@ def exported(path, headings, separator=",", decimal=".", encoding="utf-8", **mor
 PLACES = {"x": "XC", "y": "YC", "z": "ZC"}
 INCREMENTS = {name: lambda i, j, k: 10.0 for name in ("dx", "dy", "dz")}
 DATAMINE = {**PLACES, "dx": "XINC", "dy": "YINC", "dz": "ZINC", "density": "DENSITY", "cu": "CU", "rock": "ROCK"}
-SURPAC = {"y": "YCENTRE", "x": "XCENTRE", "z": "ZCENTRE", "tonnes": "tonnage", "cu": "cu_ppm", "rock": "rock_type", "region": "slope_region"}
-VULCAN = {"x": "centroid_x", "y": "centroid_y", "z": "centroid_z", "volume": "volume", "density": "sg", "cu": "cu (%)", "rock": "lith"}
-DESWIK = {"name": "Block ID", "x": "Easting", "y": "Northing", "z": "RL", "tonnes": "Tonnes", "cu": "Cu pct", "rock": "Roche é"}
+SURPAC = {
+    "y": "YCENTRE",
+    "x": "XCENTRE",
+    "z": "ZCENTRE",
+    "tonnes": "tonnage",
+    "cu": "cu_ppm",
+    "rock": "rock_type",
+    "region": "slope_region",
+}
+VULCAN = {
+    "x": "centroid_x",
+    "y": "centroid_y",
+    "z": "centroid_z",
+    "volume": "volume",
+    "density": "sg",
+    "cu": "cu (%)",
+    "rock": "lith",
+}
+DESWIK = {
+    "name": "Block ID",
+    "x": "Easting",
+    "y": "Northing",
+    "z": "RL",
+    "tonnes": "Tonnes",
+    "cu": "Cu pct",
+    "rock": "Roche é",
+}
 
 
 def said(path):
@@ -40,7 +64,12 @@ def test_increments_a_density_and_decimal_commas(tmp_path):
     exported(tmp_path / "m.csv", DATAMINE, ";", ",", **more)
     assert main(["init", str(tmp_path / "m.csv")]) == 0
     _, project = said(tmp_path / "project.toml")
-    assert (project.table.x, project.table.density, project.table.volume, project.table.rock) == ("XC", "DENSITY", None, "ROCK")
+    assert (project.table.x, project.table.density, project.table.volume, project.table.rock) == (
+        "XC",
+        "DENSITY",
+        None,
+        "ROCK",
+    )
     assert project.grid.size == (10.0, 10.0, 10.0) and project.metals[0].unit == "percent"
     plan = prepare(tmp_path / "project.toml")
     # A block of 10 m, of 2.5 tonnes a cubic metre.
@@ -52,7 +81,11 @@ def test_grams_a_tonne_and_regions(tmp_path):
     exported(tmp_path / "m.csv", SURPAC, "\t", **more)
     init.write(tmp_path / "m.csv", tmp_path / "project.toml")
     _, project = said(tmp_path / "project.toml")
-    assert (project.metals[0].name, project.metals[0].unit, project.metals[0].price) == ("copper", "gram_per_tonne", Decimal("0.009"))
+    assert (project.metals[0].name, project.metals[0].unit, project.metals[0].price) == (
+        "copper",
+        "gram_per_tonne",
+        Decimal("0.009"),
+    )
     assert [wall.regions for wall in project.slopes.walls] == [("NE",), ("SW",)]
     assert project.table.region == "slope_region" and project.table.tonnes == "tonnage"
 
@@ -134,17 +167,33 @@ def test_the_unit_of_a_name_that_tells_none(name, mean, unit, why):
     assert (guess.unit, guess.why) == (unit, why)
 
 
-@pytest.mark.parametrize(("headings", "column", "count"), [(SURPAC, "tonnes", 3), (DATAMINE, "density", 4), (VULCAN, "volume", 4)])
+@pytest.mark.parametrize(
+    ("headings", "column", "count"), [(SURPAC, "tonnes", 3), (DATAMINE, "density", 4), (VULCAN, "volume", 4)]
+)
 def test_what_makes_tonnes_is_counted_where_it_is_empty(tmp_path, headings, column, count):
-    more = {**INCREMENTS, "density": lambda i, j, k: 2.5, "volume": lambda i, j, k: 1000.0, "tonnes": lambda i, j, k: 2500.0}
-    exported(tmp_path / "m.csv", headings, **{**more, column: lambda i, j, k: float("nan") if (i, j) == (0, 0) and k < count else 2.5})
+    more = {
+        **INCREMENTS,
+        "density": lambda i, j, k: 2.5,
+        "volume": lambda i, j, k: 1000.0,
+        "tonnes": lambda i, j, k: 2500.0,
+    }
+    exported(
+        tmp_path / "m.csv",
+        headings,
+        **{**more, column: lambda i, j, k: float("nan") if (i, j) == (0, 0) and k < count else 2.5},
+    )
     told = init.write(tmp_path / "m.csv", tmp_path / "project.toml")
     assert f"WARNING: {count} tonnes or grades are empty, and taken as 0" in told
 
 
 @pytest.mark.parametrize(
     ("name", "metal", "unit"),
-    [("CUPPM", "copper", "gram_per_tonne"), ("AUGPT", "gold", "gram_per_tonne"), ("Znpct_ok", "zinc", "percent"), ("cupper", None, None)],
+    [
+        ("CUPPM", "copper", "gram_per_tonne"),
+        ("AUGPT", "gold", "gram_per_tonne"),
+        ("Znpct_ok", "zinc", "percent"),
+        ("cupper", None, None),
+    ],
 )
 def test_a_sign_and_its_unit_may_be_one_word(name, metal, unit):
     guess = guesses.metal_of(pd.DataFrame({name: [0.1, 0.2]}), name)
@@ -181,7 +230,8 @@ def test_placeholders_of_prices_are_round():
 def test_ore_a_year_is_by_taylors_rule(tmp_path):
     """16 Mt of ore last 0.2 * 16,000,000^(1/4) = 12.65 years: 1,265,000 t a year, by two digits 1,300,000.
 
-    Of a tonne with 0.16 % of copper 85 % at 9000 USD are 12.24 USD, which is more than the 12 for processing; of 0.15 % they are 11.48."""
+    Of a tonne with 0.16 % of copper 85 % at 9000 USD are 12.24 USD, which is more than the 12 for processing; of 0.15 % they are 11.48.
+    """
     table = rows(8, 8, 4, cu=lambda i, j, k: 0.16 if k == 1 else 0.15, tonnes=lambda i, j, k: 250_000)
     table.to_csv(tmp_path / "m.csv", index=False)
     init.write(tmp_path / "m.csv", tmp_path / "project.toml")
@@ -228,7 +278,10 @@ def test_a_density_needs_a_size_and_no_tonnes(plan_folder):
     path = plan_folder(table, plan_text('density = "sg"'), grid)
     with pytest.raises(PlanError, match=r"\[grid\] size: is missing, by which a density gives tonnes"):
         load(path)
-    for words, why in [('density = "sg"\ntonnes = "t"', "give it or tonnes, not both"), ('volume = "v"', "a density, which is missing")]:
+    for words, why in [
+        ('density = "sg"\ntonnes = "t"', "give it or tonnes, not both"),
+        ('volume = "v"', "a density, which is missing"),
+    ]:
         path.write_text(plan_text(words))
         with pytest.raises(PlanError, match=why):
             load(path)
@@ -284,7 +337,9 @@ def test_a_name_that_no_project_can_hold_is_told(tmp_path):
     assert list(tmp_path.iterdir()) == [table]
 
 
-@pytest.mark.parametrize(("counts", "size"), [((6, 1, 3), (10, 10, 10)), ((6, 4, 1), (10, 10, 10)), ((1, 1, 1), (1, 1, 1))])
+@pytest.mark.parametrize(
+    ("counts", "size"), [((6, 1, 3), (10, 10, 10)), ((6, 4, 1), (10, 10, 10)), ((1, 1, 1), (1, 1, 1))]
+)
 def test_a_section_or_a_level_alone_runs_too(tmp_path, counts, size):
     rows(*counts, cu=lambda i, j, k: 1.0).to_csv(tmp_path / "m.csv", index=False)
     told = init.write(tmp_path / "m.csv", tmp_path / "project.toml")
@@ -299,7 +354,10 @@ def test_a_workbook_and_a_file_that_is_no_text_are_told_so(tmp_path):
     table = rows(3, 3, 3, cu=lambda i, j, k: 1.0)
     table.to_excel(tmp_path / "m.xlsx", index=False)
     (tmp_path / "m.dm").write_bytes(table.to_csv(index=False).encode("utf-16-le"))
-    for name, why in (("m.xlsx", "is a workbook or another packed file: save the sheet, or what it packs, as CSV"), ("m.dm", "is no text: save")):
+    for name, why in (
+        ("m.xlsx", "is a workbook or another packed file: save the sheet, or what it packs, as CSV"),
+        ("m.dm", "is no text: save"),
+    ):
         with pytest.raises(PlanError, match=f"{name}: {why}"):
             init.write(tmp_path / name, tmp_path / "project.toml")
 

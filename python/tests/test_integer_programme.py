@@ -8,8 +8,7 @@ import numpy as np
 import pandas as pd
 import pytest
 from conftest import rows
-from hypothesis import given, settings
-from hypothesis import strategies as st
+from hypothesis import given, settings, strategies as st
 from scipy.sparse import csr_matrix
 from test_linear_programme import integer_optimum, limits, small
 from test_pushbacks import pillars, with_phases
@@ -41,7 +40,9 @@ def test_it_is_the_best_schedule_of_all(in_this_process, pit, limits, lag):
     best, slack = integer_optimum(benches, limits, years), 2e-6 * max(1.0, np.abs(benches.of("cash")).sum())
     assert shares is not None
     demand_diggable(benches, limits, shares)
-    assert problem_of(benches, limits).value(shares) == pytest.approx(best, abs=slack) and bound == pytest.approx(best, abs=slack)
+    assert problem_of(benches, limits).value(shares) == pytest.approx(best, abs=slack) and bound == pytest.approx(
+        best, abs=slack
+    )
 
 
 @pytest.mark.parametrize(
@@ -102,7 +103,9 @@ def test_it_is_written_as_a_way_of_its_own(plan_folder):
     assert table.index.tolist() == ["rule", "lp", "milp"] and table["value"]["milp"] == pytest.approx(value, rel=1e-4)
     folder = project.folder / "schedule"
     told = json.loads((folder / "schedule.json").read_text())
-    assert told["milp_bound"] == pytest.approx(value, rel=1.1e-3) and set(pd.read_csv(folder / "years.csv")["case"]) == {"best", "worst", *told["ways"]}
+    assert told["milp_bound"] == pytest.approx(value, rel=1.1e-3) and set(
+        pd.read_csv(folder / "years.csv")["case"]
+    ) == {"best", "worst", *told["ways"]}
     assert [rule.name for rule in verify(folder) if rule.differences] == []
     notes = files.read_record(folder)["notes"]
     assert any("upper bound of the integer programme, for the same schedules" in note for note in notes)
@@ -113,7 +116,10 @@ def test_where_none_is_found_in_time_the_others_stand(plan_folder, monkeypatch):
     monkeypatch.setattr(ip, "solve", lambda programme, effort, patience: highs.Optimum(None, np.inf))
     project = load(plan_folder(pillars(), PHASES + "[schedule]\nmilp = { seconds = 1 }\n"))
     assert pitplan.write_schedule(project)["way"].tolist() == ["rule", "lp"]
-    assert "WARNING: the integer programme found no schedule in its time" in files.read_record(project.folder / "schedule")["notes"]
+    assert (
+        "WARNING: the integer programme found no schedule in its time"
+        in files.read_record(project.folder / "schedule")["notes"]
+    )
     assert json.loads((project.folder / "schedule" / "schedule.json").read_text())["milp_bound"] is None
 
 

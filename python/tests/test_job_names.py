@@ -14,7 +14,20 @@ from pitplan.simulation import job_lists
 # A name that a shell, GNU parallel or Slurm could take apart; those with touch show it by a file.
 NAMES = [
     *("my plan", "two  blanks", " before", "behind ", "a\ttab", "~", "-rf", "#comment", "a=b", "*", "?", "[a-z]", "!!"),
-    *("it's", 'a"quote', "a'b\"c", "a\\b", "\\", "$HOME", "$(touch RUN)", "`touch RUN`", "a;touch RUN", "a|touch RUN", "a&touch RUN", "a||touch RUN"),
+    *(
+        "it's",
+        'a"quote',
+        "a'b\"c",
+        "a\\b",
+        "\\",
+        "$HOME",
+        "$(touch RUN)",
+        "`touch RUN`",
+        "a;touch RUN",
+        "a|touch RUN",
+        "a&touch RUN",
+        "a||touch RUN",
+    ),
     *("a>RUN", "a<RUN", "(touch RUN)", "{}", "{1}{.}{/}{#}{%}", '{= system("touch RUN") =}', "Größe 1:5"),
 ]
 # Four folders within each other, of which no two leave a quote open.
@@ -48,7 +61,9 @@ def run(place, script, *options, **variables):
     """What Python was handed, one list a call, by a script that is started in an empty folder, where nothing may appear."""
     here, noted = place / "here", place / "noted"
     environment = {**os.environ, **variables, "NOTED": str(noted)}
-    subprocess.run(["sh", str(script), *options], cwd=here, env=environment, check=True, capture_output=True, timeout=60)
+    subprocess.run(
+        ["sh", str(script), *options], cwd=here, env=environment, check=True, capture_output=True, timeout=60
+    )
     assert list(here.iterdir()) == [] and not list(place.rglob("RUN"))
     return sorted(call.splitlines() for call in noted.read_text().split("\n\n")[:-1])
 
@@ -63,7 +78,12 @@ def test_gnu_parallel_runs_the_scenarios_of_each_folder(tmp_path, written, name)
         ["-P", "-m", "pitplan", "scenario", folder, "1"],
         ["-P", "-m", "pitplan", "scenario", folder, "2"],
     ]
-    assert sorted(it.name for it in (tmp_path / name).iterdir()) == ["joblog.txt", "jobs.txt", "scenario.sh", "start.sh"]
+    assert sorted(it.name for it in (tmp_path / name).iterdir()) == [
+        "joblog.txt",
+        "jobs.txt",
+        "scenario.sh",
+        "start.sh",
+    ]
 
 
 def slurms_words(line):
@@ -90,13 +110,20 @@ def slurms_words(line):
 @pytest.mark.parametrize("name", NAMES)
 def test_slurm_runs_the_scenarios_of_each_folder(tmp_path, written, name):
     if set(name) & set("%\\"):
-        with pytest.raises(PlanError, match="a folder of jobs may not have a line's end, a % or a backslash in its name: name another by --out"):
+        with pytest.raises(
+            PlanError,
+            match="a folder of jobs may not have a line's end, a % or a backslash in its name: name another by --out",
+        ):
             written("slurm", name)
         return
     start = written("slurm", name)
     folder = tmp_path / name
-    words = [slurms_words(line) for line in (folder / "array.sbatch").read_text().splitlines() if line.startswith("#SBATCH")]
-    assert [f"--output={folder}/slurm-%a.log"] in words and ["--array=1-2"] in words and all(len(it) == 1 for it in words)
+    words = [
+        slurms_words(line) for line in (folder / "array.sbatch").read_text().splitlines() if line.startswith("#SBATCH")
+    ]
+    assert (
+        [f"--output={folder}/slurm-%a.log"] in words and ["--array=1-2"] in words and all(len(it) == 1 for it in words)
+    )
     assert f"--output={folder}/gather.log" in slurms_words((folder / "gather.sbatch").read_text().splitlines()[3])
     (tmp_path / "sbatch").write_text('#!/bin/sh\nprintf "%s\\n" "$@" "" >> "$NOTED"\necho 7\n')
     (tmp_path / "sbatch").chmod(0o755)
@@ -105,14 +132,19 @@ def test_slurm_runs_the_scenarios_of_each_folder(tmp_path, written, name):
         ["--parsable", str(folder / "array.sbatch")],
     ]
     (tmp_path / "noted").unlink()
-    assert run(tmp_path, folder / "array.sbatch", SLURM_ARRAY_TASK_ID="2") == [["-P", "-m", "pitplan", "scenario", str(folder), "2"]]
+    assert run(tmp_path, folder / "array.sbatch", SLURM_ARRAY_TASK_ID="2") == [
+        ["-P", "-m", "pitplan", "scenario", str(folder), "2"]
+    ]
     (tmp_path / "noted").unlink()
     assert run(tmp_path, folder / "gather.sbatch") == [["-P", "-m", "pitplan", "gather", str(folder)]]
 
 
 def test_names_that_no_script_can_hold_are_refused(written):
     for kind in ("slurm", "parallel"):
-        with pytest.raises(PlanError, match=r"two\\nlines': a folder of jobs may not have a line's end.* in its name: name another by --out"):
+        with pytest.raises(
+            PlanError,
+            match=r"two\\nlines': a folder of jobs may not have a line's end.* in its name: name another by --out",
+        ):
             written(kind, "two\nlines")
         with pytest.raises(PlanError, match="a folder of jobs must have a name in UTF-8: name another by --out"):
             written(kind, os.fsdecode(b"lat\xedn"))
@@ -126,4 +158,7 @@ def test_a_module_where_a_script_is_started_is_not_run(tmp_path, monkeypatch):
         (tmp_path / name).parent.mkdir(exist_ok=True)
         (tmp_path / name).write_text("import sys\nsys.exit('the module of the folder was run')\n")
     ran = subprocess.run(["sh", tmp_path / "scenario.sh", "1"], cwd=tmp_path, capture_output=True, text=True)
-    assert ran.stderr == f"pitplan: {tmp_path / 'scenarios.json'}: cannot be read: run pitplan scenarios first\n" and ran.returncode == 5
+    assert (
+        ran.stderr == f"pitplan: {tmp_path / 'scenarios.json'}: cannot be read: run pitplan scenarios first\n"
+        and ran.returncode == 5
+    )

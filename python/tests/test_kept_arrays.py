@@ -17,7 +17,10 @@ def test_arrays_that_are_kept_are_read_whole_or_refused(tmp_path):
     arrays = {"entry": np.arange(300, dtype=np.int32), "names": ["a", "b"]}
     kept_arrays.write(file, "key", **arrays)
     whole = file.read_bytes()
-    assert {name: array.tolist() for name, array in kept_arrays.read(file, "key").items()} == {"entry": list(range(300)), "names": ["a", "b"]}
+    assert {name: array.tolist() for name, array in kept_arrays.read(file, "key").items()} == {
+        "entry": list(range(300)),
+        "names": ["a", "b"],
+    }
     for length in range(0, len(whole), 7):
         file.write_bytes(whole[:length])
         with pytest.raises(kept_arrays.NoAnswer):
@@ -67,7 +70,11 @@ def test_grades_that_have_changed_are_refused(plan_folder):
     for bent in (b"", grades.read_bytes()[:-1], grades.read_bytes()[:-1] + b"1"):
         grades.write_bytes(bent)
         outcome = work.solve(str(shared.folder), 2)
-        assert outcome.status == 5 and f"{grades}: " in outcome.why and ": remove it, and run pitplan scenarios again" in outcome.why
+        assert (
+            outcome.status == 5
+            and f"{grades}: " in outcome.why
+            and ": remove it, and run pitplan scenarios again" in outcome.why
+        )
 
 
 def test_a_case_of_another_change_is_refused(plan_folder):
@@ -77,5 +84,7 @@ def test_a_case_of_another_change_is_refused(plan_folder):
     varied_cases.solve(load(path), path.parent, None)
     one, other = (path.parent / "cases").iterdir()
     os.replace(one, other)
-    with pytest.raises(PlanError, match="npz: is no answer: remove it, and run pitplan sensitivity again: it answers something else"):
+    with pytest.raises(
+        PlanError, match="npz: is no answer: remove it, and run pitplan sensitivity again: it answers something else"
+    ):
         varied_cases.solve(load(path), path.parent, None)

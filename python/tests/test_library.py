@@ -30,7 +30,10 @@ def best(values, pairs, fixed, greatest):
         for s in range(1 << n)
         if not forced & ~s and not barred & s and all(not needed[u] & ~s for u in range(n) if s >> u & 1)
     )
-    ranked = [(sum(int(values[u]) for u in range(n) if s >> u & 1), (1 if greatest else -1) * bin(s).count("1"), s) for s in allowed]
+    ranked = [
+        (sum(int(values[u]) for u in range(n) if s >> u & 1), (1 if greatest else -1) * bin(s).count("1"), s)
+        for s in allowed
+    ]
     return max(ranked) if ranked else None
 
 
@@ -59,11 +62,19 @@ def test_the_best_set_of_all(seed):
                 assert refused.value.number == 21 and fixed[refused.value.block] == pitshell.BARRED
                 continue
             found = pitshell.solve(values, pairs, fixed, way, millionths=True)
-            assert (found.worth * 10**6, sum(1 << int(u) for u in np.flatnonzero(found.in_pit))) == (wanted[0], wanted[2])
+            assert (found.worth * 10**6, sum(1 << int(u) for u in np.flatnonzero(found.in_pit))) == (
+                wanted[0],
+                wanted[2],
+            )
 
 
 def test_needs_in_each_form():
-    forms = [NEEDS, NEEDS.astype(np.int32), (np.array([0, 0, 1]), np.array([0])), csr_matrix(([7], ([1], [0])), shape=(2, 2))]
+    forms = [
+        NEEDS,
+        NEEDS.astype(np.int32),
+        (np.array([0, 0, 1]), np.array([0])),
+        csr_matrix(([7], ([1], [0])), shape=(2, 2)),
+    ]
     for needs in forms:
         found = pitshell.solve(TWO, needs)
         assert found.in_pit.tolist() == [True, True] and found.worth == 2
@@ -79,7 +90,12 @@ def test_values_in_each_form():
 
 
 def test_numbers_that_do_not_fit_are_named():
-    for values, millionths in (([0, 10**13], False), (np.array([0, 2**63], dtype=np.uint64), True), ([0.0, 1e13], False), ([0, Decimal(10**13)], False)):
+    for values, millionths in (
+        ([0, 10**13], False),
+        (np.array([0, 2**63], dtype=np.uint64), True),
+        ([0.0, 1e13], False),
+        ([0, Decimal(10**13)], False),
+    ):
         with pytest.raises(OverflowError, match="values: that of block 1 does not fit"):
             pitshell.solve(values, NEEDS, millionths=millionths)
     with pytest.raises(TypeError, match="millionths are whole numbers"):
@@ -95,8 +111,13 @@ def test_shells_are_the_best_sets_of_each_factor(seed):
     factors = sorted(rng.sample(range(3000), rng.randint(0, 5)))
     found = pitshell.shells(revenues, costs, pairs, factors, millionths=True)
     for number, factor in enumerate(factors):
-        worth, _, blocks = best([factor * int(r) - 1000 * int(c) for r, c in zip(revenues, costs)], pairs, [0] * len(values), False)
-        assert sum(1 << int(u) for u in np.flatnonzero(found.first <= number)) == blocks and found.worths[number] * 10**9 == worth
+        worth, _, blocks = best(
+            [factor * int(r) - 1000 * int(c) for r, c in zip(revenues, costs)], pairs, [0] * len(values), False
+        )
+        assert (
+            sum(1 << int(u) for u in np.flatnonzero(found.first <= number)) == blocks
+            and found.worths[number] * 10**9 == worth
+        )
     assert (found.first <= len(factors)).all() and len(found.worths) == len(factors)
 
 
@@ -197,7 +218,10 @@ def test_what_is_no_number_is_named(value, kind, why):
 
 @pytest.mark.parametrize("needs", [[[1, -1]], np.array([[1, -2]], dtype=np.int32), [[1, 10**11]]])
 def test_a_block_that_no_mine_has_is_not_shown_as_another(needs):
-    with pytest.raises(pitshell.Refusal, match="error 8: predecessor out of range: block 1 needs a number below 0, or above 2,147,483,647"):
+    with pytest.raises(
+        pitshell.Refusal,
+        match="error 8: predecessor out of range: block 1 needs a number below 0, or above 2,147,483,647",
+    ):
         pitshell.solve(TWO, needs)
 
 
@@ -259,7 +283,23 @@ int main(void) {
     )
     program = tmp_path / "main"
     build = TOP / "build"
-    subprocess.run(["cc", *watch, "-Wall", "-Wextra", "-Werror", "-I", TOP / "include", source, build / "libpitshell.so", f"-Wl,-rpath,{build}", "-o", program], check=True)
+    subprocess.run(
+        [
+            "cc",
+            *watch,
+            "-Wall",
+            "-Wextra",
+            "-Werror",
+            "-I",
+            TOP / "include",
+            source,
+            build / "libpitshell.so",
+            f"-Wl,-rpath,{build}",
+            "-o",
+            program,
+        ],
+        check=True,
+    )
     assert subprocess.run([program]).returncode == 0
 
 

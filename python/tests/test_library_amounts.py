@@ -57,7 +57,19 @@ def test_a_decimal_too_large_is_an_overflow(number):
 
 
 def test_decimals_at_the_ends():
-    numbers = [Decimal(it) for it in ("9223372036854.775807", "-9223372036854.775807", "1e-999999999", "0e999999999", "-0", "4.9e-7", "5e-7", "5.1e-7")]
+    numbers = [
+        Decimal(it)
+        for it in (
+            "9223372036854.775807",
+            "-9223372036854.775807",
+            "1e-999999999",
+            "0e999999999",
+            "-0",
+            "4.9e-7",
+            "5e-7",
+            "5.1e-7",
+        )
+    ]
     found = _amounts.millionths_of(numbers, "values", False)
     assert found.amounts.tolist() == [2**63 - 1, 1 - 2**63, 0, 0, 0, 0, 0, 1] and found.rounded == 4
 
@@ -99,7 +111,13 @@ def test_floats_too_large():
 
 
 def test_integers_of_any_size_in_lists_are_named_where_they_do_not_fit():
-    for values, millionths in (([1, 2**63], True), ([-1, 2**64], True), ([0, -(2**63) - 1], True), ([1, 2**63], False), ([-1, 10**400], False)):
+    for values, millionths in (
+        ([1, 2**63], True),
+        ([-1, 2**64], True),
+        ([0, -(2**63) - 1], True),
+        ([1, 2**63], False),
+        ([-1, 10**400], False),
+    ):
         with pytest.raises(OverflowError, match="values: that of block 1 does not fit 64 bits of millionths"):
             pitshell.solve(values, [], millionths=millionths)
     assert pitshell.solve(np.array([5, -3], dtype=object), [], millionths=True).worth == Decimal("0.000005")
@@ -122,7 +140,12 @@ def test_a_flow_of_integers_up_to_the_greatest(kind):
     assert pitshell.check(values, needs, [1, 1, 1], kind([3_000_000, 7_000_000]))
     for flow in ([2**63, 1], [1, 2**63], [2**64, 2**65], [10**30, 10**30]):
         assert not pitshell.check(values, needs, [1, 1, 1], kind(flow))
-    for flow, number, need in (([2**63, -1], 15, 1), ([10**30 + 1, 1], 4, 0), ([2**200, 1], 4, 0), ([1, -(2**200)], 15, 1)):
+    for flow, number, need in (
+        ([2**63, -1], 15, 1),
+        ([10**30 + 1, 1], 4, 0),
+        ([2**200, 1], 4, 0),
+        ([1, -(2**200)], 15, 1),
+    ):
         with pytest.raises(pitshell.Refusal) as refused:
             pitshell.check(values, needs, [1, 1, 1], kind(flow))
         assert (refused.value.number, refused.value.need) == (number, need)
@@ -156,9 +179,13 @@ def given():
     yield "values", lambda mask: pitshell.solve(masked(values, mask and hidden, np.float64), needs)
     yield "revenues", lambda mask: pitshell.shells(masked([0, 0, 9], mask and hidden), [3, 4, 0], needs, [1000])
     yield "costs", lambda mask: pitshell.shells([0, 0, 9], masked([3, 4, 0], mask and hidden), needs, [1000])
-    yield "factors", lambda mask: pitshell.shells([0, 0, 9], [3, 4, 0], needs, masked([500, 900, 1000], mask and hidden))
+    yield "factors", lambda mask: pitshell.shells(
+        [0, 0, 9], [3, 4, 0], needs, masked([500, 900, 1000], mask and hidden)
+    )
     yield "needs", lambda mask: pitshell.solve(values, masked(needs, mask and pairs))
-    yield r"needs\[0\]", lambda mask: pitshell.solve(values, (masked(rows[0], mask and [False, True, False, False]), rows[1]))
+    yield r"needs\[0\]", lambda mask: pitshell.solve(
+        values, (masked(rows[0], mask and [False, True, False, False]), rows[1])
+    )
     yield r"needs\[1\]", lambda mask: pitshell.solve(values, (rows[0], masked(rows[1], mask and [False, True])))
     yield "fixed", lambda mask: pitshell.solve(values, needs, masked([0, 0, 1], mask and hidden))
     yield "in_pit", lambda mask: pitshell.check(values, needs, masked([1, 1, 1], mask and hidden), [3, 7])

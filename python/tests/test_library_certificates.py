@@ -92,7 +92,9 @@ def test_amounts_of_more_than_64_bits():
     assert pitshell.check(values, needs, found.in_pit, found.flow, millionths=True)
     # One amount past 64 bits: the whole sum through one pair.
     chain = np.array([most] * tops + [0, 0] + [-most] * 11, dtype=np.int64)
-    through = [[top, tops] for top in range(tops)] + [[tops, tops + 1]] + [[tops + 1, tops + 2 + low] for low in range(11)]
+    through = (
+        [[top, tops] for top in range(tops)] + [[tops, tops + 1]] + [[tops + 1, tops + 2 + low] for low in range(11)]
+    )
     found = pitshell.certificate(chain, through, millionths=True)
     assert found.flow.dtype == object and max(found.flow) > 2**64
     assert certifies(chain.tolist(), through, found.in_pit, found.flow.tolist())
@@ -101,7 +103,14 @@ def test_amounts_of_more_than_64_bits():
 
 @pytest.mark.parametrize(
     "in_pit, flow, number",
-    [([1, 1], [4, 0], 17), ([1, 1, 1], [4], 17), ([1, 1, 2], [4, 0], 3), ([1, 1, 1], [4, -1], 15), ([1, 1, 1], [4, 10**30 + 1], 4), ([1, 1, 1], [4, 2**200], 4)],
+    [
+        ([1, 1], [4, 0], 17),
+        ([1, 1, 1], [4], 17),
+        ([1, 1, 2], [4, 0], 3),
+        ([1, 1, 1], [4, -1], 15),
+        ([1, 1, 1], [4, 10**30 + 1], 4),
+        ([1, 1, 1], [4, 2**200], 4),
+    ],
 )
 def test_what_is_no_candidate_is_refused(in_pit, flow, number):
     with pytest.raises(pitshell.Refusal) as refused:

@@ -34,7 +34,12 @@ def rows(rng, blocks):
 
 def fault_of_rows(starts, needs, blocks):
     """What the rows are refused by, by plain loops: all refusals that are there."""
-    if len(starts) != blocks + 1 or starts[0] != 0 or starts[-1] != len(needs) or any(a > b for a, b in zip(starts, starts[1:])):
+    if (
+        len(starts) != blocks + 1
+        or starts[0] != 0
+        or starts[-1] != len(needs)
+        or any(a > b for a, b in zip(starts, starts[1:]))
+    ):
         return {7}
     lists = [needs[starts[u] : starts[u + 1]].tolist() for u in range(blocks)]
     found = set()
@@ -74,13 +79,20 @@ def test_nested_pits(seed):
     for _ in range(ROUNDS):
         blocks, starts, needs, counted, _ = arrays_of(rng)
         least = -1 if rng.random() < 0.1 else 0
-        revenues, costs = (np.array([rng.choice([least, 0, 3, 10**18 + (rng.random() < 0.05)]) for _ in range(n)], dtype=np.int64) for n in (blocks, off(rng, blocks)))
+        revenues, costs = (
+            np.array([rng.choice([least, 0, 3, 10**18 + (rng.random() < 0.05)]) for _ in range(n)], dtype=np.int64)
+            for n in (blocks, off(rng, blocks))
+        )
         factors = [rng.randint(0, 3) * 500 for _ in range(rng.randint(0, 3))]
         listed = np.array(sorted(set(factors)) if rng.random() < 0.8 else factors, dtype=np.uint32)
         firsts = np.full(counted, FILL, dtype=np.uint32)
-        high, low = np.full(off(rng, len(listed)), FILL, dtype=np.int64), np.full(off(rng, len(listed)), FILL, dtype=np.uint64)
+        high, low = np.full(off(rng, len(listed)), FILL, dtype=np.int64), np.full(
+            off(rng, len(listed)), FILL, dtype=np.uint64
+        )
         place = ctypes.c_uint32(FILL)
-        number = _library.shells(*handed((revenues, costs, starts, needs, listed, firsts, high, low)), ctypes.byref(place))
+        number = _library.shells(
+            *handed((revenues, costs, starts, needs, listed, firsts, high, low)), ctypes.byref(place)
+        )
         wrong = fault_of_rows(starts, needs, blocks)
         wrong |= {17} if {len(costs), counted} != {blocks} or {len(high), len(low)} != {len(listed)} else set()
         wrong |= {15} if (revenues < 0).any() or (costs < 0).any() else set()
@@ -104,9 +116,14 @@ def test_pits(seed):
     for _ in range(ROUNDS):
         blocks, starts, needs, counted, _ = arrays_of(rng)
         values = np.array([rng.choice([-5, -1, 0, 4, 2**63 - 1]) for _ in range(blocks)], dtype=np.int64)
-        fixed = np.array([rng.choice([0, 0, 0, 1, 2, 3]) for _ in range(off(rng, blocks))] if rng.random() < 0.5 else [], dtype=np.uint8)
+        fixed = np.array(
+            [rng.choice([0, 0, 0, 1, 2, 3]) for _ in range(off(rng, blocks))] if rng.random() < 0.5 else [],
+            dtype=np.uint8,
+        )
         marks, found = np.full(counted, FILL, dtype=np.uint8), _library.Found(FILL, FILL, FILL)
-        number = _library.solve(*handed((values, starts, needs, fixed)), rng.random() < 0.5, marks, counted, ctypes.byref(found))
+        number = _library.solve(
+            *handed((values, starts, needs, fixed)), rng.random() < 0.5, marks, counted, ctypes.byref(found)
+        )
         if number:
             assert (marks == FILL).all() and found.worth == 0
             assert found.place == 0 or number not in PLACELESS
@@ -128,7 +145,15 @@ def test_certificates_and_their_check(seed):
         found = _library.Found(FILL, FILL, FILL)
         number = _library.certificate(*handed((values, starts, needs, marks, high, low)), ctypes.byref(found))
         wrong = fault_of_rows(starts, needs, blocks)
-        falls = any(starts[u] < k < starts[u + 1] and needs[k] < needs[k - 1] for u in range(blocks) for k in range(len(needs))) if 7 not in wrong else False
+        falls = (
+            any(
+                starts[u] < k < starts[u + 1] and needs[k] < needs[k - 1]
+                for u in range(blocks)
+                for k in range(len(needs))
+            )
+            if 7 not in wrong
+            else False
+        )
         wrong |= {7} if falls and not wrong else set()
         wrong |= {17} if counted != blocks or {len(high), len(low)} != {len(needs)} else set()
         assert number in wrong if wrong else number == 0
@@ -143,7 +168,9 @@ def test_certificates_and_their_check(seed):
         if is_marked:
             marks[rng.randrange(len(marks))] = 2
         yes, place = ctypes.c_bool(True), ctypes.c_uint32(FILL)
-        answer = _library.check(*handed((values, starts, needs, marks, high, low)), ctypes.byref(yes), ctypes.byref(place))
+        answer = _library.check(
+            *handed((values, starts, needs, marks, high, low)), ctypes.byref(yes), ctypes.byref(place)
+        )
         if number == 0 and is_marked:
             assert answer == 3 and marks[place.value] == 2 and not yes.value
         elif number == 0 and bent >= 0.4:
@@ -172,7 +199,9 @@ def test_cycles(seed):
             if room >= count.value > 0:
                 named = cycle[: count.value].tolist()
                 after = named[1:] + named[:1]
-                assert len(set(named)) == len(named) and all(p in needs[starts[u] : starts[u + 1]] for u, p in zip(named, after))
+                assert len(set(named)) == len(named) and all(
+                    p in needs[starts[u] : starts[u + 1]] for u, p in zip(named, after)
+                )
             lengths.add(count.value)
         else:
             assert number in wrong and (cycle == FILL).all() and count.value == 0

@@ -8,8 +8,7 @@ from threading import Timer
 import numpy as np
 import pytest
 from conftest import ROOT
-from hypothesis import given, settings
-from hypothesis import strategies as st
+from hypothesis import given, settings, strategies as st
 from scipy.optimize import Bounds, LinearConstraint, milp
 from scipy.sparse import csr_matrix
 from test_sequencing import THREE, amounts, benches_of, demand_diggable, pits, problem_of, random_benches
@@ -73,32 +72,53 @@ def statement(benches, limits, years):
             other
             for other in range(count)
             if (benches.phase[other] == benches.phase[bench] and benches.level[other] < benches.level[bench])
-            or (benches.phase[other] < benches.phase[bench] and benches.level[other] <= benches.level[bench] + benches.lag)
+            or (
+                benches.phase[other] < benches.phase[bench]
+                and benches.level[other] <= benches.level[bench] + benches.lag
+            )
         ]
         for bench in range(count)
     ]
     # A bench waits for others by those that wait in turn.
     for bench in range(count):
         before[bench] = sorted(set(before[bench]).union(*(before[other] for other in before[bench])))
-    gain = {(bench, year): benches.of("cash")[bench] / 1.1 ** (year + 1) for bench in range(count) for year in range(years)}
+    gain = {
+        (bench, year): benches.of("cash")[bench] / 1.1 ** (year + 1) for bench in range(count) for year in range(years)
+    }
     ramp_up = [limits.ramp_up[min(year, len(limits.ramp_up) - 1)] for year in range(years)]
-    most = [{name: amount * (ramp if name == "ore_tonnes" else 1) for name, amount in limits.most.items()} for ramp in ramp_up]
+    most = [
+        {name: amount * (ramp if name == "ore_tonnes" else 1) for name, amount in limits.most.items()}
+        for ramp in ramp_up
+    ]
     rows = [({(bench, year): 1.0 for year in range(years)}, 1.0) for bench in range(count)]
     for year in range(years):
-        rows += [({(bench, year): benches.of(name)[bench] for bench in range(count)}, most[year][name]) for name in limits.most]
+        rows += [
+            ({(bench, year): benches.of(name)[bench] for bench in range(count)}, most[year][name])
+            for name in limits.most
+        ]
         for phase in set(benches.phase.tolist()) if np.isfinite(limits.sinking_rate) else ():
-            rows.append(({(bench, year): 1.0 for bench in range(count) if benches.phase[bench] == phase}, limits.sinking_rate))
+            rows.append(
+                ({(bench, year): 1.0 for bench in range(count) if benches.phase[bench] == phase}, limits.sinking_rate)
+            )
         for bench in range(count):
             for other in before[bench]:
-                rows.append(({**{(bench, t): 1.0 for t in range(year + 1)}, **{(other, t): -1.0 for t in range(year + 1)}}, 0.0))
+                rows.append(
+                    ({**{(bench, t): 1.0 for t in range(year + 1)}, **{(other, t): -1.0 for t in range(year + 1)}}, 0.0)
+                )
             # By the end of the year all before it is dug, and of it what the limits leave.
             for name in limits.most:
-                room = sum(most[t][name] for t in range(year + 1)) - sum(benches.of(name)[other] for other in before[bench])
+                room = sum(most[t][name] for t in range(year + 1)) - sum(
+                    benches.of(name)[other] for other in before[bench]
+                )
                 own = benches.of(name)[bench]
-                rows.append(({(bench, t): 1.0 for t in range(year + 1)}, max(0.0, room / own) if own else float(room >= 0)))
+                rows.append(
+                    ({(bench, t): 1.0 for t in range(year + 1)}, max(0.0, room / own) if own else float(room >= 0))
+                )
             if np.isfinite(limits.sinking_rate):
                 above = sum(benches.phase[other] == benches.phase[bench] for other in before[bench])
-                rows.append(({(bench, t): 1.0 for t in range(year + 1)}, max(0.0, limits.sinking_rate * (year + 1) - above)))
+                rows.append(
+                    ({(bench, t): 1.0 for t in range(year + 1)}, max(0.0, limits.sinking_rate * (year + 1) - above))
+                )
     return gain, rows, before
 
 
@@ -127,7 +147,9 @@ def integer_optimum(benches, limits, years):
             most.append(1e-9)
     cost = -np.concatenate([list(gain.values()), np.zeros(size)])
     whole = np.repeat([0, 1], size)
-    found = milp(cost, integrality=whole, bounds=Bounds(0, 1), constraints=LinearConstraint(np.array(table), -np.inf, most))
+    found = milp(
+        cost, integrality=whole, bounds=Bounds(0, 1), constraints=LinearConstraint(np.array(table), -np.inf, most)
+    )
     assert found.status == 0, found.message
     return -found.fun
 

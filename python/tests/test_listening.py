@@ -15,7 +15,12 @@ def test_dask_listens_on_this_machine_alone():
     before = {socket.laddr for socket in own.connections("inet") if socket.status == psutil.CONN_LISTEN}
     with on_dask.client_of(distributed, on_dask.Where("local", 1)) as client:
         processes = [own, *own.children(recursive=True)]
-        sockets = [(process.pid, socket) for process in processes for socket in process.connections("inet") if socket.status == psutil.CONN_LISTEN]
+        sockets = [
+            (process.pid, socket)
+            for process in processes
+            for socket in process.connections("inet")
+            if socket.status == psutil.CONN_LISTEN
+        ]
         listening = {pid: {socket.laddr for owner, socket in sockets if owner == pid} - before for pid, _ in sockets}
         workers = set(client.run(os.getpid).values())
     # The scheduler and a worker listen for each other and have a page each.

@@ -34,7 +34,12 @@ def test_the_page_has_each_subcommand_and_option_and_no_others():
 
 
 def test_the_page_is_shown_without_warnings():
-    shown = subprocess.run(["man", "--warnings", "-l", PAGE], capture_output=True, text=True, env={"MANWIDTH": "100", "PATH": "/usr/bin:/bin"})
+    shown = subprocess.run(
+        ["man", "--warnings", "-l", PAGE],
+        capture_output=True,
+        text=True,
+        env={"MANWIDTH": "100", "PATH": "/usr/bin:/bin"},
+    )
     assert shown.returncode == 0 and shown.stderr == ""
     assert "pitplan init [--out FILE] TABLE" in shown.stdout
 
@@ -54,7 +59,12 @@ def test_the_words_of_options_are_those_of_the_modules():
 
 def test_help_says_what_each_option_is_for_and_which_folder_is_taken(tmp_path):
     subs = subparsers(arguments.parser())
-    silent = [(name, action.dest) for name, sub in subs.items() for action in sub._actions if not action.help and name != "convert"]
+    silent = [
+        (name, action.dest)
+        for name, sub in subs.items()
+        for action in sub._actions
+        if not action.help and name != "convert"
+    ]
     assert silent == []
     # As --out of the page says, under OPTIONS.
     for name in ("pit", "pushbacks", "schedule", "sensitivity"):

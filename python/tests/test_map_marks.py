@@ -46,7 +46,12 @@ def test_a_map_has_a_bar_of_a_quarter_at_most_and_an_arrow_upwards():
     """Of 150 m a quarter is 37.5."""
     axes = drawn(lambda ax: map_marks.mark_map(ax, grid()))
     bar = axes.lines[0].get_xydata()
-    assert bar[1, 0] - bar[0, 0] == 20 and bar[0, 1] == bar[1, 1] and 430_000 < bar[0, 0] and 6_512_000 < bar[0, 1] < 6_512_010
+    assert (
+        bar[1, 0] - bar[0, 0] == 20
+        and bar[0, 1] == bar[1, 1]
+        and 430_000 < bar[0, 0]
+        and 6_512_000 < bar[0, 1] < 6_512_010
+    )
     north, length = axes.texts
     assert (north.get_text(), length.get_text()) == ("N", "20 m")
     assert north.xy[1] > north.xyann[1] and north.xy[0] == north.xyann[0], "the tip is above the letter"
@@ -58,8 +63,18 @@ def test_contours_go_round_what_is_dug_to_each_bench():
     assert axes.get_title() == "Floor at factor 1000, elevation in m, a line each 10 m"
     high, low = (np.array(lines.get_segments()) for lines in axes.collections)
     assert len(high) == 12 and len(low) == 4
-    assert (high[..., 0].min(), high[..., 0].max(), high[..., 1].min(), high[..., 1].max()) == (430_075, 430_150, 6_512_040, 6_512_100)
-    assert (low[..., 0].min(), low[..., 0].max(), low[..., 1].min(), low[..., 1].max()) == (430_100, 430_125, 6_512_060, 6_512_080)
+    assert (high[..., 0].min(), high[..., 0].max(), high[..., 1].min(), high[..., 1].max()) == (
+        430_075,
+        430_150,
+        6_512_040,
+        6_512_100,
+    )
+    assert (low[..., 0].min(), low[..., 0].max(), low[..., 1].min(), low[..., 1].max()) == (
+        430_100,
+        430_125,
+        6_512_060,
+        6_512_080,
+    )
     names = {text.get_text(): text.get_position() for text in axes.texts}
     # To the south-west of the upper, and to the north-east of the lower.
     assert names["90"] in [(430_075, 6_512_050), (430_087.5, 6_512_040)]
@@ -67,7 +82,12 @@ def test_contours_go_round_what_is_dug_to_each_bench():
 
 
 @pytest.mark.parametrize(
-    ("benches", "step", "lines", "names"), [(20, 1, 20, ["19", "15", "11", "7", "3"]), (21, 2, 11, ["20", "16", "12", "8", "4", "0"]), (6, 1, 6, list("543210"))]
+    ("benches", "step", "lines", "names"),
+    [
+        (20, 1, 20, ["19", "15", "11", "7", "3"]),
+        (21, 2, 11, ["20", "16", "12", "8", "4", "0"]),
+        (6, 1, 6, list("543210")),
+    ],
 )
 def test_of_many_benches_some_have_a_line_and_some_of_these_a_name(benches, step, lines, names):
     deep = np.arange(float(benches))[None]
@@ -86,7 +106,10 @@ def test_the_lines_of_sections_are_where_they_go():
     """Most of the pit lies in row 3 and in column 4."""
     axes = drawn(lambda ax: pictures.plot_floor(scene(), ax))
     across, along = (line.get_xydata().tolist() for line in axes.lines[:2])
-    assert across == [[430_000, 6_512_070], [430_150, 6_512_070]] and along == [[430_112.5, 6_512_000], [430_112.5, 6_512_100]]
+    assert across == [[430_000, 6_512_070], [430_150, 6_512_070]] and along == [
+        [430_112.5, 6_512_000],
+        [430_112.5, 6_512_100],
+    ]
     assert {"A", "A'", "B", "B'"} <= {text.get_text() for text in axes.texts}
 
 
@@ -96,9 +119,16 @@ def test_sections_and_levels_are_those_asked_for():
     assert pictures.levels_to_show(asked) == [0, 1, 3] and (asked.section_row, asked.section_column) == (0, 5)
     figure = Figure()
     found = pictures.plot_plans(asked, figure.subplots(2, 2))
-    assert [ax.get_title(loc="left") or ax.get_title() for ax in found[1:]] == [f"Shells on the level {low} to {low + 10} m" for low in (90, 80, 60)]
-    titles = [ax.get_title(loc="left") or ax.get_title() for ax in pictures.plot_sections(asked, Figure().subplots(2, 2))]
-    assert titles[0] == "Shells, west to east (A) at north 6512010" and titles[2] == "Shells, south to north (B) at east 430137.5"
+    assert [ax.get_title(loc="left") or ax.get_title() for ax in found[1:]] == [
+        f"Shells on the level {low} to {low + 10} m" for low in (90, 80, 60)
+    ]
+    titles = [
+        ax.get_title(loc="left") or ax.get_title() for ax in pictures.plot_sections(asked, Figure().subplots(2, 2))
+    ]
+    assert (
+        titles[0] == "Shells, west to east (A) at north 6512010"
+        and titles[2] == "Shells, south to north (B) at east 430137.5"
+    )
 
 
 def test_a_picture_of_two_maps_has_no_empty_frames():
@@ -109,16 +139,27 @@ def test_a_picture_of_two_maps_has_no_empty_frames():
 def phase_scene(rules=PictureRules()):
     """The scene's pit in two phases, the second of which is the block below."""
     cube = scene().factor
-    return phase_pictures.PhaseScene(grid(), np.where(cube == 500, 1, np.where(cube == 1000, 2, 0)), np.ones(cube.shape, dtype=bool), 2, rules)
+    return phase_pictures.PhaseScene(
+        grid(), np.where(cube == 500, 1, np.where(cube == 1000, 2, 0)), np.ones(cube.shape, dtype=bool), 2, rules
+    )
 
 
 def likely(rules=PictureRules()):
     """Half of the scenarios dig the scene's upper level, and all the block below."""
     cube = scene().factor
-    return many.Likely(grid(), np.where(cube == 500, 0.5, np.where(cube == 1000, 1.0, 0.0)), np.ones(cube.shape, dtype=bool), 1000, 4, rules)
+    return many.Likely(
+        grid(),
+        np.where(cube == 500, 0.5, np.where(cube == 1000, 1.0, 0.0)),
+        np.ones(cube.shape, dtype=bool),
+        1000,
+        4,
+        rules,
+    )
 
 
-@pytest.mark.parametrize("plot", [lambda axes: phase_pictures.plot_plans(phase_scene(), axes), lambda axes: many.plot_plans(likely(), axes)])
+@pytest.mark.parametrize(
+    "plot", [lambda axes: phase_pictures.plot_plans(phase_scene(), axes), lambda axes: many.plot_plans(likely(), axes)]
+)
 def test_plans_of_phases_and_of_scenarios_are_maps_too(plot):
     """Each with the north and a scale; the first with the lines of the sections that the other picture shows."""
     found = plot(Figure().subplots(2, 2))
@@ -127,13 +168,21 @@ def test_plans_of_phases_and_of_scenarios_are_maps_too(plot):
     named = [{"A", "A'", "B", "B'"} & {text.get_text() for text in ax.texts} for ax in found]
     assert [len(letters) for letters in named] == [4, 0, 0, 0]
     across, along = (line.get_xydata().tolist() for line in found[0].lines[:2])
-    assert across == [[430_000, 6_512_070], [430_150, 6_512_070]] and along == [[430_112.5, 6_512_000], [430_112.5, 6_512_100]]
+    assert across == [[430_000, 6_512_070], [430_150, 6_512_070]] and along == [
+        [430_112.5, 6_512_000],
+        [430_112.5, 6_512_100],
+    ]
 
 
 def test_sections_of_phases_and_of_scenarios_go_along_these_lines():
-    for found in (phase_pictures.plot_sections(phase_scene(), Figure().subplots(2)), many.plot_sections(likely(), Figure().subplots(2))):
+    for found in (
+        phase_pictures.plot_sections(phase_scene(), Figure().subplots(2)),
+        many.plot_sections(likely(), Figure().subplots(2)),
+    ):
         titles = [ax.get_title(loc="left") or ax.get_title() for ax in found]
-        assert titles[0].endswith("est to east (A) at north 6512070") and titles[1].endswith("outh to north (B) at east 430112.5")
+        assert titles[0].endswith("est to east (A) at north 6512070") and titles[1].endswith(
+            "outh to north (B) at east 430112.5"
+        )
 
 
 @pytest.mark.parametrize(("module", "scene_of"), [(phase_pictures, phase_scene), (many, likely)])
@@ -183,18 +232,26 @@ def test_pictures_are_written_as_pdf_and_svg_too_the_same_each_time(project):
         pitplan.write_shells(path, writing=pitplan.Writing(verifies=False))
         folder = path.parent / "plan"
         record = json.loads((folder / "prepare.json").read_text())["files"]
-        names = {f"{name}.{kind}" for name in ("pit_by_pit", "years", "plans", "sections") for kind in ("png", "pdf", "svg")}
-        assert names <= set(record) and all(hashlib.sha256((folder / name).read_bytes()).hexdigest() == record[name] for name in names)
+        names = {
+            f"{name}.{kind}" for name in ("pit_by_pit", "years", "plans", "sections") for kind in ("png", "pdf", "svg")
+        }
+        assert names <= set(record) and all(
+            hashlib.sha256((folder / name).read_bytes()).hexdigest() == record[name] for name in names
+        )
         written.append({name: record[name] for name in names})
     assert written[0] == written[1]
-    assert (folder / "plans.pdf").read_bytes().startswith(b"%PDF-") and b"<svg" in (folder / "plans.svg").read_bytes()[:500]
+    assert (folder / "plans.pdf").read_bytes().startswith(b"%PDF-") and b"<svg" in (folder / "plans.svg").read_bytes()[
+        :500
+    ]
 
 
 def test_phases_are_drawn_where_the_project_asks_for(project, monkeypatch):
     shown = []
     for name in ("write_plans", "write_sections"):
         monkeypatch.setattr(phase_pictures, name, lambda scene, path: (shown.append(scene), path.touch()))
-    pitplan.write_pushbacks(project("levels = [5]\nnorth = 49\n[pushbacks]\ncount = 1"), writing=pitplan.Writing(verifies=False))
+    pitplan.write_pushbacks(
+        project("levels = [5]\nnorth = 49\n[pushbacks]\ncount = 1"), writing=pitplan.Writing(verifies=False)
+    )
     assert [phase_pictures.levels_to_show(scene) for scene in shown] == [[2]] * 2 and shown[0].section_row == 4
 
 

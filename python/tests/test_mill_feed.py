@@ -26,8 +26,14 @@ def test_a_block_by_hand(plan_folder):
     assert values.processing.tolist() == [0, 99 * 10_500_000]
     assert values.mining.tolist() == [200 * MILLION] * 2
     assert (values.undiluted[1], values.feed[1], values.metal["copper"][1]) == (90, 99, 0.36)
-    assert any("there come to the mill 0.9 (mining recovery), and with each of these 0.1 of grade 0" in note for note in values.notes)
-    assert any("a royalty of 5 % is taken off the gross revenue of every block, before selling costs" in note for note in values.notes)
+    assert any(
+        "there come to the mill 0.9 (mining recovery), and with each of these 0.1 of grade 0" in note
+        for note in values.notes
+    )
+    assert any(
+        "a royalty of 5 % is taken off the gross revenue of every block, before selling costs" in note
+        for note in values.notes
+    )
     assert any("a royalty of 0.5 USD a tonne of ore is part of the processing cost" in note for note in values.notes)
 
 
@@ -51,7 +57,9 @@ def test_amounts_are_exact_in_decimals(plan_folder):
     grades = [0.1, 0.7, 0.301, 1.07]
     table = rows(2, 2, 1, tonnes=lambda i, j, k: 100.1 + i, cu=lambda i, j, k: grades[i + 2 * j])
     text = "mining_cost = 2\nmining_recovery = 0.973\ndilution = 0.0417\nroyalty = 0.0275\nroyalty_per_tonne = 0.333\ndecimals = 2\n"
-    plan = pitplan.prepare(plan_folder(table, PROJECT, ("mining_cost = 2\n", text), ("price = 8000", "price = 8123.45")))
+    plan = pitplan.prepare(
+        plan_folder(table, PROJECT, ("mining_cost = 2\n", text), ("price = 8000", "price = 8123.45"))
+    )
     for _, row in plan.blocks.iterrows():
         undiluted = Decimal(str(row.tonnes)) * Decimal("0.973")
         revenue = undiluted * Decimal(str(row.cu)) / 200 * Decimal("8123.45") * (1 - Decimal("0.0275"))
@@ -67,7 +75,10 @@ def test_amounts_are_exact_in_decimals(plan_folder):
         ("dilution = -0.1", "[money] dilution: may not be negative"),
         ("royalty = 5", "[money] royalty: 5 is a share of the revenue, such as 0.03 for 3 %"),
         ("dilution = { S = 0.1 }", 'blocks.csv row 2 column rock: [money] dilution names no rock "R"'),
-        ("mining_recovery = { region = { 2 = 0.1 } }", 'blocks.csv row 2 column region: [money] mining_recovery names no region "1"'),
+        (
+            "mining_recovery = { region = { 2 = 0.1 } }",
+            'blocks.csv row 2 column region: [money] mining_recovery names no region "1"',
+        ),
         ("dilution = { region = { 1 = 0.1 }, rock = 1 }", "[money.dilution] rock: is no key here"),
     ],
 )
@@ -78,8 +89,13 @@ def test_what_is_wrong_is_named(plan_folder, text, said):
 
 
 def test_by_region_needs_a_column_of_regions(plan_folder):
-    changes = [("mining_cost = 2\n", "mining_cost = 2\ndilution = { region = { 1 = 0.1 } }\n"), ('region = "region"\n', "")]
-    with pytest.raises(PlanError, match=r"\[table\] region: is missing, and mining recovery or dilution is given by region"):
+    changes = [
+        ("mining_cost = 2\n", "mining_cost = 2\ndilution = { region = { 1 = 0.1 } }\n"),
+        ('region = "region"\n', ""),
+    ]
+    with pytest.raises(
+        PlanError, match=r"\[table\] region: is missing, and mining recovery or dilution is given by region"
+    ):
         pitplan.prepare(plan_folder(one_block(), PROJECT, *changes))
 
 
@@ -87,16 +103,31 @@ def test_a_shell_by_hand(plan_folder):
     """Both blocks are dug: 200 t, of which one of 100 t is ore in situ, and 99 come to the mill, in 99 / 33 years; 90 t of 0.8 % in these."""
     path = plan_folder(one_block(), PROJECT, ("mining_cost = 2\n", TEXT), ("ore_per_year = 100", "ore_per_year = 33"))
     table = pitplan.write_shells(path).set_index("factor").loc[1000]
-    expected = {"tonnes": 200, "ore_tonnes": 99, "in_situ_ore_tonnes": 100, "waste_tonnes": 100, "strip_ratio": 1, "processed_tonnes": 99, "years": 3}
+    expected = {
+        "tonnes": 200,
+        "ore_tonnes": 99,
+        "in_situ_ore_tonnes": 100,
+        "waste_tonnes": 100,
+        "strip_ratio": 1,
+        "processed_tonnes": 99,
+        "years": 3,
+    }
     expected |= {"grade_copper": 72 / 99, "metal_copper": 0.36, "worth": 2736 - 1039.5 - 400}
     assert {name: table[name] for name in expected} == pytest.approx(expected)
 
 
 def test_waste_is_never_negative(plan_folder, without_figures):
     """Ore alone, with a tenth of dilution: 110 t come to the mill of 100 t that are dug."""
-    path = plan_folder(rows(2, 2, 1, cu=lambda i, j, k: 3), PROJECT, ("mining_cost = 2\n", "mining_cost = 2\ndilution = 0.1\n"))
+    path = plan_folder(
+        rows(2, 2, 1, cu=lambda i, j, k: 3), PROJECT, ("mining_cost = 2\n", "mining_cost = 2\ndilution = 0.1\n")
+    )
     table = pitplan.write_shells(path).set_index("factor").loc[1000]
-    assert (table["ore_tonnes"], table["in_situ_ore_tonnes"], table["waste_tonnes"], table["strip_ratio"]) == (pytest.approx(440), 400, 0, 0)
+    assert (table["ore_tonnes"], table["in_situ_ore_tonnes"], table["waste_tonnes"], table["strip_ratio"]) == (
+        pytest.approx(440),
+        400,
+        0,
+        0,
+    )
 
 
 SCHEDULED = (
@@ -128,7 +159,14 @@ def passed_over(**changed):
 
 
 @pytest.mark.parametrize(
-    "changed", [{"mining_recovery": Decimal(1)}, {"dilution": Decimal(0)}, {"royalty": Decimal(0)}, {"royalty_per_tonne": Decimal(0)}], ids=str
+    "changed",
+    [
+        {"mining_recovery": Decimal(1)},
+        {"dilution": Decimal(0)},
+        {"royalty": Decimal(0)},
+        {"royalty_per_tonne": Decimal(0)},
+    ],
+    ids=str,
 )
 def test_what_is_passed_over_is_found(plan_folder, monkeypatch, changed):
     path = plan_folder(one_block(), PROJECT, ("mining_cost = 2\n", TEXT))
@@ -140,7 +178,11 @@ def test_what_is_passed_over_is_found(plan_folder, monkeypatch, changed):
 
 def test_scenarios_count_what_comes_to_the_mill_by_region(plan_folder):
     """Each model's ore of region 1, undiluted, and of region 2, of which a fifth comes with it."""
-    table = rows(4, 1, 1, region=lambda i, j, k: "12"[i % 2]).drop(columns="cu").assign(cu_a=[3, 0, 0, 0], cu_b=[0, 3, 0, 2])
+    table = (
+        rows(4, 1, 1, region=lambda i, j, k: "12"[i % 2])
+        .drop(columns="cu")
+        .assign(cu_a=[3, 0, 0, 0], cu_b=[0, 3, 0, 2])
+    )
     text = "mining_cost = 2\ndilution = { region = { 1 = 0, 2 = 0.2 } }\n"
     path = plan_folder(table, PROJECT + '[scenarios]\ncolumns = { copper = "cu_*" }\n', ("mining_cost = 2\n", text))
     found = pitplan.write_scenarios(path, request=pitplan.Request(workers=1)).table

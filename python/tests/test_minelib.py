@@ -10,8 +10,7 @@ from pathlib import Path
 
 import pytest
 from conftest import ROOT
-from hypothesis import given
-from hypothesis import strategies as st
+from hypothesis import given, strategies as st
 
 import minelib
 from minelib import numbers, precedence
@@ -75,7 +74,16 @@ def values_of(folder):
 def test_convert_needs_the_standard_library_alone(tmp_path):
     """By an interpreter that sees no other package."""
     (tmp_path / "mine.upit").write_text(UPIT)
-    words = [sys.executable, "-I", "-S", str(ROOT / "tools" / "pitplan"), "convert", "minelib", "--out", str(tmp_path / "out")]
+    words = [
+        sys.executable,
+        "-I",
+        "-S",
+        str(ROOT / "tools" / "pitplan"),
+        "convert",
+        "minelib",
+        "--out",
+        str(tmp_path / "out"),
+    ]
     ran = subprocess.run([*words, str(tmp_path / "mine.upit")], capture_output=True, text=True)
     assert (ran.returncode, ran.stdout) == (0, f"{tmp_path / 'out'}\n"), ran.stderr
     assert (tmp_path / "out" / "mine.upit").exists()

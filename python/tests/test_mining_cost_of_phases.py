@@ -31,7 +31,8 @@ def pushed(plan_folder):
 
 def test_phases_and_years_by_hand(pushed):
     """Of ore there are 100 t a year, and waste takes no time: that of a phase is dug as the one before ends. Phase by phase the waste costs
-    200, 350 and 450, and the ore earns 2800, 1450 and 550. Bench by bench it is all waste first, and then a third of the ore a year."""
+    200, 350 and 450, and the ore earns 2800, 1450 and 550. Bench by bench it is all waste first, and then a third of the ore a year.
+    """
     table = pd.read_csv(pushed / "phases.csv")
     assert table["worth"].tolist() == [2600, 1400, 600] and table["mining_cost_added"].tolist() == [0, 300, 500]
     assert (table["cost_of_width"] == 0).all()
@@ -40,7 +41,9 @@ def test_phases_and_years_by_hand(pushed):
     assert years.loc[("worst", 1000), "cash"].tolist() == pytest.approx([600, 1600, 1600])
     shells = pd.read_csv(pushed / "shells.csv").set_index("factor")
     assert shells["worth"].tolist() == [2600, 4000, 4600]
-    assert shells["npv_best"].tolist() == pytest.approx([present(2600), present(2250, 1450), present(2250, 1000, 550)], abs=1e-3)
+    assert shells["npv_best"].tolist() == pytest.approx(
+        [present(2600), present(2250, 1450), present(2250, 1000, 550)], abs=1e-3
+    )
     assert shells["npv_worst"][1000] == pytest.approx(present(600, 1600, 1600), abs=1e-3)
 
 
@@ -70,7 +73,10 @@ def test_a_schedule_pays_it(plan_folder, bins):
     by_phase = rows.groupby(["way", "phase"])["cash"].sum()
     assert by_phase["rule"].tolist() == pytest.approx([2600, 1100, -200])
     assert by_phase["lp"].tolist() == pytest.approx([2600, 1100])
-    assert ways.loc["lp", "left_tonnes"] == pytest.approx(200) and ways.loc["lp", "value"] <= ways.loc["lp", "bound"] + 1e-6
+    assert (
+        ways.loc["lp", "left_tonnes"] == pytest.approx(200)
+        and ways.loc["lp", "value"] <= ways.loc["lp", "bound"] + 1e-6
+    )
     assert ways.loc["lp", "value"] == pytest.approx(present(2600, 1100), abs=1e-2)
     years = pd.read_csv(folder / "years.csv")
     assert years[years["case"] == "rule"]["cash"].sum() == pytest.approx(3500)
@@ -93,11 +99,23 @@ def test_blocks_that_come_in_another_phase_for_its_width_pay_there(plan_folder):
 @pytest.mark.parametrize(
     ("words", "said"),
     [
-        ("count = 5\nmining_cost_added = [0, 1, 2, 3, 4]", "has 5 amounts, and the pit has 3 phases, of the factors 351, 501, 1000"),
-        ("count = 3\nmining_cost_added = [0, 1]", "has 2 amounts, and the pit has 3 phases, of the factors 500, 700, 1000"),
+        (
+            "count = 5\nmining_cost_added = [0, 1, 2, 3, 4]",
+            "has 5 amounts, and the pit has 3 phases, of the factors 351, 501, 1000",
+        ),
+        (
+            "count = 3\nmining_cost_added = [0, 1]",
+            "has 2 amounts, and the pit has 3 phases, of the factors 500, 700, 1000",
+        ),
         ("count = 3\nmining_cost_added = [0, 1, -1]", r"\[pushbacks\] mining_cost_added: may not be negative"),
-        ("count = 3\nmining_cost_added = 1", r"\[pushbacks\] mining_cost_added: must be a list with what a tonne costs more in each phase"),
-        ("count = 3\nmining_cost_added = []", r"\[pushbacks\] mining_cost_added: must be a list with what a tonne costs more in each phase"),
+        (
+            "count = 3\nmining_cost_added = 1",
+            r"\[pushbacks\] mining_cost_added: must be a list with what a tonne costs more in each phase",
+        ),
+        (
+            "count = 3\nmining_cost_added = []",
+            r"\[pushbacks\] mining_cost_added: must be a list with what a tonne costs more in each phase",
+        ),
         ('count = 3\nmining_cost_added = [0, "1", 2]', r"\[pushbacks\] mining_cost_added: '1' is not a number"),
     ],
 )
@@ -110,7 +128,9 @@ def test_what_is_refused(plan_folder, words, said):
 
 def test_blocks_one_by_one_have_no_phases(plan_folder):
     path = plan_folder(pillars(), with_phases(ADDED))
-    with pytest.raises(PlanError, match=r"\[pushbacks\] mining_cost_added: is by phase, and blocks are in none: leave it out"):
+    with pytest.raises(
+        PlanError, match=r"\[pushbacks\] mining_cost_added: is by phase, and blocks are in none: leave it out"
+    ):
         pitplan.write_block_schedule(path)
 
 

@@ -31,7 +31,9 @@ def test_values_of_a_block_by_hand(plan_folder):
 def test_the_most_that_a_block_can_be_worth_by_hand(plan_folder, cutoff, second):
     """100 t: mining 200, processing 1000; the metal of 0.8 % sells for 3200 at the price as given, that of 0.2 % for 800."""
     table = rows(3, 1, 1, cu=lambda i, j, k: [0.8, 0.2, 0][i])
-    values = pitplan.prepare(plan_folder(table, PROJECT, ("mining_cost = 2", f'mining_cost = 2\ncutoff = "{cutoff}"'))).values
+    values = pitplan.prepare(
+        plan_folder(table, PROJECT, ("mining_cost = 2", f'mining_cost = 2\ncutoff = "{cutoff}"'))
+    ).values
     by_factor = zip((375, 1250, 1500, 2000), (0, 2800, 3600, 5200), second)
     for factor, first, then in by_factor:
         assert [int(it) for it in values.greatest_value(factor)] == [worth * 10**9 for worth in (first, then, -200)]
@@ -67,10 +69,16 @@ def test_cost_rises_with_the_level_from_a_reference(plan_folder, reference, cost
 
 @pytest.mark.parametrize(
     ("text", "is_told"),
-    [("", False), ("mining_cost_per_level = 0.25\nmining_cost_reference = 30\n", False), ("mining_cost_per_level = 0.25\n", True)],
+    [
+        ("", False),
+        ("mining_cost_per_level = 0.25\nmining_cost_reference = 30\n", False),
+        ("mining_cost_per_level = 0.25\n", True),
+    ],
 )
 def test_the_level_from_which_mining_costs_more_is_told_where_it_was_chosen(plan_folder, text, is_told):
-    notes = pitplan.prepare(plan_folder(rows(1, 1, 3), PROJECT, ("mining_cost = 2\n", f"mining_cost = 2\n{text}"))).notes
+    notes = pitplan.prepare(
+        plan_folder(rows(1, 1, 3), PROJECT, ("mining_cost = 2\n", f"mining_cost = 2\n{text}"))
+    ).notes
     assert any("mining costs more for each level below" in note for note in notes) == is_told
 
 
@@ -80,7 +88,8 @@ def test_one_far_block_above_changes_no_cost(plan_folder):
     far = table.iloc[[0]].assign(name="far", x=205.0, z=125.0, tonnes=1)
     changes = [("mining_cost = 2", PER_LEVEL), ('file = "blocks.csv"', 'file = "blocks.csv"\nabsent = "air"')]
     near, both = (
-        pitplan.prepare(plan_folder(it, PROJECT, *changes)) for it in (table, pd.concat([table, far], ignore_index=True))
+        pitplan.prepare(plan_folder(it, PROJECT, *changes))
+        for it in (table, pd.concat([table, far], ignore_index=True))
     )
     for plan in (near, both):
         assert (plan.blocks.set_index("name").loc["b3-0-0", "mining_cost"]) == 250
@@ -205,7 +214,11 @@ def test_a_block_that_yields_a_millionth_is_weighed(plan_folder):
     [
         ("percent", 100.5, "WARNING: 2 grades of copper are above 100 %, the first in row 3"),
         ("percent", 11, 'WARNING: the mean grade of copper, where there is any, is 11 %: is the unit "percent" right?'),
-        ("fraction", 0.336, 'WARNING: the mean grade of copper, where there is any, is 0.336 t/t: is the unit "fraction" right?'),
+        (
+            "fraction",
+            0.336,
+            'WARNING: the mean grade of copper, where there is any, is 0.336 t/t: is the unit "fraction" right?',
+        ),
         ("gram_per_tonne", 4000, 'is 4000 g/t: is the unit "gram_per_tonne" right?'),
         ("percent", 9, ""),
         ("gram_per_tonne", 90, ""),

@@ -8,14 +8,20 @@ import numpy as np
 import pandas as pd
 import pytest
 from conftest import PROJECT, rows
-from hypothesis import given, settings
-from hypothesis import strategies as st
+from hypothesis import given, settings, strategies as st
 from test_linear_programme import limits, small
 from test_sequencing import problem_of, random_benches
 
 import pitplan
-from pitplan import PlanError, grade_bins, integer_programme, linear_programme, write_schedule, yearly_money
-from pitplan import milling_programme as mp
+from pitplan import (
+    PlanError,
+    grade_bins,
+    integer_programme,
+    linear_programme,
+    milling_programme as mp,
+    write_schedule,
+    yearly_money,
+)
 from pitplan.phase_benches import PhaseBenches
 from pitplan.schedule_rules import Effort
 from pitplan.sequencing import Limits, Problem, by_rule
@@ -38,7 +44,9 @@ def solved(path):
     """The table of shells at factor 1000, and its years of the best case."""
     shells = pitplan.write_shells(path)
     years = pd.read_csv(path.parent / "plan" / "years.csv")
-    return shells.set_index("factor").loc[1000], years[(years["case"] == "best") & (years["factor"] == 1000)].set_index("year")
+    return shells.set_index("factor").loc[1000], years[(years["case"] == "best") & (years["factor"] == 1000)].set_index(
+        "year"
+    )
 
 
 @pytest.fixture
@@ -53,7 +61,8 @@ def mine(plan_folder, without_figures):
 
 def test_two_years_by_hand(mine):
     """The waste first, then 50 t of ore a year with 0.2 t of copper, which sell for 200 more in the second; of the third year nothing is
-    spent. At the ends 700 and 1100 flow, and 300 at once and 50 after a year: 700 / 1.1 + 1100 / 1.21 - 300 - 50 / 1.1 = 1200."""
+    spent. At the ends 700 and 1100 flow, and 300 at once and 50 after a year: 700 / 1.1 + 1100 / 1.21 - 300 - 50 / 1.1 = 1200.
+    """
     shell, years = solved(mine(MONEY, PRICES, of_years("end_of_year")))
     assert years["fixed_cost"].tolist() == [100, 100] and years["capital"].tolist() == [300, 50]
     assert years["cash"].tolist() == [400, 1050]
@@ -82,7 +91,10 @@ def test_a_royalty_is_owed_on_the_years_prices_too(mine):
 
 def test_shells_and_ore_keep_the_one_price(mine):
     plain, other = (pitplan.prepare(mine(*changes)) for changes in ((), (MONEY, PRICES)))
-    assert plain.values.mining.tolist() == other.values.mining.tolist() and plain.values.revenue.tolist() == other.values.revenue.tolist()
+    assert (
+        plain.values.mining.tolist() == other.values.mining.tolist()
+        and plain.values.revenue.tolist() == other.values.revenue.tolist()
+    )
     (note,) = [note for note in other.notes if note.startswith("years have")]
     assert note == (
         "years have a fixed cost of 100 USD a year and capital and prices of their own: in years, net present values and schedules, not in "
@@ -93,10 +105,16 @@ def test_shells_and_ore_keep_the_one_price(mine):
 @pytest.mark.parametrize(
     ("change", "said"),
     [
-        (("mining_cost = 2\n", "mining_cost = 2\ncapital = [[0, 5]]\n"), r"\[money\] capital: years are whole, from 1 to 1,000"),
+        (
+            ("mining_cost = 2\n", "mining_cost = 2\ncapital = [[0, 5]]\n"),
+            r"\[money\] capital: years are whole, from 1 to 1,000",
+        ),
         (("mining_cost = 2\n", "mining_cost = 2\ncapital = [[1.5, 5]]\n"), r"\[money\] capital: years are whole"),
         (("mining_cost = 2\n", "mining_cost = 2\ncapital = [[1, -5]]\n"), "amounts may not be negative"),
-        (("mining_cost = 2\n", "mining_cost = 2\nfixed_cost_per_year = -1\n"), r"\[money\] fixed_cost_per_year: -1 is below 0"),
+        (
+            ("mining_cost = 2\n", "mining_cost = 2\nfixed_cost_per_year = -1\n"),
+            r"\[money\] fixed_cost_per_year: -1 is below 0",
+        ),
         (("price = 8000", "price = 8000\nprices = []"), r"\[metals 1\] prices: must be a list of prices, one a year"),
         (("price = 8000", "price = 8000\nprices = [-1]"), r"\[metals 1\] prices: may not be negative"),
         (("price = 8000", "price = 0\nprices = [0, 8000]"), r"\[metals 1\] price: is 0, and by it is told what is ore"),
@@ -149,9 +167,14 @@ def test_a_mine_that_costs_more_than_it_earns_is_left():
 def test_bins_end_before_capital_that_does_not_pay(plan_folder, without_figures):
     """Capital of year 4 is more than all ore that is left then: the mine ends with year 3, worth as much as where there are no more years."""
     table = rows(5, 4, 3, cu=lambda i, j, k: [[0.5, 1.4, 0.9, 2.0, 0.7], [1.1, 0.4, 1.9, 0.8, 1.3]][(j + k) % 2][i])
-    changes = [("ore_per_year = 100", "ore_per_year = 900\nrock_per_year = 1200"), ("mining_cost = 2\n", "mining_cost = 2\ncapital = [[4, 200_000]]\n")]
+    changes = [
+        ("ore_per_year = 100", "ore_per_year = 900\nrock_per_year = 1200"),
+        ("mining_cost = 2\n", "mining_cost = 2\ncapital = [[4, 200_000]]\n"),
+    ]
     text = "[pushbacks]\nfactors = [600, 1000]\n[schedule]\nyears = {}\nbins = 3\nstockpile = {{ rehandling_cost = 1 }}\n[shells]"
-    ended, short = (write_schedule(plan_folder(table, PROJECT, *changes, ("[shells]", text.format(years)))) for years in (7, 3))
+    ended, short = (
+        write_schedule(plan_folder(table, PROJECT, *changes, ("[shells]", text.format(years)))) for years in (7, 3)
+    )
     found = ended.set_index("way").loc["lp"]
     assert found["years"] == 3 and found["value"] >= short.set_index("way").loc["lp", "value"] * (1 - 1e-9)
 
@@ -161,7 +184,9 @@ def test_a_schedule_of_bins_by_hand(money, best):
     """The ore of each bench is one bin, and digging costs nothing."""
     problem = two_benches(money)
     amounts = np.array([[10, 0, 100], [10, 5, 10]], dtype=float)
-    parcels = grade_bins.Parcels(np.array([0, 1]), np.array([2, 1]), ("ore_tonnes", "metal_copper", "gain"), amounts, np.array([5.0]))
+    parcels = grade_bins.Parcels(
+        np.array([0, 1]), np.array([2, 1]), ("ore_tonnes", "metal_copper", "gain"), amounts, np.array([5.0])
+    )
     milled = mp.MillingProblem(problem, parcels, 2, None)
     optimum = milled.relaxed()
     assert optimum.bound == pytest.approx(best) and optimum.cash.sum() == pytest.approx(best)
@@ -172,11 +197,19 @@ def padded(pair):
     """A schedule in both years, whatever it ends with."""
     dug, milling = pair
     wide = [(0, 0), (0, 2 - dug.shape[1])]
-    return np.pad(dug, wide), replace(milling, straight=np.pad(milling.straight, wide), reclaimed=np.pad(milling.reclaimed, wide))
+    return np.pad(dug, wide), replace(
+        milling, straight=np.pad(milling.straight, wide), reclaimed=np.pad(milling.reclaimed, wide)
+    )
 
 
 @settings(max_examples=25)
-@given(small, limits, st.sampled_from([0, 40, 300]), st.sampled_from([(), ((1, 50),), ((2, 200), (3, 10))]), st.sampled_from([(), (0, 900, -400)]))
+@given(
+    small,
+    limits,
+    st.sampled_from([0, 40, 300]),
+    st.sampled_from([(), ((1, 50),), ((2, 200), (3, 10))]),
+    st.sampled_from([(), (0, 900, -400)]),
+)
 def test_no_schedule_is_above_the_bound(pit, limits, fixed, capital, premiums):
     """Nor is the rule's above the programme's, of as many years."""
     money = YearlyMoney(fixed, capital, {"metal_copper": premiums} if premiums else {})
@@ -190,24 +223,35 @@ def test_no_schedule_is_above_the_bound(pit, limits, fixed, capital, premiums):
 
 
 SCHEDULED = (
-    ("mining_cost = 2\n", "mining_cost = 2\nfixed_cost_per_year = 900\ncapital = [[1, 3000], [3, 800]]\nroyalty = 0.1\n"),
+    (
+        "mining_cost = 2\n",
+        "mining_cost = 2\nfixed_cost_per_year = 900\ncapital = [[1, 3000], [3, 800]]\nroyalty = 0.1\n",
+    ),
     ("price = 8000", "price = 8000\nprices = [8000, 9000, 7500]"),
 )
 
 
 def scheduled(plan_folder, way):
     text = f"[pushbacks]\nfactors = [500, 1000]\n[schedule]\nyears = 7\n{way}\n[shells]"
-    table = rows(9, 9, 4, cu=lambda i, j, k: {(4, 4, 0): 9, (4, 4, 1): 3, (3, 4, 1): 1.6, (5, 5, 1): 1.2}.get((i, j, k), 0))
-    return plan_folder(table, PROJECT, *SCHEDULED, ("ore_per_year = 100", "ore_per_year = 70\nrock_per_year = 900"), ("[shells]", text))
+    table = rows(
+        9, 9, 4, cu=lambda i, j, k: {(4, 4, 0): 9, (4, 4, 1): 3, (3, 4, 1): 1.6, (5, 5, 1): 1.2}.get((i, j, k), 0)
+    )
+    return plan_folder(
+        table, PROJECT, *SCHEDULED, ("ore_per_year = 100", "ore_per_year = 70\nrock_per_year = 900"), ("[shells]", text)
+    )
 
 
-@pytest.mark.parametrize("way", ["", "milp = { seconds = 60 }", "bins = 3", "bins = 3\nstockpile = { rehandling_cost = 1 }"])
+@pytest.mark.parametrize(
+    "way", ["", "milp = { seconds = 60 }", "bins = 3", "bins = 3\nstockpile = { rehandling_cost = 1 }"]
+)
 def test_the_second_look_at_schedules_agrees(plan_folder, without_figures, way):
     ways = write_schedule(scheduled(plan_folder, way))
     assert (ways["below_bound"] >= -1e-9).all()
 
 
-@pytest.mark.parametrize(("name", "without", "rule"), [("fixed_cost", 0.0, "value"), ("capital", (), "value"), ("premiums", {}, "amounts")])
+@pytest.mark.parametrize(
+    ("name", "without", "rule"), [("fixed_cost", 0.0, "value"), ("capital", (), "value"), ("premiums", {}, "amounts")]
+)
 def test_money_that_is_passed_over_is_found(plan_folder, monkeypatch, without_figures, name, without, rule):
     path, of_project = scheduled(plan_folder, ""), yearly_money.of_project
     monkeypatch.setattr(yearly_money, "of_project", lambda project: replace(of_project(project), **{name: without}))
@@ -226,4 +270,6 @@ def test_costs_of_a_year_that_are_bent_are_found(mine):
     table.to_csv(file, index=False)
     (rule,) = [rule for rule in verify(path.parent / "plan") if rule.differences]
     assert rule.name == "years"
-    assert rule.differences == tuple(f"worst case of factor 1500, year 2: {said}" for said in ("cash 849 for 850", "fixed_cost 101 for 100"))
+    assert rule.differences == tuple(
+        f"worst case of factor 1500, year 2: {said}" for said in ("cash 849 for 850", "fixed_cost 101 for 100")
+    )

@@ -45,7 +45,11 @@ def test_shells_are_written_and_given_as_a_frame(plan):
     table = pitplan.write_shells(plan)
     # The ore of 6 % is dug from 500 on, with three blocks above it; the block at the floor that must be dug needs the two above it.
     assert table["factor"].tolist() == [500, 1000, 1500]
-    assert table["worth_at_factor"].tolist() == [Decimal(12_000 - 1000 - 800 - 600), Decimal(24_000 + 2000 - 2000 - 1600 - 200), Decimal(36_000 + 3000 - 3800)]
+    assert table["worth_at_factor"].tolist() == [
+        Decimal(12_000 - 1000 - 800 - 600),
+        Decimal(24_000 + 2000 - 2000 - 1600 - 200),
+        Decimal(36_000 + 3000 - 3800),
+    ]
     assert (plan.parent / "plan" / "report.html").exists()
     again = pitplan.write_shells(str(plan), str(plan.parent / "other"), writing=pitplan.Writing(verifies=False))
     pd.testing.assert_frame_equal(again, table)
@@ -65,11 +69,20 @@ def test_a_page_exports_and_a_folder_for_auditors_are_told_by_their_paths(solved
 @pytest.mark.parametrize(
     ("call", "said"),
     [
-        (lambda folder: pitplan.export(folder, "dwg"), "dwg is none of table, csv, xlsx, vti, vtu, dxf, stl, obj, gpkg, str, lines"),
+        (
+            lambda folder: pitplan.export(folder, "dwg"),
+            "dwg is none of table, csv, xlsx, vti, vtu, dxf, stl, obj, gpkg, str, lines",
+        ),
         (lambda folder: pitplan.export(folder, "dxf", 900), "factor 900 is not among the factors 500, 1000, 1500"),
         (lambda folder: pitplan.audit(folder, 900), "factor 900 is not among the factors 500, 1000, 1500"),
-        (lambda folder: pitplan.view(folder / "nowhere"), "nowhere/prepare.json: cannot be read: run pitplan shells first"),
-        (lambda folder: pitplan.verify(folder / "nowhere"), "nowhere/prepare.json: cannot be read: run pitplan shells first"),
+        (
+            lambda folder: pitplan.view(folder / "nowhere"),
+            "nowhere/prepare.json: cannot be read: run pitplan shells first",
+        ),
+        (
+            lambda folder: pitplan.verify(folder / "nowhere"),
+            "nowhere/prepare.json: cannot be read: run pitplan shells first",
+        ),
         (lambda folder: pitplan.gather(folder), "scenarios.json: cannot be read: run pitplan scenarios first"),
         (lambda folder: pitplan.write_scenarios(folder.parent / "project.toml"), r"\[scenarios\] is missing"),
         (lambda folder: pitplan.write_pit(folder.parent / "project.toml"), r"\[fixed\] is missing"),
@@ -82,7 +95,9 @@ def test_what_cannot_be_is_refused_in_words(solved, call, said):
 
 def test_a_verified_folder_is_told_rule_by_rule(solved):
     rules = pitplan.verify(solved[1])
-    assert all(isinstance(rule, pitplan.Rule) and rule.holds and rule.differences == () and rule.count == 0 for rule in rules)
+    assert all(
+        isinstance(rule, pitplan.Rule) and rule.holds and rule.differences == () and rule.count == 0 for rule in rules
+    )
     path = solved[1] / "shells.csv"
     table = pd.read_csv(path, dtype=str)
     right = float(table["waste_tonnes"][0])
@@ -110,11 +125,18 @@ def test_scenarios_are_given_as_frames(plan_folder):
     assert found.quantiles.set_index(["price_copper", "factor"])["tonnes_greatest"][8000, 500] == 300
     assert [rule.count for rule in pitplan.verify(found.folder)] == [0] * 10
     likely = found.likely(500)
-    assert (likely.factor, likely.count, likely.shown.ravel().tolist()) == (500, 6, [pytest.approx(1 / 3, abs=1e-6)] * 3)
+    assert (likely.factor, likely.count, likely.shown.ravel().tolist()) == (
+        500,
+        6,
+        [pytest.approx(1 / 3, abs=1e-6)] * 3,
+    )
     axes = Figure().subplots(2)
     left, right = pitplan.simulation.pictures.plot_spread(found.table, "USD", axes)
     # At 8000 and at factor 500 one of three models is worth 1400, so that the median is 0; at 12,000 it is worth 2900.
-    assert [line.get_ydata()[0] for line in right.lines] == [0, 0] and [line.get_ydata()[2] for line in left.lines] == [300, 300]
+    assert [line.get_ydata()[0] for line in right.lines] == [0, 0] and [line.get_ydata()[2] for line in left.lines] == [
+        300,
+        300,
+    ]
     with pytest.raises(PlanError, match="probability.csv: has no factor 900"):
         found.likely(900)
 
@@ -127,15 +149,22 @@ def test_the_notebook_from_a_frame_to_a_schedule_runs(monkeypatch):
     names: dict = {}
     for text in code:
         exec(text, names)
-    assert sum(bool(line) and not line.startswith(("#", "import", "from")) for text in code for line in text.split("\n")) <= 20
+    assert (
+        sum(bool(line) and not line.startswith(("#", "import", "from")) for text in code for line in text.split("\n"))
+        <= 20
+    )
     given = pd.read_csv("plan/blocks.csv").set_index("id")
     blocks = names["plan"].blocks.set_index("planner_id")
     assert blocks["cu_pct"].to_numpy() == pytest.approx(0.9 * given["cu_pct"][blocks.index].to_numpy())
     inside = names["divided"].phase[blocks["id"]] > 0
     ways = names["yearly_schedule"].ways(names["schedule"])
-    assert (ways["tonnes"] + ways["left_tonnes"]).tolist() == pytest.approx([given["tonnes"][blocks.index[inside]].sum()] * len(ways))
+    assert (ways["tonnes"] + ways["left_tonnes"]).tolist() == pytest.approx(
+        [given["tonnes"][blocks.index[inside]].sum()] * len(ways)
+    )
     years = names["yearly_schedule"].years(names["schedule"])
-    assert (years["ore_tonnes"] <= 800_000 * (1 + 1e-9)).all() and (years["rock_tonnes"] <= 2_000_000 * (1 + 1e-9)).all()
+    assert (years["ore_tonnes"] <= 800_000 * (1 + 1e-9)).all() and (
+        years["rock_tonnes"] <= 2_000_000 * (1 + 1e-9)
+    ).all()
     assert (ways["below_bound"] >= 0).all() and len(names["figure"].axes) == len(ways) >= 1
 
 

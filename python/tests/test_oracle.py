@@ -12,8 +12,7 @@ from decimal import ROUND_HALF_EVEN, Decimal
 import numpy as np
 import pytest
 from conftest import rows
-from hypothesis import HealthCheck, given, settings
-from hypothesis import strategies as st
+from hypothesis import HealthCheck, given, settings, strategies as st
 from scipy.sparse import csr_matrix
 from scipy.sparse.csgraph import maximum_flow
 
@@ -182,7 +181,9 @@ def pit_of(table, needs, factor, cutoff):
 
 wall = st.one_of(
     st.sampled_from(["1:5", "1:9"]),
-    st.lists(st.integers(25, 65), min_size=1, max_size=3).map(lambda angles: [(100 * k, angle) for k, angle in enumerate(angles)]),
+    st.lists(st.integers(25, 65), min_size=1, max_size=3).map(
+        lambda angles: [(100 * k, angle) for k, angle in enumerate(angles)]
+    ),
 )
 
 

@@ -18,7 +18,9 @@ def module_of(tmp_path, monkeypatch, text):
 
 
 def test_a_missing_package_is_named_by_its_debian_name():
-    with pytest.raises(MissingPackage, match="^a map needs the Debian package python3-lent: apt-get install python3-lent$"):
+    with pytest.raises(
+        MissingPackage, match="^a map needs the Debian package python3-lent: apt-get install python3-lent$"
+    ):
         packages.load("lent_nowhere.maps", "python3-lent", "a map")
 
 

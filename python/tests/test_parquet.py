@@ -57,11 +57,17 @@ def test_what_is_made_of_columns():
     frame = pd.DataFrame({"cu": cu, "rock": ["A", None, "B"], "id": [1, 2, 3], "z": [5.5, 15.5, 25.5]})
     frame["rock"] = frame["rock"].astype("category")
     found = parquet.plain(frame, ["rock", "id"])
-    assert found["cu"].tolist()[:2] == [0.3, 1.07] and np.isnan(found["cu"][2]) and found["z"].tolist() == [5.5, 15.5, 25.5]
+    assert (
+        found["cu"].tolist()[:2] == [0.3, 1.07]
+        and np.isnan(found["cu"][2])
+        and found["z"].tolist() == [5.5, 15.5, 25.5]
+    )
     assert found["rock"].tolist() == ["A", "", "B"] and found["id"].tolist() == ["1", "2", "3"]
 
 
 def test_what_needs_text_says_so(tmp_path):
     (tmp_path / "model.parquet").write_bytes(b"PAR1")
-    with pytest.raises(PlanError, match="model.parquet: is Parquet, and pitplan init needs a table that is text, such as CSV"):
+    with pytest.raises(
+        PlanError, match="model.parquet: is Parquet, and pitplan init needs a table that is text, such as CSV"
+    ):
         init.write(tmp_path / "model.parquet", tmp_path / "project.toml")

@@ -6,8 +6,7 @@ import numpy as np
 import pandas as pd
 import pytest
 from conftest import PROJECT, rows
-from hypothesis import given, settings
-from hypothesis import strategies as st
+from hypothesis import given, settings, strategies as st
 from test_pushbacks import UPRIGHT, blocks_of, with_phases, wrong
 
 import pitplan
@@ -35,7 +34,11 @@ def pushed(plan_folder, table, words, text=PROJECT):
     words += "" if "last" in words or "factors" in words else "\nlast = 1000"
     project = load(plan_folder(table, with_phases(words, text)))
     found = pitplan.write_pushbacks(project).set_index("phase")
-    notes = [note for note in files.read_record(project.folder / "pushbacks")["notes"] if "blocks are dug" in note or "too small" in note]
+    notes = [
+        note
+        for note in files.read_record(project.folder / "pushbacks")["notes"]
+        if "blocks are dug" in note or "too small" in note
+    ]
     return found, blocks_of(project.folder / "pushbacks")["phase"], notes
 
 
@@ -55,12 +58,18 @@ def test_a_notch_in_the_pit_is_filled_where_that_costs_less(plan_folder):
 
 def test_a_rich_spur_is_widened_and_a_poor_one_is_left(plan_folder):
     """Beside a square of three: to widen a spur of one block costs one at the floor and two above it. The poor one gains 400 - 200."""
-    for grade, cost, blocks, told in ((RICH, 600, 30 + 1 + 1 + 3, "3 besides (300 t), 0 never"), (POOR, 200, 30, "0 besides (0 t), 2 never")):
+    for grade, cost, blocks, told in (
+        (RICH, 600, 30 + 1 + 1 + 3, "3 besides (300 t), 0 never"),
+        (POOR, 200, 30, "0 besides (0 t), 2 never"),
+    ):
         grades = dict.fromkeys(square(3, 2, 3), RICH) | {(6, 3): grade}
         found, phase, notes = pushed(plan_folder, floor(grades), "count = 1\nwidth = 20")
         assert (found["cost_of_width"][1], found["blocks"][1]) == (cost, blocks)
         assert told in notes[0] and (phase["b6-3-0"] > 0) == (grade == RICH)
-        left = ["too small to mine and left: 1 block, 100 t, about 65, 35, 5", "too small to mine and left: 1 block, 100 t, about 75, 35, 15"]
+        left = [
+            "too small to mine and left: 1 block, 100 t, about 65, 35, 5",
+            "too small to mine and left: 1 block, 100 t, about 75, 35, 15",
+        ]
         assert sorted(notes[1:]) == ([] if grade == RICH else left)
 
 
@@ -131,7 +140,13 @@ def test_what_must_be_dug_stays_in_phase_1_however_narrow(plan_folder):
 
 @pytest.mark.parametrize(
     ("wide", "sides", "expected"),
-    [(40, (20, 20), (2, 2)), (41, (20, 20), (3, 3)), (40, (15, 25), (3, 2)), (5, (20, 20), (1, 1)), (0.3, (0.1, 0.1), (3, 3))],
+    [
+        (40, (20, 20), (2, 2)),
+        (41, (20, 20), (3, 3)),
+        (40, (15, 25), (3, 2)),
+        (5, (20, 20), (1, 1)),
+        (0.3, (0.1, 0.1), (3, 3)),
+    ],
 )
 def test_so_many_blocks_are_so_wide(wide, sides, expected):
     assert widths.rectangle(wide, sides) == expected
@@ -229,7 +244,15 @@ def copied(divided, tmp_path):
     return shutil.copytree(divided, tmp_path / "mine") / "plan" / "pushbacks"
 
 
-@pytest.mark.parametrize(("column", "rule"), [("pieces", "phase widths"), ("least_width", "phase widths"), ("cost_of_width", "phases"), ("deferred_value", "phases")])
+@pytest.mark.parametrize(
+    ("column", "rule"),
+    [
+        ("pieces", "phase widths"),
+        ("least_width", "phase widths"),
+        ("cost_of_width", "phases"),
+        ("deferred_value", "phases"),
+    ],
+)
 @pytest.mark.parametrize("more", [-10, 10, 0.4])
 def test_each_shape_that_is_bent_is_found(copied, column, rule, more):
     assert wrong(copied) == {}

@@ -99,7 +99,9 @@ def scenarios_at(*prices):
         for model in range(11):
             for factor, more in ((500, 0), (1000, 10_000)):
                 tonnes = float(1000 * model + more + 100_000 * (price / 100 - 1))
-                records.append((11 * number + model + 1, f"m{model}", float(price), factor, tonnes, f"{10 * tonnes:.9f}"))
+                records.append(
+                    (11 * number + model + 1, f"m{model}", float(price), factor, tonnes, f"{10 * tonnes:.9f}")
+                )
     names = ["scenario", "model", "price_copper", "factor", "tonnes", "worth_at_factor"]
     return pd.DataFrame(records, columns=names)
 
@@ -171,7 +173,9 @@ def drawn_of(monkeypatch, module, draw):
     """The figure that a picture would write, drawn."""
     figures = []
     for place in (module, pictures):
-        monkeypatch.setattr(place, "finish", lambda figure, path: (FigureCanvasAgg(figure).draw(), figures.append(figure)))
+        monkeypatch.setattr(
+            place, "finish", lambda figure, path: (FigureCanvasAgg(figure).draw(), figures.append(figure))
+        )
     draw()
     return figures[0]
 
@@ -297,8 +301,14 @@ EACH = {
     "grades": (1, lambda axes, project: [pictures.plot_grades(scene(), scene().from_south_to_north(12), axes[0])]),
     "phases on the ground": (1, lambda axes, project: [phase_pictures.plot_surface(phase_scene(), axes[0])]),
     "phases on a level": (1, lambda axes, project: [phase_pictures.plot_level(phase_scene(), 2, axes[0])]),
-    "phases along a row": (1, lambda axes, project: [phase_pictures.plot_from_west_to_east(phase_scene(), 10, axes[0])]),
-    "phases along a column": (1, lambda axes, project: [phase_pictures.plot_from_south_to_north(phase_scene(), 12, axes[0])]),
+    "phases along a row": (
+        1,
+        lambda axes, project: [phase_pictures.plot_from_west_to_east(phase_scene(), 10, axes[0])],
+    ),
+    "phases along a column": (
+        1,
+        lambda axes, project: [phase_pictures.plot_from_south_to_north(phase_scene(), 12, axes[0])],
+    ),
     "plans of phases": (4, lambda axes, project: phase_pictures.plot_plans(phase_scene(), axes)),
     "sections of phases": (2, lambda axes, project: phase_pictures.plot_sections(phase_scene(), axes)),
     "plans": (4, lambda axes, project: pictures.plot_plans(scene(), axes)),
@@ -346,7 +356,11 @@ def test_shells_are_drawn_as_bars_and_curves(panels):
     # Who does not tell green from red tells them by their marks.
     assert len({line.get_marker() for line in right.lines[::2]}) == 3
     # Each curve's greatest has a ring.
-    assert [(line.get_xdata()[0], line.get_ydata()[0]) for line in right.lines[1::2]] == [(1000, 300), (1000, 250), (1000, 150)]
+    assert [(line.get_xdata()[0], line.get_ydata()[0]) for line in right.lines[1::2]] == [
+        (1000, 300),
+        (1000, 250),
+        (1000, 150),
+    ]
     names = [text.get_text() for text in ax.get_legend().get_texts()]
     assert names == ["chosen: 1000", "ore", "waste", "undiscounted", "NPV, best case", "NPV, worst case"]
 
@@ -370,7 +384,12 @@ def test_what_plans_show_of_a_solved_plan(solved):
     assert scene.grade[tuple(places)].tolist() == blocks["cu"].tolist()
     figure, axes = plt.subplots()
     (image,) = pictures.plot_floor(scene, axes).images
-    deepest = blocks[blocks["factor"] > 0].assign(column=lambda it: it["x"] // 10, row=lambda it: it["y"] // 10).groupby(["row", "column"])["z"].min()
+    deepest = (
+        blocks[blocks["factor"] > 0]
+        .assign(column=lambda it: it["x"] // 10, row=lambda it: it["y"] // 10)
+        .groupby(["row", "column"])["z"]
+        .min()
+    )
     drawn = image.get_array()
     assert {(row, column): drawn[int(row), int(column)] for row, column in deepest.index} == (deepest - 5).to_dict()
     assert np.ma.count(np.ma.masked_invalid(drawn)) == len(deepest)

@@ -80,7 +80,11 @@ def test_a_geopackage_is_read_by_gdal_and_is_the_same_each_time(folder):
     assert pitplan.export(folder, "gpkg", shape=Shape("phase")).read_bytes() == before
     source, areas = ogr.Open(str(path)), defaultdict(float)
     layer = source.GetLayerByName("lines")
-    assert layer.GetSpatialRef() is None or layer.GetSpatialRef().IsLocal() or "ndefined" in layer.GetSpatialRef().GetName()
+    assert (
+        layer.GetSpatialRef() is None
+        or layer.GetSpatialRef().IsLocal()
+        or "ndefined" in layer.GetSpatialRef().GetName()
+    )
     for feature in layer:
         points = np.array(feature.GetGeometryRef().GetPoints())
         assert points.shape[1] == 3 and (points[0] == points[-1]).all()
@@ -93,12 +97,16 @@ def test_a_geopackage_is_one_for_those_who_read_its_tables(folder):
     pytest.importorskip("osgeo.ogr")
     with sqlite3.connect(pitplan.export(folder, "gpkg", shape=Shape("year"))) as base:
         assert base.execute("pragma application_id").fetchone()[0] == int.from_bytes(b"GPKG", "big")
-        (name, west, south, east, north), = base.execute("select table_name, min_x, min_y, max_x, max_y from gpkg_contents").fetchall()
+        ((name, west, south, east, north),) = base.execute(
+            "select table_name, min_x, min_y, max_x, max_y from gpkg_contents"
+        ).fetchall()
         count = base.execute("select count(*) from lines where kind = 'toe'").fetchone()[0]
     dug = pd.read_csv(folder / "blocks.csv").query("year > 0")
     ends = [dug["x"].min() - 5, dug["y"].min() - 5, dug["x"].max() + 5, dug["y"].max() + 5]
     assert name == "lines" and [west, south, east, north] == pytest.approx(ends)
-    assert count == sum(1 for string in strings_of(pitplan.export(folder, "str", shape=Shape("year"))) if string[0][4] == "toe")
+    assert count == sum(
+        1 for string in strings_of(pitplan.export(folder, "str", shape=Shape("year"))) if string[0][4] == "toe"
+    )
 
 
 def test_a_pit_of_one_factor_by_hand(plan_folder, capsys):
@@ -130,6 +138,8 @@ def test_an_empty_pit_has_no_lines(plan_folder):
 
 def test_without_gdal_its_package_is_named(solved, monkeypatch):
     monkeypatch.setitem(sys.modules, "osgeo.ogr", None)
-    with pytest.raises(MissingPackage, match="export --to gpkg needs the Debian package python3-gdal: apt-get install python3-gdal"):
+    with pytest.raises(
+        MissingPackage, match="export --to gpkg needs the Debian package python3-gdal: apt-get install python3-gdal"
+    ):
         pitplan.export(solved[1], "gpkg")
     assert not list(solved[1].glob("lines-*"))

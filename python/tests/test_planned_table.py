@@ -64,10 +64,14 @@ def test_a_schedule_gives_each_row_its_phase_and_year(scheduled):
 def test_the_tables_own_format_stays(plan_folder):
     """Semicolons, decimal commas, letters of Windows, a quoted field, a column that the project does not name and a line that is short."""
     table = rows(5, 5, 3, cu=lambda i, j, k: 6.5 if (i, j, k) == (2, 2, 1) else 0)
-    table["note"] = ['über "alles"; hier' if name == "b2-2-1" else "1,50" if name == "b0-0-0" else "" for name in table["name"]]
+    table["note"] = [
+        'über "alles"; hier' if name == "b2-2-1" else "1,50" if name == "b0-0-0" else "" for name in table["name"]
+    ]
     path = plan_folder("", PROJECT, ('file = "blocks.csv"', 'file = "blocks.csv"\nencoding = "cp1252"'))
     text = table.to_csv(index=False, sep=";", decimal=",")
-    text = "".join(line.rstrip("\n").rstrip(";") + "\n" if "b4-4-2" in line else line for line in text.splitlines(keepends=True))
+    text = "".join(
+        line.rstrip("\n").rstrip(";") + "\n" if "b4-4-2" in line else line for line in text.splitlines(keepends=True)
+    )
     (path.parent / "blocks.csv").write_text(text, encoding="cp1252")
     pitplan.write_shells(path, writing=pitplan.Writing(verifies=False))
     after = lines(pitplan.export(path.parent / "plan", "table"), ";", "cp1252")
@@ -132,7 +136,10 @@ def swap(table):
 @pytest.mark.parametrize(
     ("bend", "said"),
     [
-        (lambda table: table[6].__setitem__(-1, "7"), "row 7: b5-0-0,55.0,5.0,5.0,100,0.0,R,1,0,7 for b5-0-0,55.0,5.0,5.0,100,0.0,R,1,0,0"),
+        (
+            lambda table: table[6].__setitem__(-1, "7"),
+            "row 7: b5-0-0,55.0,5.0,5.0,100,0.0,R,1,0,7 for b5-0-0,55.0,5.0,5.0,100,0.0,R,1,0,0",
+        ),
         (lambda table: table[6].__setitem__(5, "0"), "row 7: b5-0-0,55.0,5.0,5.0,100,0,R,1,0,0 for "),
         (lambda table: table[0].__setitem__(-2, "shell"), "row 1: "),
         (lambda table: table.pop(), "row 406: no such row for b4-8-4,"),
@@ -154,7 +161,12 @@ def test_rows_of_no_block_of_the_answer_are_due_0(solved):
     kept = (answer.rows["x"] < 90).to_numpy() & (np.arange(len(dug)) != dug.argmax())
     box = answer.record["grid"]
     record = answer.record | {"grid": box | {"shape": [*box["shape"][:2], box["shape"][2] - 1]}}
-    part = replace(answer, rows=answer.rows[kept].reset_index(drop=True), said=answer.said[kept].reset_index(drop=True), record=record)
+    part = replace(
+        answer,
+        rows=answer.rows[kept].reset_index(drop=True),
+        said=answer.said[kept].reset_index(drop=True),
+        record=record,
+    )
     whole, found = planned_table.found_of(answer), planned_table.found_of(part)
     assert np.array_equal(found, np.where(kept[:, None], whole, 0)) and list(found) == FOUND
     assert (whole[~kept] > 0).any(axis=None) and (whole[kept] > 0).any(axis=None)
@@ -181,7 +193,9 @@ def test_a_project_or_a_table_that_has_changed_is_refused(solved, tmp_path, caps
         kept = shutil.copy(path, tmp_path / "kept")
         path.write_text(path.read_text() + "\n")
         assert main(["export", str(project.path), "--to", "table", "--quiet"]) == 1
-        assert capsys.readouterr().err.startswith(f"pitplan: {folder / '..' / path.name}: has changed since {folder} was written")
+        assert capsys.readouterr().err.startswith(
+            f"pitplan: {folder / '..' / path.name}: has changed since {folder} was written"
+        )
         shutil.copy(kept, path)
     project.table.file.unlink()
     with pytest.raises(PlanError, match="blocks.csv: cannot be read"):

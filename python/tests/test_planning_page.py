@@ -27,7 +27,9 @@ def test_the_lines_for_a_notebook_run(tmp_path, monkeypatch):
     names = {}
     exec(re.search(r"```python\n(.*?)```", PAGE, re.DOTALL)[1], names)
     assert len(names["plan"].blocks) == 7119 and names["solution"].worth.index.tolist()[-1] == 1200
-    assert names["table"]["factor"].tolist() == names["solution"].worth.index.tolist() and names["phases"]["factor"].tolist() == [500, 1000]
+    assert names["table"]["factor"].tolist() == names["solution"].worth.index.tolist() and names["phases"][
+        "factor"
+    ].tolist() == [500, 1000]
 
 
 def test_the_table_of_cutoffs_is_that_of_the_example():
@@ -46,7 +48,9 @@ def test_the_table_of_cutoffs_is_that_of_the_example():
     assert [float(share) for share in told["worth lost, %"]] == [pytest.approx(share, abs=0.05) for share in lost]
 
 
-@pytest.mark.parametrize("levels, steeper, needs", [(2, 11.3, 9), (3, 3.4, 21), (8, 1.7, 25), (17, 0.5, 37), (20, 0.3, 61)])
+@pytest.mark.parametrize(
+    "levels, steeper, needs", [(2, 11.3, 9), (3, 3.4, 21), (8, 1.7, 25), (17, 0.5, 37), (20, 0.3, 61)]
+)
 def test_the_angles_of_the_west_walls_are_those_of_the_page(levels, steeper, needs):
     project = pitplan.load(EXAMPLE)
     plan = pitplan.prepare(replace(project, slopes=replace(project.slopes, levels=levels)))
@@ -87,13 +91,21 @@ def test_the_phases_of_the_page_are_those_of_the_example():
     project = pitplan.load(EXAMPLE)
     plan = pitplan.prepare(pitplan.phases.ending(replace(project, phases=PhaseRules(4, None, None, 1000))))
     table = pitplan.phases.table(pitplan.phases.divide(plan)).set_index("phase")
-    rows = re.findall(r"^\| (\d) \| (\d+) \| (\d+) \| ([\d,.]+) \| ([\d,.]+) \| ([\d.]+) \| ([\d.]+) \| ([\d.]+) \|$", PAGE, re.MULTILINE)
+    rows = re.findall(
+        r"^\| (\d) \| (\d+) \| (\d+) \| ([\d,.]+) \| ([\d,.]+) \| ([\d.]+) \| ([\d.]+) \| ([\d.]+) \|$",
+        PAGE,
+        re.MULTILINE,
+    )
     assert [int(row[0]) for row in rows] == table.index.tolist()
     for number, factor, blocks, rock, ore, strip, copper, worth in rows:
         phase = table.loc[int(number)]
         assert (phase["factor"], phase["blocks"]) == (int(factor), int(blocks))
         assert [f"{phase[name] / 1000:,.1f}" for name in ("tonnes", "ore_tonnes")] == [rock, ore]
-        assert [f"{phase['strip_ratio']:.2f}", f"{phase['grade_copper']:.3f}", f"{phase['worth'] / 1e6:.1f}"] == [strip, copper, worth]
+        assert [f"{phase['strip_ratio']:.2f}", f"{phase['grade_copper']:.3f}", f"{phase['worth'] / 1e6:.1f}"] == [
+            strip,
+            copper,
+            worth,
+        ]
 
 
 def test_the_schedule_of_the_page_is_that_of_the_example():
@@ -102,14 +114,20 @@ def test_the_schedule_of_the_page_is_that_of_the_example():
     plain, binned = (
         yearly_schedule.make(
             pitplan.phases.divide(
-                pitplan.prepare(pitplan.phases.ending(replace(project, phases=PhaseRules(4, None, None, 1000), schedule_rules=asked)))
+                pitplan.prepare(
+                    pitplan.phases.ending(
+                        replace(project, phases=PhaseRules(4, None, None, 1000), schedule_rules=asked)
+                    )
+                )
             )
         )
         for asked in (rules, replace(rules, bins=8, rehandling=1.0))
     )
     ways = yearly_schedule.ways(plain).set_index("way")
     assert f"earn {ways['value']['rule'] / 1e6:.2f} M USD by rule in {ways['years']['rule']} years" in PAGE
-    assert f"each phase {plain.lead} benches behind the one before" in PAGE and ways["value"]["lp"] == pytest.approx(ways["value"]["rule"])
+    assert f"each phase {plain.lead} benches behind the one before" in PAGE and ways["value"]["lp"] == pytest.approx(
+        ways["value"]["rule"]
+    )
     assert f"The upper bound over {plain.years} years is {plain.optimum.bound / 1e6:.2f}, and" in PAGE
     assert f"it finds one of {binned.value('lp') / 1e6:.2f}, below a bound of {binned.optimum.bound / 1e6:.2f}:" in PAGE
     milling = binned.milling["lp"]
@@ -118,7 +136,9 @@ def test_the_schedule_of_the_page_is_that_of_the_example():
 
 def test_the_schedule_by_block_of_the_page_is_that_of_the_example():
     project = pitplan.load(EXAMPLE)
-    table = block_result.make(pitplan.prepare(replace(project, schedule_rules=ScheduleRules(ramp_up=(0.5, 1.0))))).table.iloc[0]
+    table = block_result.make(
+        pitplan.prepare(replace(project, schedule_rules=ScheduleRules(ramp_up=(0.5, 1.0))))
+    ).table.iloc[0]
     said = f"the example's blocks earn {table['value'] / 1e6:.2f} M USD, {100 * table['below_bound']:.2f} % less than the bound of {table['bound'] / 1e6:.2f}."
     assert f"With `ramp_up = [0.5, 1.0]` {said}" in PAGE
 
@@ -130,11 +150,18 @@ def test_the_widths_of_the_page_are_those_of_the_example():
         plan = pitplan.prepare(pitplan.phases.ending(replace(project, phases=PhaseRules(*rules))))
         return pitplan.phases.divide(plan)
 
-    shells, wide, four = divided(2, None, None, 1000), divided(2, None, None, 1000, 40, 40), divided(4, None, None, 1000, 40, 40)
+    shells, wide, four = (
+        divided(2, None, None, 1000),
+        divided(2, None, None, 1000, 40, 40),
+        divided(4, None, None, 1000, 40, 40),
+    )
     before, after, many = (pitplan.phases.table(it) for it in (shells, wide, four))
     (note,) = [note for note in wide.notes if "blocks are dug" in note]
     later, more = (int(re.search(rf"([\d,]+) {word}", note)[1]) for word in ("later", "besides"))
-    assert f"are {' and '.join(map(str, after['blocks']))} blocks: of the {' and '.join(map(str, before['blocks']))} that the shells add" in PAGE
+    assert (
+        f"are {' and '.join(map(str, after['blocks']))} blocks: of the {' and '.join(map(str, before['blocks']))} that the shells add"
+        in PAGE
+    )
     assert f"{later} of the first come in the second, and {more} more blocks are dug" in PAGE
     cost, worth = after["cost_of_width"].iloc[-1], before["worth"].sum() / 1e6
     assert f"worth {cost:,.0f} USD less by it, of {worth:.1f} million" in PAGE
@@ -144,7 +171,12 @@ def test_the_widths_of_the_page_are_those_of_the_example():
 def test_the_sensitivity_of_the_page_is_that_of_the_example(tmp_path):
     project = pitplan.load(EXAMPLE)
     rules = SensitivityRules((Decimal("-0.2"), Decimal("-0.1")), ("price", "slopes"))
-    table = pitplan.write_sensitivity(replace(project, sensitivity=rules), tmp_path, writing=pitplan.Writing(verifies=False, figures=False))
+    table = pitplan.write_sensitivity(
+        replace(project, sensitivity=rules), tmp_path, writing=pitplan.Writing(verifies=False, figures=False)
+    )
     npv = {(row.number, row.share): f"{row.npv / 1e6:.1f}" for row in table.itertuples()}
-    said = re.search(r"Of the example's ([\d.]+) M USD a price that is 20 % less leaves ([\d.]+), and walls of a tenth less angle ([\d.]+)\.", PAGE)
+    said = re.search(
+        r"Of the example's ([\d.]+) M USD a price that is 20 % less leaves ([\d.]+), and walls of a tenth less angle ([\d.]+)\.",
+        PAGE,
+    )
     assert said.groups() == (npv["", 0.0], npv["price", -0.2], npv["slopes", -0.1])

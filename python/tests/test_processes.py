@@ -6,8 +6,7 @@ import numpy as np
 import pandas as pd
 import pytest
 from conftest import PROJECT, rows
-from hypothesis import given
-from hypothesis import strategies as st
+from hypothesis import given, strategies as st
 
 import pitplan
 from pitplan import PlanError, analyse, files, money, processes, write_schedule
@@ -27,7 +26,12 @@ recovery = { copper = { R = 0.9, S = 0.65 } }
 per_year = 100
 [slopes]
 """
-WITH = [("processing_cost = 10\n", ""), ("recovery = 0.5\n", ""), ("ore_per_year = 100\n", ""), ("[slopes]\n", LEACH_AND_MILL)]
+WITH = [
+    ("processing_cost = 10\n", ""),
+    ("recovery = 0.5\n", ""),
+    ("ore_per_year = 100\n", ""),
+    ("[slopes]\n", LEACH_AND_MILL),
+]
 
 
 def ways_of(*lines):
@@ -59,13 +63,21 @@ def test_steps_by_hand(lines, steps):
 
 @pytest.mark.parametrize(
     ("lines", "best"),
-    [([(10, 5), (10, 5)], 0), ([(10, 5), (20, 15)], 0), ([(20, 15), (10, 5)], 1), ([(10, 5), (20, 14)], 1), ([(20, 15), (10, 5), (10, 5)], 1)],
+    [
+        ([(10, 5), (10, 5)], 0),
+        ([(10, 5), (20, 15)], 0),
+        ([(20, 15), (10, 5)], 1),
+        ([(10, 5), (20, 14)], 1),
+        ([(20, 15), (10, 5), (10, 5)], 1),
+    ],
 )
 def test_of_equals_the_least_revenue_and_then_the_first_is_best(lines, best):
     assert best_way(ways_of(*lines), 1000).tolist() == [best]
 
 
-lines = st.lists(st.tuples(st.integers(0, 40), st.integers(0, 40)).map(lambda it: it if it[0] else (0, 0)), min_size=1, max_size=5)
+lines = st.lists(
+    st.tuples(st.integers(0, 40), st.integers(0, 40)).map(lambda it: it if it[0] else (0, 0)), min_size=1, max_size=5
+)
 
 
 @given(lines, st.integers(0, 4000))
@@ -79,7 +91,9 @@ def test_steps_that_pay_add_up_to_the_best_process(lines, factor):
     assert gains[pays].sum() == max(0, *(factor * revenue - 1000 * cost for revenue, cost in lines))
     if pays.any():
         revenue, cost = lines[steps.way[pays][-1]]
-        assert (steps.revenue[pays].sum(), steps.cost[pays].sum()) == (revenue, cost) == lines[best_way(ways, factor)[0]]
+        assert (
+            (steps.revenue[pays].sum(), steps.cost[pays].sum()) == (revenue, cost) == lines[best_way(ways, factor)[0]]
+        )
 
 
 @pytest.mark.parametrize(("lines", "best"), [([(10, 5), (20, 15)], 0), ([(20, 15), (10, 5)], 1)])
@@ -101,9 +115,19 @@ def test_nodes_by_hand(plan_folder, tmp_path):
     assert lines == ["0 0 0 1 0 200", "1 0 0 0 0 200", "2 0 0 0 2560 300", "3 0 0 0 3200 1000"]
     assert (tmp_path / files.PREC).read_text().splitlines() == ["1 1 0", "2 1 1", "3 1 2"]
     block = plan.blocks.set_index("name").loc["b0-0-0"]
-    told = ["revenue_leach", "processing_cost_leach", "revenue_mill", "processing_cost_mill", "revenue", "processing_cost"]
+    told = [
+        "revenue_leach",
+        "processing_cost_leach",
+        "revenue_mill",
+        "processing_cost_mill",
+        "revenue",
+        "processing_cost",
+    ]
     assert block[told].tolist() == [2560, 300, 5760, 1300, 5760, 1300]
-    assert "1 blocks have a node for processing: the cut-off moves with the price, and 1 nodes more for processes that are better from a greater price on" in plan.notes
+    assert (
+        "1 blocks have a node for processing: the cut-off moves with the price, and 1 nodes more for processes that are better from a greater price on"
+        in plan.notes
+    )
     assert plan.project.schedule.ore_per_year == 400
 
 
@@ -123,7 +147,9 @@ def test_the_process_of_a_block_by_hand(plan_folder, without_figures, grade, pro
     shell = pitplan.write_shells(path).set_index("factor").loc[1000]
     blocks = pd.read_csv(path.parent / "plan" / "blocks.csv", keep_default_na=False).set_index("name")
     assert blocks["process"].tolist() == ["", process] and shell["ore_tonnes"] == ore
-    assert {name: shell[f"ore_tonnes_{name}"] for name in ("leach", "mill")} == {name: ore * (name == process) for name in ("leach", "mill")}
+    assert {name: shell[f"ore_tonnes_{name}"] for name in ("leach", "mill")} == {
+        name: ore * (name == process) for name in ("leach", "mill")
+    }
 
 
 def test_worth_by_hand_at_each_factor(plan_folder, without_figures):
@@ -131,7 +157,12 @@ def test_worth_by_hand_at_each_factor(plan_folder, without_figures):
     path = plan_folder(one_column(), PROJECT, *WITH, ("[500, 1000, 1500]", "[270, 300, 500, 1000]"))
     shells = pitplan.write_shells(path).set_index("factor")
     assert [float(worth) for worth in shells["worth_at_factor"]] == [0, 768 - 700, 2880 - 1700, 5760 - 1700]
-    assert shells["worth"].tolist() == [0, 4060, 4060, 4060] and shells["processed_tonnes"].tolist() == [0, 100, 100, 100]
+    assert shells["worth"].tolist() == [0, 4060, 4060, 4060] and shells["processed_tonnes"].tolist() == [
+        0,
+        100,
+        100,
+        100,
+    ]
 
 
 def deposit():
@@ -143,7 +174,11 @@ def deposit():
     return table
 
 
-MORE = [*WITH, ("mining_cost = 2\n", "mining_cost = 0.3\nmining_recovery = 0.97\ndilution = 0.05\ndecimals = 2\n"), ("[500, 1000, 1500]", "[200, 300, 500, 1000, 1500]")]
+MORE = [
+    *WITH,
+    ("mining_cost = 2\n", "mining_cost = 0.3\nmining_recovery = 0.97\ndilution = 0.05\ndecimals = 2\n"),
+    ("[500, 1000, 1500]", "[200, 300, 500, 1000, 1500]"),
+]
 
 
 def solved(plan_folder):
@@ -161,7 +196,9 @@ def test_the_second_look_agrees_and_each_process_has_ore(plan_folder, without_fi
     assert wrong(folder) == set()
     shells = pd.read_csv(folder / "shells.csv").set_index("factor")
     assert (shells.loc[1000, ["ore_tonnes_leach", "ore_tonnes_mill"]] > 100).all()
-    assert shells["ore_tonnes"].tolist() == pytest.approx((shells["ore_tonnes_leach"] + shells["ore_tonnes_mill"]).tolist())
+    assert shells["ore_tonnes"].tolist() == pytest.approx(
+        (shells["ore_tonnes_leach"] + shells["ore_tonnes_mill"]).tolist()
+    )
     # Some blocks are leached at a low price and milled at the given one.
     plan = pitplan.prepare(folder.parent / "project.toml")
     assert (np.diff(plan.values.processed) == 0).sum() > 5
@@ -181,7 +218,16 @@ def test_shells_are_those_of_the_best_process_at_each_factor(plan_folder, cutoff
     entry = analyse.cells_of(plan, pitplan.solve(plan)).factor
     for factor in plan.project.schedule.factors:
         best = best_way(plan.values.ways, factor if cutoff == "moving" else 1000)
-        alone = tuple(replace(way, **{name: np.choose(best, [getattr(it, name) for it in plan.values.ways]) for name in ("revenue", "cost")}) for way in plan.values.ways[:1])
+        alone = tuple(
+            replace(
+                way,
+                **{
+                    name: np.choose(best, [getattr(it, name) for it in plan.values.ways])
+                    for name in ("revenue", "cost")
+                },
+            )
+            for way in plan.values.ways[:1]
+        )
         one = replace(plan, values=replace(plan.values, ways=alone, best=np.zeros_like(best)))
         one.project = replace(plan.project, schedule=replace(plan.project.schedule, factors=(factor,)))
         inside = pitplan.solve(one).entry[: plan.grid.count] > 0
@@ -209,18 +255,24 @@ def both(ways):
     number = np.concatenate([np.full(len(block), number) for block, number in parts])
     order = np.argsort(block, kind="stable")
     block, number = block[order], number[order]
-    return processes.Steps(block, number, *(np.stack([getattr(way, name) for way in ways])[number, block] for name in ("revenue", "cost")))
+    return processes.Steps(
+        block, number, *(np.stack([getattr(way, name) for way in ways])[number, block] for name in ("revenue", "cost"))
+    )
 
 
 @pytest.mark.parametrize(("name", "planted", "rule"), [("best_way", worst_way, "money"), ("steps_of", both, "worth")])
-def test_other_processes_and_blocks_that_are_processed_twice_are_found(plan_folder, monkeypatch, without_figures, name, planted, rule):
+def test_other_processes_and_blocks_that_are_processed_twice_are_found(
+    plan_folder, monkeypatch, without_figures, name, planted, rule
+):
     monkeypatch.setattr(money, name, planted)
     assert rule in wrong(solved(plan_folder))
 
 
 def test_a_capacity_that_is_passed_over_is_found(plan_folder, monkeypatch, without_figures):
     years = pitplan.schedule.capacity_years
-    monkeypatch.setattr(pitplan.schedule, "capacity_years", lambda amounts, settings: years(amounts, replace(settings, per_process=())))
+    monkeypatch.setattr(
+        pitplan.schedule, "capacity_years", lambda amounts, settings: years(amounts, replace(settings, per_process=()))
+    )
     assert "years" in wrong(solved(plan_folder))
 
 
@@ -234,13 +286,25 @@ def test_phases_and_schedules_keep_to_the_capacities(plan_folder, without_figure
     ("changes", "said"),
     [
         (WITH[1:], r"\[money\] processing_cost: give the cost of each of the \[\[processes\]\], not this"),
-        ([WITH[0], *WITH[2:]], r"\[metals 1\] recovery: give the recoveries of each of the \[\[processes\]\], not this"),
+        (
+            [WITH[0], *WITH[2:]],
+            r"\[metals 1\] recovery: give the recoveries of each of the \[\[processes\]\], not this",
+        ),
         ([*WITH[:2], WITH[3]], r"\[shells\] ore_per_year: give per_year of each of the \[\[processes\]\], not this"),
         ([*WITH, ('name = "mill"', 'name = "leach"')], r"two \[\[processes\]\] have one name"),
         ([*WITH, ('name = "mill"', 'name = "the mill"')], '"the mill" is not one word'),
-        ([*WITH, ("{ copper = 0.4 }", "{ gold = 0.4 }")], r"\[\[processes\]\] leach recovers gold, which is none of the \[\[metals\]\] copper"),
-        ([*WITH, ("[shells]", "[pushbacks]\ncount = 2\n[schedule]\nbins = 2\n[shells]")], r"\[schedule\] bins and ore_per_year are of one process"),
-        ([*WITH, ("[shells]", '[scenarios]\ncolumns = { copper = "cu*" }\n[shells]')], r"\[scenarios\] are solved with one process"),
+        (
+            [*WITH, ("{ copper = 0.4 }", "{ gold = 0.4 }")],
+            r"\[\[processes\]\] leach recovers gold, which is none of the \[\[metals\]\] copper",
+        ),
+        (
+            [*WITH, ("[shells]", "[pushbacks]\ncount = 2\n[schedule]\nbins = 2\n[shells]")],
+            r"\[schedule\] bins and ore_per_year are of one process",
+        ),
+        (
+            [*WITH, ("[shells]", '[scenarios]\ncolumns = { copper = "cu*" }\n[shells]')],
+            r"\[scenarios\] are solved with one process",
+        ),
     ],
 )
 def test_what_is_wrong_is_named(plan_folder, changes, said):

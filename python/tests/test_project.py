@@ -31,7 +31,11 @@ def test_a_byte_order_mark_is_passed_over_and_another_encoding_is_refused(plan_f
             "[money] minning_cost: is no key here; mining_cost is",
         ),
         ('title = "Test hill"', 'title = """Test\nhill"""', "title: must be one line of plain text"),
-        ('id = "name"', 'id = "name"\nencoding = "utf-9"', '[table] encoding: "utf-9" is no encoding: such are utf-8, cp1252'),
+        (
+            'id = "name"',
+            'id = "name"\nencoding = "utf-9"',
+            '[table] encoding: "utf-9" is no encoding: such are utf-8, cp1252',
+        ),
         ('id = "name"', 'id = "name"\ndecimal = ";"', '[table] decimal: ";" is none of ., ,'),
         ("mining_cost = 2", "mining_cost = true", "[money] mining_cost: True is not a number"),
         ("mining_cost = 2", "mining_cost = nan", "[money] mining_cost: NaN is not a number"),
@@ -71,7 +75,11 @@ def test_a_byte_order_mark_is_passed_over_and_another_encoding_is_refused(plan_f
         ("[10, 10, 10]", "[10, 10, 0]", "[grid] size: a block's size is above 0"),
         ("levels = 3", "levels = 0", "[slopes] levels: must be a whole number from 1 to 40"),
         ('pattern = "1:5"', 'pattern = "1:7"', '[slopes.walls 1] pattern: "1:7" is none of 1:5, 1:9'),
-        ('pattern = "1:5"', "", "[slopes.walls 1] angle: give exactly one of angle, azimuths, bench, pattern and steps"),
+        (
+            'pattern = "1:5"',
+            "",
+            "[slopes.walls 1] angle: give exactly one of angle, azimuths, bench, pattern and steps",
+        ),
         ('pattern = "1:5"', "angle = 95", "[slopes.walls 1] angle: a wall angle is from 1 to 90 degrees"),
         (
             'pattern = "1:5"',
@@ -83,14 +91,34 @@ def test_a_byte_order_mark_is_passed_over_and_another_encoding_is_refused(plan_f
             "azimuths = [0, 40]",
             "[slopes.walls 1] azimuths: must be a list of pairs [azimuth, angle]",
         ),
-        ('pattern = "1:5"', 'pattern = "1:5"\nregion = 1.5', "[slopes.walls 1] region: must be a code or a list of codes"),
-        ('pattern = "1:5"', 'pattern = "1:5"\nregion = []', "[slopes.walls 1] region: must be a code or a list of codes"),
-        ('pattern = "1:5"', 'pattern = "1:5"\nregion = true', "[slopes.walls 1] region: must be a code or a list of codes"),
+        (
+            'pattern = "1:5"',
+            'pattern = "1:5"\nregion = 1.5',
+            "[slopes.walls 1] region: must be a code or a list of codes",
+        ),
+        (
+            'pattern = "1:5"',
+            'pattern = "1:5"\nregion = []',
+            "[slopes.walls 1] region: must be a code or a list of codes",
+        ),
+        (
+            'pattern = "1:5"',
+            'pattern = "1:5"\nregion = true',
+            "[slopes.walls 1] region: must be a code or a list of codes",
+        ),
         ("levels = 3", "levels = 3\nnever_steeper = 1", "[slopes] never_steeper: must be true or false"),
         ('pattern = "1:5"', "azimuths = []", "[slopes.walls 1] azimuths: must be a list of pairs [azimuth, angle]"),
         ('pattern = "1:5"', "azimuths = 40", "[slopes.walls 1] azimuths: must be a list of pairs [azimuth, angle]"),
-        ('pattern = "1:5"', "azimuths = [[0, 40, 1]]", "[slopes.walls 1] azimuths: must be a list of pairs [azimuth, angle]"),
-        ("[500, 1000, 1500]", "[500.5]", "[shells] factors: 500.5 is not a whole number of per mille from 0 to 100,000"),
+        (
+            'pattern = "1:5"',
+            "azimuths = [[0, 40, 1]]",
+            "[slopes.walls 1] azimuths: must be a list of pairs [azimuth, angle]",
+        ),
+        (
+            "[500, 1000, 1500]",
+            "[500.5]",
+            "[shells] factors: 500.5 is not a whole number of per mille from 0 to 100,000",
+        ),
         (
             "[500, 1000, 1500]",
             "[0.3, 1]",
@@ -105,7 +133,11 @@ def test_a_byte_order_mark_is_passed_over_and_another_encoding_is_refused(plan_f
             "[shells] factors: from 1300 to 300 there is no factor: from may not be above to",
         ),
         ("[500, 1000, 1500]", "{ from = 300, step = 50 }", "[shells.factors] to: is missing"),
-        ("[500, 1000, 1500]", "{ from = 300, to = 500 }", "[shells.factors] step: must be a whole number from 1 to 100,000"),
+        (
+            "[500, 1000, 1500]",
+            "{ from = 300, to = 500 }",
+            "[shells.factors] step: must be a whole number from 1 to 100,000",
+        ),
         ("rate = 0.1", "rate = 8", "[shells] rate: 8 is above 1: it is a yearly rate, such as 0.08 for 8 % a year"),
         ("[500, 1000, 1500]", "[]", "[shells] factors: must be a list of factors, or { from, to, step }"),
         ("rate = 0.1", "rate = 0.1\nchosen = 900", "[shells] chosen: 900 is not among the factors"),
@@ -165,8 +197,18 @@ LEVEL = "mining_cost_per_level = 0.5\n"
         ("mining_cost = 2\n", "mining_cost = {}\n", ("0", "0.5"), ("-0.5",)),
         ("mining_cost = 2\n", "mining_cost = 2\ndecimals = {}\n", ("0", "6"), ("-1", "7", "true")),
         ("mining_cost = 2\n", "mining_cost = 2\nmining_cost_per_level = {}\n", ("0", "0.5"), ("-0.5",)),
-        ("mining_cost = 2\n", f"mining_cost = 2\n{LEVEL}mining_cost_reference = {{}}\n", ("-0.5", "0", "1e9"), ("true", "1.1e9", "-1e30")),
-        ("mining_cost = 2\n", "mining_cost = 2\nmining_cost_by_elevation = [[-3, 0.5], [10, {}]]\n", ("0", "0.5"), ("-0.5",)),
+        (
+            "mining_cost = 2\n",
+            f"mining_cost = 2\n{LEVEL}mining_cost_reference = {{}}\n",
+            ("-0.5", "0", "1e9"),
+            ("true", "1.1e9", "-1e30"),
+        ),
+        (
+            "mining_cost = 2\n",
+            "mining_cost = 2\nmining_cost_by_elevation = [[-3, 0.5], [10, {}]]\n",
+            ("0", "0.5"),
+            ("-0.5",),
+        ),
         ("processing_cost = 10", "processing_cost = {}", ("0", "0.5"), ("-0.5",)),
         ("price = 8000", "price = {}", ("0", "0.5"), ("-0.5",)),
         ("price = 8000", "price = 8000\nselling_cost = {}", ("0", "0.5"), ("-0.5",)),
@@ -210,13 +252,32 @@ def test_what_is_left_out(tmp_path):
     project = pitplan.load(path)
     assert (project.title, project.folder, project.scenarios, project.fixed) == ("hill", folder / "plan", None, None)
     table, money, slopes, schedule = project.table, project.money, project.slopes, project.schedule
-    assert (table.x, table.y, table.z, table.tonnes, table.id, table.rock, table.region) == ("x", "y", "z", "tonnes", None, None, None)
-    assert (table.separator, table.decimal, table.encoding, table.empty, table.absent) == (None, None, "utf-8-sig", "refuse", "refuse")
+    assert (table.x, table.y, table.z, table.tonnes, table.id, table.rock, table.region) == (
+        "x",
+        "y",
+        "z",
+        "tonnes",
+        None,
+        None,
+        None,
+    )
+    assert (table.separator, table.decimal, table.encoding, table.empty, table.absent) == (
+        None,
+        None,
+        "utf-8-sig",
+        "refuse",
+        "refuse",
+    )
     assert (project.grid.size, project.grid.tolerance) == (None, 0.01)
     assert (money.currency, money.decimals, money.cutoff) == ("USD", 6, "moving")
     assert (money.mining_cost_per_level, money.mining_cost_reference, money.mining_cost_by_elevation) == (0, None, ())
     assert project.metals[0].selling_cost == 0
-    assert (slopes.levels, slopes.never_steeper, slopes.walls[0].regions, slopes.walls[0].angles) == (None, False, None, ((0, 45),))
+    assert (slopes.levels, slopes.never_steeper, slopes.walls[0].regions, slopes.walls[0].angles) == (
+        None,
+        False,
+        None,
+        ((0, 45),),
+    )
     assert (schedule.chosen, schedule.rock_per_year, schedule.discounting) == (None, None, "end_of_year")
     assert (schedule.factors, schedule.reference_added) == ((1000,), False)
 

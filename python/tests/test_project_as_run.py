@@ -87,7 +87,9 @@ def test_the_text_of_a_run_is_never_written_over_by_a_run_of_it(mine):
     path = mine()
     pitplan.write_shells(path)
     again = load(path.parent / "plan" / "project-as-run.toml")
-    with pytest.raises(PlanError, match="project-as-run.toml: the plan would be written over it: give another folder by --out"):
+    with pytest.raises(
+        PlanError, match="project-as-run.toml: the plan would be written over it: give another folder by --out"
+    ):
         pitplan.write_shells(again)
     pitplan.write_shells(again, path.parent / "again")
     for name in ("shells.csv", "years.csv", "blocks.csv"):
@@ -99,7 +101,9 @@ def test_a_text_of_a_run_that_has_changed_is_refused(mine):
     pitplan.write_shells(path)
     text = path.parent / "plan" / "project-as-run.toml"
     text.write_text(text.read_text().replace("8000", "8001"))
-    with pytest.raises(PlanError, match="project-as-run.toml: has changed since prepare.json was written: run pitplan shells again"):
+    with pytest.raises(
+        PlanError, match="project-as-run.toml: has changed since prepare.json was written: run pitplan shells again"
+    ):
         pitplan.write_report(path.parent / "plan")
     assert {rule.name for rule in verify(path.parent / "plan") if rule.differences} >= {"money"}
 

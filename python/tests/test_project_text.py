@@ -50,31 +50,68 @@ def test_the_examples_read_back_as_themselves(path, tmp_path):
 def sections_of(rng):
     """Sections besides those of `project_of`, each with some of its keys."""
     area = '[[fixed.areas]]\npolygon = { file = "b/lease.dxf", layer = ["A*", "B"] }\nbarred = "outside"\n'
-    fixed = pick(rng, 'forced = "must"\n', 'surface = "mined.csv"\ntopography = "blocks"\n', 'surface = "mined.csv"\n', 'surface = { file = "m.shp", height = "Z" }\ntopography = "was.csv"\n')
+    fixed = pick(
+        rng,
+        'forced = "must"\n',
+        'surface = "mined.csv"\ntopography = "blocks"\n',
+        'surface = "mined.csv"\n',
+        'surface = { file = "m.shp", height = "Z" }\ntopography = "was.csv"\n',
+    )
     texts = {
         "fixed": pick(rng, "", f"[fixed]\n{fixed}", f'[fixed]\nbarred = "never"\n{area}', f"[fixed]\n{area}{area}"),
-        "pushbacks": pick(rng, "", "[pushbacks]\ncount = 3\nlast = 1000\n", "[pushbacks]\ntonnes = 1234.5\nwidth = 30\nmining_cost_added = [0, 0.15]\n")
+        "pushbacks": pick(
+            rng,
+            "",
+            "[pushbacks]\ncount = 3\nlast = 1000\n",
+            "[pushbacks]\ntonnes = 1234.5\nwidth = 30\nmining_cost_added = [0, 0.15]\n",
+        )
         or pick(rng, "", "[pushbacks]\nfactors = { from = 100, to = 500, step = 100 }\nbottom = 17.25\n"),
-        "sensitivity": pick(rng, "", "[sensitivity]\n", '[sensitivity]\nby = [-0.15, 0.3]\nvary = ["price copper", "slopes"]\n')
+        "sensitivity": pick(
+            rng, "", "[sensitivity]\n", '[sensitivity]\nby = [-0.15, 0.3]\nvary = ["price copper", "slopes"]\n'
+        )
         or pick(rng, "", '[sensitivity]\npairs = [["price", "mining_cost"]]\nskin = 0.1\n'),
-        "pictures": pick(rng, "", '[pictures]\nlevels = [5, 15.5]\nnorth = 40\nformats = ["svg", "pdf"]\nmetal = "gold"\n', "[pictures]\neast = -3.5\n"),
+        "pictures": pick(
+            rng,
+            "",
+            '[pictures]\nlevels = [5, 15.5]\nnorth = 40\nformats = ["svg", "pdf"]\nmetal = "gold"\n',
+            "[pictures]\neast = -3.5\n",
+        ),
         "schedule": pick(rng, "", "[schedule]\n", "[schedule]\n" + schedule(rng)),
     }
     return "".join(texts.values())
 
 
 def schedule(rng):
-    text = pick(rng, "", "metal_per_year = { copper = 12.5 }\n") + pick(rng, "", "sinking_rate = 2.5\n") + pick(rng, "", "ramp_up = [0.5, 1]\n")
-    text += pick(rng, "", "lag = 2\n") + pick(rng, "", "rock_per_year = 1700\n") + pick(rng, "", "milp = { gap = 0.01, seconds = 60 }\n")
+    text = (
+        pick(rng, "", "metal_per_year = { copper = 12.5 }\n")
+        + pick(rng, "", "sinking_rate = 2.5\n")
+        + pick(rng, "", "ramp_up = [0.5, 1]\n")
+    )
+    text += (
+        pick(rng, "", "lag = 2\n")
+        + pick(rng, "", "rock_per_year = 1700\n")
+        + pick(rng, "", "milp = { gap = 0.01, seconds = 60 }\n")
+    )
     least = '[schedule.least]\nore = 20\ncopper = 0.5\n[[schedule.sums]]\ncolumn = "as"\nof = "ore"\na_tonne = true\nmost = 99.5\n'
     return text + pick(rng, "", f'years = 7\n{least}[[schedule.sums]]\nname = "bolts"\ncolumn = "b"\nleast = 3\n')
 
 
 def table_keys(rng):
     text = pick(rng, "", 'absent = { tonnes = 99.5, rock = "R", region = "2" }\n', 'absent = "air"\n')
-    text += pick(rng, "", 'topography = "../ground.csv"\n', f'topography = {{ file = "t.dxf", layer = {project_text.shown(ODD)} }}\n')
+    text += pick(
+        rng,
+        "",
+        'topography = "../ground.csv"\n',
+        f'topography = {{ file = "t.dxf", layer = {project_text.shown(ODD)} }}\n',
+    )
     text += pick(rng, "", "reblock = [2, 1, 3]\n", "reblock = { size = [20, 20, 12.5], corner = [-0.5, 1e3, 0] }\n")
-    text += pick(rng, "", 'separator = ";"\ndecimal = ","\n', 'separator = "\\t"\nencoding = "cp1252"\n', 'encoding = "utf-16"\nempty = "zero"\n')
+    text += pick(
+        rng,
+        "",
+        'separator = ";"\ndecimal = ","\n',
+        'separator = "\\t"\nencoding = "cp1252"\n',
+        'encoding = "utf-16"\nempty = "zero"\n',
+    )
     return text + pick(rng, "", 'density = "sg"\n', 'density = "sg"\nvolume = "vol"\n', 'tonnes = "t"\n')
 
 
@@ -85,13 +122,23 @@ def test_random_projects_read_back_as_themselves(plan_folder, tmp_path, seed):
     while done < 50:
         changes, is_one = project_of(rng)
         changes[-1] = ('file = "blocks.csv"', 'file = "blocks.csv"\n' + table_keys(rng))
-        changes += [("size = [10, 10, 10]", pick(rng, "size = [10, 10, 10]", "size = [10, 10.5, 12]\ntolerance = 0.25\nazimuth = -31.5"))]
-        changes += [("[500, 1000, 1500]", pick(rng, "[500, 1500]", "{ to = 2000, step = 250 }", "[1000]")), ('title = "Test hill"', f"title = {project_text.shown('Zinc é 矿')}")]
+        changes += [
+            (
+                "size = [10, 10, 10]",
+                pick(rng, "size = [10, 10, 10]", "size = [10, 10.5, 12]\ntolerance = 0.25\nazimuth = -31.5"),
+            )
+        ]
+        changes += [
+            ("[500, 1000, 1500]", pick(rng, "[500, 1500]", "{ to = 2000, step = 250 }", "[1000]")),
+            ('title = "Test hill"', f"title = {project_text.shown('Zinc é 矿')}"),
+        ]
         path = plan_folder("", PROJECT + haulage(rng) + sections_of(rng), *changes)
         try:
             project = load(path)
         except PlanError as error:
-            assert "[table]" in str(error) or "[schedule" in str(error) or "milp" in str(error) or "[fixed]" in str(error), error
+            assert (
+                "[table]" in str(error) or "[schedule" in str(error) or "milp" in str(error) or "[fixed]" in str(error)
+            ), error
             continue
         demand_same(project, tmp_path / pick(rng, "plan", "far/away", "."))
         done += 1
@@ -111,7 +158,13 @@ def test_scenarios_read_back_as_themselves(plan_folder, tmp_path, text):
 
 @pytest.mark.parametrize(
     "wall",
-    ["azimuths = [[10, 40], [200.5, 47.25]]", "azimuths = [[45, 50]]", "azimuths = [[0, 50]]", "angle = 33.333333333333336", "angle = 45\nregion = [1, 'A \"b\"']"],
+    [
+        "azimuths = [[10, 40], [200.5, 47.25]]",
+        "azimuths = [[45, 50]]",
+        "azimuths = [[0, 50]]",
+        "angle = 33.333333333333336",
+        "angle = 45\nregion = [1, 'A \"b\"']",
+    ],
 )
 def test_walls_read_back_as_themselves(plan_folder, tmp_path, wall):
     more = "" if "region" not in wall else '\n[[slopes.walls]]\npattern = "1:9"'
@@ -125,19 +178,28 @@ def test_a_ground_that_is_a_word_or_a_file_reads_back_as_itself(plan_folder, tmp
 
 def test_keys_that_few_projects_have_read_back_as_themselves(plan_folder, tmp_path):
     road = "[haulage]\nexit = [1, 2.5, -3]\ngradient = 0.1\ncost = { ore = 0.12, waste = 0.11 }\nbeyond = { ore = 900, waste = 0.5 }\n"
-    changes = ('id = "name"', 'id = "name"\nx = "east"\ny = "north"\nz = "up"'), ("mining_cost = 2", 'mining_cost = 2\ncurrency = "CLP"')
-    changes += (('levels = 3\n', "never_steeper = true\n"), ('pattern = "1:5"', "angle = 40"))
+    changes = ('id = "name"', 'id = "name"\nx = "east"\ny = "north"\nz = "up"'), (
+        "mining_cost = 2",
+        'mining_cost = 2\ncurrency = "CLP"',
+    )
+    changes += (("levels = 3\n", "never_steeper = true\n"), ('pattern = "1:5"', "angle = 40"))
     demand_same(load(plan_folder("", PROJECT + road, *changes)), tmp_path / "plan")
 
 
 @pytest.mark.parametrize("odd", [ODD, "DEL \x7f", "line\u2028separator", "'single'", "-", "ключ"])
 def test_odd_names_read_back_as_themselves(plan_folder, tmp_path, odd):
     name = project_text.shown(odd)
-    changes = ('rock = "rock"', f"rock = {name}"), ("mining_cost = 2", f"mining_cost = {{ {name} = 2, R = 2.50 }}"), ('name = "copper"', f"name = {name}")
+    changes = (
+        ('rock = "rock"', f"rock = {name}"),
+        ("mining_cost = 2", f"mining_cost = {{ {name} = 2, R = 2.50 }}"),
+        ('name = "copper"', f"name = {name}"),
+    )
     demand_same(load(plan_folder("", PROJECT, *changes)), tmp_path / "plan")
 
 
-@pytest.mark.parametrize("price", [Decimal("8E+3"), Decimal("8123.4567890123456789"), Decimal("0.0000001"), 10**17, 1234.5, 1e-7, 0.1])
+@pytest.mark.parametrize(
+    "price", [Decimal("8E+3"), Decimal("8123.4567890123456789"), Decimal("0.0000001"), 10**17, 1234.5, 1e-7, 0.1]
+)
 def test_numbers_of_projects_made_in_python_keep_their_last_digit(plan_folder, tmp_path, price):
     project = load(plan_folder(""))
     changed = replace(project, metals=(replace(project.metals[0], price=price),))

@@ -6,8 +6,7 @@ import numpy as np
 import pandas as pd
 import pytest
 from conftest import PROJECT, rows
-from hypothesis import given, settings
-from hypothesis import strategies as st
+from hypothesis import given, settings, strategies as st
 
 import pitplan
 from pitplan import PlanError, files, load, phases
@@ -41,18 +40,26 @@ def test_three_shells_of_like_tonnage_are_three_phases(plan_folder):
     assert table.index.tolist() == [1, 2, 3] and table["factor"].tolist() == [500, 700, 1000]
     assert table["blocks"].tolist() == [2, 2, 2] and table["tonnes"].tolist() == [200, 200, 200]
     assert table["ore_tonnes"].tolist() == [100, 100, 100] and table["strip_ratio"].tolist() == [1, 1, 1]
-    assert table["grade_copper"].tolist() == pytest.approx(GRADES) and table["metal_copper"].tolist() == pytest.approx([0.5, 0.35, 0.25])
+    assert table["grade_copper"].tolist() == pytest.approx(GRADES) and table["metal_copper"].tolist() == pytest.approx(
+        [0.5, 0.35, 0.25]
+    )
     assert table["worth"].tolist() == [2600, 1400, 600]
     folder = project.folder / "pushbacks"
     assert blocks_of(folder)["phase"].to_dict() == {f"b{i}-0-{k}": i + 1 for i in range(3) for k in range(2)}
     pd.testing.assert_frame_equal(pd.read_csv(folder / "phases.csv").set_index("phase"), table, check_dtype=False)
-    assert not [note for note in files.read_record(folder)["notes"] if "phases are asked" in note or "no factor" in note]
+    assert not [
+        note for note in files.read_record(folder)["notes"] if "phases are asked" in note or "no factor" in note
+    ]
 
 
 @pytest.mark.parametrize(
     ("words", "factors", "told"),
     [
-        ("tonnes = 300", [500, 1000], "between the factors 500 and 501 the shells grow by 200 t at once, from 200 to 400"),
+        (
+            "tonnes = 300",
+            [500, 1000],
+            "between the factors 500 and 501 the shells grow by 200 t at once, from 200 to 400",
+        ),
         ("tonnes = 200", [500, 700, 1000], None),
         ("tonnes = 1e6", [1000], None),
         ("count = 5", [351, 501, 1000], "5 phases are asked for, and the shells make 3"),
@@ -67,7 +74,11 @@ def test_what_is_asked_for_by_count_tonnes_and_factors(plan_folder, words, facto
     project = load(plan_folder(pillars(), with_phases(words)))
     assert pitplan.write_pushbacks(project)["factor"].tolist() == factors
     notes = files.read_record(project.folder / "pushbacks")["notes"]
-    found = [note for note in notes if note.startswith(("between the factors", "the shell of factor")) or "phases are asked for" in note]
+    found = [
+        note
+        for note in notes
+        if note.startswith(("between the factors", "the shell of factor")) or "phases are asked for" in note
+    ]
     assert [told] == [note[: len(told)] for note in found if told in note] if told else found == []
 
 
@@ -82,13 +93,18 @@ def test_a_jump_is_named_with_its_tonnes(plan_folder):
     project = load(plan_folder(pillars(), with_phases("count = 2")))
     found, notes = phases.even_shells(PhaseRules(2, None, None, None), 1000, tonnes_at, project)
     assert found == {613: 900, 1000: 1000} and len(set(asked)) == len(asked) < 40
-    assert notes == ["between the factors 612 and 613 the shells grow by 900 t at once, from 0 to 900: no factor divides this rock"]
+    assert notes == [
+        "between the factors 612 and 613 the shells grow by 900 t at once, from 0 to 900: no factor divides this rock"
+    ]
 
 
 @given(st.lists(st.integers(0, 400), min_size=1, max_size=12), st.integers(1, 9), st.integers(2, 1000))
 def test_even_shells_are_the_nearest_of_all_factors(steps, count, last):
     """Of shells that grow by steps at factors spread from 1 on: those of every factor are looked at."""
-    grown = {factor: float(sum(step for place, step in enumerate(steps) if factor > 83 * place)) for factor in range(1, last + 1)}
+    grown = {
+        factor: float(sum(step for place, step in enumerate(steps) if factor > 83 * place))
+        for factor in range(1, last + 1)
+    }
     found, notes = phases.even_shells(
         PhaseRules(count, None, None, None), last, lambda factors: {factor: grown[factor] for factor in factors}, None
     )
@@ -133,15 +149,23 @@ def test_the_last_phase_ends_with_the_shell_that_is_selected(plan_folder):
     assert pitplan.write_pushbacks(path)["factor"].tolist() == [500, 800]
     record = files.read_record(path.parent / "plan" / "pushbacks")
     assert record["shells"]["chosen"] == 800
-    assert "the last phase ends with the shell of factor 800, which shells selects: [pushbacks] last names another" in record["notes"]
+    assert (
+        "the last phase ends with the shell of factor 800, which shells selects: [pushbacks] last names another"
+        in record["notes"]
+    )
     # The project may name another, by the phases' key or the shells'.
-    for change in (with_phases("count = 3\nlast = 1000"), with_phases("count = 3").replace("rate = 0.1", "rate = 0.1\nchosen = 1000")):
+    for change in (
+        with_phases("count = 3\nlast = 1000"),
+        with_phases("count = 3").replace("rate = 0.1", "rate = 0.1\nchosen = 1000"),
+    ):
         assert pitplan.write_pushbacks(plan_folder(table, change))["factor"].iloc[-1] == 1000
 
 
 def test_where_no_shell_pays_the_last_phase_is_that_of_the_price_as_given(plan_folder):
     """Each year costs more than all ore earns. A schedule that mines nothing is then the best, and an answer."""
-    costs = UPRIGHT.replace("mining_cost = 2\n", "mining_cost = 2\nfixed_cost_per_year = 100_000\n").replace("[500, 1000, 1500]", "[100, 500, 1000, 1500]")
+    costs = UPRIGHT.replace("mining_cost = 2\n", "mining_cost = 2\nfixed_cost_per_year = 100_000\n").replace(
+        "[500, 1000, 1500]", "[100, 500, 1000, 1500]"
+    )
     path = plan_folder(pillars(), with_phases("count = 2", costs))
     assert pitplan.write_pushbacks(path)["factor"].iloc[-1] == 1000
     told = "WARNING: no shell has a net present value above 0: the last phase ends with the shell of factor 1000"
@@ -220,7 +244,9 @@ def divided(without_figures, tmp_path_factory):
     table = rows(11, 9, 4, cu=lambda i, j, k: {(3, 4, 1): 6, (7, 4, 1): 2, (5, 2, 2): 0.9}.get((i, j, k), 0))
     table["must"], table["never"] = (table["name"] == "b1-1-3").astype(int), (table["x"] > 100).astype(int)
     table.to_csv(place / "blocks.csv", index=False)
-    (place / "project.toml").write_text(with_phases("count = 3", PROJECT) + '[fixed]\nforced = "must"\nbarred = "never"\n')
+    (place / "project.toml").write_text(
+        with_phases("count = 3", PROJECT) + '[fixed]\nforced = "must"\nbarred = "never"\n'
+    )
     pitplan.write_pushbacks(place / "project.toml")
     return place
 
@@ -238,15 +264,27 @@ def test_what_is_right_passes(copied, capsys):
     assert wrong(copied) == {}
     assert main(["verify", str(copied)]) == 0
     told = capsys.readouterr().out.splitlines()
-    assert [line.split(":")[0] for line in told][-5:] == ["phase of blocks", "phase walls", "phase fixed", "phases", "phase widths"]
+    assert [line.split(":")[0] for line in told][-5:] == [
+        "phase of blocks",
+        "phase walls",
+        "phase fixed",
+        "phases",
+        "phase widths",
+    ]
     page = (copied / "report.html").read_text()
-    assert "<h3>Phases</h3>" in page and "how phases were made of shells, the other numbers" in page and "data:image/png" not in page
+    assert (
+        "<h3>Phases</h3>" in page
+        and "how phases were made of shells, the other numbers" in page
+        and "data:image/png" not in page
+    )
 
 
 NUMBERS = "blocks tonnes ore_tonnes waste_tonnes strip_ratio grade_copper metal_copper worth"
 
 
-@pytest.mark.parametrize(("column", "rule"), [*((name, "phases") for name in NUMBERS.split()), ("factor", "phase of blocks")])
+@pytest.mark.parametrize(
+    ("column", "rule"), [*((name, "phases") for name in NUMBERS.split()), ("factor", "phase of blocks")]
+)
 def test_each_number_of_a_phase_that_is_bent_is_found(copied, column, rule):
     table = pd.read_csv(copied / "phases.csv")
     table[column] = table[column].astype(float)
@@ -259,7 +297,11 @@ def test_each_number_of_a_phase_that_is_bent_is_found(copied, column, rule):
     ("where", "number", "rules"),
     [
         (lambda it: it["phase"] == 2, 1, {"phase of blocks", "phases"}),
-        (lambda it: (it["phase"] == 1) & (it["z"] == 35) & (it["must"] == 0), 3, {"phase of blocks", "phase walls", "phases"}),
+        (
+            lambda it: (it["phase"] == 1) & (it["z"] == 35) & (it["must"] == 0),
+            3,
+            {"phase of blocks", "phase walls", "phases"},
+        ),
         (lambda it: it["must"] == 1, 2, {"phase of blocks", "phase fixed", "phases"}),
         (lambda it: it["never"] == 1, 1, {"phase of blocks", "phase fixed", "phases"}),
         (lambda it: (it["phase"] == 2) & (it["z"] == 35), 0, {"phase of blocks", "phase walls", "phases"}),

@@ -18,7 +18,14 @@ ANGLES = ('pattern = "1:5"', "angle = 50")
 
 def deposit(**more):
     """Ore low at one place of a wide model with a hill, which pays from different factors on."""
-    table = rows(24, 20, 9, cu=lambda i, j, k: {(9, 8, 4): 30, (10, 8, 4): 9, (9, 9, 5): 4, (2, 2, 2): 0.05}.get((i, j, k), 0), region=lambda i, j, k: "12"[i > 9], **more)
+    table = rows(
+        24,
+        20,
+        9,
+        cu=lambda i, j, k: {(9, 8, 4): 30, (10, 8, 4): 9, (9, 9, 5): 4, (2, 2, 2): 0.05}.get((i, j, k), 0),
+        region=lambda i, j, k: "12"[i > 9],
+        **more,
+    )
     return table[(table["z"] < 80) | (table["x"] < 60)]
 
 
@@ -104,12 +111,17 @@ def test_what_must_be_dug_is_kept(plan_folder, few):
 
 def test_what_is_too_large_all_the_same_is_refused(plan_folder, monkeypatch):
     monkeypatch.setattr(pitplan.grid, "MOST_BLOCKS", 300)
-    with pytest.raises(PlanError, match="the grid has 4,320 cells, of which shells may reach 384, and the program takes at most 300 blocks"):
+    with pytest.raises(
+        PlanError,
+        match="the grid has 4,320 cells, of which shells may reach 384, and the program takes at most 300 blocks",
+    ):
         pitplan.prepare(plan_folder(deposit(), PROJECT, ANGLES))
 
 
 def test_a_model_in_which_nothing_pays_is_refused(plan_folder, few):
-    with pytest.raises(PlanError, match="4,320 cells, and the program takes at most 3,000 blocks: none pays for its processing"):
+    with pytest.raises(
+        PlanError, match="4,320 cells, and the program takes at most 3,000 blocks: none pays for its processing"
+    ):
         pitplan.prepare(plan_folder(deposit().assign(cu=0.0), PROJECT, ANGLES))
 
 

@@ -18,7 +18,12 @@ GRADES, TONNES = [1, 0, 2, 0.5], [100, 300, 200, 400]
 
 def four(**more):
     by_place = {"tonnes": lambda i, j, k: TONNES[i + 2 * j], "cu": lambda i, j, k: GRADES[i + 2 * j]}
-    return rows(2, 2, 1, **{**by_place, "rock": lambda i, j, k: "AABB"[i + 2 * j], "region": lambda i, j, k: "1211"[i + 2 * j], **more})
+    return rows(
+        2,
+        2,
+        1,
+        **{**by_place, "rock": lambda i, j, k: "AABB"[i + 2 * j], "region": lambda i, j, k: "1211"[i + 2 * j], **more},
+    )
 
 
 def test_four_blocks_in_one_by_hand(plan_folder):
@@ -27,7 +32,11 @@ def test_four_blocks_in_one_by_hand(plan_folder):
     (block,) = plan.table.to_dict("records")
     assert block == {"name": "1-1-1", "x": 10, "y": 10, "z": 5, "tonnes": 1000, "cu": 0.7, "rock": "B", "region": "1"}
     assert plan.grid.size == (20, 20, 10) and plan.grid.shape == (1, 1, 1)
-    for said in ("4 rows were put together to 1 blocks of 20 x 20 x 10 m", "of 1,000 t 400 are of another rock than their block", "of 1,000 t 300 are of another region than their block"):
+    for said in (
+        "4 rows were put together to 1 blocks of 20 x 20 x 10 m",
+        "of 1,000 t 400 are of another rock than their block",
+        "of 1,000 t 300 are of another region than their block",
+    ):
         assert said in plan.summary
 
 
@@ -39,9 +48,13 @@ def test_columns_that_a_schedule_sums(plan_folder):
     plan = pitplan.prepare(plan_folder(table, text, TWOS))
     assert plan.table[["as_ppm", "kwh", "cu"]].values.tolist() == [[29, 12, 0.7]]
     text = PROJECT + sums.format("as_ppm", "a_tonne = true\n") + sums.format("as_ppm", 'name = "whole"\n')
-    with pytest.raises(PlanError, match=r"\[schedule.sums\] whole: as_ppm is of a tonne too, and \[table\] reblock makes means of that"):
+    with pytest.raises(
+        PlanError, match=r"\[schedule.sums\] whole: as_ppm is of a tonne too, and \[table\] reblock makes means of that"
+    ):
         pitplan.load(plan_folder(table, text, TWOS))
-    with pytest.raises(PlanError, match=r"\[schedule.sums\] cu: cu is of a tonne too, and \[table\] reblock makes means of that"):
+    with pytest.raises(
+        PlanError, match=r"\[schedule.sums\] cu: cu is of a tonne too, and \[table\] reblock makes means of that"
+    ):
         pitplan.load(plan_folder(table, PROJECT + sums.format("cu", ""), TWOS))
 
 
@@ -51,14 +64,20 @@ def test_sides_that_are_not_full_and_fixed_blocks(plan_folder):
     change = ('file = "blocks.csv"', 'file = "blocks.csv"\nreblock = [2, 1, 2]')
     plan = pitplan.prepare(plan_folder(table, PROJECT + '[fixed]\nforced = "must"\n', change))
     table = plan.table
-    assert table["x"].tolist() == [10, 30, 50] * 2 and table["z"].tolist() == [10] * 3 + [30] * 3 and (table["y"] == 5).all()
+    assert (
+        table["x"].tolist() == [10, 30, 50] * 2
+        and table["z"].tolist() == [10] * 3 + [30] * 3
+        and (table["y"] == 5).all()
+    )
     assert table["tonnes"].tolist() == [400, 400, 200, 200, 200, 100] and table["cu"].tolist() == [0.5, 2.5, 4] * 2
     assert table["must"].tolist() == [0, 0, 0, 1, 0, 0] and plan.fixed.forced.tolist() == [0]
 
 
 def sub_blocks():
     """Two parents of 20 x 20 x 10 m from 100, 200, 50 on: one whole, one of two unequal halves and a piece without tonnes."""
-    frame = pd.DataFrame({"name": list("abcd"), "x": [110.0, 125, 135, 135], "y": [210.0, 210, 205, 215], "z": [55.0, 55, 55, 55]})
+    frame = pd.DataFrame(
+        {"name": list("abcd"), "x": [110.0, 125, 135, 135], "y": [210.0, 210, 205, 215], "z": [55.0, 55, 55, 55]}
+    )
     return frame.assign(tonnes=[4000, 1500, 500.5, 0], cu=[0.3, 1, 0, 9], rock=list("RRSS"), region=["1"] * 4)
 
 
@@ -71,7 +90,10 @@ def test_sub_blocks_by_hand(plan_folder):
     plan = pitplan.prepare(plan_folder(sub_blocks(), PROJECT, PARENTS, SIZE))
     assert plan.table["x"].tolist() == [110, 130] and plan.table["tonnes"].tolist() == [4000, 2000.5]
     assert plan.table["cu"].tolist() == [0.3, round(1500 / 2000.5, 9)] and plan.table["rock"].tolist() == ["R", "R"]
-    assert "of 6,000 t 500 are of another rock than their block" in plan.summary or "of 6,000 t 501 are of another rock than their block" in plan.summary
+    assert (
+        "of 6,000 t 500 are of another rock than their block" in plan.summary
+        or "of 6,000 t 501 are of another rock than their block" in plan.summary
+    )
 
 
 @pytest.mark.parametrize(
@@ -79,9 +101,18 @@ def test_sub_blocks_by_hand(plan_folder):
     [
         ([("reblock = [2, 2, 1]", "reblock = [1, 1, 1]")], r"\[table\] reblock: must be whole numbers"),
         ([("reblock = [2, 2, 1]", "reblock = [2, 1.5, 1]")], r"\[table\] reblock: must be whole numbers"),
-        ([("reblock = [2, 2, 1]", "reblock = { size = [20, 20, 0], corner = [0, 0, 0] }")], r"\[table.reblock\] size: a block's size is above 0"),
-        ([("reblock = [2, 2, 1]", "reblock = { size = [20, 20, 10], corner = [5, 0, 0] }")], "row 2 column x: lies on the edge of two blocks of 20 m from 5 on"),
-        ([("[slopes]\n", '[scenarios]\ncolumns = { copper = "cu*" }\n[slopes]\n')], r"\[table\] reblock: is not done of \[scenarios\]"),
+        (
+            [("reblock = [2, 2, 1]", "reblock = { size = [20, 20, 0], corner = [0, 0, 0] }")],
+            r"\[table.reblock\] size: a block's size is above 0",
+        ),
+        (
+            [("reblock = [2, 2, 1]", "reblock = { size = [20, 20, 10], corner = [5, 0, 0] }")],
+            "row 2 column x: lies on the edge of two blocks of 20 m from 5 on",
+        ),
+        (
+            [("[slopes]\n", '[scenarios]\ncolumns = { copper = "cu*" }\n[slopes]\n')],
+            r"\[table\] reblock: is not done of \[scenarios\]",
+        ),
     ],
 )
 def test_what_is_wrong_is_named(plan_folder, changes, said):
@@ -98,7 +129,14 @@ def test_rows_in_one_place_are_refused(plan_folder):
 def hill():
     """Ore of two rocks below a hill of blocks of 10 m, with an odd number of them each way."""
     rng = np.random.default_rng(7)
-    table = rows(13, 11, 6, tonnes=lambda i, j, k: 99.7 + 0.013 * i, rock=lambda i, j, k: "RS"[(i + j) % 3 == 0], region=lambda i, j, k: "12"[i > 6])
+    table = rows(
+        13,
+        11,
+        6,
+        tonnes=lambda i, j, k: 99.7 + 0.013 * i,
+        rock=lambda i, j, k: "RS"[(i + j) % 3 == 0],
+        region=lambda i, j, k: "12"[i > 6],
+    )
     ore = (table["z"] < 35) & table["x"].between(40, 90) & table["y"].between(30, 80)
     table["cu"] = np.where(ore, rng.lognormal(0.7, 0.5, len(table)).round(3), 0)
     return table[(table["z"] < 50) | (table["x"] < 70)].assign(must=0, never=lambda it: (it["x"] > 120).astype(int))
@@ -129,7 +167,9 @@ def test_the_second_look_agrees(solved_hill):
     assert (pd.read_csv(folder / "shells.csv")["blocks"] > 0).any()
 
 
-@pytest.mark.parametrize(("column", "more"), [("tonnes", 1e-5), ("cu", 1e-6), ("rock", "X"), ("region", "X"), ("name", "X"), ("must", 1)])
+@pytest.mark.parametrize(
+    ("column", "more"), [("tonnes", 1e-5), ("cu", 1e-6), ("rock", "X"), ("region", "X"), ("name", "X"), ("must", 1)]
+)
 def test_each_number_that_is_bent_is_found(solved_hill, column, more):
     folder = solved_hill()
     table = pd.read_csv(folder / "blocks.csv", dtype={"rock": str, "region": str})
@@ -168,9 +208,14 @@ def test_blocks_that_lie_elsewhere_are_found(solved_hill, monkeypatch, metres):
 
 def test_a_table_that_is_too_large_by_itself(plan_folder, monkeypatch):
     monkeypatch.setattr(pitplan.grid, "MOST_BLOCKS", 200)
-    with pytest.raises(PlanError, match="the grid has 858 cells, of which shells may reach 858, and the program takes at most 200 blocks"):
+    with pytest.raises(
+        PlanError,
+        match="the grid has 858 cells, of which shells may reach 858, and the program takes at most 200 blocks",
+    ):
         pitplan.prepare(plan_folder(hill(), PROJECT))
-    plan = pitplan.prepare(plan_folder(hill(), PROJECT, ('file = "blocks.csv"', 'file = "blocks.csv"\nreblock = [2, 2, 2]')))
+    plan = pitplan.prepare(
+        plan_folder(hill(), PROJECT, ('file = "blocks.csv"', 'file = "blocks.csv"\nreblock = [2, 2, 2]'))
+    )
     assert plan.grid.shape == (3, 6, 7)
 
 
@@ -186,11 +231,19 @@ def test_a_corner_that_is_no_multiple_of_the_size_is_right(plan_folder, without_
 def test_sums_and_means_are_exact_and_rounded_once(plan_folder):
     """Against Python's decimals: tonnes to a gram, grades to nine decimals, halves to the even one."""
     rng = np.random.default_rng(7)
-    table = rows(6, 4, 2, tonnes=lambda i, j, k: float(f"{rng.integers(1, 10**9) / 10**6:.6f}"), cu=lambda i, j, k: rng.integers(0, 10**5) / 10**4)
+    table = rows(
+        6,
+        4,
+        2,
+        tonnes=lambda i, j, k: float(f"{rng.integers(1, 10**9) / 10**6:.6f}"),
+        cu=lambda i, j, k: rng.integers(0, 10**5) / 10**4,
+    )
     # A block of two rows of 1 t, whose mean of 2 and 3 billionths is a half above the even 2; the other two rows weigh nothing.
     table.loc[:1, "tonnes"], table.loc[:1, "cu"] = 1.0, [0.000000002, 0.000000003]
     table.loc[[6, 7], "tonnes"] = 0.0
-    path = plan_folder(table, PROJECT, ('file = "blocks.csv"', 'file = "blocks.csv"\nreblock = [2, 2, 1]'), ('id = "name"\n', ""))
+    path = plan_folder(
+        table, PROJECT, ('file = "blocks.csv"', 'file = "blocks.csv"\nreblock = [2, 2, 1]'), ('id = "name"\n', "")
+    )
     found = pitplan.prepare(path).table.set_index(["x", "y", "z"])
     parts = table.assign(x=table["x"] // 20 * 20 + 10, y=table["y"] // 20 * 20 + 10).groupby(["x", "y", "z"])
     assert len(parts) == len(found) == 12

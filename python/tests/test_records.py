@@ -37,8 +37,28 @@ def called(place):
 
 
 # What is read of a record, and what else is only told.
-READ = {"title", "grid", "walls", "factors", "summary", "notes", "codes", "tonnes", "metals", "project", "verified", "inputs", "files", "shells"}
-TOLD = {"grid.cells", "grid.cells_without_a_row", "grid.of_these_not_above_the_highest_of_their_column", "grid.greatest_shift_of_a_centre"}
+READ = {
+    "title",
+    "grid",
+    "walls",
+    "factors",
+    "summary",
+    "notes",
+    "codes",
+    "tonnes",
+    "metals",
+    "project",
+    "verified",
+    "inputs",
+    "files",
+    "shells",
+}
+TOLD = {
+    "grid.cells",
+    "grid.cells_without_a_row",
+    "grid.of_these_not_above_the_highest_of_their_column",
+    "grid.greatest_shift_of_a_centre",
+}
 OTHERS = (None, True, -1, 2.5, float("nan"), "", "\0", [], [1], {}, {"a": 1}, 10**30)
 
 
@@ -47,7 +67,11 @@ def test_each_part_of_a_record_is_of_its_kind_or_named(solved):
     whole, file = files.read_record(folder), folder / "prepare.json"
     reader, count = records.Reader(file, "pitplan shells"), 0
     for place in parts_of(whole):
-        if place[0] not in READ or called(place) in TOLD or (place[0] == "walls" and place[-1] not in ("walls", 0, "levels")):
+        if (
+            place[0] not in READ
+            or called(place) in TOLD
+            or (place[0] == "walls" and place[-1] not in ("walls", 0, "levels"))
+        ):
             continue
         for value in OTHERS:
             changed = bent(whole, place, value)
@@ -59,7 +83,11 @@ def test_each_part_of_a_record_is_of_its_kind_or_named(solved):
                 said = str(error)
                 # Of factors the whole list is named, or that the chosen one is not among them.
                 named = place[0] if "factors" in place else called(place)
-                assert said.startswith(f"{file}: {named}") and said.endswith(": run pitplan shells again") and "\n" not in said
+                assert (
+                    said.startswith(f"{file}: {named}")
+                    and said.endswith(": run pitplan shells again")
+                    and "\n" not in said
+                )
                 assert (": found " in said and ", expected " in said) or " is missing" in said
     assert count > 700
 
@@ -69,11 +97,19 @@ def test_each_part_of_a_record_is_of_its_kind_or_named(solved):
     [
         (("grid", "shape"), [5, 9], "grid.shape: found [5, 9], expected a list of 3"),
         (("grid", "shape", 0), 0, "grid.shape[0]: found 0, expected a whole number from 1 to 1,000,000"),
-        (("grid", "shape"), [1000, 1000, 1000], "grid.shape: found 1000 x 1000 x 1000 cells, expected 64,000,000 at most"),
+        (
+            ("grid", "shape"),
+            [1000, 1000, 1000],
+            "grid.shape: found 1000 x 1000 x 1000 cells, expected 64,000,000 at most",
+        ),
         (("grid", "size", 2), -10, "grid.size[2]: found -10, expected a length in metres above 0"),
         (("grid", "origin", 1), float("nan"), "grid.origin[1]: found NaN, expected a number"),
         (("shells", "chosen"), 501, "shells.chosen: found 501, expected one of the factors"),
-        (("shells", "factors"), [1000, 500], "shells.factors: found [1000, 500], expected factors, each greater than the one before"),
+        (
+            ("shells", "factors"),
+            [1000, 500],
+            "shells.factors: found [1000, 500], expected factors, each greater than the one before",
+        ),
         (("shells", "solver", "by"), "hand", 'shells.solver.by: found "hand", expected library or program'),
         (("metals", 0, "column"), 3, "metals[0].column: found 3, expected a text"),
         (("notes", 0), {"a": 1}, 'notes[0]: found {"a": 1}, expected a text'),
@@ -100,7 +136,10 @@ def test_what_is_no_record(solved, text):
     _, folder = solved
     (folder / "prepare.json").write_bytes(text.encode("latin-1"))
     for read in (files.read_folder, verification.verify_folder):
-        with pytest.raises(PlanError, match="prepare.json: (cannot be read as JSON|found .*, expected a table).*: run pitplan shells again") as error:
+        with pytest.raises(
+            PlanError,
+            match="prepare.json: (cannot be read as JSON|found .*, expected a table).*: run pitplan shells again",
+        ) as error:
             read(folder)
         assert "\n" not in str(error.value)
 
@@ -137,7 +176,9 @@ def test_records_that_do_not_fit_what_stands_beside_them(solved):
     calls = (verification.verify_folder, lambda it: pitplan.export(it, "csv"), pitplan.view)
     refusals = 0
     for place, value in bends():
-        (folder / "prepare.json").write_text(json.dumps(bent(whole, place, value) if len(place) > 1 or place[0] in whole else {**whole, place[0]: value}))
+        (folder / "prepare.json").write_text(
+            json.dumps(bent(whole, place, value) if len(place) > 1 or place[0] in whole else {**whole, place[0]: value})
+        )
         for call in calls:
             try:
                 call(folder)
@@ -154,6 +195,10 @@ def test_a_bent_record_of_a_schedule_is_named(folder, text):
         file.unlink()
     else:
         file.write_text(text)
-    why = "cannot be read: run pitplan schedule first" if text is None else r"does not fit the tables beside it \(.*\): run pitplan schedule again"
+    why = (
+        "cannot be read: run pitplan schedule first"
+        if text is None
+        else r"does not fit the tables beside it \(.*\): run pitplan schedule again"
+    )
     with pytest.raises(PlanError, match=f"schedule.json: {why}"):
         verification.verify(folder)

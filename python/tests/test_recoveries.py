@@ -7,8 +7,7 @@ from fractions import Fraction
 import numpy as np
 import pytest
 from conftest import PROJECT, rows
-from hypothesis import given
-from hypothesis import strategies as st
+from hypothesis import given, strategies as st
 
 import pitplan
 from pitplan import PlanError, money, recoveries
@@ -34,7 +33,10 @@ def test_between_two_grades_by_hand(plan_folder):
     path = plan_folder(row_of(0.1, 0.2, 0.4, 0.6, 1.0), PROJECT, ("recovery = 0.5", CURVE))
     assert revenues(path) == [400, 800, 2240, 4320, 7200]
     (note,) = [note for note in pitplan.prepare(path).notes if "recovery of copper" in note]
-    assert note == "recovery of copper goes by the grade at the mill; 2 of 5 blocks lie beyond 0.2 to 0.6 %, and have the recovery there"
+    assert (
+        note
+        == "recovery of copper goes by the grade at the mill; 2 of 5 blocks lie beyond 0.2 to 0.6 %, and have the recovery there"
+    )
 
 
 def test_the_grade_is_that_of_what_comes_to_the_mill(plan_folder):
@@ -47,9 +49,14 @@ def test_the_grade_is_that_of_what_comes_to_the_mill(plan_folder):
 def test_a_fixed_tail_by_hand(plan_folder):
     """Of 125 t that come to the mill 0.0625 t of copper are lost, of what is left half; of 0.06 % nothing is left."""
     text = "mining_cost = 2\ndilution = 0.25\n"
-    path = plan_folder(row_of(0.5, 0.06), PROJECT, ("recovery = 0.5", "recovery = 0.5\nfixed_tail = 0.05"), ("mining_cost = 2\n", text))
+    path = plan_folder(
+        row_of(0.5, 0.06), PROJECT, ("recovery = 0.5", "recovery = 0.5\nfixed_tail = 0.05"), ("mining_cost = 2\n", text)
+    )
     assert revenues(path) == [1750, 0]
-    assert "of each tonne that comes to the mill 0.05 % of copper are lost, whatever it holds" in pitplan.prepare(path).notes
+    assert (
+        "of each tonne that comes to the mill 0.05 % of copper are lost, whatever it holds"
+        in pitplan.prepare(path).notes
+    )
 
 
 def test_by_rock(plan_folder):
@@ -61,10 +68,15 @@ def test_by_rock(plan_folder):
 
 def test_a_recovery_is_kept_to_a_millionth(plan_folder):
     """A third is 0.333333 of 0.1 t."""
-    assert revenues(plan_folder(row_of(0.1), PROJECT, ("recovery = 0.5", "recovery = [[0, 0], [0.3, 1]]"))) == [266.6664]
+    assert revenues(plan_folder(row_of(0.1), PROJECT, ("recovery = 0.5", "recovery = [[0, 0], [0.3, 1]]"))) == [
+        266.6664
+    ]
 
 
-@pytest.mark.parametrize(("points", "millionths"), [([[0, "0"], [2, "0.000001"]], 0), ([[0, "0.000001"], [2, "0.000002"]], 2), ([[0, "0.0000015"]], 2)])
+@pytest.mark.parametrize(
+    ("points", "millionths"),
+    [([[0, "0"], [2, "0.000001"]], 0), ([[0, "0.000001"], [2, "0.000002"]], 2), ([[0, "0.0000015"]], 2)],
+)
 def test_the_middle_of_two_millionths_is_the_even_one(points, millionths):
     curve = Curve(tuple((Decimal(grade), Decimal(share)) for grade, share in points))
     head = Head(Exact.of(1, 1), Exact.of(1, 1))
@@ -75,7 +87,11 @@ def test_the_middle_of_two_millionths_is_the_even_one(points, millionths):
 numbers = st.decimals(0, 5, places=3)
 
 
-@given(st.dictionaries(numbers, st.decimals(0, 1, places=4), min_size=1, max_size=5), st.lists(numbers, min_size=1, max_size=8), numbers)
+@given(
+    st.dictionaries(numbers, st.decimals(0, 1, places=4), min_size=1, max_size=5),
+    st.lists(numbers, min_size=1, max_size=8),
+    numbers,
+)
 def test_as_numpy_has_it_but_for_a_millionth(named, grades, dilution):
     curve = Curve(tuple(zip(sorted(named), sorted(named.values()))))
     head = Head(Exact.of_decimals(grades), Exact.of(1 + dilution, len(grades)))
@@ -102,7 +118,10 @@ def test_what_is_wrong_is_named(plan_folder, recovery, said):
         pitplan.load(plan_folder(row_of(0.4), PROJECT, ("recovery = 0.5", f"recovery = {recovery}")))
 
 
-TEXT = (("recovery = 0.5", "recovery = { R = [[0, 0.4], [7, 0.95]], S = 0.9 }\nfixed_tail = { R = 0.03 }"), ("mining_cost = 2\n", "mining_cost = 2\ndilution = 0.3\n"))
+TEXT = (
+    ("recovery = 0.5", "recovery = { R = [[0, 0.4], [7, 0.95]], S = 0.9 }\nfixed_tail = { R = 0.03 }"),
+    ("mining_cost = 2\n", "mining_cost = 2\ndilution = 0.3\n"),
+)
 
 
 def deposit():
@@ -129,7 +148,9 @@ of_rows = recoveries.of_rows
 
 
 @pytest.mark.parametrize(("name", "planted"), [("of_rows", at_own_grade), ("nearest", down)])
-def test_a_recovery_at_another_grade_or_rounded_otherwise_is_found(plan_folder, monkeypatch, without_figures, name, planted):
+def test_a_recovery_at_another_grade_or_rounded_otherwise_is_found(
+    plan_folder, monkeypatch, without_figures, name, planted
+):
     path = plan_folder(deposit(), PROJECT, *TEXT)
     monkeypatch.setattr(recoveries, name, planted)
     pitplan.write_shells(path, writing=pitplan.Writing(verifies=False))
@@ -140,7 +161,12 @@ def test_a_tail_that_is_passed_over_is_found(plan_folder, monkeypatch, without_f
     path, weigh = plan_folder(deposit(), PROJECT, *TEXT), money.values_of
 
     def without(frame, grid, project, *more):
-        return weigh(frame, grid, replace(project, metals=tuple(replace(metal, fixed_tail=Decimal(0)) for metal in project.metals)), *more)
+        return weigh(
+            frame,
+            grid,
+            replace(project, metals=tuple(replace(metal, fixed_tail=Decimal(0)) for metal in project.metals)),
+            *more,
+        )
 
     monkeypatch.setattr(money, "values_of", without)
     pitplan.write_shells(path, writing=pitplan.Writing(verifies=False))

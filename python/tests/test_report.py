@@ -121,9 +121,19 @@ def test_each_number_of_the_page_is_one_of_a_written_table(written, place):
         shown = Decimal(number) * size_of(heading, column)
         half = Decimal(1).scaleb(Decimal(number).as_tuple().exponent) * size_of(heading, column) / 2
         assert abs(shown - Decimal(written_as)) <= half, f"{source}: {text} for {written_as}"
-    assert {("shells.csv", "npv_best"), ("shells.csv", "grade_gold"), ("years.csv", "discounted"), ("sensitivity.csv", "npv")} <= found
+    assert {
+        ("shells.csv", "npv_best"),
+        ("shells.csv", "grade_gold"),
+        ("years.csv", "discounted"),
+        ("sensitivity.csv", "npv"),
+    } <= found
     if place == "plan/schedule":
-        assert {("ways.csv", "value"), ("ways.csv", "bound"), ("ways.csv", "metal_gold"), ("phases.csv", "worth")} <= found
+        assert {
+            ("ways.csv", "value"),
+            ("ways.csv", "bound"),
+            ("ways.csv", "metal_gold"),
+            ("phases.csv", "worth"),
+        } <= found
     assert page.parts == PARTS and page.bare == []
 
 
@@ -144,13 +154,20 @@ def test_ways_are_the_sums_of_their_years(written):
     rows_of, told = pd.read_csv(folder / "schedule.csv").groupby("way"), files.read_json(folder / "schedule.json")
     for way in pd.read_csv(folder / "ways.csv").itertuples():
         dug = rows_of.get_group(way.way)
-        assert (way.tonnes, way.ore_tonnes) == (pytest.approx(dug["rock_tonnes"].sum()), pytest.approx(dug["ore_tonnes"].sum()))
+        assert (way.tonnes, way.ore_tonnes) == (
+            pytest.approx(dug["rock_tonnes"].sum()),
+            pytest.approx(dug["ore_tonnes"].sum()),
+        )
         assert way.metal_gold == pytest.approx(dug["metal_gold"].sum(), abs=0.05)
-        assert (way.value, way.years, way.left_tonnes) == tuple(told["ways"][way.way][name] for name in ("value", "years", "left_tonnes"))
+        assert (way.value, way.years, way.left_tonnes) == tuple(
+            told["ways"][way.way][name] for name in ("value", "years", "left_tonnes")
+        )
         assert way.bound == told["bound"] and way.below_bound == pytest.approx(1 - way.value / told["bound"], abs=1e-6)
 
 
-@pytest.mark.parametrize("name", ["value", "bound", "below_bound", "years", "tonnes", "ore_tonnes", "left_tonnes", "metal_copper"])
+@pytest.mark.parametrize(
+    "name", ["value", "bound", "below_bound", "years", "tonnes", "ore_tonnes", "left_tonnes", "metal_copper"]
+)
 def test_a_way_that_is_bent_is_found(copied, name):
     folder = copied / "plan" / "schedule"
     table = pd.read_csv(folder / "ways.csv")
@@ -162,7 +179,10 @@ def test_a_way_that_is_bent_is_found(copied, name):
 def test_ways_that_are_missing_or_others_are_found(copied):
     path = copied / "plan" / "schedule" / "ways.csv"
     text = path.read_text()
-    for bent, said in ((text.replace("rule", "hand"), "ways.csv has the ways ['hand', 'lp'] for ['rule', 'lp']"), (None, "ways.csv is missing")):
+    for bent, said in (
+        (text.replace("rule", "hand"), "ways.csv has the ways ['hand', 'lp'] for ['rule', 'lp']"),
+        (None, "ways.csv is missing"),
+    ):
         path.unlink() if bent is None else path.write_text(bent)
         found = {rule.name: rule.differences for rule in verify(path.parent) if rule.differences}
         assert found == {"schedule value": (said,)}
@@ -176,7 +196,9 @@ def test_the_report_is_made_anew_with_a_sensitivity_of_the_same_inputs(copied, c
     assert "What it hangs on" not in (folder / "report.html").read_text()
     assert main(["report", str(copied / "project.toml"), "--sensitivity", str(copied / "other")]) == 0
     page = (folder / "report.html").read_text()
-    assert "What it hangs on" in page and "mining cost +10 %" in page and "Pairs of numbers are in the same file." in page
+    assert (
+        "What it hangs on" in page and "mining cost +10 %" in page and "Pairs of numbers are in the same file." in page
+    )
     assert files.hash_of(copied / "other" / "sensitivity.csv") in page
     (copied / "other" / "tornado.png").unlink()
     pitplan.write_report(folder, copied / "other")
@@ -190,7 +212,10 @@ def test_a_sensitivity_of_other_inputs_is_left_out_and_refused_where_it_is_asked
     project.write_text(project.read_text().replace("mining_cost = 2", "mining_cost = 3"))
     pitplan.write_shells(project, writing=pitplan.Writing(verifies=False))
     page = (copied / "plan" / "report.html").read_text()
-    assert "is a sensitivity of other inputs (project.toml), and is left out here." in page and "What it hangs on" not in page
+    assert (
+        "is a sensitivity of other inputs (project.toml), and is left out here." in page
+        and "What it hangs on" not in page
+    )
     with pytest.raises(PlanError, match=r"of other inputs \(project.toml\): run pitplan sensitivity again"):
         pitplan.write_report(copied / "plan", copied / "plan" / "sensitivity")
 
@@ -215,8 +240,12 @@ def test_a_table_that_is_too_wide_stands_in_parts(count):
     names = ["factor", *(f"{kind}_{k}" for k in range(count) for kind in ("grade", "metal"))][:count]
     table = report_page.Written("shells.csv", pd.DataFrame({name: [1.0, 2.0] for name in names}))
     parts = report_page.parts_of(table, lambda frame, project: [(name, name, 1.0, 0) for name in names], None)
-    assert all(part["headings"][0] == "factor" and len(part["headings"]) <= 13 and len(part["rows"]) == 2 for part in parts)
-    assert [name for part in parts for name in part["headings"][1:]] == names[1:] and len(parts) == -(-(count - 1) // 12)
+    assert all(
+        part["headings"][0] == "factor" and len(part["headings"]) <= 13 and len(part["rows"]) == 2 for part in parts
+    )
+    assert [name for part in parts for name in part["headings"][1:]] == names[1:] and len(parts) == -(
+        -(count - 1) // 12
+    )
     assert not any(part["headings"][1].startswith("metal") for part in parts)
     assert parts[-1]["rows"][1]["cells"][0]["source"] == "shells.csv row 3 column factor"
 
@@ -224,7 +253,10 @@ def test_a_table_that_is_too_wide_stands_in_parts(count):
 def test_a_bound_that_was_not_found_is_a_dash_without_a_unit():
     ways = report_page.Written("ways.csv", pd.DataFrame({"way": ["rule"], "value": [2.5e7], "bound": [float("nan")]}))
     told = [ways.figure("NPV", 0, (name, "NPV, M EUR", 1e6, 1)) for name in ("value", "bound")]
-    assert [(it.text, it.source) for it in told] == [("25.0 M EUR", "ways.csv row 2 column value"), ("–", "ways.csv row 2 column bound")]
+    assert [(it.text, it.source) for it in told] == [
+        ("25.0 M EUR", "ways.csv row 2 column value"),
+        ("–", "ways.csv row 2 column bound"),
+    ]
 
 
 def test_a_project_is_shown_without_what_it_says_of_itself():
@@ -232,15 +264,21 @@ def test_a_project_is_shown_without_what_it_says_of_itself():
     assert report_page.without_comments(text) == 'title = "Pit #7"\n[table]\nfile = \'a#b.csv\'\nkey = "it\'s"'
 
 
-@pytest.mark.skipif(CHROMIUM is None or PDFTOTEXT is None, reason="needs the Debian packages chromium and poppler-utils")
+@pytest.mark.skipif(
+    CHROMIUM is None or PDFTOTEXT is None, reason="needs the Debian packages chromium and poppler-utils"
+)
 def test_it_prints_on_a4_and_nothing_is_cut_off(written, tmp_path):
     """Each number of the page's tables is in the text of the PDF, and each of its words lies within the margins of 13, 14 and 10 mm."""
     page, pdf = written / "plan" / "schedule" / "report.html", tmp_path / "report.pdf"
     flags = ["--headless", "--no-sandbox", "--disable-gpu", "--no-pdf-header-footer"]
-    subprocess.run([CHROMIUM, *flags, f"--print-to-pdf={pdf}", f"file://{page}"], capture_output=True, timeout=60, check=True)
+    subprocess.run(
+        [CHROMIUM, *flags, f"--print-to-pdf={pdf}", f"file://{page}"], capture_output=True, timeout=60, check=True
+    )
     boxes = subprocess.run([PDFTOTEXT, "-bbox", pdf, "-"], capture_output=True, text=True, check=True).stdout
     sheets = re.findall(r'<page width="([\d.]+)" height="([\d.]+)"', boxes)
-    assert 7 <= len(sheets) <= 13 and all((round(float(wide)), round(float(high))) == (595, 842) for wide, high in sheets)
+    assert 7 <= len(sheets) <= 13 and all(
+        (round(float(wide)), round(float(high))) == (595, 842) for wide, high in sheets
+    )
     words = re.findall(r'<word xMin="([\d.]+)" yMin="([\d.]+)" xMax="([\d.]+)" yMax="([\d.]+)">([^<]*)</word>', boxes)
     left, low, right, high = (max(float(word[k]) if k > 1 else -float(word[k]) for word in words) for k in range(4))
     assert -left >= 36 and -low >= 39 and right <= 595 - 36 and high <= 842 - 10
@@ -260,7 +298,9 @@ def test_on_a_telephone_nothing_is_cut_off(written, tmp_path):
         phone.call("Page.navigate", url=f"file://{written / 'plan' / 'schedule' / 'report.html'}")
         while not phone.ask("document.readyState === 'complete' && document.querySelector('.figures') !== null"):
             time.sleep(0.1)
-        sides = phone.ask("Array.from(document.querySelectorAll('.figures div'), it => it.getBoundingClientRect().right)")
+        sides = phone.ask(
+            "Array.from(document.querySelectorAll('.figures div'), it => it.getBoundingClientRect().right)"
+        )
     finally:
         phone.end()
     assert len(sides) > 8 and max(sides) <= 390
@@ -271,17 +311,24 @@ def test_the_way_of_a_schedule_is_told_in_words(written):
     record = pitplan.files.read_record(folder)
     told = [report_page.of_answer(folder, project, record | {"schedule": way})["way"] for way in ("rule", "lp")]
     assert told == ["rule", "linear programme"]
-    assert f"A yearly schedule, by {told[record['schedule'] == 'lp']}, of the phases" in (folder / "report.html").read_text()
+    assert (
+        f"A yearly schedule, by {told[record['schedule'] == 'lp']}, of the phases"
+        in (folder / "report.html").read_text()
+    )
 
 
 def test_the_bound_of_a_schedule_names_its_premise(written):
     """Each block goes to the process that is assigned to it, or ore is divided by bins: the page says which."""
     folder, project = written / "plan" / "schedule", pitplan.load(written / "project.toml")
     page = " ".join((folder / "report.html").read_text().split())
-    assert "that sends each block to its assigned process earns more" in page and "divides ore by these bins" not in page
+    assert (
+        "that sends each block to its assigned process earns more" in page and "divides ore by these bins" not in page
+    )
     assert "Upper bound, these pushbacks and processes" in page
     record = pitplan.files.read_record(folder)
     (folder / pitplan.files.MILLING).write_text("")
-    pitplan.files.write_json(folder / pitplan.files.RECORD, record | {"files": record["files"] | {pitplan.files.MILLING: "0" * 64}})
+    pitplan.files.write_json(
+        folder / pitplan.files.RECORD, record | {"files": record["files"] | {pitplan.files.MILLING: "0" * 64}}
+    )
     report_page.write(written / "binned.html", folder, project)
     assert "that divides ore by these bins earns more" in " ".join((written / "binned.html").read_text().split())

@@ -12,15 +12,14 @@ import numpy as np
 import pandas as pd
 import pytest
 from conftest import PROJECT, rows
-from hypothesis import given, settings
-from hypothesis import strategies as st
+from hypothesis import given, settings, strategies as st
 from test_shells import BOX, CLOSED, best_by_trying
 
 import pitplan
 from pitplan import MissingPackage, PlanError, ProgramError, Request, load
 from pitplan.cli import main, parser
-from pitplan.progress import Progress, silent
 from pitplan.commands import scenario_files
+from pitplan.progress import Progress, silent
 from pitplan.simulation import answers, folder as folders, job_lists, on_dask, pictures, prepare, work
 
 UPRIGHT = ('pattern = "1:5"', "angle = 90")
@@ -155,7 +154,9 @@ def test_models_are_named_by_their_whole_files_and_no_two_alike(plan_folder):
     write_models(path, **{name: model[["name", "cu"]] for name in ("sim.1", "sim.2", "sim")})
     assert [scenario.model for scenario in prepared(path).scenarios] == ["sim.1", "sim.2", "sim"]
     model[["name", "cu"]].to_csv(path.parent / "models" / "sim.2.csv.gz", index=False)
-    with pytest.raises(PlanError, match="models/sim.2.csv.gz: is a model of the same name as sim.2.csv: remove or rename one of them"):
+    with pytest.raises(
+        PlanError, match="models/sim.2.csv.gz: is a model of the same name as sim.2.csv: remove or rename one of them"
+    ):
         prepared(path)
 
 
@@ -189,7 +190,9 @@ def test_a_model_that_does_not_fit_is_named_by_file_and_row(plan_folder, bend, w
     write_models(path, bent=bend(model))
     with pytest.raises(PlanError) as said:
         prepared(path)
-    assert str(said.value).startswith(f"{path.parent}/models/bent.csv") and words.format(table=path.parent / "blocks.csv") in str(said.value)
+    assert str(said.value).startswith(f"{path.parent}/models/bent.csv") and words.format(
+        table=path.parent / "blocks.csv"
+    ) in str(said.value)
     assert not (path.parent / "plan" / "scenarios.json").exists()
 
 
@@ -272,7 +275,9 @@ def test_the_program_s_statuses_are_kept_apart(plan_folder, broken_program, caps
     assert record["status"] == noted and record["label"] == "sim_2" and "some words" in record["why"]
     assert work.Outcome(2, status, "", 0).is_final == (status != 75)
     # There are no others that could be gathered.
-    with pytest.raises(PlanError, match="3 of 3 scenarios have no answer, first sim_1: was not solved: run them again$"):
+    with pytest.raises(
+        PlanError, match="3 of 3 scenarios have no answer, first sim_1: was not solved: run them again$"
+    ):
         answers.gather(shared, partial=True)
 
 
@@ -449,7 +454,11 @@ def test_a_scheduler_that_is_not_there_is_named(plan_folder):
 
 
 def likely(folder):
-    return pd.read_csv(folder / "probability.csv")[["probability_500", "probability_1000", "probability_1500"]].to_numpy().tolist()
+    return (
+        pd.read_csv(folder / "probability.csv")[["probability_500", "probability_1000", "probability_1500"]]
+        .to_numpy()
+        .tolist()
+    )
 
 
 def test_answers_are_gathered_from_the_command_line(plan_folder, capsys):
@@ -505,7 +514,10 @@ def test_a_scenario_has_the_status_of_the_program_s_own(error, status):
 @pytest.mark.parametrize(
     ("words", "said"),
     [
-        (["scenarios", "project.toml", "--on", "cloud"], 'found "cloud", expected local, tcp://host:port, slurm or parallel'),
+        (
+            ["scenarios", "project.toml", "--on", "cloud"],
+            'found "cloud", expected local, tcp://host:port, slurm or parallel',
+        ),
         (["scenarios", "project.toml", "--workers", "0"], 'found "0", expected a whole number from 1 on'),
         (["scenarios", "project.toml", "--workers", "-1"], 'found "-1", expected a whole number from 1 on'),
         (["scenario", "folder", "0"], 'found "0", expected a whole number from 1 on'),
@@ -554,7 +566,10 @@ def test_workers_that_cannot_import_pitplan_end_it_all(plan_folder):
 def test_lists_of_models_that_differ_in_length_are_refused(plan_folder):
     second = '[[metals]]\nname = "gold"\ncolumn = "au"\nunit = "percent"\nprice = 1\nrecovery = 1\n[slopes]'
     text = COLUMNS.replace('copper = "sim_*"', 'copper = "sim_*", gold = ["sim_1", "sim_2"]')
-    with pytest.raises(PlanError, match=r"\[scenarios\] columns: each metal needs as many columns as the others: 3 of copper, 2 of gold"):
+    with pytest.raises(
+        PlanError,
+        match=r"\[scenarios\] columns: each metal needs as many columns as the others: 3 of copper, 2 of gold",
+    ):
         prepared(plan_folder(pillar(), text, ("[slopes]", second)))
 
 
@@ -564,4 +579,7 @@ def test_probabilities_are_told_without_the_image_where_vtk_is_missing(plan_fold
     monkeypatch.setitem(sys.modules, "vtk", None)
     (note,) = pitplan.gather(shared.folder).notes
     assert note.startswith("probability.vti was not written: ") and "python3-vtk9" in note
-    assert likely(shared.folder)[0] == pytest.approx([1 / 3, 1 / 3, 2 / 3], abs=1e-6) and not (shared.folder / "probability.vti").exists()
+    assert (
+        likely(shared.folder)[0] == pytest.approx([1 / 3, 1 / 3, 2 / 3], abs=1e-6)
+        and not (shared.folder / "probability.vti").exists()
+    )

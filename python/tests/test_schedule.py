@@ -11,8 +11,7 @@ import numpy as np
 import pandas as pd
 import pytest
 from conftest import PROJECT, rows
-from hypothesis import given
-from hypothesis import strategies as st
+from hypothesis import given, strategies as st
 
 import pitplan
 from pitplan import PlanError, analyse, files
@@ -94,7 +93,10 @@ def present(cash, start, end, rate):
 def walked(pieces, project):
     """The life, and by year the amounts and the present worth: each piece fills what the years have left of both capacities."""
     settings = project.schedule
-    most = [Fraction(settings.ore_per_year), None if settings.rock_per_year is None else Fraction(settings.rock_per_year)]
+    most = [
+        Fraction(settings.ore_per_year),
+        None if settings.rock_per_year is None else Fraction(settings.rock_per_year),
+    ]
     years, used = [[Fraction(0)] * 4], [Fraction(0), Fraction(0)]
     for amounts in pieces:
         left = Fraction(1)
@@ -107,21 +109,29 @@ def walked(pieces, project):
                 years, used = [*years, [Fraction(0)] * 4], [Fraction(0), Fraction(0)]
     life = len(years) - 1 + max(used)
     ends = [min(Fraction(number), life) for number in range(1, len(years) + 1)]
-    discounted = [present(year[3], number, end, str(settings.rate)) for number, (year, end) in enumerate(zip(years, ends))]
+    discounted = [
+        present(year[3], number, end, str(settings.rate)) for number, (year, end) in enumerate(zip(years, ends))
+    ]
     return life, {number: [*year, worth] for number, (year, worth) in enumerate(zip(years, discounted), 1)}
 
 
-blocks = st.lists(
-    st.tuples(
-        st.sampled_from([0, 10, 70, 100, 100, 250]),
-        st.sampled_from(["0", "0", "0.25", "0.5", "1.25", "4"]),
-        st.sampled_from([0, *FACTORS]),
-    ),
-    min_size=CELLS,
-    max_size=CELLS,
-).filter(lambda cells: any(tonnes for tonnes, _, _ in cells)).map(lambda cells: tuple(zip(*cells)))
+blocks = (
+    st.lists(
+        st.tuples(
+            st.sampled_from([0, 10, 70, 100, 100, 250]),
+            st.sampled_from(["0", "0", "0.25", "0.5", "1.25", "4"]),
+            st.sampled_from([0, *FACTORS]),
+        ),
+        min_size=CELLS,
+        max_size=CELLS,
+    )
+    .filter(lambda cells: any(tonnes for tonnes, _, _ in cells))
+    .map(lambda cells: tuple(zip(*cells)))
+)
 capacities = st.tuples(
-    st.sampled_from(["0", "0.08", "0.1", "1"]), st.sampled_from([30, 70, 100, 5000]), st.sampled_from([None, 90, 100, 700])
+    st.sampled_from(["0", "0.08", "0.1", "1"]),
+    st.sampled_from([30, 70, 100, 5000]),
+    st.sampled_from([None, 90, 100, 700]),
 )
 
 
@@ -239,7 +249,13 @@ def test_the_worst_case_can_be_worth_more_than_the_best():
     assert shells["years"][1000] == pytest.approx(4.5)
     years = pitplan.years(plan, solution).set_index(["case", "factor"])
     best, worst = years.loc[("best", 1000)], years.loc[("worst", 1000)]
-    assert best["rock_tonnes"].tolist() == [50, 100, 100, 100, 50] and best["ore_tonnes"].tolist() == [50, 50, 25, 50, 25]
+    assert best["rock_tonnes"].tolist() == [50, 100, 100, 100, 50] and best["ore_tonnes"].tolist() == [
+        50,
+        50,
+        25,
+        50,
+        25,
+    ]
     assert worst["rock_tonnes"].tolist() == [100] * 4 and worst["ore_tonnes"].tolist() == [50] * 4
     # The benches earn 2800 and 14800, and each has 100 t of waste that costs 200.
     assert best["cash"].tolist() == pytest.approx([1400, 1300, 3550, 7300, 3650])
@@ -304,7 +320,7 @@ def test_the_file_of_years_stands_beside_the_shells(solved):
 
 def test_discounting_is_one_of_three(plan_folder):
     path = plan_folder(rows(2, 2, 2), PROJECT, ("rate = 0.1", 'rate = 0.1\ndiscounting = "yearly"'))
-    with pytest.raises(PlanError, match="discounting: \"yearly\" is none of end_of_year, mid_year, continuous"):
+    with pytest.raises(PlanError, match='discounting: "yearly" is none of end_of_year, mid_year, continuous'):
         pitplan.load(path)
 
 

@@ -94,7 +94,13 @@ def test_curves_end_at_what_each_case_earns(schedule):
 
 def test_ore_from_a_stockpile_is_a_bar_of_its_own(schedule):
     """All ore of the second bench is milled a year later than it is dug by the programme."""
-    parcels = Parcels(np.array([1, 2]), np.array([1, 1]), ("ore_tonnes", "metal_copper", "gain"), np.array([[100, 1, 1100.0], [100, 1, 600]]), np.zeros(0))
+    parcels = Parcels(
+        np.array([1, 2]),
+        np.array([1, 1]),
+        ("ore_tonnes", "metal_copper", "gain"),
+        np.array([[100, 1, 1100.0], [100, 1, 600]]),
+        np.zeros(0),
+    )
     straight, reclaimed = np.array([[0.0, 0, 0], [0, 0.25, 0.75]]), np.array([[0, 0.25, 0.75], [0, 0, 0]])
     stocked = replace(schedule, milling={"lp": Milling(parcels, straight, reclaimed, 0.5, True)})
     axes = pictures.plot_tonnes(stocked, Figure().subplots(1, 2))
@@ -125,7 +131,9 @@ def test_a_workbook_has_a_sheet_a_table(tmp_path):
     openpyxl = pytest.importorskip("openpyxl")
     tables = {
         "ways": pd.DataFrame({"way": ["rule", "lp"], "value": [1234567.891, -5.0], "below_bound": [0.25, np.nan]}),
-        "schedule": pd.DataFrame({"year": np.array([1, 2], dtype=np.int16), "share": [0.123456789, 1.0], "metal_copper": [1.5, 2.0]}),
+        "schedule": pd.DataFrame(
+            {"year": np.array([1, 2], dtype=np.int16), "share": [0.123456789, 1.0], "metal_copper": [1.5, 2.0]}
+        ),
     }
     workbook.write(tmp_path / "book.xlsx", tables)
     book = openpyxl.load_workbook(tmp_path / "book.xlsx")

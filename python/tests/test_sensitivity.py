@@ -34,7 +34,7 @@ def small(plan_folder):
     """Writes the project with a section of its own; gives its path."""
 
     def write(words="", *changes):
-        text = PROJECT.replace("ore_per_year = 100", "ore_per_year = 100\nchosen = 1000\ndiscounting = \"continuous\"")
+        text = PROJECT.replace("ore_per_year = 100", 'ore_per_year = 100\nchosen = 1000\ndiscounting = "continuous"')
         return plan_folder(rows(5, 3, 1, **ORE), f"{text}\n[sensitivity]\n{words}\n", *changes)
 
     return write
@@ -43,13 +43,31 @@ def small(plan_folder):
 def test_each_number_by_hand(small):
     """What 100 t of the rich block earn in their year, and with the poor one where it pays, in two."""
     table = by_case(pitplan.write_sensitivity(small("by = [-0.1, 0.1]")))
-    assert list(table.index.get_level_values(0)) == ["", *np.repeat(["price", "mining_cost", "processing_cost", "recovery", "capacity"], 2)]
-    worth = {("", 0.0): 22_800, ("price", -0.1): 20_400, ("price", 0.1): 25_200 + 120, ("mining_cost", -0.1): 22_820 + 20}
+    assert list(table.index.get_level_values(0)) == [
+        "",
+        *np.repeat(["price", "mining_cost", "processing_cost", "recovery", "capacity"], 2),
+    ]
+    worth = {
+        ("", 0.0): 22_800,
+        ("price", -0.1): 20_400,
+        ("price", 0.1): 25_200 + 120,
+        ("mining_cost", -0.1): 22_820 + 20,
+    }
     worth |= {("mining_cost", 0.1): 22_780, ("processing_cost", -0.1): 22_900 + 100, ("processing_cost", 0.1): 22_700}
-    worth |= {("recovery", -0.1): 20_400, ("recovery", 0.1): 25_200 + 120, ("capacity", -0.1): 22_800, ("capacity", 0.1): 22_800}
+    worth |= {
+        ("recovery", -0.1): 20_400,
+        ("recovery", 0.1): 25_200 + 120,
+        ("capacity", -0.1): 22_800,
+        ("capacity", 0.1): 22_800,
+    }
     assert {key[:2]: row.worth for key, row in table.iterrows()} == pytest.approx(worth)
     years = {key: 2.0 if extra % 100 == 20 or key == ("processing_cost", -0.1) else 1.0 for key, extra in worth.items()}
-    years |= {("mining_cost", -0.1): 2.0, ("mining_cost", 0.1): 1.0, ("capacity", -0.1): 1 / 0.9, ("capacity", 0.1): 1 / 1.1}
+    years |= {
+        ("mining_cost", -0.1): 2.0,
+        ("mining_cost", 0.1): 1.0,
+        ("capacity", -0.1): 1 / 0.9,
+        ("capacity", 0.1): 1 / 1.1,
+    }
     assert {key[:2]: row.years for key, row in table.iterrows()} == pytest.approx(years)
     # One bench at one pace: cash flows evenly, and the best case is the worst where one shell is all.
     assert table.loc[("capacity", 0.1, "", 0.0), "npv"] == pytest.approx(22_800 * mean_discount(1 / 1.1))
@@ -60,8 +78,12 @@ def test_what_the_pit_as_given_earns_stands_beside_it(small):
     """The rich block alone, at the case's numbers."""
     table = by_case(pitplan.write_sensitivity(small("by = [-0.1, 0.1]")))
     kept = table.xs(("", 0.0), level=("second", "second_share"))["kept_worth"]
-    assert kept["price"].tolist() == pytest.approx([20_400, 25_200]) and kept["mining_cost"].tolist() == pytest.approx([22_820, 22_780])
-    assert kept["processing_cost"].tolist() == pytest.approx([22_900, 22_700]) and kept["recovery"].tolist() == pytest.approx([20_400, 25_200])
+    assert kept["price"].tolist() == pytest.approx([20_400, 25_200]) and kept["mining_cost"].tolist() == pytest.approx(
+        [22_820, 22_780]
+    )
+    assert kept["processing_cost"].tolist() == pytest.approx([22_900, 22_700]) and kept[
+        "recovery"
+    ].tolist() == pytest.approx([20_400, 25_200])
     assert (table["worth"] >= table["kept_worth"] - 1e-6).all()
     earns = table.loc[("capacity", -0.1, "", 0.0), KEPT[1:]].tolist()
     assert earns == pytest.approx([22_800 * mean_discount(1 / 0.9)] * 2 + [1 / 0.9])
@@ -69,7 +91,9 @@ def test_what_the_pit_as_given_earns_stands_beside_it(small):
 
 def test_pairs_by_hand(small):
     """Both numbers at once; and each of a pair alone too, though it is not named by itself."""
-    table = by_case(pitplan.write_sensitivity(small('by = [-0.1, 0.1]\nvary = "price"\npairs = [["price", "mining_cost"]]')))
+    table = by_case(
+        pitplan.write_sensitivity(small('by = [-0.1, 0.1]\nvary = "price"\npairs = [["price", "mining_cost"]]'))
+    )
     worth = table["worth"].to_dict()
     assert len(worth) == 9
     assert worth[("price", 0.1, "mining_cost", 0.1)] == pytest.approx(26_400 - 1000 - 220 + 1320 - 1220)
@@ -80,12 +104,16 @@ def test_pairs_by_hand(small):
     npv = table["npv"].to_dict()
     assert grid.loc[0.1, -0.1] == npv[("price", 0.1, "mining_cost", -0.1)]
     assert (grid.loc[0.0, 0.0], grid.loc[0.0, 0.1], grid.loc[-0.1, 0.0]) == (
-        npv[("", 0.0, "", 0.0)], npv[("mining_cost", 0.1, "", 0.0)], npv[("price", -0.1, "", 0.0)],
+        npv[("", 0.0, "", 0.0)],
+        npv[("mining_cost", 0.1, "", 0.0)],
+        npv[("price", -0.1, "", 0.0)],
     )
 
 
 RICH = {
-    "cu": lambda i, j, k: {(3, 3, 1): 6, (5, 3, 1): 1.1, (3, 5, 2): 0.7, (6, 5, 2): 0.5, (6, 1, 2): 0.3}.get((i, j, k), 0),
+    "cu": lambda i, j, k: {(3, 3, 1): 6, (5, 3, 1): 1.1, (3, 5, 2): 0.7, (6, 5, 2): 0.5, (6, 1, 2): 0.3}.get(
+        (i, j, k), 0
+    ),
     "rock": lambda i, j, k: "RS"[(i + j) % 2],
     "au": lambda i, j, k: 0.9 if (j, k) == (3, 1) else 0,
 }
@@ -104,18 +132,36 @@ MORE = (
     [
         ("price", "0.25", (("price = 8000", "price = 10000"), ("price = 60", "price = 75"))),
         ("price copper", "0.25", (("price = 8000", "price = 10000"),)),
-        ("selling_cost", "-0.5", (("selling_cost = 200", "selling_cost = 100"), ("selling_cost = 1.5", "selling_cost = 0.75"))),
+        (
+            "selling_cost",
+            "-0.5",
+            (("selling_cost = 200", "selling_cost = 100"), ("selling_cost = 1.5", "selling_cost = 0.75")),
+        ),
         ("selling_cost gold", "1", (("selling_cost = 1.5", "selling_cost = 3"),)),
-        ("recovery", "0.1", (("R = 0.95, S = 0.5 }\ns", "R = 1, S = 0.55 }\ns"), ("recovery = 0.6", "recovery = 0.66"))),
+        (
+            "recovery",
+            "0.1",
+            (("R = 0.95, S = 0.5 }\ns", "R = 1, S = 0.55 }\ns"), ("recovery = 0.6", "recovery = 0.66")),
+        ),
         ("recovery copper", "-0.2", (("R = 0.95, S = 0.5 }\ns", "R = 0.76, S = 0.4 }\ns"),)),
-        ("mining_cost", "0.2", (("R = 2, S = 2.5 }", "R = 2.4, S = 3 }"), ("mining_cost_per_level = 0.25", "mining_cost_per_level = 0.3"))),
+        (
+            "mining_cost",
+            "0.2",
+            (("R = 2, S = 2.5 }", "R = 2.4, S = 3 }"), ("mining_cost_per_level = 0.25", "mining_cost_per_level = 0.3")),
+        ),
         ("processing_cost", "0.3", (("processing_cost = 10", "processing_cost = 13"),)),
         ("slopes", "0.2", (("angle = 45", "angle = 54"),)),
-        ("capacity", "-0.2", (("ore_per_year = 150", "ore_per_year = 120"), ("rock_per_year = 900", "rock_per_year = 720"))),
+        (
+            "capacity",
+            "-0.2",
+            (("ore_per_year = 150", "ore_per_year = 120"), ("rock_per_year = 900", "rock_per_year = 720")),
+        ),
     ],
 )
 def test_a_case_is_the_project_with_this_number_written_there(plan_folder, tmp_path, number, share, changes):
-    path = plan_folder(rows(9, 8, 4, **RICH), PROJECT + f'\n[sensitivity]\nby = [{share}]\nvary = ["{number}"]\n', *MORE)
+    path = plan_folder(
+        rows(9, 8, 4, **RICH), PROJECT + f'\n[sensitivity]\nby = [{share}]\nvary = ["{number}"]\n', *MORE
+    )
     demand_as_written(path, tmp_path / "other", number, changes)
 
 
@@ -129,7 +175,12 @@ def demand_as_written(path, other, number, changes):
         text = text.replace(old, new)
     (other / "project.toml").write_text(text)
     for row, folder in ((0, path), (1, other / "project.toml")):
-        shells = pitplan.write_shells(folder, writing=pitplan.Writing(verifies=False)).set_index("factor").loc[1000].drop("worth_at_factor")
+        shells = (
+            pitplan.write_shells(folder, writing=pitplan.Writing(verifies=False))
+            .set_index("factor")
+            .loc[1000]
+            .drop("worth_at_factor")
+        )
         assert table.iloc[row][shells.index].astype(float).to_dict() == pytest.approx(shells.astype(float).to_dict())
     assert table["kept_worth"].isna().tolist() == [False, number == "slopes"]
     assert table.loc[1, "npv"] != table.loc[0, "npv"]
@@ -145,7 +196,12 @@ def demand_as_written(path, other, number, changes):
 def test_recovery_by_grade_and_prices_of_years_vary(plan_folder, tmp_path, number, share, changes):
     by_grade = ("recovery = 0.5\n", "recovery = [[0.2, 0.4], [1.0, 0.9]]\nprices = [6000, 10000]\n")
     project = PROJECT + f'\n[sensitivity]\nby = [{share}]\nvary = ["{number}"]\n'
-    path = plan_folder(rows(9, 8, 4, **RICH), project, by_grade, ("ore_per_year = 100", "ore_per_year = 100\nchosen = 1000\ndiscounting = \"continuous\""))
+    path = plan_folder(
+        rows(9, 8, 4, **RICH),
+        project,
+        by_grade,
+        ("ore_per_year = 100", 'ore_per_year = 100\nchosen = 1000\ndiscounting = "continuous"'),
+    )
     demand_as_written(path, tmp_path / "other", number, changes)
 
 
@@ -153,7 +209,9 @@ def test_fixed_blocks_hold_in_every_case_and_ore_may_be_settled(plan_folder):
     """A block at the corner must be dug and the last column may not be; with ore as it is at the price as given of each case."""
     table = rows(9, 8, 4, **RICH, must=lambda i, j, k: int((i, j, k) == (0, 0, 3)), never=lambda i, j, k: int(i == 8))
     words = '\n[fixed]\nforced = "must"\nbarred = "never"\n[sensitivity]\nby = [-0.1]\n'
-    path = plan_folder(table, PROJECT + words, *MORE, ("processing_cost = 10\n", 'processing_cost = 10\ncutoff = "fixed"\n'))
+    path = plan_folder(
+        table, PROJECT + words, *MORE, ("processing_cost = 10\n", 'processing_cost = 10\ncutoff = "fixed"\n')
+    )
     found = pitplan.write_sensitivity(path)
     shells = pitplan.write_shells(path, writing=pitplan.Writing(verifies=False)).set_index("factor")
     assert found.loc[0, ["blocks", "worth"]].tolist() == pytest.approx(shells.loc[1000, ["blocks", "worth"]].tolist())
@@ -168,31 +226,50 @@ def test_rows_that_are_put_together_are_varied_as_blocks(plan_folder):
     """Four blocks of 10 m in one of 20: the ore is as it would be in a table of these."""
     table = rows(8, 8, 3, cu=lambda i, j, k: 6 if (i // 2, j // 2, k) == (2, 2, 1) else 0)
     change = ('file = "blocks.csv"', 'file = "blocks.csv"\nreblock = [2, 2, 1]')
-    found = pitplan.write_sensitivity(plan_folder(table, PROJECT + '\n[sensitivity]\nby = [0.1]\nvary = "price"\n', change))
+    found = pitplan.write_sensitivity(
+        plan_folder(table, PROJECT + '\n[sensitivity]\nby = [0.1]\nvary = "price"\n', change)
+    )
     # Four times 24,000 and 1000 for processing, and of five blocks of 400 t, of which one is over the ore, 800 each.
     assert found["worth"].tolist() == pytest.approx([4 * 24_000 - 4000 - 6 * 800, 4 * 26_400 - 4000 - 6 * 800])
 
 
 def test_costs_by_elevation_and_walls_by_azimuth(plan_folder, tmp_path):
     walls = ("[slopes]\nlevels = 3\n", "[slopes]\nlevels = 3\n"), ('pattern = "1:5"', "azimuths = [[0, 40], [180, 50]]")
-    money = ("mining_cost = 2\n", "mining_cost = 2\nmining_cost_by_elevation = [[5, 2], [35, 0]]\n"), ("rate = 0.1", "rate = 0.1\nchosen = 1000")
-    path = plan_folder(rows(9, 8, 4, **RICH), PROJECT + '\n[sensitivity]\nby = [0.1]\nvary = ["mining_cost", "slopes"]\n', *walls, *money)
+    money = ("mining_cost = 2\n", "mining_cost = 2\nmining_cost_by_elevation = [[5, 2], [35, 0]]\n"), (
+        "rate = 0.1",
+        "rate = 0.1\nchosen = 1000",
+    )
+    path = plan_folder(
+        rows(9, 8, 4, **RICH),
+        PROJECT + '\n[sensitivity]\nby = [0.1]\nvary = ["mining_cost", "slopes"]\n',
+        *walls,
+        *money,
+    )
     table = pitplan.write_sensitivity(path)
     text = path.read_text().replace("mining_cost = 2\n", "mining_cost = 2.2\n").replace("[5, 2]", "[5, 2.2]")
     for row, changed in ((1, text), (2, path.read_text().replace("[[0, 40], [180, 50]]", "[[0, 44], [180, 55]]"))):
         path.write_text(changed)
-        assert pitplan.write_shells(path, writing=pitplan.Writing(verifies=False))["worth"].iloc[1] == pytest.approx(table.loc[row, "worth"])
+        assert pitplan.write_shells(path, writing=pitplan.Writing(verifies=False))["worth"].iloc[1] == pytest.approx(
+            table.loc[row, "worth"]
+        )
 
 
 def test_a_lower_price_of_all_is_a_lesser_factor(plan_folder):
     """Where nothing is paid for selling, the pit as given at 20 % less is worth what the program said at factor 800."""
     path = plan_folder(
-        rows(9, 8, 4, **RICH), PROJECT + '\n[sensitivity]\nby = [-0.2]\nvary = "price"\n', ("factors = [500, 1000, 1500]", "factors = [640, 800]\nchosen = 800")
+        rows(9, 8, 4, **RICH),
+        PROJECT + '\n[sensitivity]\nby = [-0.2]\nvary = "price"\n',
+        ("factors = [500, 1000, 1500]", "factors = [640, 800]\nchosen = 800"),
     )
     table = pitplan.write_sensitivity(path)
     shells = pitplan.write_shells(path, writing=pitplan.Writing(verifies=False)).set_index("factor")
-    assert table.loc[1, "factor"] == 800 and table.loc[1, "kept_worth"] == pytest.approx(float(shells["worth_at_factor"][800]))
-    assert float(table.loc[1, "worth_at_factor"]) == pytest.approx(float(shells["worth_at_factor"][640])) and table.loc[1, "blocks"] == shells["blocks"][640]
+    assert table.loc[1, "factor"] == 800 and table.loc[1, "kept_worth"] == pytest.approx(
+        float(shells["worth_at_factor"][800])
+    )
+    assert (
+        float(table.loc[1, "worth_at_factor"]) == pytest.approx(float(shells["worth_at_factor"][640]))
+        and table.loc[1, "blocks"] == shells["blocks"][640]
+    )
 
 
 def test_what_has_an_answer_is_not_solved_again(small, monkeypatch):
@@ -219,7 +296,16 @@ def test_files_and_what_the_command_line_tells(small, capsys, monkeypatch):
     folder = path.parent / "plan" / "sensitivity"
     assert out[-1] == str(folder / "sensitivity.csv")
     assert {it.name for it in folder.iterdir()} == {
-        *("blocks.csv", "cases", "project-as-run.toml", "sensitivity.csv", "sensitivity.json", "tornado.png", "spider.png", "grid-price-mining_cost.png")
+        *(
+            "blocks.csv",
+            "cases",
+            "project-as-run.toml",
+            "sensitivity.csv",
+            "sensitivity.json",
+            "tornado.png",
+            "spider.png",
+            "grid-price-mining_cost.png",
+        )
     }
     record = json.loads((folder / "sensitivity.json").read_text())
     assert len(record["verified"]) == 13 and record["factor"] == 1000
@@ -232,9 +318,16 @@ def test_files_and_what_the_command_line_tells(small, capsys, monkeypatch):
 def test_cases_over_dask_are_those_of_one_after_the_other(small, capsys):
     pytest.importorskip("distributed")
     path = small('by = [-0.1, 0.1]\nvary = ["price", "capacity"]')
-    assert main(["sensitivity", str(path), "--quiet", "--on", "local", "--workers", "1", "--out", str(path.parent / "dask")]) == 0
+    assert (
+        main(
+            ["sensitivity", str(path), "--quiet", "--on", "local", "--workers", "1", "--out", str(path.parent / "dask")]
+        )
+        == 0
+    )
     pitplan.write_sensitivity(path, path.parent / "one", writing=pitplan.Writing(verifies=False))
-    assert (path.parent / "dask" / "sensitivity.csv").read_bytes() == (path.parent / "one" / "sensitivity.csv").read_bytes()
+    assert (path.parent / "dask" / "sensitivity.csv").read_bytes() == (
+        path.parent / "one" / "sensitivity.csv"
+    ).read_bytes()
     assert len(list((path.parent / "dask" / "cases").iterdir())) == 5
     path.write_text(path.read_text().replace("[-0.1, 0.1]", "[-0.9999]"))
     with pytest.raises(PlanError, match="are the capacities in tonnes a year"):
@@ -257,7 +350,10 @@ def test_cases_are_solved_here_or_over_dask_alone(small, capsys):
         ("by = [10.5]", "by: shares are above -1"),
         ("by = [0.1, 0.10]", "by: shares are above -1"),
         ('by = ["much"]', "by: 'much' is not a number"),
-        ('vary = "rent"', 'vary: "rent" is none of price, mining_cost, processing_cost, selling_cost, recovery, slopes, capacity, haulage; price, selling_cost'),
+        (
+            'vary = "rent"',
+            'vary: "rent" is none of price, mining_cost, processing_cost, selling_cost, recovery, slopes, capacity, haulage; price, selling_cost',
+        ),
         ('vary = "slopes copper"', 'vary: "slopes copper" is none of'),
         ('vary = "price tin"', 'vary: "price tin" is none of'),
         ('vary = ["price", "price"]', "vary: names a number twice"),
@@ -275,7 +371,11 @@ def test_what_is_refused(small, words, said):
 
 
 def test_walls_that_no_share_allows_are_refused(plan_folder):
-    path = plan_folder(rows(5, 3, 1, **ORE), PROJECT + "\n[sensitivity]\nby = [1.1]\nvary = 'slopes'\n", ('pattern = "1:5"', "angle = 45"))
+    path = plan_folder(
+        rows(5, 3, 1, **ORE),
+        PROJECT + "\n[sensitivity]\nby = [1.1]\nvary = 'slopes'\n",
+        ('pattern = "1:5"', "angle = 45"),
+    )
     with pytest.raises(PlanError, match="by: slopes times 2.1 leave 1 to 90 degrees"):
         pitplan.write_sensitivity(path)
 
@@ -373,7 +473,9 @@ def test_each_number_that_is_bent_is_found(copied, column, name):
     ],
 )
 def test_cases_that_are_not_those_asked_for_are_found(copied, bend):
-    bend(pd.read_csv(copied / "sensitivity.csv", dtype={"worth_at_factor": str})).to_csv(copied / "sensitivity.csv", index=False)
+    bend(pd.read_csv(copied / "sensitivity.csv", dtype={"worth_at_factor": str})).to_csv(
+        copied / "sensitivity.csv", index=False
+    )
     assert "cases" in wrong(copied)
 
 
@@ -404,11 +506,32 @@ def test_walls_of_patterns_that_move_not_are_as_given(plan_folder):
 @pytest.mark.parametrize(
     ("number", "careless"),
     [
-        ("price", lambda project, by, metal: varied.with_metals(project, "gold", lambda it: varied.replace(it, price=it.price * by))),
-        ("recovery", lambda project, by, metal: varied.with_metals(project, metal, lambda it: varied.replace(it, recovery=varied.times(it.recovery, by)))),
-        ("mining_cost", lambda project, by, metal: varied.replace(project, money=varied.replace(project.money, mining_cost=varied.times(project.money.mining_cost, by)))),
+        (
+            "price",
+            lambda project, by, metal: varied.with_metals(
+                project, "gold", lambda it: varied.replace(it, price=it.price * by)
+            ),
+        ),
+        (
+            "recovery",
+            lambda project, by, metal: varied.with_metals(
+                project, metal, lambda it: varied.replace(it, recovery=varied.times(it.recovery, by))
+            ),
+        ),
+        (
+            "mining_cost",
+            lambda project, by, metal: varied.replace(
+                project, money=varied.replace(project.money, mining_cost=varied.times(project.money.mining_cost, by))
+            ),
+        ),
         ("slopes", lambda project, by, metal: project),
-        ("capacity", lambda project, by, metal: varied.replace(project, schedule=varied.replace(project.schedule, ore_per_year=project.schedule.ore_per_year * float(by)))),
+        (
+            "capacity",
+            lambda project, by, metal: varied.replace(
+                project,
+                schedule=varied.replace(project.schedule, ore_per_year=project.schedule.ore_per_year * float(by)),
+            ),
+        ),
         ("selling_cost", lambda project, by, metal: project),
         ("processing_cost", lambda project, by, metal: varied.mining_cost(project, by, metal)),
     ],
@@ -434,9 +557,20 @@ def test_a_folder_without_its_answers_is_named(copied):
 @pytest.fixture
 def table():
     """As given 100; price 80 and 130; costs 104 and 99; both 70 to 140 in pairs."""
-    lines = [("", 0, "", 0, 100), ("price", -0.1, "", 0, 80), ("price", 0.2, "", 0, 130), ("mining_cost", -0.1, "", 0, 104), ("mining_cost", 0.2, "", 0, 99)]
-    lines += [("price", one, "mining_cost", other, 70 + 10 * k) for k, (one, other) in enumerate([(-0.1, -0.1), (-0.1, 0.2), (0.2, -0.1), (0.2, 0.2)])]
-    return pd.DataFrame(lines, columns=["number", "share", "second", "second_share", "npv"]).astype({"share": float, "second_share": float})
+    lines = [
+        ("", 0, "", 0, 100),
+        ("price", -0.1, "", 0, 80),
+        ("price", 0.2, "", 0, 130),
+        ("mining_cost", -0.1, "", 0, 104),
+        ("mining_cost", 0.2, "", 0, 99),
+    ]
+    lines += [
+        ("price", one, "mining_cost", other, 70 + 10 * k)
+        for k, (one, other) in enumerate([(-0.1, -0.1), (-0.1, 0.2), (0.2, -0.1), (0.2, 0.2)])
+    ]
+    return pd.DataFrame(lines, columns=["number", "share", "second", "second_share", "npv"]).astype(
+        {"share": float, "second_share": float}
+    )
 
 
 def test_a_tornado_has_the_outermost_shares_and_the_greatest_on_top(table):
@@ -455,6 +589,16 @@ def test_a_spider_has_a_curve_a_number_through_the_project_as_given(table):
 
 def test_a_grid_has_an_amount_a_pair_of_shares(table):
     axes = sensitivity_pictures.plot_grid(table, ("price", "mining_cost"), "USD", Figure().subplots())
-    assert [text.get_text() for text in axes.texts] == ["70.0", "80.0", "80.0", "104.0", "100.0", "99.0", "90.0", "130.0", "100.0"]
+    assert [text.get_text() for text in axes.texts] == [
+        "70.0",
+        "80.0",
+        "80.0",
+        "104.0",
+        "100.0",
+        "99.0",
+        "90.0",
+        "130.0",
+        "100.0",
+    ]
     assert (axes.patches[0].get_x(), axes.patches[0].get_y()) == (0.5, 0.5)
     assert [label.get_text() for label in axes.get_yticklabels()] == ["-10 %", "0", "+20 %"]

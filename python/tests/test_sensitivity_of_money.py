@@ -14,7 +14,7 @@ from pitplan.money_rules import Curve
 
 pytestmark = pytest.mark.usefixtures("without_figures")
 BY = "ore_per_year = 100", "ore_per_year = 100\nchosen = 1000"
-RULES = '\n[sensitivity]\nby = [-0.1, 0.2]\n'
+RULES = "\n[sensitivity]\nby = [-0.1, 0.2]\n"
 
 
 def two_blocks():
@@ -41,7 +41,11 @@ def test_several_processes(plan_folder):
 
 def test_recoveries_by_grade_and_prices_of_years(plan_folder):
     """6 % recover 0.8, and a fifth more 0.96; 0.3 % recover 0.5 and 0.6. Each costs 1,200."""
-    changes = [("recovery = 0.5", "recovery = [[0.3, 0.5], [6, 0.8]]"), ("price = 8000", "price = 8000\nprices = [8000, 9000]"), BY]
+    changes = [
+        ("recovery = 0.5", "recovery = [[0.3, 0.5], [6, 0.8]]"),
+        ("price = 8000", "price = 8000\nprices = [8000, 9000]"),
+        BY,
+    ]
     fixed = ("mining_cost = 2\n", "mining_cost = 2\nfixed_cost_per_year = 70\ncapital = [[1, 500]]\n")
     worth = worths(plan_folder(two_blocks(), PROJECT + RULES, *changes, fixed))
     assert worth[("", 0.0)] == pytest.approx(38_400 - 1_200)  # the poor block sells for 1,200 and costs as much
@@ -57,14 +61,18 @@ def test_prices_of_years_go_with_the_price(plan_folder):
 
 def test_recoveries_by_grade_end_at_all():
     curve = Curve(((Decimal(1), Decimal("0.5")), (Decimal(2), Decimal("0.9"))))
-    assert varied.recovered({"R": curve}, Decimal("1.2")) == {"R": Curve(((Decimal(1), Decimal("0.60")), (Decimal(2), Decimal(1))))}
+    assert varied.recovered({"R": curve}, Decimal("1.2")) == {
+        "R": Curve(((Decimal(1), Decimal("0.60")), (Decimal(2), Decimal(1))))
+    }
 
 
 def test_walls_of_benches(plan_folder):
     """Both looks agree of walls that are a fifth steeper and a tenth flatter than the benches' own."""
     wall = ('[[slopes.walls]]\npattern = "1:5"', "[[slopes.walls]]\nbench = { height = 20, face = 65, berm = 9 }")
     table = rows(9, 9, 3, cu=lambda i, j, k: 30 if (i, j, k) == (4, 4, 0) else 0)
-    found = pitplan.write_sensitivity(plan_folder(table, PROJECT + RULES, wall, BY)).set_index(["number", "share"])["blocks"]
+    found = pitplan.write_sensitivity(plan_folder(table, PROJECT + RULES, wall, BY)).set_index(["number", "share"])[
+        "blocks"
+    ]
     assert found[("slopes", 0.2)] < found[("", 0.0)] <= found[("slopes", -0.1)]
 
 

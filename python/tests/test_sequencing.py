@@ -4,8 +4,7 @@ from types import SimpleNamespace
 
 import numpy as np
 import pytest
-from hypothesis import given
-from hypothesis import strategies as st
+from hypothesis import given, strategies as st
 
 from pitplan import PlanError
 from pitplan.phase_benches import PhaseBenches
@@ -76,7 +75,9 @@ def test_each_limit_by_hand(limits, shares):
 def test_the_last_year_that_is_allowed():
     benches = benches_of(*THREE)
     limits = Limits({"ore_tonnes": 100, "rock_tonnes": 80})
-    assert dig(problem_of(benches, limits), by_lead(benches, 2), years=2).tolist() == shares_of([[0.8, 0.2], [0, 0.6], [0, 0]])
+    assert dig(problem_of(benches, limits), by_lead(benches, 2), years=2).tolist() == shares_of(
+        [[0.8, 0.2], [0, 0.6], [0, 0]]
+    )
 
 
 def test_what_is_left_over_is_used_where_an_order_is_eager():
@@ -85,10 +86,16 @@ def test_what_is_left_over_is_used_where_an_order_is_eager():
     limits = Limits({"ore_tonnes": 100, "rock_tonnes": 150})
     order = by_lead(benches, 2).order
     assert order.tolist() == [0, 1, 2, 3]
-    assert dig(problem_of(benches, limits), Sequence(order)).tolist() == shares_of([[1, 0, 0], [0, 1, 0], [0, 0.5, 0.5], [0, 0, 1]])
-    assert dig(problem_of(benches, limits), Sequence(order, eager=True)).tolist() == shares_of([[1, 0, 0], [0, 1, 0], [0.5, 0.5, 0], [0, 0, 1]])
+    assert dig(problem_of(benches, limits), Sequence(order)).tolist() == shares_of(
+        [[1, 0, 0], [0, 1, 0], [0, 0.5, 0.5], [0, 0, 1]]
+    )
+    assert dig(problem_of(benches, limits), Sequence(order, eager=True)).tolist() == shares_of(
+        [[1, 0, 0], [0, 1, 0], [0.5, 0.5, 0], [0, 0, 1]]
+    )
     late = Sequence(order, np.array([1, 1, 2, 1]), eager=True)
-    assert dig(problem_of(benches, limits), late).tolist() == shares_of([[1, 0, 0], [0, 1, 0], [0, 0.5, 0.5], [0, 0, 1]])
+    assert dig(problem_of(benches, limits), late).tolist() == shares_of(
+        [[1, 0, 0], [0, 1, 0], [0, 0.5, 0.5], [0, 0, 1]]
+    )
 
 
 def test_no_lead_is_bench_by_bench_and_the_greatest_phase_by_phase():
@@ -130,13 +137,18 @@ def demand_diggable(benches, limits, shares):
     for year in range(shares.shape[1]):
         ramp = limits.ramp_up[min(year, len(limits.ramp_up) - 1)]
         for name, most in limits.most.items():
-            assert benches.of(name) @ shares[:, year] <= most * (ramp if name == "ore_tonnes" else 1) * (1 + 1e-9) + 1e-9
+            assert (
+                benches.of(name) @ shares[:, year] <= most * (ramp if name == "ore_tonnes" else 1) * (1 + 1e-9) + 1e-9
+            )
         for phase in set(benches.phase.tolist()):
             assert shares[benches.phase == phase, year].sum() <= limits.sinking_rate + 1e-9
         for bench in np.flatnonzero(shares[:, year]):
             for other in range(len(benches)):
                 above = benches.phase[other] == benches.phase[bench] and benches.level[other] < benches.level[bench]
-                earlier = benches.phase[other] < benches.phase[bench] and benches.level[other] <= benches.level[bench] + benches.lag
+                earlier = (
+                    benches.phase[other] < benches.phase[bench]
+                    and benches.level[other] <= benches.level[bench] + benches.lag
+                )
                 assert not (above or earlier) or done[other, year] > 1 - 1e-9
 
 
@@ -159,7 +171,9 @@ def test_the_rule_is_the_lead_that_earns_most(pit, limits, lag):
     values = {}
     for other in leads(benches):
         made = dig(problem_of(benches, limits), by_lead(benches, other))
-        values[other] = sum(float(benches.of("cash") @ made[:, year]) / 1.1 ** years[year] for year in range(made.shape[1]))
+        values[other] = sum(
+            float(benches.of("cash") @ made[:, year]) / 1.1 ** years[year] for year in range(made.shape[1])
+        )
     assert lead >= lag and values[lead] == pytest.approx(max(values.values()))
 
 

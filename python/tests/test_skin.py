@@ -32,8 +32,19 @@ def record_of(path):
 def test_what_the_skin_earns_in_each_case(project):
     path = project("by = [-0.1, 0.1]")
     table = pitplan.write_sensitivity(path).set_index(["number", "share"])["skin_worth"]
-    due = {("", 0.0): 800, ("price", -0.1): 600, ("price", 0.1): 1000, ("mining_cost", -0.1): 820, ("mining_cost", 0.1): 780}
-    due |= {("processing_cost", -0.1): 900, ("processing_cost", 0.1): 700, ("recovery", -0.1): 600, ("recovery", 0.1): 1000}
+    due = {
+        ("", 0.0): 800,
+        ("price", -0.1): 600,
+        ("price", 0.1): 1000,
+        ("mining_cost", -0.1): 820,
+        ("mining_cost", 0.1): 780,
+    }
+    due |= {
+        ("processing_cost", -0.1): 900,
+        ("processing_cost", 0.1): 700,
+        ("recovery", -0.1): 600,
+        ("recovery", 0.1): 1000,
+    }
     assert table.to_dict() == pytest.approx(due | {("capacity", -0.1): 800, ("capacity", 0.1): 800})
     assert record_of(path)["skin"] == {"factor": 600, "tonnes": 100, "share": 0.5, "worth": 800}
 
@@ -47,7 +58,9 @@ def test_a_greater_share_reaches_a_lesser_shell(project):
 
 def test_a_pit_that_no_lesser_factor_divides_is_all_skin(plan_folder):
     """The one block of ore pays at every factor."""
-    text = PROJECT.replace("ore_per_year = 100", "ore_per_year = 100\nchosen = 1000").replace("price = 8000", "price = 80000000")
+    text = PROJECT.replace("ore_per_year = 100", "ore_per_year = 100\nchosen = 1000").replace(
+        "price = 8000", "price = 80000000"
+    )
     path = plan_folder(rows(5, 3, 1, **ORE), text + '\n[sensitivity]\nby = [0.1]\nvary = "mining_cost"\n')
     pitplan.write_sensitivity(path)
     assert (record_of(path)["skin"]["factor"], record_of(path)["skin"]["tonnes"]) == (0, 200)
@@ -55,7 +68,10 @@ def test_a_pit_that_no_lesser_factor_divides_is_all_skin(plan_folder):
 
 def test_where_walls_move_nothing_is_told_of_it(plan_folder):
     text = PROJECT.replace("ore_per_year = 100", "ore_per_year = 100\nchosen = 1000")
-    path = plan_folder(rows(5, 3, 1, **ORE), text.replace('pattern = "1:5"', "angle = 45") + '\n[sensitivity]\nby = [0.2]\nvary = "slopes"\n')
+    path = plan_folder(
+        rows(5, 3, 1, **ORE),
+        text.replace('pattern = "1:5"', "angle = 45") + '\n[sensitivity]\nby = [0.2]\nvary = "slopes"\n',
+    )
     worth = pitplan.write_sensitivity(path)["skin_worth"]
     assert worth[0] == pytest.approx(800) and np.isnan(worth[1])
 
@@ -103,7 +119,10 @@ def test_the_second_look_finds_another_skin(project):
 def test_the_second_look_finds_a_skin_that_others_need(plan_folder):
     """A block above one that stays may not be the skin's."""
     text = PROJECT.replace("ore_per_year = 100", "ore_per_year = 100\nchosen = 1000")
-    path = plan_folder(rows(5, 5, 2, cu=lambda i, j, k: {(2, 2, 0): 9}.get((i, j, k), 0)), text + '\n[sensitivity]\nby = [0.1]\nvary = "price"\n')
+    path = plan_folder(
+        rows(5, 5, 2, cu=lambda i, j, k: {(2, 2, 0): 9}.get((i, j, k), 0)),
+        text + '\n[sensitivity]\nby = [0.1]\nvary = "price"\n',
+    )
     pitplan.write_sensitivity(path)
     folder = load(path).folder / "sensitivity"
     said = json.loads((folder / "sensitivity.json").read_text())

@@ -8,8 +8,7 @@ import numpy as np
 import pandas as pd
 import pytest
 from conftest import PROJECT, ROOT, rows
-from hypothesis import given
-from hypothesis import strategies as st
+from hypothesis import given, strategies as st
 
 import pitplan
 from pitplan import PlanError, cones, files, slopes
@@ -125,7 +124,9 @@ def test_walls_that_stand_upright_and_lists_without_width():
     assert line[90] == pytest.approx(45) and line[270] == pytest.approx(90) and line[0] == pytest.approx(90)
     # A block and the one above it in the north-east: a step up for each root of two.
     askew = slopes.wall_angles(((0, 0, 1), (1, 1, 1)), CUBE)
-    assert askew[45] == pytest.approx(math.degrees(math.atan(1 / math.sqrt(2)))) and np.delete(askew, 45) == pytest.approx(np.full(359, 90.0))
+    assert askew[45] == pytest.approx(math.degrees(math.atan(1 / math.sqrt(2)))) and np.delete(
+        askew, 45
+    ) == pytest.approx(np.full(359, 90.0))
     assert least_list(90, CUBE, 4) == ((0, 0, 1),)
 
 
@@ -294,15 +295,21 @@ def test_steps_to_a_cell_of_a_cone_and_beside_it():
     assert cones.holds(cone, np.array(inside + outside)).tolist() == [True] * len(inside) + [False] * len(outside)
 
 
-@pytest.mark.parametrize(("levels", "said"), [(1, "over 1 level make"), (2, "over 2 levels make"), (3, "over 3 levels make")])
+@pytest.mark.parametrize(
+    ("levels", "said"), [(1, "over 1 level make"), (2, "over 2 levels make"), (3, "over 3 levels make")]
+)
 def test_walls_are_told_with_their_levels(plan_folder, levels, said):
-    plan = pitplan.prepare(plan_folder(rows(3, 3, 4), PROJECT, ("levels = 3", f"levels = {levels}"), ('pattern = "1:5"', "angle = 45")))
+    plan = pitplan.prepare(
+        plan_folder(rows(3, 3, 4), PROJECT, ("levels = 3", f"levels = {levels}"), ('pattern = "1:5"', "angle = 45"))
+    )
     assert any(said in note for note in plan.notes)
 
 
 def test_no_more_than_forty_levels_are_chosen(plan_folder):
     """Walls of 88.6 degrees step back by a block within 41 levels, and not within 40."""
-    plan = pitplan.prepare(plan_folder(rows(2, 2, 2), PROJECT, ("levels = 3\n", ""), ('pattern = "1:5"', "angle = 88.6")))
+    plan = pitplan.prepare(
+        plan_folder(rows(2, 2, 2), PROJECT, ("levels = 3\n", ""), ('pattern = "1:5"', "angle = 88.6"))
+    )
     assert plan.walls.patterns[0].levels == 40
 
 

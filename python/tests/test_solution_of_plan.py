@@ -45,7 +45,9 @@ def mine(plan_folder):
 def test_each_function_refuses_a_solution_of_another_plan(mine, name):
     plan, other = mine(), mine(("price = 8000", "price = 9000"))
     PAIRS[name](plan, pitplan.solve(plan))
-    with pytest.raises(PlanError, match=r"blocks.csv: the solution is of another plan \(.*\): give that of pitplan.solve\(plan\)"):
+    with pytest.raises(
+        PlanError, match=r"blocks.csv: the solution is of another plan \(.*\): give that of pitplan.solve\(plan\)"
+    ):
         PAIRS[name](plan, pitplan.solve(other))
 
 
@@ -74,7 +76,9 @@ def test_what_shells_do_not_depend_on_makes_no_other_plan(mine):
 def test_a_plan_by_the_program_has_the_key_of_that_by_the_library(mine):
     plan = mine()
     by_program = pitplan.solve(replace(plan, project=replace(plan.project, solver="program")))
-    assert np.array_equal(pitplan.blocks(plan, by_program)["factor"], pitplan.blocks(plan, pitplan.solve(plan))["factor"])
+    assert np.array_equal(
+        pitplan.blocks(plan, by_program)["factor"], pitplan.blocks(plan, pitplan.solve(plan))["factor"]
+    )
 
 
 def test_phases_have_a_solution_of_their_own_factors(plan_folder):

@@ -25,7 +25,9 @@ OTHER = "another run of pitplan writes into this folder"
 @pytest.fixture
 def mine(plan_folder):
     """A mine of which every command can make something; its project."""
-    table = rows(6, 5, 3, due=lambda i, j, k: int((i, j, k) == (1, 1, 2)), cu2=lambda i, j, k: 3 * ((i, j) == (2, 2)), **ORE)
+    table = rows(
+        6, 5, 3, due=lambda i, j, k: int((i, j, k) == (1, 1, 2)), cu2=lambda i, j, k: 3 * ((i, j) == (2, 2)), **ORE
+    )
     return plan_folder(table, PROJECT + MORE + SCENARIOS)
 
 
@@ -35,7 +37,9 @@ RUNS = {
     "pit": lambda path, folder: pitplan.write_pit(path, 1000, folder, writing=pitplan.Writing(verifies=False)),
     "pushbacks": lambda path, folder: pitplan.write_pushbacks(path, folder, writing=pitplan.Writing(verifies=False)),
     "schedule": lambda path, folder: pitplan.write_schedule(path, folder, writing=pitplan.Writing(verifies=False)),
-    "sensitivity": lambda path, folder: pitplan.write_sensitivity(path, folder, writing=pitplan.Writing(verifies=False)),
+    "sensitivity": lambda path, folder: pitplan.write_sensitivity(
+        path, folder, writing=pitplan.Writing(verifies=False)
+    ),
     "scenarios": lambda path, folder: pitplan.write_scenarios(path, folder, Request(where="parallel")),
 }
 
@@ -97,7 +101,10 @@ def test_a_second_run_in_the_same_folder_is_refused_while_the_first_lives(mine, 
     """And changes nothing there; after the first has ended it runs."""
     folder = mine.parent / "out"
     with staging.alone(folder):
-        with pytest.raises(PlanError, match=rf"out: {OTHER} \(process {os.getpid()}\): wait until it ends, or give another folder by --out"):
+        with pytest.raises(
+            PlanError,
+            match=rf"out: {OTHER} \(process {os.getpid()}\): wait until it ends, or give another folder by --out",
+        ):
             RUNS[name](mine, folder)
         assert [path.name for path in folder.iterdir()] == [".pitplan.lock"]
     assert not folder.exists()
@@ -117,7 +124,9 @@ def test_a_run_by_the_command_line_is_refused_by_one_in_another_process(mine, ca
     )
     folder = mine.parent / "plan"
     folder.mkdir()
-    with subprocess.Popen([sys.executable, "-c", source, str(folder / ".pitplan.lock")], stdin=-1, stdout=-1, text=True) as other:
+    with subprocess.Popen(
+        [sys.executable, "-c", source, str(folder / ".pitplan.lock")], stdin=-1, stdout=-1, text=True
+    ) as other:
         assert other.stdout.readline() == "locked\n"
         assert main(["shells", str(mine), "--no-verify", "--quiet"]) == 1
         assert capsys.readouterr().err.startswith(f"pitplan: {folder}: {OTHER} (process 4711): wait until it ends")
@@ -134,7 +143,9 @@ def test_commands_that_only_read_work_beside_a_run_and_each_other(mine):
         assert not any(rule.differences for rule in pitplan.verify(folder))
         for write in (pitplan.write_report, pitplan.audit, pitplan.view):
             assert write(folder, *([500] if write is pitplan.audit else [])).exists()
-        assert pitplan.export(folder, "csv", 500).exists() and pitplan.export(folder, "obj", shape=Shape("year")).exists()
+        assert (
+            pitplan.export(folder, "csv", 500).exists() and pitplan.export(folder, "obj", shape=Shape("year")).exists()
+        )
 
 
 def test_two_audits_or_exports_into_one_folder_are_kept_apart(mine):
@@ -204,7 +215,9 @@ def turns(folder: Path, count: int) -> None:
             continue
 
 
-@pytest.mark.parametrize("name", ["prepare.json", "blocks.csv", "mine.prec", "shells.csv", "years.csv", "plans.png", "report.html"])
+@pytest.mark.parametrize(
+    "name", ["prepare.json", "blocks.csv", "mine.prec", "shells.csv", "years.csv", "plans.png", "report.html"]
+)
 def test_a_folder_in_place_of_a_file_is_refused_before_anything_is_replaced(mine, name, monkeypatch):
     if name.endswith(".png"):
         monkeypatch.setattr(Writing, "figures", True)
@@ -214,7 +227,10 @@ def test_a_folder_in_place_of_a_file_is_refused_before_anything_is_replaced(mine
     (folder / name).mkdir()
     before = {path.name: path.read_bytes() for path in folder.iterdir() if path.is_file()}
     mine.write_text(mine.read_text().replace("price = 8000", "price = 9000"))
-    with pytest.raises(PlanError, match=rf"out/{name}: found a folder, expected a file or nothing: move it away, or give another folder by --out"):
+    with pytest.raises(
+        PlanError,
+        match=rf"out/{name}: found a folder, expected a file or nothing: move it away, or give another folder by --out",
+    ):
         pitplan.write_shells(mine, folder, writing=pitplan.Writing(verifies=False))
     assert {path.name: path.read_bytes() for path in folder.iterdir() if path.is_file()} == before
     (folder / name).rmdir()
@@ -246,7 +262,9 @@ def test_no_run_replaces_the_table_of_another_mine(mine, name):
     texts = {"project.toml": mine.read_text(), "blocks.csv": (mine.parent / "blocks.csv").read_text()}
     for file, text in texts.items():
         (other / file).write_text(text)
-    with pytest.raises(PlanError, match=r"other/blocks\.csv: the plan would be written over it: give another folder by --out"):
+    with pytest.raises(
+        PlanError, match=r"other/blocks\.csv: the plan would be written over it: give another folder by --out"
+    ):
         RUNS[name](mine, other)
     assert {path.name: path.read_text() for path in other.iterdir()} == texts
 
@@ -255,6 +273,8 @@ def test_scenarios_do_not_replace_the_project_of_another_mine(mine):
     other = mine.parent / "other"
     other.mkdir()
     (other / "project.toml").write_text("title = 'another mine'\n")
-    with pytest.raises(PlanError, match=r"other/project\.toml: scenarios would replace this project: give another folder by --out"):
+    with pytest.raises(
+        PlanError, match=r"other/project\.toml: scenarios would replace this project: give another folder by --out"
+    ):
         RUNS["scenarios"](mine, other)
     assert {path.name: path.read_text() for path in other.iterdir()} == {"project.toml": "title = 'another mine'\n"}

@@ -65,10 +65,16 @@ def test_what_is_told_of_steps(plan_folder):
     plan = pitplan.prepare(plan_folder(deposit(), PROJECT, walls("steps = [[0, 0, 1], [1, 0, 1], [1, 0, 2]]")))
     (pattern,) = plan.walls.patterns
     assert (pattern.angles[90], pattern.angles[270]) == pytest.approx((45, 90))
-    assert pattern.sentence() == "other regions, 3 steps of the project: 2 needs a block over 2 levels make walls of 45.0 to 90.0 degrees"
+    assert (
+        pattern.sentence()
+        == "other regions, 3 steps of the project: 2 needs a block over 2 levels make walls of 45.0 to 90.0 degrees"
+    )
 
 
-@pytest.mark.parametrize(("bench", "angle"), [(Bench(10, 45, 10), math.degrees(math.atan(0.5))), (Bench(15, 90, 15), 45), (Bench(15, 70, 0), 70)])
+@pytest.mark.parametrize(
+    ("bench", "angle"),
+    [(Bench(10, 45, 10), math.degrees(math.atan(0.5))), (Bench(15, 90, 15), 45), (Bench(15, 70, 0), 70)],
+)
 def test_the_angle_of_benches_by_hand(bench, angle):
     assert bench.angle == pytest.approx(angle)
 
@@ -116,8 +122,13 @@ def test_the_second_look_agrees(plan_folder, without_figures, text):
 
 
 def test_a_step_that_is_passed_over_is_found(plan_folder, monkeypatch, without_figures):
-    path, pattern_of = plan_folder(deposit(), PROJECT, walls(f"steps = {[list(step) for step in LEANING]}")), slopes.pattern_of
-    monkeypatch.setattr("pitplan.walls.pattern_of", lambda wall, *more: pattern_of(replace(wall, steps=wall.steps[1:]), *more))
+    path, pattern_of = (
+        plan_folder(deposit(), PROJECT, walls(f"steps = {[list(step) for step in LEANING]}")),
+        slopes.pattern_of,
+    )
+    monkeypatch.setattr(
+        "pitplan.walls.pattern_of", lambda wall, *more: pattern_of(replace(wall, steps=wall.steps[1:]), *more)
+    )
     pitplan.write_shells(path, writing=pitplan.Writing(verifies=False))
     assert "walls" in wrong(path)
 

@@ -113,7 +113,9 @@ def test_metals_in_grams_and_grades_that_cannot_be(plan_folder):
     ]
 
 
-@pytest.mark.parametrize(("unit", "most", "whole"), [("fraction", 1.5, 1.0), ("gram_per_tonne", 1_000_001.0, 1_000_000.0)])
+@pytest.mark.parametrize(
+    ("unit", "most", "whole"), [("fraction", 1.5, 1.0), ("gram_per_tonne", 1_000_001.0, 1_000_000.0)]
+)
 def test_each_unit_has_its_limit(plan_folder, unit, most, whole):
     changes = [('unit = "percent"', f'unit = "{unit}"'), ("price = 8000", "price = 1")]
     for greatest, count in ((whole, 0), (most, 1)):

@@ -45,7 +45,9 @@ def far(plan_folder):
     within is air."""
     pytest.importorskip("vtk", reason="needs the Debian package python3-vtk9")
     ore = {(2, 3, 1): 6, (6, 3, 2): 0.9}
-    table = rows(9, 8, 4, cu=lambda i, j, k: ore.get((i, j, k), 0), tonnes=lambda i, j, k: 100 * int((i, j, k) != (2, 3, 3)))
+    table = rows(
+        9, 8, 4, cu=lambda i, j, k: ore.get((i, j, k), 0), tonnes=lambda i, j, k: 100 * int((i, j, k) != (2, 3, 3))
+    )
     table = table.assign(x=table["x"] + 430_000.5, y=table["y"] + 6_512_000.25)
     path = plan_folder(table)
     pitplan.write_shells(path, writing=pitplan.Writing(verifies=False))
@@ -63,9 +65,14 @@ def test_a_surface_holds_what_its_blocks_do(far, capsys, kind, factor):
     dug = blocks[(blocks["factor"] > 0) & (blocks["factor"] <= factor) & (blocks["tonnes"] > 0)]
     triangles = triangles_of(path)
     assert volume_of(triangles) == pytest.approx(1000 * len(dug), rel=1e-3) and is_closed(triangles)
-    assert f"{len(triangles):,} triangles hold {1000 * len(dug):,} m3, and the {len(dug):,} blocks {1000 * len(dug):,} m3" in said.err
+    assert (
+        f"{len(triangles):,} triangles hold {1000 * len(dug):,} m3, and the {len(dug):,} blocks {1000 * len(dug):,} m3"
+        in said.err
+    )
     low, high = triangles.min(axis=(0, 1)), triangles.max(axis=(0, 1))
-    assert low.tolist() == [dug[axis].min() - 5 for axis in "xyz"] and high.tolist() == [dug[axis].max() + 5 for axis in "xyz"]
+    assert low.tolist() == [dug[axis].min() - 5 for axis in "xyz"] and high.tolist() == [
+        dug[axis].max() + 5 for axis in "xyz"
+    ]
 
 
 def test_an_empty_pit_has_no_surface(plan_folder):
@@ -86,7 +93,9 @@ def test_a_surface_that_holds_something_else_is_not_kept(far, monkeypatch):
         return made(vtk, image)
 
     monkeypatch.setattr(surfaces, "round_cells", higher)
-    with pytest.raises(PlanError, match=r"pit-500.obj: \d+ triangles hold 18,036 m3, and the 18 blocks 18,000 m3: please report this"):
+    with pytest.raises(
+        PlanError, match=r"pit-500.obj: \d+ triangles hold 18,036 m3, and the 18 blocks 18,000 m3: please report this"
+    ):
         pitplan.export(far.parent / "plan", "obj", 500)
     assert not (far.parent / "plan" / "pit-500.obj").exists()
 

@@ -44,7 +44,11 @@ def gis(path, driver, layers, epsg=None):
     source = ogr.GetDriverByName(driver).CreateDataSource(str(path))
     for name, geometries in layers.items():
         # A shapefile is of one kind, which its first geometry tells.
-        kind = ogr.CreateGeometryFromWkt(geometries[0][0]).GetGeometryType() if driver == "ESRI Shapefile" else ogr.wkbUnknown
+        kind = (
+            ogr.CreateGeometryFromWkt(geometries[0][0]).GetGeometryType()
+            if driver == "ESRI Shapefile"
+            else ogr.wkbUnknown
+        )
         made = source.CreateLayer(name, system, kind)
         made.CreateField(ogr.FieldDefn("ELEV", ogr.OFTReal))
         for text, value in geometries:
@@ -126,7 +130,9 @@ def plane_by_lines(space):
 SURFACE = '\n[fixed]\ntopography = "blocks"\nsurface = '
 
 
-@pytest.mark.parametrize("shape", [faces_of_plane, plane_by_mesh, plane_by_polyface, plane_by_points, plane_by_polylines, plane_by_lines])
+@pytest.mark.parametrize(
+    "shape", [faces_of_plane, plane_by_mesh, plane_by_polyface, plane_by_points, plane_by_polylines, plane_by_lines]
+)
 def test_a_plane_of_a_drawing_is_that_of_its_formula(plan_folder, tmp_path, shape):
     """It falls to the east and rises to the north; of 72 blocks those above it must be dug, and the second look says so too."""
     drawing(tmp_path / "mined.dxf", shape)
@@ -136,7 +142,10 @@ def test_a_plane_of_a_drawing_is_that_of_its_formula(plan_folder, tmp_path, shap
     above = blocks["z"] > 21 - 0.4 * blocks["x"] + 0.3 * blocks["y"]
     assert plan.fixed.forced.tolist() == blocks.loc[above, "id"].tolist()
     assert 0 < len(plan.fixed.forced) < 72
-    assert any("mined.dxf: " in note and "layer TOPO were read by ezdxf; no coordinates are transformed" in note for note in plan.notes)
+    assert any(
+        "mined.dxf: " in note and "layer TOPO were read by ezdxf; no coordinates are transformed" in note
+        for note in plan.notes
+    )
     assert [rule.differences for rule in looked_at(prepare(path)) if rule.name == "fixed"] == [()]
 
 
@@ -238,7 +247,10 @@ def test_layers_are_chosen_by_name_list_and_star(tmp_path):
     assert read(path, "BENCH_*").points.tolist() == [[0, 0, 0], [1, 0, 1]]
     assert read(path, "BENCH_20", "ROAD").points.tolist() == [[1, 0, 1], [2, 0, 2]]
     assert len(read(path, "*").points) == 3
-    with pytest.raises(PlanError, match=r"in the layers BENCH_10, BENCH_20, ROAD: name one.* \{ file = .mined.dxf., layer = .BENCH_10. \}"):
+    with pytest.raises(
+        PlanError,
+        match=r"in the layers BENCH_10, BENCH_20, ROAD: name one.* \{ file = .mined.dxf., layer = .BENCH_10. \}",
+    ):
         read(path)
     with pytest.raises(PlanError, match="has no layer TOPO; the layers are BENCH_10, BENCH_20, ROAD"):
         read(path, "TOPO")
@@ -260,7 +272,9 @@ def test_a_layer_is_named_in_the_project(plan_folder, tmp_path):
 
 def test_a_drawing_that_is_written_anew_is_read_anew(tmp_path):
     for height in (3, 4):
-        path = drawing(tmp_path / "mined.dxf", lambda space: space.add_point((1, 2, height), **layer("SPOT")))  # noqa: B023
+        path = drawing(
+            tmp_path / "mined.dxf", lambda space: space.add_point((1, 2, height), **layer("SPOT"))
+        )  # noqa: B023
         assert read(path).points.tolist() == [[1, 2, height]]
 
 
@@ -268,21 +282,34 @@ def test_units_of_a_drawing(tmp_path):
     notes = read(drawing(tmp_path / "mm.dxf", faces_of_plane, units=4)).notes
     assert any("WARNING: " in note and "$INSUNITS is 4" in note for note in notes)
     assert len(read(drawing(tmp_path / "none.dxf", faces_of_plane, units=0)).notes) == 1
-    with pytest.raises(PlanError, match=r"feet.dxf: is in feet \(\$INSUNITS is 2\), and lengths are in metres: convert it"):
+    with pytest.raises(
+        PlanError, match=r"feet.dxf: is in feet \(\$INSUNITS is 2\), and lengths are in metres: convert it"
+    ):
         read(drawing(tmp_path / "feet.dxf", faces_of_plane, units=2))
 
 
 @pytest.mark.parametrize("driver, ending", [("GPKG", "gpkg"), ("ESRI Shapefile", "shp"), ("GeoJSON", "geojson")])
 def test_points_of_a_map(tmp_path, driver, ending):
-    path = gis(tmp_path / f"spots.{ending}", driver, {"spots": [("POINT Z(600001 2 3.25)", 0), ("POINT Z(600004 5 6)", 0)]})
+    path = gis(
+        tmp_path / f"spots.{ending}", driver, {"spots": [("POINT Z(600001 2 3.25)", 0), ("POINT Z(600004 5 6)", 0)]}
+    )
     assert read(path).points.tolist() == [[600001, 2, 3.25], [600004, 5, 6]]
-    assert f"spots.{ending}: 2 points of the layer spots were read by GDAL; no coordinates are transformed" in read(path).notes[0]
+    assert (
+        f"spots.{ending}: 2 points of the layer spots were read by GDAL; no coordinates are transformed"
+        in read(path).notes[0]
+    )
 
 
 def test_contours_of_a_map_have_their_heights_in_a_field(tmp_path):
-    path = gis(tmp_path / "contours.gpkg", "GPKG", {"lines": [("LINESTRING (1 2,3 4)", 15), ("MULTILINESTRING ((5 6,7 8))", 20)]})
+    path = gis(
+        tmp_path / "contours.gpkg",
+        "GPKG",
+        {"lines": [("LINESTRING (1 2,3 4)", 15), ("MULTILINESTRING ((5 6,7 8))", 20)]},
+    )
     assert read(path, height="ELEV").points.tolist() == [[1, 2, 15], [3, 4, 15], [5, 6, 20], [7, 8, 20]]
-    with pytest.raises(PlanError, match=r"has no points, lines with heights or 3D faces: its layer lines has 2 LINESTRING \(open\)"):
+    with pytest.raises(
+        PlanError, match=r"has no points, lines with heights or 3D faces: its layer lines has 2 LINESTRING \(open\)"
+    ):
         read(path)
     with pytest.raises(PlanError, match="its layer lines has no field LEVEL; its fields are ELEV"):
         read(path, height="LEVEL")
@@ -293,7 +320,11 @@ def test_contours_of_a_map_have_their_heights_in_a_field(tmp_path):
 
 def test_fields_of_a_shapefile_are_an_input(plan_folder, tmp_path):
     """They stand in a file of their own, by whose hash it is seen that heights have changed."""
-    gis(tmp_path / "contours.shp", "ESRI Shapefile", {"contours": [("LINESTRING (-9 -9,-9 19)", 15), ("LINESTRING (49 -9,49 19)", 20)]})
+    gis(
+        tmp_path / "contours.shp",
+        "ESRI Shapefile",
+        {"contours": [("LINESTRING (-9 -9,-9 19)", 15), ("LINESTRING (49 -9,49 19)", 20)]},
+    )
     text = PROJECT + SURFACE + '{ file = "contours.shp", height = "ELEV" }\n'
     project = load(plan_folder(rows(3, 1, 3), text))
     assert [path.name for path in project.inputs] == ["project.toml", "blocks.csv", "contours.shp", "contours.dbf"]
@@ -318,7 +349,9 @@ def test_heights_of_a_raster_are_at_the_middles_of_its_cells(tmp_path):
 
 
 def test_heights_of_an_ascii_grid_have_all_their_digits(tmp_path):
-    (tmp_path / "dem.asc").write_text("ncols 2\nnrows 2\nxllcorner 0\nyllcorner 0\ncellsize 10\nNODATA_value -9999\n2707.531 2\n3 -9999\n")
+    (tmp_path / "dem.asc").write_text(
+        "ncols 2\nnrows 2\nxllcorner 0\nyllcorner 0\ncellsize 10\nNODATA_value -9999\n2707.531 2\n3 -9999\n"
+    )
     assert read(tmp_path / "dem.asc").points.tolist() == [[5, 15, 2707.531], [15, 15, 2], [5, 5, 3]]
 
 
@@ -366,7 +399,7 @@ def test_heights_over_triangles_at_random(tmp_path):
 
 
 LEASE = [(-1, -1), (31, -1), (31, 11), (-1, 11)]
-AREA = '\n[[fixed.areas]]\npolygon = '
+AREA = "\n[[fixed.areas]]\npolygon = "
 
 
 def closed_lease(space):
@@ -392,7 +425,10 @@ def test_a_lease_of_a_drawing(plan_folder, tmp_path, shape):
     path = plan_folder(rows(4, 1, 2), PROJECT + AREA + '"lease.dxf"\nbarred = "outside"\n')
     plan = prepare(load(path))
     assert plan.fixed.barred.tolist() == [3, 7]
-    assert any("lease.dxf: 1 polygons of the layer LEASE were read by ezdxf; no coordinates are transformed" in note for note in plan.notes)
+    assert any(
+        "lease.dxf: 1 polygons of the layer LEASE were read by ezdxf; no coordinates are transformed" in note
+        for note in plan.notes
+    )
     assert [rule.differences for rule in looked_at(prepare(path)) if rule.name == "fixed"] == [()]
 
 
@@ -422,7 +458,9 @@ def test_a_polyline_in_another_is_no_hole(plan_folder, tmp_path):
 
 def test_an_arc_is_followed_to_a_centimetre(tmp_path):
     """A circle of 20 m as two half circles: of places round it those within 19.98 m lie in it, and none beyond 20.02."""
-    path = drawing(tmp_path / "lease.dxf", lambda space: space.add_lwpolyline([(-20, 0, 0, 0, 1), (20, 0, 0, 0, 1)], close=True))
+    path = drawing(
+        tmp_path / "lease.dxf", lambda space: space.add_lwpolyline([(-20, 0, 0, 0, 1), (20, 0, 0, 0, 1)], close=True)
+    )
     (ring,) = areas(path).polygons[0]
     angles = np.linspace(0, 2 * np.pi, 999)
     for radius, expected in ((19.98, True), (20.02, False)):
@@ -433,7 +471,9 @@ def test_lines_that_are_not_closed(tmp_path):
     def open_line(space):
         space.add_lwpolyline(LEASE, **layer("LEASE"))
 
-    with pytest.raises(PlanError, match=r"lease.dxf: has no polygons or closed lines: its layer LEASE has 1 LWPOLYLINE \(open\)"):
+    with pytest.raises(
+        PlanError, match=r"lease.dxf: has no polygons or closed lines: its layer LEASE has 1 LWPOLYLINE \(open\)"
+    ):
         areas(drawing(tmp_path / "lease.dxf", open_line))
     found = areas(drawing(tmp_path / "both.dxf", open_line, closed_lease))
     assert len(found.polygons) == 1
@@ -469,7 +509,9 @@ def test_closed_lines_and_several_polygons_of_a_map(tmp_path):
 
 
 def test_two_layers_of_a_map(tmp_path):
-    path = gis(tmp_path / "map.gpkg", "GPKG", {"lease": [(HOLED, 0)], "river": [(HOLED, 0)], "spots": [("POINT Z(1 2 3)", 0)]})
+    path = gis(
+        tmp_path / "map.gpkg", "GPKG", {"lease": [(HOLED, 0)], "river": [(HOLED, 0)], "spots": [("POINT Z(1 2 3)", 0)]}
+    )
     with pytest.raises(PlanError, match="map.gpkg: has polygons or closed lines in the layers lease, river: name one"):
         areas(path)
     assert len(areas(path, "river").polygons) == 1

@@ -13,9 +13,14 @@ EAST = 600_000
 
 def test_systems_that_are_not_in_metres(tmp_path):
     feet = gis(tmp_path / "feet.gpkg", "GPKG", {"lease": [(HOLED, 0)]}, epsg=2276)
-    with pytest.raises(PlanError, match=r"feet.gpkg: is in US survey foot \(NAD83 / Texas North Central \(ftUS\)\), and lengths are in metres"):
+    with pytest.raises(
+        PlanError,
+        match=r"feet.gpkg: is in US survey foot \(NAD83 / Texas North Central \(ftUS\)\), and lengths are in metres",
+    ):
         areas(feet)
-    degrees = gis(tmp_path / "degrees.gpkg", "GPKG", {"lease": [("POLYGON ((-70 -23,-69 -23,-69 -22,-70 -23))", 0)]}, epsg=4326)
+    degrees = gis(
+        tmp_path / "degrees.gpkg", "GPKG", {"lease": [("POLYGON ((-70 -23,-69 -23,-69 -22,-70 -23))", 0)]}, epsg=4326
+    )
     with pytest.raises(PlanError, match=r"degrees.gpkg: is in degrees \(WGS 84\), and nothing is transformed"):
         areas(degrees)
     raster = tiff(tmp_path / "feet.tif", [[1, 2], [3, 4]], (0, 10, 0, 20, 0, -10), epsg=2276)
@@ -23,7 +28,14 @@ def test_systems_that_are_not_in_metres(tmp_path):
         read(raster)
     with pytest.raises(PlanError, match="high.tif: has heights in ft, and they are in metres: convert it"):
         read(tiff(tmp_path / "high.tif", [[1, 2], [3, 4]], (0, 10, 0, 20, 0, -10), unit="ft"))
-    assert len(read(tiff(tmp_path / "metres.tif", [[1, 2], [3, 4]], (0, 10, 0, 20, 0, -10), epsg=32719, unit="metre")).points) == 4
+    assert (
+        len(
+            read(
+                tiff(tmp_path / "metres.tif", [[1, 2], [3, 4]], (0, 10, 0, 20, 0, -10), epsg=32719, unit="metre")
+            ).points
+        )
+        == 4
+    )
 
 
 def test_pictures_are_no_heights(tmp_path):
@@ -36,11 +48,19 @@ def test_pictures_are_no_heights(tmp_path):
 @pytest.mark.parametrize(
     ("name", "text", "said"),
     [
-        ("topo.dwg", "AC1027", r"topo.dwg: .dwg files are not read: give one of .csv, .*, .dxf, .str, .gpkg, .shp, .geojson, .json, .tif, .tiff, .asc"),
+        (
+            "topo.dwg",
+            "AC1027",
+            r"topo.dwg: .dwg files are not read: give one of .csv, .*, .dxf, .str, .gpkg, .shp, .geojson, .json, .tif, .tiff, .asc",
+        ),
         ("topo", "x", "topo: has no ending, which tells what reads it: give one of"),
         ("topo.dxf", "", "topo.dxf: cannot be read as a drawing"),
         ("topo.dxf", "0\nSECTION\n2\nENTITIES\n0\nPOINT\n8\nTOPO\n10\n1\n", "topo.dxf: cannot be read as a drawing"),
-        ("topo.dxf", "0\nSECTION\n2\nENTITIES\n0\nENDSEC\n0\nEOF\n", "topo.dxf: has no points, lines with heights or 3D faces: it holds nothing"),
+        (
+            "topo.dxf",
+            "0\nSECTION\n2\nENTITIES\n0\nENDSEC\n0\nEOF\n",
+            "topo.dxf: has no points, lines with heights or 3D faces: it holds nothing",
+        ),
         ("topo.gpkg", "", "topo.gpkg: cannot be read by GDAL's driver GPKG: "),
         ("topo.shp", "", "topo.shp: cannot be read by GDAL's driver ESRI Shapefile: "),
         ("topo.tif", "", "topo.tif: cannot be read by GDAL's driver GTiff: "),
@@ -88,14 +108,19 @@ def test_what_has_no_layers_or_heights(tmp_path):
     (tmp_path / "topo.csv").write_text("x,y,z\n1,2,3\n")
     with pytest.raises(PlanError, match="topo.csv: has no layers: leave out layer"):
         read(tmp_path / "topo.csv", "TOPO")
-    with pytest.raises(PlanError, match="topo.csv: has heights of its own: height is a field of .gpkg, .shp, .geojson, .json"):
+    with pytest.raises(
+        PlanError, match="topo.csv: has heights of its own: height is a field of .gpkg, .shp, .geojson, .json"
+    ):
         read(tmp_path / "topo.csv", height="ELEV")
 
 
 @pytest.mark.parametrize(
     ("text", "said"),
     [
-        (AREA + '"lease.dxf"\nlayer = "LEASE"\nbarred = "inside"\n', 'layer: stands beside its file: polygon = { file = "..", layer = ".." }'),
+        (
+            AREA + '"lease.dxf"\nlayer = "LEASE"\nbarred = "inside"\n',
+            'layer: stands beside its file: polygon = { file = "..", layer = ".." }',
+        ),
         (SURFACE + '{ layer = "TOPO" }\n', r"\[fixed.surface\] file: is missing"),
         (SURFACE + '{ file = "a.dxf", layers = "TOPO" }\n', r"\[fixed.surface\] layers: is no key here; layer is"),
         (SURFACE + "5\n", r"\[fixed\] surface: must be a text in quotes"),
@@ -107,11 +132,16 @@ def test_keys_that_are_wrong(plan_folder, text, said):
         load(plan_folder(rows(2, 1, 1), PROJECT + text))
 
 
-@pytest.mark.parametrize(("module", "name", "package"), [("ezdxf", "lease.dxf", "python3-ezdxf"), ("osgeo.gdal", "lease.gpkg", "python3-gdal")])
+@pytest.mark.parametrize(
+    ("module", "name", "package"),
+    [("ezdxf", "lease.dxf", "python3-ezdxf"), ("osgeo.gdal", "lease.gpkg", "python3-gdal")],
+)
 def test_a_missing_package_is_named(tmp_path, monkeypatch, module, name, package):
     (tmp_path / name).touch()
     monkeypatch.setitem(sys.modules, module, None)
-    with pytest.raises(MissingPackage, match=f"a .{name[6:]} file needs the Debian package {package}: apt-get install {package}"):
+    with pytest.raises(
+        MissingPackage, match=f"a .{name[6:]} file needs the Debian package {package}: apt-get install {package}"
+    ):
         areas(tmp_path / name)
 
 
@@ -128,5 +158,7 @@ def test_what_lies_beside_the_model(plan_folder, tmp_path):
     plan = prepare(load(plan_folder(rows(4, 1, 1), PROJECT + AREA + '"lease.dxf"\nbarred = "inside"\n')))
     assert any(note.startswith("WARNING: ") and said in note for note in plan.notes)
     (tmp_path / "mined.csv").write_text(f"x,y,z\n{EAST},0,5\n{EAST},9,5\n{EAST + 9},9,5\n")
-    with pytest.raises(PlanError, match="mined.csv: lies over no block: its x go from 600000 to 600009 and y from 0 to 9, and those"):
+    with pytest.raises(
+        PlanError, match="mined.csv: lies over no block: its x go from 600000 to 600009 and y from 0 to 9, and those"
+    ):
         prepare(load(plan_folder(rows(4, 1, 1), PROJECT + SURFACE + '"mined.csv"\n')))

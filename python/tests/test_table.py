@@ -49,7 +49,9 @@ def test_one_centre_off_the_grid_is_named_by_its_row_with_all_digits(plan_folder
     table.loc[40, "y"] += 0.4
     path = plan_folder(table, PROJECT, ("[grid]\nsize = [10, 10, 10]\n", ""))
     centre = table.loc[40, "y"] - 0.4
-    assert f"row 42 column y: {centre + 0.4:.1f} is off the grid 6512005, 6512015, 6512025, .. by 0.4 m" in refused(path)
+    assert f"row 42 column y: {centre + 0.4:.1f} is off the grid 6512005, 6512015, 6512025, .. by 0.4 m" in refused(
+        path
+    )
 
 
 @pytest.mark.parametrize("separator", [";", "\t", "|"])
@@ -71,11 +73,23 @@ def test_a_comma_within_a_number_parts_thousands_where_commas_part_fields(plan_f
 
 def test_another_encoding_is_asked_for_and_read(plan_folder):
     table = rows(2, 2, 2, rock=lambda i, j, k: "S\u00fc")
-    plain = pitplan.prepare(plan_folder(table, PROJECT, ("recovery = 0.5", "recovery = { \u00abS\u00fc\u00bb = 0.5 }".replace("\u00ab", '"').replace("\u00bb", '"'))))
+    plain = pitplan.prepare(
+        plan_folder(
+            table,
+            PROJECT,
+            (
+                "recovery = 0.5",
+                "recovery = { \u00abS\u00fc\u00bb = 0.5 }".replace("\u00ab", '"').replace("\u00bb", '"'),
+            ),
+        )
+    )
     path = plan_folder(table)
     for encoding in ("cp1252", "utf-16"):
         (path.parent / "blocks.csv").write_bytes(table.to_csv(index=False).encode(encoding))
-        assert 'is not written in UTF-8: name its encoding by [table] encoding, such as "cp1252" or "utf-16"' in refused(path)
+        assert (
+            'is not written in UTF-8: name its encoding by [table] encoding, such as "cp1252" or "utf-16"'
+            in refused(path)
+        )
         text = path.read_text().replace('file = "blocks.csv"\n', f'file = "blocks.csv"\nencoding = "{encoding}"\n')
         (path.parent / "other.toml").write_text(text)
         assert pitplan.prepare(path.parent / "other.toml").blocks["rock"].tolist() == plain.blocks["rock"].tolist()
@@ -96,7 +110,9 @@ def test_a_column_of_another_name_with_a_point_is_no_second_one(plan_folder):
 
 
 def test_a_table_without_rock_is_refused(plan_folder):
-    assert refused(plan_folder(rows(2, 2, 2, tonnes=lambda i, j, k: 0))).endswith("column tonnes: all are 0, so there is no rock")
+    assert refused(plan_folder(rows(2, 2, 2, tonnes=lambda i, j, k: 0))).endswith(
+        "column tonnes: all are 0, so there is no rock"
+    )
 
 
 def test_a_missing_column_is_named_with_those_that_are_there(plan_folder):
@@ -144,14 +160,20 @@ MIXED.loc[[1, 4, 7], "cu"] = ""
 @pytest.mark.parametrize("piece", [1, 2, 5, 18])
 def test_a_table_that_is_read_in_pieces_is_the_same(plan_folder, monkeypatch, decimal, piece):
     """Codes that are numbers in some pieces, and grades that are whole in some, or empty."""
-    written = MIXED.apply(lambda column: column.map(lambda it: str(it).replace(".", decimal) if isinstance(it, float) else it))
+    written = MIXED.apply(
+        lambda column: column.map(lambda it: str(it).replace(".", decimal) if isinstance(it, float) else it)
+    )
     text = written.to_csv(sep=";", index=False)
     project = pitplan.load(plan_folder(text, PROJECT, ('id = "name"', 'id = "name"\nempty = "zero"')))
     whole = read(project)
     monkeypatch.setattr(pitplan.table, "PIECE", piece)
     pieces = read(project)
     pd.testing.assert_frame_equal(pieces.frame, whole.frame)
-    assert pieces.notes == whole.notes and pieces.filled == whole.filled == 3 and set(pieces.frame["rock"]) == {"7", "7.0", "R"}
+    assert (
+        pieces.notes == whole.notes
+        and pieces.filled == whole.filled == 3
+        and set(pieces.frame["rock"]) == {"7", "7.0", "R"}
+    )
 
 
 def test_what_is_no_number_is_named_in_whatever_piece_it_stands(plan_folder, monkeypatch):
@@ -219,7 +241,10 @@ def test_a_spreadsheets_mark_at_the_beginning_is_passed_over(plan_folder):
 )
 def test_a_column_of_codes_that_is_named_as_one_of_numbers_is_refused(plan_folder, change, key, name):
     path = plan_folder(rows(3, 2, 2), PROJECT, change)
-    assert refused(path) == f"{path}: [table] {key}: the column {name} is read as numbers too: codes need a column of their own"
+    assert (
+        refused(path)
+        == f"{path}: [table] {key}: the column {name} is read as numbers too: codes need a column of their own"
+    )
 
 
 def test_rock_and_region_may_be_one_column(plan_folder):

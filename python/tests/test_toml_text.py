@@ -28,17 +28,35 @@ def refused(tmp_path):
     return said
 
 
-@pytest.mark.parametrize("number", ["1e999999999", "1e-999999999", "-1e1001", "0e999999999", "0e-999999999", "1e-61", "1." + "1" * 5000, "0." + "0" * 70])
+@pytest.mark.parametrize(
+    "number",
+    [
+        "1e999999999",
+        "1e-999999999",
+        "-1e1001",
+        "0e999999999",
+        "0e-999999999",
+        "1e-61",
+        "1." + "1" * 5000,
+        "0." + "0" * 70,
+    ],
+)
 @pytest.mark.parametrize("key", ["recovery", "price", "rate"])
 def test_an_absurd_exponent(refused, key, number):
     old = {"recovery": RECOVERY, "price": "price = 8000", "rate": "rate = 0.1"}[key]
     shown = number if len(number) <= 40 else f"{number[:40]}.."
-    assert refused(PROJECT.replace(old, f"{key} = {number}")).endswith(f"{key}: {shown} is no amount: amounts end at 10^18 and have at most 60 decimals")
+    assert refused(PROJECT.replace(old, f"{key} = {number}")).endswith(
+        f"{key}: {shown} is no amount: amounts end at 10^18 and have at most 60 decimals"
+    )
 
 
-@pytest.mark.parametrize("number", ["[1e999999999]", "[1e-999999999]", "[0.5]", "1e999999999", "[0x" + "f" * 5000 + "]"])
+@pytest.mark.parametrize(
+    "number", ["[1e999999999]", "[1e-999999999]", "[0.5]", "1e999999999", "[0x" + "f" * 5000 + "]"]
+)
 def test_an_absurd_factor(refused, number):
-    assert refused(PROJECT.replace("factors = [500, 1000, 1500]", f"factors = {number}")).startswith("[shells] factors: ")
+    assert refused(PROJECT.replace("factors = [500, 1000, 1500]", f"factors = {number}")).startswith(
+        "[shells] factors: "
+    )
 
 
 def test_whole_numbers_of_thousands_of_digits(refused):
@@ -68,7 +86,9 @@ def test_a_key_of_many_parts(refused, text, part):
 
 def test_texts_with_many_points_are_no_keys(tmp_path):
     title = ".".join("a" * 100)
-    (tmp_path / "project.toml").write_text(PROJECT.replace('title = "Test hill"', f'title = "{title}" # {title}\n\n# {title} = 1\n'))
+    (tmp_path / "project.toml").write_text(
+        PROJECT.replace('title = "Test hill"', f'title = "{title}" # {title}\n\n# {title} = 1\n')
+    )
     assert load(tmp_path / "project.toml").title == title
 
 
@@ -79,21 +99,33 @@ def test_a_codec_that_is_no_encoding_of_texts(refused, name):
 
 
 def test_a_long_value_is_cut(refused):
-    for key, words in (("encoding", "is no encoding: such are"), ("separator", "parts no fields"), ("empty", "is none of refuse, zero")):
+    for key, words in (
+        ("encoding", "is no encoding: such are"),
+        ("separator", "parts no fields"),
+        ("empty", "is none of refuse, zero"),
+    ):
         assert words in refused(PROJECT.replace("[table]", f'[table]\n{key} = "{"x" * 5000}"'))
 
 
 @pytest.mark.parametrize("sign", ["ab", ",,", "\\n", "é", '\\"', ".", "a", "1", "\\u0001", "-"])
 def test_what_parts_no_fields(refused, sign):
-    assert "parts no fields: give one sign, such as" in refused(PROJECT.replace("[table]", f'[table]\nseparator = "{sign}"'))
+    assert "parts no fields: give one sign, such as" in refused(
+        PROJECT.replace("[table]", f'[table]\nseparator = "{sign}"')
+    )
 
 
 @pytest.mark.parametrize(
     ("change", "sentence"),
     [
         (('file = "blocks.csv"', 'file = "\\u0000"'), "[table] file: '\\x00' has a NUL byte, which no name has"),
-        (("[shells]", '[scenarios]\ncolumns = { copper = "" }\n[shells]'), "[scenarios.columns] copper: a code may not be empty, nor have a NUL byte"),
-        (("[shells]", '[scenarios]\ncolumns = { copper = ["a", ""] }\n[shells]'), "[scenarios.columns] copper: a code may not be empty, nor have a NUL byte"),
+        (
+            ("[shells]", '[scenarios]\ncolumns = { copper = "" }\n[shells]'),
+            "[scenarios.columns] copper: a code may not be empty, nor have a NUL byte",
+        ),
+        (
+            ("[shells]", '[scenarios]\ncolumns = { copper = ["a", ""] }\n[shells]'),
+            "[scenarios.columns] copper: a code may not be empty, nor have a NUL byte",
+        ),
         (("[money]", '"a\\nb" = 1\n[money]'), "[grid] a\\nb: is no key here"),
     ],
 )

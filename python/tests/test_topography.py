@@ -4,8 +4,7 @@ import numpy as np
 import pandas as pd
 import pytest
 from conftest import PROJECT, rows
-from hypothesis import given
-from hypothesis import strategies as st
+from hypothesis import given, strategies as st
 from scipy.interpolate import LinearNDInterpolator
 from test_survey_files import drawing, layer, tiff
 from test_turned import turned
@@ -23,7 +22,9 @@ FAR = [(-100, -100), (-100, 200), (200, -100), (200, 200)]
 
 def plane(tmp_path, height, places=FAR):
     """Far corners of a plane, whose height is a function of x and y."""
-    pd.DataFrame([(x, y, height(x, y)) for x, y in places], columns=["x", "y", "z"]).to_csv(tmp_path / "topo.csv", index=False)
+    pd.DataFrame([(x, y, height(x, y)) for x, y in places], columns=["x", "y", "z"]).to_csv(
+        tmp_path / "topo.csv", index=False
+    )
 
 
 def tonnes_of(path):
@@ -35,11 +36,30 @@ def tonnes_of(path):
     ("height", "shares"),
     [
         # Along the diagonal of each block from floor to top.
-        (lambda x, y: x, {"b0-0-0": 0.5, "b0-0-1": 0, "b0-0-2": 0, "b1-0-0": 1, "b1-0-1": 0.5, "b1-0-2": 0, "b2-0-0": 1, "b2-0-1": 1, "b2-0-2": 0.5}),
+        (
+            lambda x, y: x,
+            {
+                "b0-0-0": 0.5,
+                "b0-0-1": 0,
+                "b0-0-2": 0,
+                "b1-0-0": 1,
+                "b1-0-1": 0.5,
+                "b1-0-2": 0,
+                "b2-0-0": 1,
+                "b2-0-1": 1,
+                "b2-0-2": 0.5,
+            },
+        ),
         # From 5 to 15 m over the first column: half of the lowest block has the ground between 5 and 10 m, and the other half is full.
-        (lambda x, y: x + 5, {"b0-0-0": 0.875, "b0-0-1": 0.125, "b0-0-2": 0, "b1-0-1": 0.875, "b1-0-2": 0.125, "b2-0-2": 0.875}),
+        (
+            lambda x, y: x + 5,
+            {"b0-0-0": 0.875, "b0-0-1": 0.125, "b0-0-2": 0, "b1-0-1": 0.875, "b1-0-2": 0.125, "b2-0-2": 0.875},
+        ),
         # From corner to corner: of the lowest block a pyramid of a sixth is missing.
-        (lambda x, y: x + y, {"b0-0-0": 5 / 6, "b0-0-1": 1 / 6, "b0-0-2": 0, "b1-0-0": 1, "b1-0-1": 5 / 6, "b1-0-2": 1 / 6}),
+        (
+            lambda x, y: x + y,
+            {"b0-0-0": 5 / 6, "b0-0-1": 1 / 6, "b0-0-2": 0, "b1-0-0": 1, "b1-0-1": 5 / 6, "b1-0-2": 1 / 6},
+        ),
         # From 0 to 30 m over the first column: of the lowest block and of the highest a pyramid over a quarter, a third as high.
         (lambda x, y: 2 * x + y, {"b0-0-0": 11 / 12, "b0-0-1": 1 / 2, "b0-0-2": 1 / 12}),
         (lambda x, y: 10, {"b0-0-0": 1, "b0-0-1": 0, "b2-0-2": 0}),
@@ -51,7 +71,9 @@ def test_a_plane_by_hand(plan_folder, tmp_path, height, shares):
     """Three columns of three blocks of 10 m, of 100 t each."""
     plane(tmp_path, height)
     found = tonnes_of(plan_folder(rows(3, 1, 3), PROJECT, CUT))
-    assert {name: found[name] for name in shares} == pytest.approx({name: 100 * share for name, share in shares.items()}, abs=1e-6)
+    assert {name: found[name] for name in shares} == pytest.approx(
+        {name: 100 * share for name, share in shares.items()}, abs=1e-6
+    )
     assert (found * 1e6 == (found * 1e6).round()).all()
 
 
@@ -165,9 +187,19 @@ def test_faces_of_a_drawing(plan_folder, tmp_path):
     """Along the line the ground lies at |x - y| / 2: over a column at it from 0 to 5 m, a sixth of 10 m on the mean; over one at a corner
     across from 5 to 15 m, 10 m on the mean, of which a sixth of 5 m is above 10."""
     drawing(tmp_path / "topo.dxf", valley)
-    path = plan_folder(rows(3, 3, 2), PROJECT, (CUT[0], 'file = "blocks.csv"\ntopography = { file = "topo.dxf", layer = "TOPO" }'))
+    path = plan_folder(
+        rows(3, 3, 2), PROJECT, (CUT[0], 'file = "blocks.csv"\ntopography = { file = "topo.dxf", layer = "TOPO" }')
+    )
     found = tonnes_of(path)
-    expected = {"b0-0-0": 100 / 6, "b1-1-0": 100 / 6, "b1-1-1": 0, "b0-2-0": 100 - 100 / 12, "b0-2-1": 100 / 12, "b1-0-0": 50, "b1-0-1": 0}
+    expected = {
+        "b0-0-0": 100 / 6,
+        "b1-1-0": 100 / 6,
+        "b1-1-1": 0,
+        "b0-2-0": 100 - 100 / 12,
+        "b0-2-1": 100 / 12,
+        "b1-0-0": 50,
+        "b1-0-1": 0,
+    }
     assert {name: found[name] for name in expected} == pytest.approx(expected, abs=1e-6)
     assert any("2 triangles of the layer TOPO were read by ezdxf" in note for note in pitplan.prepare(path).notes)
 
@@ -205,7 +237,9 @@ def test_cells_of_a_raster(plan_folder, tmp_path):
     x, y = np.meshgrid(-10 + 4 * np.arange(14), 22 - 4 * np.arange(10))
     tiff(tmp_path / "topo.tif", x + y, (-12.0, 4.0, 0.0, 24.0, 0.0, -4.0))
     found = tonnes_of(plan_folder(rows(3, 1, 3), PROJECT, (CUT[0], 'file = "blocks.csv"\ntopography = "topo.tif"')))
-    assert found[["b0-0-0", "b0-0-1", "b0-0-2", "b1-0-1"]].tolist() == pytest.approx([500 / 6, 100 / 6, 0, 500 / 6], abs=1e-5)
+    assert found[["b0-0-0", "b0-0-1", "b0-0-2", "b1-0-1"]].tolist() == pytest.approx(
+        [500 / 6, 100 / 6, 0, 500 / 6], abs=1e-5
+    )
 
 
 def test_columns_beyond_the_points_are_left_whole(plan_folder, tmp_path):
@@ -239,8 +273,14 @@ def over_each_other(space):
 @pytest.mark.parametrize(
     ("points", "said"),
     [
-        ("100,0,5\n110,0,5\n110,9,5\n", "topo.csv: lies over no block: its x go from 100 to 110 and y from 0 to 9, and those of the blocks from 5 to 25"),
-        ("-99,-99,-1\n99,-99,-1\n0,99,-1\n", "topo.csv: all blocks lie above it: are its heights the table's, in metres?"),
+        (
+            "100,0,5\n110,0,5\n110,9,5\n",
+            "topo.csv: lies over no block: its x go from 100 to 110 and y from 0 to 9, and those of the blocks from 5 to 25",
+        ),
+        (
+            "-99,-99,-1\n99,-99,-1\n0,99,-1\n",
+            "topo.csv: all blocks lie above it: are its heights the table's, in metres?",
+        ),
         ("0,5,5\n10,5,5\n20,5,5\n", "topo.csv: its points lie on one line, and make no surface"),
         ("", "topo.csv: has no heights"),
     ],
@@ -254,7 +294,10 @@ def test_what_is_refused(plan_folder, tmp_path, points, said):
 def test_two_surfaces_are_refused(plan_folder, tmp_path):
     drawing(tmp_path / "topo.dxf", over_each_other)
     path = plan_folder(rows(3, 1, 3), PROJECT, (CUT[0], 'file = "blocks.csv"\ntopography = "topo.dxf"'))
-    with pytest.raises(PlanError, match="topo.dxf: has several heights over 3 columns of blocks, the first at 5, 5: give one surface, by its layer"):
+    with pytest.raises(
+        PlanError,
+        match="topo.dxf: has several heights over 3 columns of blocks, the first at 5, 5: give one surface, by its layer",
+    ):
         pitplan.prepare(path)
 
 
@@ -262,7 +305,10 @@ def test_two_surfaces_are_refused(plan_folder, tmp_path):
     ("more", "said"),
     [
         ('[scenarios]\ncolumns = { copper = "cu*" }\n', r"\[table\] topography: is not taken by \[scenarios\]"),
-        ('[[schedule.sums]]\ncolumn = "cu"\nmost = 1\n', r"\[schedule.sums\] cu: is of whole blocks, and \[table\] topography cuts some: give it a_tonne"),
+        (
+            '[[schedule.sums]]\ncolumn = "cu"\nmost = 1\n',
+            r"\[schedule.sums\] cu: is of whole blocks, and \[table\] topography cuts some: give it a_tonne",
+        ),
     ],
 )
 def test_what_it_does_not_go_with(plan_folder, more, said):
@@ -297,7 +343,10 @@ def wrong(folder):
 def test_the_second_look_agrees(cut_hill):
     rules = {rule.name: rule for rule in verify(cut_hill)}
     assert not any(rule.differences for rule in rules.values())
-    assert rules["topography"].holds == "tonnes lie below the triangles of the topography, in 72 columns of blocks exactly, in 72 by 36 heights to a tenth"
+    assert (
+        rules["topography"].holds
+        == "tonnes lie below the triangles of the topography, in 72 columns of blocks exactly, in 72 by 36 heights to a tenth"
+    )
     tonnes = pd.read_csv(cut_hill / "blocks.csv")["tonnes"]
     assert (tonnes == 0).sum() > 20 and ((tonnes > 0) & (tonnes < 99)).sum() > 60
     assert (pd.read_csv(cut_hill / "shells.csv")["blocks"] > 0).any()
@@ -371,7 +420,10 @@ def test_a_model_too_large_for_the_program(plan_folder, tmp_path, monkeypatch):
 @pytest.mark.usefixtures("without_figures")
 def test_a_sensitivity_of_blocks_that_are_cut(plan_folder, tmp_path):
     plane(tmp_path, lambda x, y: 5)
-    text = PROJECT.replace("ore_per_year = 100", "ore_per_year = 100\nchosen = 1000") + '[sensitivity]\nby = [0.1]\nvary = ["price"]\n'
+    text = (
+        PROJECT.replace("ore_per_year = 100", "ore_per_year = 100\nchosen = 1000")
+        + '[sensitivity]\nby = [0.1]\nvary = ["price"]\n'
+    )
     path = plan_folder(rows(5, 3, 1, cu=lambda i, j, k: 6 * ((i, j) == (1, 1))), text, CUT)
     table = pitplan.write_sensitivity(path)
     # 50 t of 6 % with a recovery of a half at 8000 a tonne, with 10 for processing and 2 for mining.

@@ -81,14 +81,22 @@ def test_walls_that_are_not_turned_along_make_another_pit(plan_folder):
 def test_the_azimuth_is_found(plan_folder, degrees, size, decimals):
     path = plan_folder(turned(rows(40, 35, 2), degrees, decimals), PROJECT, ("size = [10, 10, 10]", size))
     plan = pitplan.prepare(path)
-    assert abs(plan.grid.azimuth - degrees) < 0.001 and plan.grid.size == (10, 10, 10) and plan.grid.shape == (2, 35, 40)
-    assert any(f"the grid's north has azimuth {plan.grid.azimuth:.10g}, as the centres tell" in line for line in plan.summary)
+    assert (
+        abs(plan.grid.azimuth - degrees) < 0.001 and plan.grid.size == (10, 10, 10) and plan.grid.shape == (2, 35, 40)
+    )
+    assert any(
+        f"the grid's north has azimuth {plan.grid.azimuth:.10g}, as the centres tell" in line for line in plan.summary
+    )
 
 
 def test_blocks_may_be_longer_than_wide_and_the_angle_any(plan_folder):
     """Of 10 x 25 m: given as 30 degrees the long side goes to azimuth 30, given as 120 the short one."""
     table = turned(rows(9, 7, 2).assign(y=lambda it: it["y"] * 2.5), 30)
-    for azimuth, size, shape in ((30, (10, 25, 10), (2, 7, 9)), (120, (25, 10, 10), (2, 9, 7)), (-150, (10, 25, 10), (2, 7, 9))):
+    for azimuth, size, shape in (
+        (30, (10, 25, 10), (2, 7, 9)),
+        (120, (25, 10, 10), (2, 9, 7)),
+        (-150, (10, 25, 10), (2, 7, 9)),
+    ):
         grid = pitplan.prepare(plan_folder(table, PROJECT, ("size = [10, 10, 10]", f"azimuth = {azimuth}"))).grid
         assert grid.azimuth == azimuth and grid.size == pytest.approx(size) and grid.shape == shape
         x, y, _ = grid.centres(grid.rows)
@@ -97,7 +105,11 @@ def test_blocks_may_be_longer_than_wide_and_the_angle_any(plan_folder):
 
 def test_an_azimuth_that_is_not_that_of_the_centres_is_refused_with_both(plan_folder):
     given = lambda azimuth: ("size = [10, 10, 10]", f"azimuth = {azimuth}")  # noqa: E731
-    for table, azimuth, found in ((turned(rows(20, 18, 2), 30), 31, 30), (rows(20, 18, 2), 12, 0), (turned(rows(20, 18, 2), 30), 0, 30)):
+    for table, azimuth, found in (
+        (turned(rows(20, 18, 2), 30), 31, 30),
+        (rows(20, 18, 2), 12, 0),
+        (turned(rows(20, 18, 2), 30), 0, 30),
+    ):
         said = f"azimuth is {azimuth} degrees, and the centres lie on a grid whose north has azimuth {found}$"
         with pytest.raises(PlanError, match=said):
             pitplan.prepare(plan_folder(table, PROJECT, given(azimuth)))
@@ -115,7 +127,9 @@ def test_a_centre_off_the_turned_grid_is_named_by_its_row(plan_folder):
     table.loc[40, ["x", "y"]] = table.loc[41, ["x", "y"]]
     with pytest.raises(PlanError, match="row 43 column x, y, z: the block of row 42 lies there too"):
         pitplan.prepare(plan_folder(table, PROJECT, NO_SIZE))
-    with pytest.raises(PlanError, match=r"no neighbours along the grid's north: give the blocks' size as \[grid\] size"):
+    with pytest.raises(
+        PlanError, match=r"no neighbours along the grid's north: give the blocks' size as \[grid\] size"
+    ):
         pitplan.prepare(plan_folder(turned(rows(9, 1, 2), 30), PROJECT, NO_SIZE))
 
 
@@ -145,7 +159,9 @@ def test_the_grid_of_sides_3_4_5(one_block):
     grid = files.read_folder(one_block.parent / "plan").grid
     assert abs(grid.azimuth - 36.8699) < 0.01
     # The centre of the first block is 5, 5 along the axes: 1000 + 4 + 3, 5000 - 3 + 4.
-    assert np.allclose(grid.origin, (1007, 5001, 15), atol=0.002) and np.allclose((grid.frame.x, grid.frame.y), (1000, 5000), atol=0.002)
+    assert np.allclose(grid.origin, (1007, 5001, 15), atol=0.002) and np.allclose(
+        (grid.frame.x, grid.frame.y), (1000, 5000), atol=0.002
+    )
     assert grid.extent() == (0, 50, 0, 40, 0, 20)
 
 
@@ -162,7 +178,10 @@ def test_a_drawing_stands_in_the_planners_coordinates(one_block):
     ezdxf = pytest.importorskip("ezdxf", reason="needs the Debian package python3-ezdxf")
     assert main(["export", str(one_block), "--to", "dxf", "--factor", "1000"]) == 0
     drawing = ezdxf.readfile(one_block.parent / "plan" / "pit-1000.dxf")
-    lines = {line.dxf.layer: {(round(p.x, 1), round(p.y, 1), p.z) for p in line.points()} for line in drawing.modelspace().query("POLYLINE")}
+    lines = {
+        line.dxf.layer: {(round(p.x, 1), round(p.y, 1), p.z) for p in line.points()}
+        for line in drawing.modelspace().query("POLYLINE")
+    }
     assert lines == {f"{kind}_10": {(x, y, z) for x, y in CORNERS} for kind, z in (("TOE", 10), ("CREST", 20))}
 
 
@@ -206,7 +225,10 @@ def test_the_page_knows_where_north_is(one_block):
     model = page.model_of(files.read_folder(one_block.parent / "plan"))
     assert np.allclose(model["north"], (-0.6, 0.8), atol=1e-4)
     # Its axes are the grid's own, from its corner.
-    assert model["corner"] == [0, 0, 0] and model["axes"] == ["along azimuth 126.87\N{DEGREE SIGN}", "along azimuth 36.87\N{DEGREE SIGN}"]
+    assert model["corner"] == [0, 0, 0] and model["axes"] == [
+        "along azimuth 126.87\N{DEGREE SIGN}",
+        "along azimuth 36.87\N{DEGREE SIGN}",
+    ]
 
 
 def test_the_planners_table_comes_back(one_block):
@@ -243,7 +265,9 @@ def test_maps_and_sections_say_along_which_axes_they_go():
 def test_a_section_of_a_turned_model_is_asked_for_along_its_axes(one_block, plan_folder):
     table = pd.read_csv(one_block.parent / "blocks.csv")
     path = plan_folder(table, PROJECT + "[pictures]\nnorth = 5002\n")
-    with pytest.raises(PlanError, match=r"\[pictures\] north: 5002 is beyond the model, from 0 to 40 m along azimuth 36.8\d*°"):
+    with pytest.raises(
+        PlanError, match=r"\[pictures\] north: 5002 is beyond the model, from 0 to 40 m along azimuth 36.8\d*°"
+    ):
         pitplan.write_shells(path)
 
 
@@ -258,7 +282,10 @@ def test_surfaces_and_areas_are_the_planners(plan_folder, tmp_path):
     """A cut of two blocks to 40 m, and a lease whose edge leaves out what lies in the east; each turned along."""
     surface = [(x, y, 40 if x < 30 and y < 20 else 70) for x in range(5, 120, 10) for y in range(5, 110, 10)]
     lease = [(-1, -1), (91, -1), (91, 111), (-1, 111)]
-    text = PROJECT + '[fixed]\nsurface = "mined.csv"\ntopography = "blocks"\n[[fixed.areas]]\npolygon = "lease.csv"\nbarred = "outside"\n'
+    text = (
+        PROJECT
+        + '[fixed]\nsurface = "mined.csv"\ntopography = "blocks"\n[[fixed.areas]]\npolygon = "lease.csv"\nbarred = "outside"\n'
+    )
     found = []
     for degrees in (0, 30):
         (tmp_path / "mined.csv").write_text(turned_points(surface, degrees))
@@ -279,7 +306,12 @@ def test_phases_widths_and_schedules_are_those_of_the_straight_model(plan_folder
         folder = path.parent / f"schedule{degrees}"
         pitplan.write_schedule(path, folder)
         blocks = pd.read_csv(folder / "blocks.csv").set_index("name")[["phase", "year", "factor"]]
-        tables.append([blocks, *(pd.read_csv(folder / name) for name in ("shells.csv", "phases.csv", "schedule.csv", "years.csv"))])
+        tables.append(
+            [
+                blocks,
+                *(pd.read_csv(folder / name) for name in ("shells.csv", "phases.csv", "schedule.csv", "years.csv")),
+            ]
+        )
     assert tables[0][0]["phase"].nunique() == 3
     for straight, other in zip(*tables):
         pd.testing.assert_frame_equal(other, straight)
@@ -289,9 +321,13 @@ def test_rows_are_put_together_along_the_grids_axes(plan_folder, one_block):
     """Two by two by one: the first block's centre is 10, 10 along the axes: 1000 + 8 + 6, 5000 - 6 + 8; and sub-blocks from a corner."""
     table = pd.read_csv(one_block.parent / "blocks.csv")
     table = table[~table["name"].str.startswith("b4")]
-    counts = pitplan.prepare(plan_folder(table, PROJECT, ('region = "region"', 'region = "region"\nreblock = [2, 2, 1]')))
+    counts = pitplan.prepare(
+        plan_folder(table, PROJECT, ('region = "region"', 'region = "region"\nreblock = [2, 2, 1]'))
+    )
     rules = f"reblock = {{ size = [20, 20, 10], corner = [1000, 5000, 0] }}\n[grid]\nazimuth = {THREE_FOUR_FIVE:.6f}"
-    corner = pitplan.prepare(plan_folder(table, PROJECT, ('region = "region"\n[grid]\nsize = [10, 10, 10]', 'region = "region"\n' + rules)))
+    corner = pitplan.prepare(
+        plan_folder(table, PROJECT, ('region = "region"\n[grid]\nsize = [10, 10, 10]', 'region = "region"\n' + rules))
+    )
     for plan in (counts, corner):
         assert plan.grid.shape == (2, 2, 2) and np.allclose(plan.grid.origin, (1014, 5002, 15), atol=0.002)
         assert plan.table["tonnes"].tolist() == [400] * 8 and plan.table["cu"].max() == 1.5

@@ -49,13 +49,17 @@ def in_both_heads(data, offset, number):
 
 def test_a_locked_table_is_named(packed):
     path = packed(bend=lambda data: in_both_heads(data, 6, 1))
-    assert refused(pitplan.prepare, path).endswith("blocks.zip: is locked by a password: unpack it, and name the table that it packs")
+    assert refused(pitplan.prepare, path).endswith(
+        "blocks.zip: is locked by a password: unpack it, and name the table that it packs"
+    )
 
 
 @pytest.mark.parametrize("method", [9, 99])
 def test_a_table_that_is_packed_otherwise_is_named(packed, method):
     said = refused(pitplan.prepare, packed(bend=lambda data: in_both_heads(data, 8, method)))
-    assert "blocks.zip: is packed in a way that is not read here (" in said and said.endswith("): pack it by deflate, or unpack it")
+    assert "blocks.zip: is packed in a way that is not read here (" in said and said.endswith(
+        "): pack it by deflate, or unpack it"
+    )
 
 
 @pytest.mark.parametrize("method", [zipfile.ZIP_DEFLATED, zipfile.ZIP_LZMA, zipfile.ZIP_BZIP2])
@@ -63,7 +67,9 @@ def test_a_bent_packed_table_is_named(packed, method):
     rng = random.Random(method)
     for _ in range(20):
         place = rng.randrange(42, 200)
-        path = packed(method, lambda data: data[:place] + bytes([data[place] ^ rng.randrange(1, 256)]) + data[place + 1 :])
+        path = packed(
+            method, lambda data: data[:place] + bytes([data[place] ^ rng.randrange(1, 256)]) + data[place + 1 :]
+        )
         try:
             pitplan.table.read(pitplan.load(path))
         except PlanError as error:
@@ -72,7 +78,9 @@ def test_a_bent_packed_table_is_named(packed, method):
 
 def test_a_header_of_too_long_a_field_is_named(plan_folder):
     path = plan_folder(rows(2, 2, 2).rename(columns={"name": "n" * 200_000}).to_csv(index=False))
-    assert "blocks.csv row 1: is no header of a table: field larger than field limit (131072)" in refused(pitplan.prepare, path)
+    assert "blocks.csv row 1: is no header of a table: field larger than field limit (131072)" in refused(
+        pitplan.prepare, path
+    )
 
 
 @pytest.mark.parametrize("column", ["x", "y", "z"])
@@ -81,7 +89,9 @@ def test_a_centre_where_no_ground_is_is_named(plan_folder, column, place):
     table = rows(3, 2, 2)
     table.loc[4, column] = place
     said = refused(pitplan.prepare, plan_folder(table))
-    assert said.endswith(f"blocks.csv row 6 column {column}: {place:g} is no coordinate in metres: it is beyond 1,000,000,000")
+    assert said.endswith(
+        f"blocks.csv row 6 column {column}: {place:g} is no coordinate in metres: it is beyond 1,000,000,000"
+    )
 
 
 def test_the_name_of_a_column_with_a_line_s_end_stays_on_the_line(plan_folder, capsys):
@@ -89,8 +99,12 @@ def test_the_name_of_a_column_with_a_line_s_end_stays_on_the_line(plan_folder, c
     path = plan_folder(table, PROJECT, ('column = "cu"', 'column = "cu\\npct"'))
     assert len(pitplan.prepare(path).blocks) == 12
     table.loc[2, "cu\npct"] = "n/a"
-    assert refused(pitplan.prepare, plan_folder(table, path.read_text())).endswith('row 4 column cu\\npct: "n/a" is not a number')
-    assert refused(pitplan.prepare, plan_folder(table.drop(columns="rock"), path.read_text())).endswith("are name, x, y, z, tonnes, cu\\npct, region")
+    assert refused(pitplan.prepare, plan_folder(table, path.read_text())).endswith(
+        'row 4 column cu\\npct: "n/a" is not a number'
+    )
+    assert refused(pitplan.prepare, plan_folder(table.drop(columns="rock"), path.read_text())).endswith(
+        "are name, x, y, z, tonnes, cu\\npct, region"
+    )
     assert pitplan.errors.on_one_line("a\nb\r\nc\x85d\u2028e") == "a\\nb\\r\\nc\\x85d\\u2028e"
 
 
@@ -108,7 +122,9 @@ def made_of(kind, place):
     texts = {
         "asc": "ncols 4\nnrows 3\nxllcorner 0\nyllcorner 0\ncellsize 10\n" + "1 2 3 4.5\n" * 3,
         "str": STRINGS,
-        "dxf": "0\nSECTION\n2\nENTITIES\n" + "0\nPOINT\n8\nTOPO\n10\n1.5\n20\n2.5\n30\n3.5\n" * 3 + "0\nENDSEC\n0\nEOF\n",
+        "dxf": "0\nSECTION\n2\nENTITIES\n"
+        + "0\nPOINT\n8\nTOPO\n10\n1.5\n20\n2.5\n30\n3.5\n" * 3
+        + "0\nENDSEC\n0\nEOF\n",
     }
     (place / f"a.{kind}").write_text(texts[kind])
     return place / f"a.{kind}"
@@ -121,7 +137,10 @@ def test_a_file_of_heights_that_is_cut_short_is_named(tmp_path, kind):
     whole, refusals = file.read_bytes(), 0
     for length in range(0, len(whole), max(1, len(whole) // 60)):
         file.write_bytes(whole[:length])
-        for read in (lambda: survey_files.topography(SurveyFile(file), AROUND), lambda: survey_files.areas(SurveyFile(file))):
+        for read in (
+            lambda: survey_files.topography(SurveyFile(file), AROUND),
+            lambda: survey_files.areas(SurveyFile(file)),
+        ):
             try:
                 read()
             except PlanError as error:
@@ -135,7 +154,10 @@ def test_points_that_are_no_places_are_named(tmp_path, number):
     file = tmp_path / "a.str"
     file.write_text(STRINGS.replace("1, 1.0, 2.0, 2.0", f"1, 1.0, {number}, 2.0"))
     said = refused(survey_files.topography, SurveyFile(file), AROUND)
-    assert said == f"{file}: has a point at {float(number):g}, 1, 2: expected metres, none beyond 1,000,000,000: export it again"
+    assert (
+        said
+        == f"{file}: has a point at {float(number):g}, 1, 2: expected metres, none beyond 1,000,000,000: export it again"
+    )
     file = tmp_path / "lease.csv"
     file.write_text("x,y\n0,0\n1e12,0\n10,10\n")
     assert "lease.csv: has a point at 1e+12, 0: expected metres" in refused(survey_files.areas, SurveyFile(file))

@@ -8,8 +8,7 @@ import numpy as np
 import pandas as pd
 import pytest
 from conftest import PROJECT, rows
-from hypothesis import HealthCheck, given, settings
-from hypothesis import strategies as st
+from hypothesis import HealthCheck, given, settings, strategies as st
 
 import pitplan
 from pitplan import PlanError, absent, files, fixed, load, money, prepare, schedule, slopes, solve, table as tables
@@ -21,10 +20,17 @@ from pitplan.verification.money import sample
 from pitplan.verification.walls import flatness, high_walls
 from pitplan.wall_rules import Wall
 
-TEXT = PROJECT.replace("mining_cost = 2\n", "mining_cost = { R = 2, S = 2.5 }\nmining_cost_per_level = 0.25\ndecimals = 2\n").replace(
-    "[slopes]\n",
-    '[[metals]]\nname = "gold"\ncolumn = "au"\nunit = "gram_per_tonne"\nprice = 60\nselling_cost = 1.5\nrecovery = { R = 0.9, S = 0.4 }\n[slopes]\n',
-).replace("ore_per_year = 100", "ore_per_year = 150\nrock_per_year = 1000") + '\n[fixed]\nforced = "must"\nbarred = "never"\n'
+TEXT = (
+    PROJECT.replace(
+        "mining_cost = 2\n", "mining_cost = { R = 2, S = 2.5 }\nmining_cost_per_level = 0.25\ndecimals = 2\n"
+    )
+    .replace(
+        "[slopes]\n",
+        '[[metals]]\nname = "gold"\ncolumn = "au"\nunit = "gram_per_tonne"\nprice = 60\nselling_cost = 1.5\nrecovery = { R = 0.9, S = 0.4 }\n[slopes]\n',
+    )
+    .replace("ore_per_year = 100", "ore_per_year = 150\nrock_per_year = 1000")
+    + '\n[fixed]\nforced = "must"\nbarred = "never"\n'
+)
 
 
 def deposit():
@@ -99,7 +105,10 @@ SHELLS = "blocks tonnes ore_tonnes waste_tonnes strip_ratio processed_tonnes gra
         *(("shells.csv", name, "shells") for name in SHELLS.split()),
         *(("shells.csv", name, "years") for name in ("npv_best", "npv_worst", "years")),
         ("shells.csv", "worth_at_factor", "worth"),
-        *(("years.csv", name, "years") for name in ("rock_tonnes", "ore_tonnes", "metal_copper", "metal_gold", "cash", "discounted")),
+        *(
+            ("years.csv", name, "years")
+            for name in ("rock_tonnes", "ore_tonnes", "metal_copper", "metal_gold", "cash", "discounted")
+        ),
         *(("blocks.csv", name, "money") for name in ("mining_cost", "revenue", "processing_cost")),
         ("blocks.csv", "id", "blocks"),
     ],
@@ -114,7 +123,9 @@ def test_each_number_that_is_bent_is_found(copied, file, column, rule):
     assert rule in wrong(copied)
 
 
-@pytest.mark.parametrize(("column", "rule"), [("factor", "shells"), ("process_factor", "worth"), ("factor", "worth"), ("factor", "years")])
+@pytest.mark.parametrize(
+    ("column", "rule"), [("factor", "shells"), ("process_factor", "worth"), ("factor", "worth"), ("factor", "years")]
+)
 def test_a_block_at_another_factor_is_found(copied, column, rule):
     table = pd.read_csv(copied / "blocks.csv")
     at = table.index[table[column] == 500][0]
@@ -149,11 +160,22 @@ def test_a_year_above_its_capacity_is_found(copied):
     (rule,) = [rule for rule in verify(copied) if rule.differences]
     case, factor, year = years.loc[full, ["case", "factor", "year"]]
     last = years.loc[full + 1, "rock_tonnes"]
-    said = [f"{year}: rock_tonnes 1000.5 above 1000", f"{year}: rock_tonnes 1000.5 for 1000", f"{year + 1}: rock_tonnes {last:g} for {last + 0.5:g}"]
+    said = [
+        f"{year}: rock_tonnes 1000.5 above 1000",
+        f"{year}: rock_tonnes 1000.5 for 1000",
+        f"{year + 1}: rock_tonnes {last:g} for {last + 0.5:g}",
+    ]
     assert rule.differences == tuple(f"{case} case of factor {factor}, year {it}" for it in said)
 
 
-YEARLY = [("rock_tonnes", 1), ("ore_tonnes", 1), ("metal_copper", 0.1), ("metal_gold", 1), ("cash", 1), ("discounted", 1)]
+YEARLY = [
+    ("rock_tonnes", 1),
+    ("ore_tonnes", 1),
+    ("metal_copper", 0.1),
+    ("metal_gold", 1),
+    ("cash", 1),
+    ("discounted", 1),
+]
 
 
 @pytest.mark.parametrize("case", ["best", "worst"])
@@ -173,7 +195,10 @@ def test_what_flows_a_year_later_is_found(copied, case, column, less):
     ("bend", "said"),
     [
         (lambda it: it.assign(year=it["year"] + (it["case"] == "worst")), "worst case of factor 1500: years [2, 3"),
-        (lambda it: it.assign(factor=it["factor"].where(it["case"] == "best", 1400)), "years of the worst case of factor 1400, which is none"),
+        (
+            lambda it: it.assign(factor=it["factor"].where(it["case"] == "best", 1400)),
+            "years of the worst case of factor 1400, which is none",
+        ),
         (lambda it: it[it["case"] == "best"], "worst case of factor 1500: has no years"),
         (lambda it: it.drop(columns="metal_gold"), "metal_gold nan for"),
     ],
@@ -185,7 +210,17 @@ def test_years_that_are_missing_or_too_many_are_found(copied, bend, said):
 
 
 @pytest.mark.parametrize(
-    ("column", "value"), [("name", "b0-0-1"), ("rock", "S"), ("region", "2"), ("tonnes", 99.70000001), ("cu", 1e-9), ("au", 0.7), ("must", 1.0), ("never", 2.0)]
+    ("column", "value"),
+    [
+        ("name", "b0-0-1"),
+        ("rock", "S"),
+        ("region", "2"),
+        ("tonnes", 99.70000001),
+        ("cu", 1e-9),
+        ("au", 0.7),
+        ("must", 1.0),
+        ("never", 2.0),
+    ],
 )
 def test_a_field_of_the_planners_that_is_another_is_found(copied, column, value):
     table = pd.read_csv(copied / "blocks.csv", dtype={"region": str}, float_precision="round_trip")
@@ -197,7 +232,10 @@ def test_a_field_of_the_planners_that_is_another_is_found(copied, column, value)
     assert rule.differences[0].startswith(f"block b0-0-0: {column} {value} for ")
 
 
-@pytest.mark.parametrize(("file", "column"), [("blocks.csv", "revenue"), ("blocks.csv", "cu"), ("shells.csv", "npv_best"), ("years.csv", "cash")])
+@pytest.mark.parametrize(
+    ("file", "column"),
+    [("blocks.csv", "revenue"), ("blocks.csv", "cu"), ("shells.csv", "npv_best"), ("years.csv", "cash")],
+)
 @pytest.mark.parametrize(("field", "said"), [("", "is empty"), ("n/a", '"n/a" is not a number')])
 def test_a_field_that_is_no_number_is_named(copied, capsys, file, column, field, said):
     table = pd.read_csv(copied / file, dtype=str, keep_default_na=False)
@@ -223,7 +261,12 @@ def plus_one(table, column):
     ("name", "bend", "count", "told"),
     [
         ("money", lambda it: plus_one(it, "mining_cost"), 459, "block b0-0-0: mining_cost 300.1 for 299.1"),
-        ("money", lambda it: it.assign(mining_cost=it["mining_cost"] + 1e-6), 459, "block b0-0-0: mining_cost 299.100001 for 299.1"),
+        (
+            "money",
+            lambda it: it.assign(mining_cost=it["mining_cost"] + 1e-6),
+            459,
+            "block b0-0-0: mining_cost 299.100001 for 299.1",
+        ),
         ("blocks", lambda it: plus_one(it, "id"), 459, "block b0-0-0 has the id 397 for 396"),
         ("blocks", lambda it: it.assign(factor=it["factor"] + (it["factor"] == 500)), None, "comes in at 501"),
         ("worth", lambda it: plus_one(it, "process_factor"), 459, "block b0-0-0: process_factor 1 for 0"),
@@ -291,7 +334,12 @@ def test_a_run_reads_its_table_once_and_a_later_look_reads_it_again(plan_folder,
     assert len(reads) == 1 and wrong(path.parent / "plan") == set() and len(reads) == 2
     table = read_table(load(path)).frame
     bent = table.assign(cu=table["cu"].where(table["cu"] < 6, 5.9))
-    assert {rule.name for rule in verify(path.parent / "plan", None, bent) if rule.differences} == {"blocks", "money", "shells", "years"}
+    assert {rule.name for rule in verify(path.parent / "plan", None, bent) if rule.differences} == {
+        "blocks",
+        "money",
+        "shells",
+        "years",
+    }
     deposit().assign(cu=bent["cu"].to_numpy()).to_csv(path.parent / "blocks.csv", index=False)
     assert wrong(path.parent / "plan") == {"blocks", "money", "shells", "years"}
 
@@ -309,12 +357,14 @@ def looked_at(plan):
 
 def two_regions():
     """Ore at the floor, in rock that stands at 35 degrees, under rock that stands at 65."""
-    return rows(15, 15, 6, cu=lambda i, j, k: 30 if (i, j, k) == (7, 7, 0) else 0, region=lambda i, j, k: "12"[int(k > 0)])
+    return rows(
+        15, 15, 6, cu=lambda i, j, k: 30 if (i, j, k) == (7, 7, 0) else 0, region=lambda i, j, k: "12"[int(k > 0)]
+    )
 
 
 LEVELS = ("levels = 3", "levels = 5")
 STEEP_ABOVE = '[[slopes.walls]]\nregion = "1"\nangle = 35\n[[slopes.walls]]\nregion = "2"\nangle = 65'
-MIXED = [("[[slopes.walls]]\npattern = \"1:5\"", STEEP_ABOVE)]
+MIXED = [('[[slopes.walls]]\npattern = "1:5"', STEEP_ABOVE)]
 
 
 def test_cost_by_elevation_is_looked_at(plan_folder, monkeypatch):
@@ -334,7 +384,9 @@ def test_a_mine_in_which_nothing_pays_is_right(plan_folder, discounting):
     assert [rule.differences for rule in looked_at(plan)] == [()] * 10
 
 
-@pytest.mark.parametrize(("discounting", "npv"), [("continuous", -200), ("mid_year", -200 / 1.1**0.5), ("end_of_year", -200 / 1.1)])
+@pytest.mark.parametrize(
+    ("discounting", "npv"), [("continuous", -200), ("mid_year", -200 / 1.1**0.5), ("end_of_year", -200 / 1.1)]
+)
 def test_waste_that_takes_no_time_is_the_first_years(plan_folder, discounting, npv):
     """The mill alone has a capacity: a block of waste that must be dug, which costs 200, and a deposit under waste."""
     changes = ("rate = 0.1", f'rate = 0.1\ndiscounting = "{discounting}"')
@@ -361,7 +413,9 @@ def test_a_folder_without_an_answer_is_named(copied, tmp_path):
         verify(tmp_path / "nowhere")
     path = copied.parent / "blocks.csv"
     whole = path.read_text()
-    path.write_text(whole + whole.splitlines()[1].replace("b0-0-0", "more").replace("5.0,5.0,5.0", "5.0,5.0,55.0") + "\n")
+    path.write_text(
+        whole + whole.splitlines()[1].replace("b0-0-0", "more").replace("5.0,5.0,5.0", "5.0,5.0,55.0") + "\n"
+    )
     with pytest.raises(PlanError, match="1 blocks of the table are not in it: has the table changed since?"):
         verify(copied)
     (copied / "prepare.json").write_text("{}")
@@ -382,7 +436,13 @@ def test_walls_between_azimuths_by_hand():
     """60 degrees to the east and 30 to the west: what they step back for a metre up is linear between, also over the north."""
     wall = Wall(None, None, ((90.0, 60.0), (270.0, 30.0)))
     steep, flat = 1 / np.sqrt(3), np.sqrt(3)
-    expected = [(steep + flat) / 2, steep, (steep + flat) / 2, flat + (steep - flat) / 4, flat + (steep - flat) * 89 / 180]
+    expected = [
+        (steep + flat) / 2,
+        steep,
+        (steep + flat) / 2,
+        flat + (steep - flat) / 4,
+        flat + (steep - flat) * 89 / 180,
+    ]
     assert flatness(wall, np.array([0.0, 90, 180, 315, 359])) == pytest.approx(expected)
     assert slopes.cotangents(wall.angles, np.array([0.0, 90, 180, 315, 359])) == pytest.approx(expected)
 
@@ -399,7 +459,9 @@ def test_high_walls_by_geometry():
 
 def test_needs_that_steeper_walls_on_the_way_do_not_lead_to_are_found(plan_folder, monkeypatch):
     monkeypatch.setattr("pitplan.walls.not_led", lambda steps, code, grid: np.zeros(len(code), dtype=bool))
-    assert "walls: block b7-7-0, dug at 500, needs a block that is not" in refused(plan_folder, two_regions(), PROJECT, LEVELS, *MIXED)
+    assert "walls: block b7-7-0, dug at 500, needs a block that is not" in refused(
+        plan_folder, two_regions(), PROJECT, LEVELS, *MIXED
+    )
 
 
 def test_too_few_levels_are_found(plan_folder, monkeypatch):
@@ -425,7 +487,10 @@ def test_amounts_with_more_digits_than_floats_have_are_no_difference(plan_folder
 def test_what_is_left_of_great_amounts_is_as_uncertain_as_they_are(plan_folder, more, differs):
     """Both blocks must be dug: one earns 9,999,998,800, the other costs a dollar less; a millionth of a millionth of both is 0.02."""
     table = rows(2, 1, 1, cu=lambda i, j, k: 1 - i, rock=lambda i, j, k: "RS"[i], must=lambda i, j, k: 1)
-    changes = [("price = 8000", "price = 20_000_000_000"), ("mining_cost = 2", "mining_cost = { R = 2, S = 99_999_987.99 }")]
+    changes = [
+        ("price = 8000", "price = 20_000_000_000"),
+        ("mining_cost = 2", "mining_cost = { R = 2, S = 99_999_987.99 }"),
+    ]
     plan = prepare(plan_folder(table, PROJECT + '\n[fixed]\nforced = "must"\n', *changes))
     assert {rule.name for rule in looked_at(plan) if rule.differences} == set()
     path = plan.project.folder / "shells.csv"
@@ -484,9 +549,18 @@ def test_areas_that_are_passed_over_are_found(plan_folder, tmp_path, monkeypatch
 
 def test_a_surface_that_is_passed_over_is_found(plan_folder, tmp_path, monkeypatch):
     """Over the second row of columns the points lie at 14 m on the mean, over the third at 3, and over the first there are none."""
-    points = [(600_000 + 10 * i + a, 6_512_000 + y + a, z + a / 2) for i in range(7) for y, z in ((12, 14), (22, 3)) for a in (1, 5)]
-    pd.DataFrame(points, columns=["x", "y", "z"]).assign(z=lambda it: it["z"] - 1.5).to_csv(tmp_path / "mined.csv", index=False)
-    path = plan_folder(ore_everywhere().assign(cu=0), PROJECT + '\n[fixed]\nsurface = "mined.csv"\ntopography = "blocks"\n')
+    points = [
+        (600_000 + 10 * i + a, 6_512_000 + y + a, z + a / 2)
+        for i in range(7)
+        for y, z in ((12, 14), (22, 3))
+        for a in (1, 5)
+    ]
+    pd.DataFrame(points, columns=["x", "y", "z"]).assign(z=lambda it: it["z"] - 1.5).to_csv(
+        tmp_path / "mined.csv", index=False
+    )
+    path = plan_folder(
+        ore_everywhere().assign(cu=0), PROJECT + '\n[fixed]\nsurface = "mined.csv"\ntopography = "blocks"\n'
+    )
     plan = prepare(path)
     assert len(plan.fixed.forced) == 7 + 2 * 7
     # With the rule of the surface itself.
@@ -537,7 +611,9 @@ def test_random_plans_are_right(plan_folder, seed, cutoff, discounting, shovels)
         must=(rng.random(len(table)) < 0.01).astype(int),
         never=0,
     )[table["z"] < 10 * height]
-    walls = '[[slopes.walls]]\nregion = "1"\nangle = 42\n[[slopes.walls]]\nregion = "2"\nazimuths = [[0, 60], [180, 35]]'
+    walls = (
+        '[[slopes.walls]]\nregion = "1"\nangle = 42\n[[slopes.walls]]\nregion = "2"\nazimuths = [[0, 60], [180, 35]]'
+    )
     changes = [
         ('[[slopes.walls]]\npattern = "1:5"', walls),
         ("decimals = 2", f'decimals = 2\ncutoff = "{cutoff}"'),
@@ -548,7 +624,9 @@ def test_random_plans_are_right(plan_folder, seed, cutoff, discounting, shovels)
     assert [rule.differences for rule in looked_at(plan)] == [()] * 10
 
 
-@pytest.mark.parametrize("amounts", [[2**62] * 5, [-(2**62)] * 3 + [1], [2**32, 2**32 - 1, -1, -(2**32)], [], [10**30, -1]])
+@pytest.mark.parametrize(
+    "amounts", [[2**62] * 5, [-(2**62)] * 3 + [1], [2**32, 2**32 - 1, -1, -(2**32)], [], [10**30, -1]]
+)
 def test_sums_of_whole_numbers_have_no_limit(amounts):
     is_small = all(abs(amount) < 2**63 for amount in amounts)
     assert sums.total(np.array(amounts, dtype=np.int64 if is_small else object)) == sum(amounts)
@@ -561,6 +639,12 @@ def test_each_rows_own_columns_alone_are_read(plan_folder, tmp_path):
     blocks.to_csv(tmp_path / "written.csv", index=False)
     few = answers.read_blocks(tmp_path / "written.csv", load(path), ("id", "factor", "free_factor"))
     assert list(few.columns) == ["x", "y", "z", "id", "factor"]
-    path.write_text(path.read_text().replace('id = "name"', 'id = "name"\nabsent = { tonnes = 1, rock = "R", region = "1" }'))
+    path.write_text(
+        path.read_text().replace('id = "name"', 'id = "name"\nabsent = { tonnes = 1, rock = "R", region = "1" }')
+    )
     whole = answers.read_blocks(tmp_path / "written.csv", load(path), ("id", "factor", "free_factor"))
-    assert list(whole.columns) == list(blocks.columns) == list(answers.read_blocks(tmp_path / "written.csv", load(path)).columns)
+    assert (
+        list(whole.columns)
+        == list(blocks.columns)
+        == list(answers.read_blocks(tmp_path / "written.csv", load(path)).columns)
+    )

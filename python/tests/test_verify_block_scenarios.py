@@ -102,7 +102,9 @@ def test_a_bound_below_what_is_earned_is_found(copied):
     assert any("the one schedule earns" in said and "above the bound" in said for said in found["one schedule"])
 
 
-@pytest.mark.parametrize("changed", [{"year": top_last}, {"share": lambda it: it * 0.9}, {"amounts": first_amount(1.0)}])
+@pytest.mark.parametrize(
+    "changed", [{"year": top_last}, {"share": lambda it: it * 0.9}, {"amounts": first_amount(1.0)}]
+)
 def test_a_wrong_schedule_for_all_is_found(copied, changed):
     bend(one_of(copied), **changed)
     assert {"block value", "tables"} <= wrong(copied)
@@ -126,7 +128,9 @@ def test_a_fixed_block_that_is_not_kept_is_found(copied, column, year):
     row = np.flatnonzero(simulated()[column] == 1)[-1]
     bend(one_of(copied), year=lambda it: np.where(np.arange(len(it)) == row, year, it).astype(it.dtype))
     (rule,) = [rule for rule in verify_folder(copied) if rule.name == "block order"]
-    assert rule.differences == (f"the one schedule: block {simulated()['name'].iloc[row]}: year {year}, of which 0 is milled",)
+    assert rule.differences == (
+        f"the one schedule: block {simulated()['name'].iloc[row]}: year {year}, of which 0 is milled",
+    )
 
 
 def test_the_schedule_of_another_scenario_is_found(copied):
@@ -143,10 +147,19 @@ def test_the_schedule_of_another_scenario_is_found(copied):
         ("one_schedule.csv", "id", "blocks"),
         ("one_schedule.csv", "year", "tables"),
         ("one_schedule.csv", "share_mill", "tables"),
-        *(("schedules.csv", name, "tables") for name in ("price_gold", "value", "bound", "below_bound", "years", "blocks", "tonnes")),
-        *(("schedules.csv", name, "tables") for name in ("ore_tonnes", "metal_gold", "one_value", "one_ore_tonnes", "one_years_short")),
+        *(
+            ("schedules.csv", name, "tables")
+            for name in ("price_gold", "value", "bound", "below_bound", "years", "blocks", "tonnes")
+        ),
+        *(
+            ("schedules.csv", name, "tables")
+            for name in ("ore_tonnes", "metal_gold", "one_value", "one_ore_tonnes", "one_years_short")
+        ),
         ("schedules.csv", "one_ore_left_tonnes", "tables"),
-        *(("one_schedule_years.csv", name, "one schedule") for name in ("rock_tonnes", "ore_tonnes", "planned_ore_tonnes", "cash")),
+        *(
+            ("one_schedule_years.csv", name, "one schedule")
+            for name in ("rock_tonnes", "ore_tonnes", "planned_ore_tonnes", "cash")
+        ),
         ("one_schedule_years.csv", "discounted", "one schedule"),
         ("one_schedule_years.csv", "price_copper", "tables"),
         *(("quantiles.csv", name, "tables") for name in ("models", "value_mean", "bound_least", "one_value_greatest")),
@@ -157,21 +170,27 @@ def test_each_number_that_is_bent_is_found(copied, file, column, rule):
     """A little more in the last row that has the number."""
     table = pd.read_csv(copied / file)
     at = table.index[table[column] > 0][-1]
-    bent = table.loc[at, column] + (1 if column in ("blocks", "id", "models", "years", "year", "one_years_short") else 0.05)
+    bent = table.loc[at, column] + (
+        1 if column in ("blocks", "id", "models", "years", "year", "one_years_short") else 0.05
+    )
     table[column] = table[column].where(table.index != at, bent)
     table.to_csv(copied / file, index=False)
     assert rule in wrong(copied)
 
 
 def test_statuses_none_of_which_is_so_are_found(copied):
-    pd.read_csv(copied / "schedules.csv", dtype=str).assign(status="killed").to_csv(copied / "schedules.csv", index=False)
+    pd.read_csv(copied / "schedules.csv", dtype=str).assign(status="killed").to_csv(
+        copied / "schedules.csv", index=False
+    )
     assert "tables" in wrong(copied)
 
 
 def test_a_status_and_a_model_that_are_not_so_are_found(copied):
     table = pd.read_csv(copied / "schedules.csv", dtype=str)
     for column in ("status", "model"):
-        table.assign(**{column: table[column].where(table.index != 2, "other")}).to_csv(copied / "schedules.csv", index=False)
+        table.assign(**{column: table[column].where(table.index != 2, "other")}).to_csv(
+            copied / "schedules.csv", index=False
+        )
         assert "tables" in wrong(copied)
 
 
@@ -256,7 +275,9 @@ def test_prices_that_are_passed_over_are_found(plan_folder, monkeypatch):
 def test_amounts_in_the_middle_of_two_are_rounded_as_they_are_written(plan_folder):
     """Mining costs 2.135 a tonne and 213.5 a block, in whole money the even 214; by floats 100 x 2.135 is less than 213.5."""
     assert 100 * 2.135 < 213.5
-    folder = solved(plan_folder, pillars(RICH, POOR), TWO_YEARS.replace("mining_cost = 2\n", "mining_cost = 2.135\ndecimals = 0\n"))
+    folder = solved(
+        plan_folder, pillars(RICH, POOR), TWO_YEARS.replace("mining_cost = 2\n", "mining_cost = 2.135\ndecimals = 0\n")
+    )
     gather(folder)
     years = pd.read_csv(folder / "one_schedule_years.csv")
     assert years[years["model"] == "sim_2"]["cash"].tolist() == [-4 * 214, 1000 - 2 * 214]
@@ -299,7 +320,9 @@ def test_schedules_of_random_projects_are_right(plan_folder, seed):
     table = table_of(rng)
     for name in ("cu_1", "cu_2", "cu_3"):
         table[name] = (table["cu"] * rng.lognormal(0, 0.7, len(table))).round(2)
-    limits = "[schedule]\nyears = 5\nramp_up = [0.6, 1]\n" + pick(rng, "", "metal_per_year = { copper = 15, gold = 300 }\n")
+    limits = "[schedule]\nyears = 5\nramp_up = [0.6, 1]\n" + pick(
+        rng, "", "metal_per_year = { copper = 15, gold = 300 }\n"
+    )
     text += limits + pick(rng, "", HAULAGE) + pick(rng, "", '[fixed]\nforced = "must"\nbarred = "never"\n')
     sets = pick(rng, "", "[[scenarios.prices]]\ncopper = 6500\n[[scenarios.prices]]\ngold = 75\n")
     text += '[scenarios]\ncolumns = { copper = "cu_*" }\n' + sets

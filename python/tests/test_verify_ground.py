@@ -91,7 +91,9 @@ def test_rock_of_scenarios_that_the_project_does_not_give_is_found(plan_folder, 
     path = plan_folder(table[table["name"] != "b0-0-1"], COLUMNS, UPRIGHT, rock)
     right = absent.with_rows
     heavy = {"tonnes": 95.0}
-    monkeypatch.setattr(absent, "with_rows", lambda frame, grid, project: right(frame, grid, with_absent(project, heavy)))
+    monkeypatch.setattr(
+        absent, "with_rows", lambda frame, grid, project: right(frame, grid, with_absent(project, heavy))
+    )
     shared = prepared(path)
     solved_in_turn(shared)
     with pytest.raises(PlanError, match="absent: block absent-1: tonnes 95.0 for 90.0"):
@@ -104,8 +106,12 @@ def with_absent(project, changed):
 
 def surfaced(plan_folder, tmp_path, points):
     """A project of seven by three columns of two levels, whose surface as mined these points tell."""
-    pd.DataFrame(np.add(points, [600_000, 6_512_000, 0]), columns=["x", "y", "z"]).to_csv(tmp_path / "mined.csv", index=False)
-    return plan_folder(ore_everywhere().assign(cu=0), PROJECT + '\n[fixed]\nsurface = "mined.csv"\ntopography = "blocks"\n')
+    pd.DataFrame(np.add(points, [600_000, 6_512_000, 0]), columns=["x", "y", "z"]).to_csv(
+        tmp_path / "mined.csv", index=False
+    )
+    return plan_folder(
+        ore_everywhere().assign(cu=0), PROJECT + '\n[fixed]\nsurface = "mined.csv"\ntopography = "blocks"\n'
+    )
 
 
 def fixed_rule(path):
@@ -122,7 +128,11 @@ def test_a_surface_that_is_not_laid_between_its_points_is_found(plan_folder, tmp
     monkeypatch.setattr(terrain, "heights", lambda triangles, grid: np.full(grid.per_level, 1000.0))
     rule = fixed_rule(path)
     assert (rule.count, rule.differences[0]) == (3 * 5 + 3 * 2, "block b5-0-0 must be dug, and is so from factor 0 on")
-    monkeypatch.setattr(terrain, "heights", lambda triangles, grid: 20 - 0.3 * (grid.centres(np.arange(grid.per_level))[0] - 600_000) + 3)
+    monkeypatch.setattr(
+        terrain,
+        "heights",
+        lambda triangles, grid: 20 - 0.3 * (grid.centres(np.arange(grid.per_level))[0] - 600_000) + 3,
+    )
     # The plane three metres higher: from x = 35 and 65 on.
     assert fixed_rule(path).count == 3 + 3
 
@@ -239,6 +249,7 @@ def test_a_pit_without_fixed_blocks_that_is_worth_less_is_found(pits):
 
 def test_a_pit_without_fixed_blocks_that_leaves_a_block_standing_is_refused(plan_folder, monkeypatch):
     """Its answer is bent after the solver: a block that ore needs is dug no more."""
+
     def bent(ready, *words):
         made = ready(*words)
 

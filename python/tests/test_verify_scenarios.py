@@ -7,8 +7,7 @@ import numpy as np
 import pandas as pd
 import pytest
 from conftest import rows
-from hypothesis import HealthCheck, given, settings
-from hypothesis import strategies as st
+from hypothesis import HealthCheck, given, settings, strategies as st
 from test_scenarios import COLUMNS, MODELS, PRICES, UPRIGHT, hill, pillar, prepared, solved_in_turn, write_models
 from test_verify import TEXT, deposit
 
@@ -26,7 +25,9 @@ def simulated():
     """Three models of the copper of a hill in which gold, rocks, fixed blocks and costs by level vary."""
     table = deposit()
     copper = table["cu"]
-    return table.drop(columns="cu").assign(cu_a=copper, cu_b=(copper * 0.3).round(3), cu_c=copper.where(copper < 1, 1.25))
+    return table.drop(columns="cu").assign(
+        cu_a=copper, cu_b=(copper * 0.3).round(3), cu_c=copper.where(copper < 1, 1.25)
+    )
 
 
 @pytest.fixture(scope="module")
@@ -52,7 +53,9 @@ def wrong(folder):
 
 
 def answer_of(folder, number):
-    return folder / "done" / f"{json.loads((folder / 'scenarios.json').read_text())['scenarios'][number - 1]['key']}.npz"
+    return (
+        folder / "done" / f"{json.loads((folder / 'scenarios.json').read_text())['scenarios'][number - 1]['key']}.npz"
+    )
 
 
 def bend(path, **changed):
@@ -121,7 +124,10 @@ def test_a_block_that_comes_in_at_no_factor_is_found(copied, capsys):
     (rule,) = [rule for rule in verify(copied) if rule.name == "tables"]
     assert rule.differences[0] == "scenario 1, cu_a at copper 8000, gold 60: a block comes in at no factor"
     assert main(["gather", str(copied), "--quiet"]) == 1
-    assert "is no answer: remove it, and run pitplan scenarios again: it holds other blocks or factors" in capsys.readouterr().err
+    assert (
+        "is no answer: remove it, and run pitplan scenarios again: it holds other blocks or factors"
+        in capsys.readouterr().err
+    )
 
 
 @pytest.mark.parametrize(("one", "other"), [(1, 2), (1, 3), (4, 6)])
@@ -142,7 +148,9 @@ def test_a_barred_block_that_is_dug_is_found(copied):
 
     bend(answer_of(copied, 2), places=dug)
     (rule,) = [rule for rule in verify(copied) if rule.name == "fixed"]
-    assert rule.differences == ("scenario 2, cu_a at copper 11000.5, gold 45: block b10-0-0 may not be dug, and is so from factor 500 on",)
+    assert rule.differences == (
+        "scenario 2, cu_a at copper 11000.5, gold 45: block b10-0-0 may not be dug, and is so from factor 500 on",
+    )
 
 
 @pytest.mark.parametrize(
@@ -150,9 +158,18 @@ def test_a_barred_block_that_is_dug_is_found(copied):
     [
         ("probability.csv", "probability_1000", "probability"),
         ("probability.csv", "id", "blocks"),
-        *(("scenarios.csv", name, "tables") for name in ("price_gold", "blocks", "tonnes", "grade_gold", "worth", "worth_at_factor")),
-        *(("quantiles.csv", name, "tables") for name in ("models", "tonnes_mean", "worth_least", "metal_gold_quantile_0.1")),
-        *(("quantiles.csv", f"worth_at_factor_{name}", "tables") for name in ("quantile_0.5", "quantile_0.9", "greatest")),
+        *(
+            ("scenarios.csv", name, "tables")
+            for name in ("price_gold", "blocks", "tonnes", "grade_gold", "worth", "worth_at_factor")
+        ),
+        *(
+            ("quantiles.csv", name, "tables")
+            for name in ("models", "tonnes_mean", "worth_least", "metal_gold_quantile_0.1")
+        ),
+        *(
+            ("quantiles.csv", f"worth_at_factor_{name}", "tables")
+            for name in ("quantile_0.5", "quantile_0.9", "greatest")
+        ),
     ],
 )
 def test_each_number_that_is_bent_is_found(copied, file, column, rule):
@@ -172,13 +189,20 @@ def test_a_probability_that_is_bent_is_named(copied):
     table.loc[at, "probability_1500"] += 0.01
     table.to_csv(copied / "probability.csv", index=False)
     (rule,) = [rule for rule in verify(copied) if rule.differences]
-    assert (rule.name, rule.count, rule.differences) == ("probability", 1, (f"block {name}: probability_1500 0.51 for 0.5",))
+    assert (rule.name, rule.count, rule.differences) == (
+        "probability",
+        1,
+        (f"block {name}: probability_1500 0.51 for 0.5",),
+    )
 
 
 @pytest.mark.parametrize(
     ("change", "said"),
     [
-        (lambda it: it["scenarios"][1]["prices"].update(copper="9000"), "scenarios.json lists cu_a at {'copper': '9000', 'gold': '45'} for "),
+        (
+            lambda it: it["scenarios"][1]["prices"].update(copper="9000"),
+            "scenarios.json lists cu_a at {'copper': '9000', 'gold': '45'} for ",
+        ),
         (lambda it: it["scenarios"][1].update(model="cu_b"), "scenarios.json lists cu_b at "),
         (lambda it: it["scenarios"].pop(), "scenarios.json lists 5 scenarios, and the models and prices make 6"),
         (lambda it: it["factors"].pop(), "scenarios.json lists the factors [500, 1000]"),
@@ -200,7 +224,9 @@ def test_a_table_that_has_changed_is_found(copied):
     table.assign(cu_b=table["cu_b"].where(table.index != ore, 1.0)).to_csv(path, index=False)
     assert wrong(copied) == {"shells", "worth"}
     table[table.index != ore].to_csv(path, index=False)
-    with pytest.raises(PlanError, match="probability.csv: 1 of its blocks are not in the table: has the table changed since?"):
+    with pytest.raises(
+        PlanError, match="probability.csv: 1 of its blocks are not in the table: has the table changed since?"
+    ):
         verify(copied)
 
 
@@ -214,7 +240,9 @@ def test_models_of_a_folder_are_read_by_id_and_by_place(plan_folder):
     pitplan.gather(folder)
     assert wrong(folder) == set()
     models = read(folder, folder)
-    assert [models.grades(scenario.model)[:, 0].tolist() for scenario in models.scenarios] == [(np.arange(12) / 10).tolist()] * 2
+    assert [models.grades(scenario.model)[:, 0].tolist() for scenario in models.scenarios] == [
+        (np.arange(12) / 10).tolist()
+    ] * 2
     write_models(path, by_id=model[["name", "cu"]].assign(name=model["name"][::-1].to_numpy()))
     assert wrong(folder) == {"shells", "worth"}
     write_models(path, by_id=model[["name", "cu"]].assign(name=["nobody", *model["name"][1:]]))
@@ -243,7 +271,9 @@ def test_prices_that_are_passed_over_are_found(plan_folder, monkeypatch):
     shared = prepared(plan_folder(pillar(), PRICES, UPRIGHT))
     solved_in_turn(shared)
     # At 12,000 the metal of sim_1, 0.75 t, yields 4500 at factor 500, and the pit 2900.
-    with pytest.raises(PlanError, match="worth: scenario 2, sim_1 at copper 12000: factor 500: worth_at_factor 1400.* for 2900"):
+    with pytest.raises(
+        PlanError, match="worth: scenario 2, sim_1 at copper 12000: factor 500: worth_at_factor 1400.* for 2900"
+    ):
         pitplan.gather(shared.folder)
 
 
@@ -251,9 +281,16 @@ def test_a_cost_that_is_counted_from_another_level_is_found(plan_folder, monkeyp
     """Ore lies at the floor of three levels. Beside it are five, of rock T whose metal yields 1400 a block, which is what processing it
     costs: by floats it yields a hair more."""
     table = rows(1, 1, 3).drop(columns="cu").assign(sim_1=[1.5, 0, 0], sim_2=[0.4, 0, 0])
-    side = rows(1, 1, 5, rock=lambda i, j, k: "T").drop(columns="cu").assign(name=list("abcde"), x=95.0, sim_1=0.35, sim_2=0.2)
+    side = (
+        rows(1, 1, 5, rock=lambda i, j, k: "T")
+        .drop(columns="cu")
+        .assign(name=list("abcde"), x=95.0, sim_1=0.35, sim_2=0.2)
+    )
     assert 100 * 0.35 * 0.01 * 0.5 * 8000 > 1400
-    costs = ("mining_cost = 2\nprocessing_cost = 10", "mining_cost = 2\nmining_cost_per_level = 0.25\nprocessing_cost = { R = 10, T = 14 }")
+    costs = (
+        "mining_cost = 2\nprocessing_cost = 10",
+        "mining_cost = 2\nmining_cost_per_level = 0.25\nprocessing_cost = { R = 10, T = 14 }",
+    )
     text = (COLUMNS, UPRIGHT, costs, ("file =", 'absent = "air"\nfile ='))
     path = plan_folder(pd.concat([table, side]), *text)
     shared = prepared(path)
@@ -277,7 +314,11 @@ def test_ten_scenarios_of_more_are_looked_at_evenly(plan_folder):
     pitplan.gather(shared.folder)
     sample = Verification(read(shared.folder, shared.folder)).sample
     assert [scenario.number for scenario in sample] == [1, 2, 3, 5, 6, 7, 8, 10, 11, 12]
-    assert all("of 10 of 12 answered scenarios: " in rule.holds for rule in verify(shared.folder) if rule.name in ("walls", "fixed", "shells", "worth"))
+    assert all(
+        "of 10 of 12 answered scenarios: " in rule.holds
+        for rule in verify(shared.folder)
+        if rule.name in ("walls", "fixed", "shells", "worth")
+    )
     bend(answer_of(shared.folder, 4), places=lambda it: np.array([0, *it[1:]], dtype=it.dtype))
     assert wrong(shared.folder) == {"probability", "tables"}
 
@@ -294,10 +335,16 @@ def test_answers_that_were_not_gathered_are_named(plan_folder):
     shared = prepared(plan_folder(pillar(), COLUMNS, UPRIGHT))
     assert [work.solve(str(shared.folder), number).status for number in (1, 3)] == [0, 0]
     pitplan.gather(shared.folder, Request(partial=True))
-    assert wrong(shared.folder) == set() and json.loads((shared.folder / "gathered.json").read_text())["answers"] == [1, 3]
+    assert wrong(shared.folder) == set() and json.loads((shared.folder / "gathered.json").read_text())["answers"] == [
+        1,
+        3,
+    ]
     assert work.solve(str(shared.folder), 2).status == 0
     (rule,) = [rule for rule in verify(shared.folder) if rule.name == "tables"]
-    assert rule.differences[0] == "scenarios.csv: scenario 2 has an answer or rows there, not both: run pitplan gather again"
+    assert (
+        rule.differences[0]
+        == "scenarios.csv: scenario 2 has an answer or rows there, not both: run pitplan gather again"
+    )
 
 
 def test_a_density_and_ground_without_rows_are_looked_at(plan_folder):
@@ -312,12 +359,16 @@ def test_a_density_and_ground_without_rows_are_looked_at(plan_folder):
 
 
 def test_a_folder_that_is_none_of_scenarios_is_named(copied, tmp_path):
-    with pytest.raises(PlanError, match="nowhere/scenarios.json: cannot be read: run pitplan scenarios or gather first"):
+    with pytest.raises(
+        PlanError, match="nowhere/scenarios.json: cannot be read: run pitplan scenarios or gather first"
+    ):
         verify(tmp_path / "nowhere")
     record = json.loads((copied / "scenarios.json").read_text())
     for name in ("factors", "grid", "project"):
         (copied / "scenarios.json").write_text(json.dumps({key: value for key, value in record.items() if key != name}))
-        with pytest.raises(PlanError, match=f"plan: is no folder that pitplan scenarios and gather have written: '{name}' is missing"):
+        with pytest.raises(
+            PlanError, match=f"plan: is no folder that pitplan scenarios and gather have written: '{name}' is missing"
+        ):
             verify(copied)
     (copied / "scenarios.json").write_text("no record")
     with pytest.raises(PlanError, match="plan: is no folder that pitplan scenarios has written"):
@@ -334,14 +385,22 @@ def test_answers_that_are_none_are_named(copied):
 
 
 @settings(max_examples=6, suppress_health_check=[HealthCheck.function_scoped_fixture])
-@given(st.integers(0, 10**6), st.sampled_from(["moving", "fixed"]), st.sampled_from(["per_level = 0.25", "by_elevation = [[10, 0.7], [40, 0.1]]"]))
+@given(
+    st.integers(0, 10**6),
+    st.sampled_from(["moving", "fixed"]),
+    st.sampled_from(["per_level = 0.25", "by_elevation = [[10, 0.7], [40, 0.1]]"]),
+)
 def test_random_scenarios_are_right(plan_folder, seed, cutoff, deeper):
     """Uneven ground, rocks, fixed blocks, two regions, three models by place in a folder, of which one has no gold, at two sets of prices."""
     rng = np.random.default_rng(seed)
-    table = rows(8, 7, 5, region=lambda i, j, k: "12"[int(i > 4)], rock=lambda i, j, k: "RS"[int(k > 2)]).drop(columns="cu")
+    table = rows(8, 7, 5, region=lambda i, j, k: "12"[int(i > 4)], rock=lambda i, j, k: "RS"[int(k > 2)]).drop(
+        columns="cu"
+    )
     ground = rng.integers(3, 6, (8, 7))[(table["x"] // 10).astype(int), (table["y"] // 10).astype(int)]
     table = table.assign(must=(rng.random(len(table)) < 0.01).astype(int), never=0)[table["z"] < 10 * ground]
-    walls = '[[slopes.walls]]\nregion = "1"\nangle = 42\n[[slopes.walls]]\nregion = "2"\nazimuths = [[0, 60], [180, 35]]'
+    walls = (
+        '[[slopes.walls]]\nregion = "1"\nangle = 42\n[[slopes.walls]]\nregion = "2"\nazimuths = [[0, 60], [180, 35]]'
+    )
     changes = [
         ('[[slopes.walls]]\npattern = "1:5"', walls),
         ("mining_cost_per_level = 0.25", f'cutoff = "{cutoff}"\nmining_cost_{deeper}'),
@@ -351,8 +410,13 @@ def test_random_scenarios_are_right(plan_folder, seed, cutoff, deeper):
     shutil.rmtree(path.parent / "plan", ignore_errors=True)
     for number in range(3):
         some = rng.random((2, len(table))) < 0.06
-        grades = {"cu": np.where(some[0], rng.random(len(table)).round(3) * 8, 0.0), "au": np.where(some[1] & (number > 0), 2.5, 0.0)}
-        write_models(path, **{f"m{number}": table[["x", "y", "z"]].assign(**grades).sample(frac=1, random_state=number)})
+        grades = {
+            "cu": np.where(some[0], rng.random(len(table)).round(3) * 8, 0.0),
+            "au": np.where(some[1] & (number > 0), 2.5, 0.0),
+        }
+        write_models(
+            path, **{f"m{number}": table[["x", "y", "z"]].assign(**grades).sample(frac=1, random_state=number)}
+        )
     solved_in_turn(prepared(path))
     pitplan.gather(prepared(path).folder)
     assert wrong(path.parent / "plan") == set()
@@ -379,7 +443,9 @@ def test_blocks_that_come_in_at_factor_1_are_dug(plan_folder):
     solved_in_turn(shared)
     pitplan.gather(shared.folder)
     assert wrong(shared.folder) == set()
-    assert pd.read_csv(shared.folder / "probability.csv")["probability_1"].tolist() == pytest.approx([1 / 3] * 3, abs=1e-6)
+    assert pd.read_csv(shared.folder / "probability.csv")["probability_1"].tolist() == pytest.approx(
+        [1 / 3] * 3, abs=1e-6
+    )
 
 
 def test_ore_that_pays_nothing_once_it_is_rounded_is_none(plan_folder):
@@ -388,7 +454,9 @@ def test_ore_that_pays_nothing_once_it_is_rounded_is_none(plan_folder):
     table = rows(2, 1, 3, tonnes=lambda i, j, k: 3_000_000).drop(columns="cu")
     table = table.assign(sim_1=[6.0, 0, 0, 0, 0, 0.25])[table["name"] != "b0-0-2"]
     more = "mining_cost = 2\nmining_cost_per_level = 0.5\ndecimals = 2"
-    shared = prepared(plan_folder(table, COLUMNS, UPRIGHT, ("price = 8000", "price = 8000.000001"), ("mining_cost = 2", more)))
+    shared = prepared(
+        plan_folder(table, COLUMNS, UPRIGHT, ("price = 8000", "price = 8000.000001"), ("mining_cost = 2", more))
+    )
     solved_in_turn(shared)
     pitplan.gather(shared.folder)
     assert shared.record["mining_cost_reference"] == 20 and wrong(shared.folder) == set()

@@ -91,7 +91,10 @@ def scheduled(folder, place):
     """The hill with phases and years by hand: phase 1 is the first shell, and years are one more than the number of the shell."""
     result = files.read_folder(folder)
     dug = result.blocks["factor"] > 0
-    more = {"phase": np.where(dug, 1 + (result.blocks["factor"] > 500), 0), "year": np.where(dug, 1 + result.blocks["factor"] // 500, 0)}
+    more = {
+        "phase": np.where(dug, 1 + (result.blocks["factor"] > 500), 0),
+        "year": np.where(dug, 1 + result.blocks["factor"] // 500, 0),
+    }
     blocks = result.blocks.assign(**more)
     place.mkdir()
     blocks.to_csv(place / "blocks.csv", index=False)
@@ -132,9 +135,15 @@ def test_a_click_on_a_block_shows_its_row(page, browser):
         browser.click(x, y)
         cell = first_hit(browser, ground, (x, y))
         row = blocks[blocks["id"] == cell].iloc[0]
-        shown = browser.ask("Array.from(document.querySelectorAll('#picked tr'), it => Array.from(it.cells, cell => cell.textContent))")
+        shown = browser.ask(
+            "Array.from(document.querySelectorAll('#picked tr'), it => Array.from(it.cells, cell => cell.textContent))"
+        )
         text = pd.read_csv(path.parent / "blocks.csv", dtype=str, keep_default_na=False).set_index("id").loc[str(cell)]
-        assert dict(shown) == {"id": str(cell), **text, "worth": str(max(row["revenue"] - row["processing_cost"], 0) - row["mining_cost"])}
+        assert dict(shown) == {
+            "id": str(cell),
+            **text,
+            "worth": str(max(row["revenue"] - row["processing_cost"], 0) - row["mining_cost"]),
+        }
     browser.click(890, 590)
     assert browser.ask("document.getElementById('picked').hidden"), "beside the model there is nothing"
 
@@ -221,7 +230,12 @@ def test_the_model_of_the_page_by_hand(solved):
     (metal,) = model["metals"]
     shell, tint = bytes_of(model["shell"]), bytes_of(metal["grade"])
     assert (model["shape"], model["size"], model["corner"], model["top"]) == ([5, 9, 10], [10, 10, 10], [0, 0, 0], 50)
-    assert (model["factors"], metal["name"], metal["sign"], metal["most"]) == ([500, 1000, 1500], "copper", "%", pytest.approx(5.898))
+    assert (model["factors"], metal["name"], metal["sign"], metal["most"]) == (
+        [500, 1000, 1500],
+        "copper",
+        "%",
+        pytest.approx(5.898),
+    )
     assert shell[blocks["id"]].tolist() == blocks["factor"].map({0: 0, 500: 1, 1000: 2, 1500: 3}).tolist()
     assert tint[blocks["id"]].tolist() == blocks["cu"].map({0: 0, 0.8: 35, 0.9: 39, 6: 255}).tolist()
     air = np.setdiff1d(np.arange(450), blocks["id"])
@@ -233,7 +247,13 @@ def test_the_model_of_the_page_by_hand(solved):
 
 def test_the_worth_of_a_block_is_that_of_its_best_process():
     """Of 100 to a mill and 70 to a leach; of what pays nowhere the mining alone is lost."""
-    blocks = pd.DataFrame({"mining_cost": [10.0, 10.0, 10.0], "revenue_mill": [150.0, 90.0, 5.0], "processing_cost_mill": [50.0, 60.0, 50.0]})
+    blocks = pd.DataFrame(
+        {
+            "mining_cost": [10.0, 10.0, 10.0],
+            "revenue_mill": [150.0, 90.0, 5.0],
+            "processing_cost_mill": [50.0, 60.0, 50.0],
+        }
+    )
     blocks = blocks.assign(revenue_leach=[100.0, 90.0, 5.0], processing_cost_leach=[30.0, 20.0, 20.0])
     assert pages.worths(blocks).tolist() == [90, 60, -10]
     one = pd.DataFrame({"mining_cost": [10.0], "revenue": [25.0], "processing_cost": [12.0], "process": ["mill"]})

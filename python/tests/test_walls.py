@@ -7,8 +7,7 @@ from pathlib import Path
 import numpy as np
 import pandas as pd
 from conftest import rows
-from hypothesis import given, settings
-from hypothesis import strategies as st
+from hypothesis import given, settings, strategies as st
 
 import pitplan
 from pitplan import files

@@ -17,7 +17,10 @@ from pitplan.verification import verify
 
 pytestmark = pytest.mark.usefixtures("without_figures")
 # Three pillars of waste over ore; the mill takes the ore of one a year, and the shovels a pillar.
-PHASES = with_phases("count = 3", UPRIGHT.replace("ore_per_year = 100", 'ore_per_year = 100\nrock_per_year = 200\ndiscounting = "end_of_year"'))
+PHASES = with_phases(
+    "count = 3",
+    UPRIGHT.replace("ore_per_year = 100", 'ore_per_year = 100\nrock_per_year = 200\ndiscounting = "end_of_year"'),
+)
 # What each pillar is worth: 40 a per cent and tonne, less 10 for processing and 4 for mining.
 WORTHS = [2600, 1400, 600]
 
@@ -31,7 +34,9 @@ def test_three_pillars_by_hand(plan_folder):
     """One pillar a year, the richest first. No schedule earns more, and the bound says so."""
     table, folder = scheduled(plan_folder)
     value = 2600 / 1.1 + 1400 / 1.21 + 600 / 1.331
-    assert table["value"].tolist() == pytest.approx([value] * len(table)) and table["years"].tolist() == [3] * len(table)
+    assert table["value"].tolist() == pytest.approx([value] * len(table)) and table["years"].tolist() == [3] * len(
+        table
+    )
     assert table["tonnes"].tolist() == [600] * len(table) and table["left_tonnes"].tolist() == [0] * len(table)
     told = json.loads((folder / "schedule.json").read_text())
     assert told["ways"]["rule"] == {"value": pytest.approx(value, abs=1e-3), "years": 3, "left_tonnes": 0}
@@ -42,9 +47,15 @@ def test_three_pillars_by_hand(plan_folder):
         assert found["rock_tonnes"].tolist() == [100] * 6 and found["ore_tonnes"].tolist() == [0, 100] * 3
         assert found["metal_copper"].tolist() == pytest.approx([0, 0.5, 0, 0.35, 0, 0.25])
         assert found["cash"].tolist() == [-200, 2800, -200, 1600, -200, 800]
-        assert found["discounted"].tolist() == pytest.approx([cash / 1.1 ** (1 + k // 2) for k, cash in enumerate(found["cash"])], abs=1e-3)
+        assert found["discounted"].tolist() == pytest.approx(
+            [cash / 1.1 ** (1 + k // 2) for k, cash in enumerate(found["cash"])], abs=1e-3
+        )
     years = pd.read_csv(folder / "years.csv").set_index("case").loc["rule"]
-    assert years["factor"].tolist() == [1000] * 3 and years["year"].tolist() == [1, 2, 3] and years["cash"].tolist() == WORTHS
+    assert (
+        years["factor"].tolist() == [1000] * 3
+        and years["year"].tolist() == [1, 2, 3]
+        and years["cash"].tolist() == WORTHS
+    )
     assert years["discounted"].tolist() == pytest.approx([2600 / 1.1, 1400 / 1.21, 600 / 1.331], abs=1e-3)
     blocks = pd.read_csv(folder / "blocks.csv").set_index("name")
     assert blocks["year"].to_dict() == {f"b{i}-0-{k}": i + 1 for i in range(3) for k in range(2)}
@@ -94,8 +105,14 @@ def test_what_is_refused(plan_folder, words, said):
 @pytest.mark.parametrize("words", ["", "bins = 2\n"])
 def test_limits_within_which_nothing_can_be_dug_are_refused(plan_folder, words):
     """The mill takes nothing in the first year, which is the only one, and all is ore."""
-    path = plan_folder(rows(3, 1, 1, cu=lambda i, j, k: 2), PROJECT + f"[pushbacks]\ncount = 1\n[schedule]\nramp_up = [0, 1.0]\nyears = 1\n{words}")
-    with pytest.raises(PlanError, match="project.toml: .schedule. years: within these limits nothing can be dug in 1 year: are ore_per_year"):
+    path = plan_folder(
+        rows(3, 1, 1, cu=lambda i, j, k: 2),
+        PROJECT + f"[pushbacks]\ncount = 1\n[schedule]\nramp_up = [0, 1.0]\nyears = 1\n{words}",
+    )
+    with pytest.raises(
+        PlanError,
+        match="project.toml: .schedule. years: within these limits nothing can be dug in 1 year: are ore_per_year",
+    ):
         pitplan.write_schedule(path)
 
 
@@ -109,8 +126,15 @@ def test_the_command_line_tells_the_ways(plan_folder, capsys):
     assert main(["schedule", str(path), "--quiet"]) == 0
     said = capsys.readouterr()
     lines = [line.split() for line in said.out.splitlines()]
-    assert lines[0][:2] == ["way", "NPV"] and [line[:2] for line in lines[2:4]] == [["rule", "3,971.45"], ["lp", "3,971.45"]]
-    assert "the lead that earns most" in said.err and "no schedule of these pushbacks of up to 4 years that keeps these limits and sends each block to its assigned process earns more than" in said.err
+    assert lines[0][:2] == ["way", "NPV"] and [line[:2] for line in lines[2:4]] == [
+        ["rule", "3,971.45"],
+        ["lp", "3,971.45"],
+    ]
+    assert (
+        "the lead that earns most" in said.err
+        and "no schedule of these pushbacks of up to 4 years that keeps these limits and sends each block to its assigned process earns more than"
+        in said.err
+    )
     assert (path.parent / "plan" / "schedule" / "report.html").exists()
 
 
@@ -124,7 +148,14 @@ def test_the_size_of_the_programme_is_told_before_it_is_solved(plan_folder, caps
 def written(without_figures, tmp_path_factory):
     """A hill in three phases under several limits."""
     place = tmp_path_factory.mktemp("scheduled")
-    table = rows(11, 9, 4, cu=lambda i, j, k: {(3, 4, 1): 6, (7, 4, 1): 2, (5, 2, 2): 0.9, (3, 3, 2): 1.5, (8, 4, 2): 0.8}.get((i, j, k), 0))
+    table = rows(
+        11,
+        9,
+        4,
+        cu=lambda i, j, k: {(3, 4, 1): 6, (7, 4, 1): 2, (5, 2, 2): 0.9, (3, 3, 2): 1.5, (8, 4, 2): 0.8}.get(
+            (i, j, k), 0
+        ),
+    )
     table.to_csv(place / "blocks.csv", index=False)
     words = "[schedule]\nrock_per_year = 700\nsinking_rate = 2\nramp_up = [0.5, 1]\nmetal_per_year = { copper = 2 }\n"
     (place / "project.toml").write_text(with_phases("count = 3", PROJECT) + words)
@@ -157,13 +188,19 @@ def test_what_is_right_passes(copied, capsys):
 
 def test_the_report_and_the_workbook_have_the_schedule(copied):
     page = (copied / "report.html").read_text()
-    assert "<h3>Yearly schedule</h3>" in page and "data:image/png" not in page and "the schedule and its bound, the other numbers" in page
+    assert (
+        "<h3>Yearly schedule</h3>" in page
+        and "data:image/png" not in page
+        and "the schedule and its bound, the other numbers" in page
+    )
     book = pd.read_excel(copied / "schedule.xlsx", sheet_name=None)
     assert list(book) == ["ways", "schedule", "years", "phases", "shells"]
     for name in ("schedule", "phases", "shells"):
         pd.testing.assert_frame_equal(book[name], pd.read_csv(copied / f"{name}.csv"), check_dtype=False)
     years = pd.read_csv(copied / "years.csv")
-    pd.testing.assert_frame_equal(book["years"], years[years["factor"] == years["factor"].max()].reset_index(drop=True), check_dtype=False)
+    pd.testing.assert_frame_equal(
+        book["years"], years[years["factor"] == years["factor"].max()].reset_index(drop=True), check_dtype=False
+    )
     told = json.loads((copied / "schedule.json").read_text())["ways"]
     assert book["ways"]["value"].tolist() == pytest.approx([way["value"] for way in told.values()], abs=1e-3)
 
@@ -229,7 +266,9 @@ def test_a_year_above_a_limit_is_found(copied, old, new):
     assert "schedule limits" in wrong(copied)
 
 
-@pytest.mark.parametrize("bent", [{"ramp_up": [0.6, 1]}, {"lag": 1}, {"sinking_rate": 3}, {"years": 1}, {"limits": {"ore_tonnes": 100}}])
+@pytest.mark.parametrize(
+    "bent", [{"ramp_up": [0.6, 1]}, {"lag": 1}, {"sinking_rate": 3}, {"years": 1}, {"limits": {"ore_tonnes": 100}}]
+)
 def test_limits_that_are_told_as_others_are_found(copied, bent):
     told = json.loads((copied / "schedule.json").read_text())
     (copied / "schedule.json").write_text(json.dumps(told | bent))
@@ -293,7 +332,10 @@ def test_years_that_do_not_follow_are_found(copied, name):
 
 
 def test_a_year_of_a_block_is_found(copied):
-    rewrite(copied / "blocks.csv", lambda table: table.assign(year=table["year"].where(table.index != table["year"].idxmax(), 1)))
+    rewrite(
+        copied / "blocks.csv",
+        lambda table: table.assign(year=table["year"].where(table.index != table["year"].idxmax(), 1)),
+    )
     assert wrong(copied) == {"years of blocks"}
     rewrite(copied / "blocks.csv", lambda table: table.assign(year=0))
     assert wrong(copied) == {"years of blocks"}

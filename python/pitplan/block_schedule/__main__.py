@@ -9,6 +9,7 @@ from typing import Optional, Sequence
 
 import numpy as np
 import pandas as pd
+
 from minelib import MinelibError
 from minelib.ending import INTERRUPTED, ended
 from minelib.schedule_models import SECONDS
@@ -22,11 +23,19 @@ from .solving import Scheduled, solve
 
 
 def parser() -> argparse.ArgumentParser:
-    top = argparse.ArgumentParser(prog="python3 -m pitplan.block_schedule", description="Bound and schedule of a MineLib .cpit or .pcpsp.")
+    top = argparse.ArgumentParser(
+        prog="python3 -m pitplan.block_schedule", description="Bound and schedule of a MineLib .cpit or .pcpsp."
+    )
     top.add_argument("model", type=Path, help="NAME.cpit or NAME.pcpsp")
     top.add_argument("prec", type=Path, help="NAME.prec")
-    top.add_argument("--out", type=Path, help="a table of each block's period (.csv), -1 where it is not dug, and shares by destination")
-    top.add_argument("--behind-block", choices=SECONDS, help="what stands behind the block where a .pcpsp tells what it takes")
+    top.add_argument(
+        "--out",
+        type=Path,
+        help="a table of each block's period (.csv), -1 where it is not dug, and shares by destination",
+    )
+    top.add_argument(
+        "--behind-block", choices=SECONDS, help="what stands behind the block where a .pcpsp tells what it takes"
+    )
     top.add_argument("--seconds", type=float, help="integer programmes make the schedule better for so long")
     top.add_argument("--gap", type=float, default=0.0, help="or until it is within this share of the bound (default 0)")
     top.add_argument("--quiet", action="store_true", help="tell no progress on standard error")

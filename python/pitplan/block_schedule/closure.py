@@ -16,8 +16,9 @@ from dataclasses import dataclass
 from fractions import Fraction
 
 import numpy as np
-import pitshell
 from numpy.typing import NDArray
+
+import pitshell
 
 from .nodes import Nodes
 from .whole_values import ROUNDING, Whole, by_end, least_float, upward, worth_of
@@ -77,7 +78,9 @@ def joined_years(nodes: Nodes, parts: list[Part]) -> list[tuple[int, int]]:
         count = nodes.counts[part.last - 1]
         by_then = part.in_closure[len(part.in_closure) - count * destinations :][destinations - 1 :: destinations]
         is_nested = following.in_closure[: count * destinations : destinations][by_then].all()
-        found = [*found, (following.first, following.last)] if is_nested else [*found[:-1], (found[-1][0], following.last)]
+        found = (
+            [*found, (following.first, following.last)] if is_nested else [*found[:-1], (found[-1][0], following.last)]
+        )
     return found
 
 
@@ -102,5 +105,8 @@ def sold(nodes: Nodes, prices: NDArray[np.float64]) -> Fraction:
         for price, most, least in zip(by_year, limit.most, limit.floor)
         if price
     )
-    of_dues = (Fraction(float(by_year[0])) * Fraction(due.least) for due, by_year in zip(problem.dues, prices[len(problem.limits) :]))
+    of_dues = (
+        Fraction(float(by_year[0])) * Fraction(due.least)
+        for due, by_year in zip(problem.dues, prices[len(problem.limits) :])
+    )
     return sum(of_limits, Fraction(0)) + sum(of_dues, Fraction(0))

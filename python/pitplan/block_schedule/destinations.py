@@ -22,7 +22,9 @@ def with_best_shares(problem: BlockProblem, schedule: BlockSchedule) -> BlockSch
     return best if best.is_better(schedule, problem) and best.is_allowed(problem) else schedule
 
 
-def best_shares(problem: BlockProblem, blocks: NDArray[np.int64], year: int, share: NDArray[np.float64]) -> NDArray[np.float64]:
+def best_shares(
+    problem: BlockProblem, blocks: NDArray[np.int64], year: int, share: NDArray[np.float64]
+) -> NDArray[np.float64]:
     """The shares of the blocks of a year; where HiGHS finds none the given ones, which keep the limits."""
     limits = [(limit.amounts[blocks], limit.most[year], 1) for limit in problem.limits if np.isfinite(limit.most[year])]
     # No less of what must be held at least than now.
@@ -30,7 +32,10 @@ def best_shares(problem: BlockProblem, blocks: NDArray[np.int64], year: int, sha
     owed += [(due.amounts[blocks], np.inf) for due in problem.dues]
     limits += [(amounts, min(least, float((amounts * share).sum())), -1) for amounts, least in owed]
     scale = np.array([amount or 1.0 for _, amount, _ in limits])
-    rows = np.array([sign * amounts.ravel() for amounts, _, sign in limits]).reshape(len(limits), share.size) / scale[:, None]
+    rows = (
+        np.array([sign * amounts.ravel() for amounts, _, sign in limits]).reshape(len(limits), share.size)
+        / scale[:, None]
+    )
     gain = problem.values[blocks, :, year].ravel()
     unit = float(np.abs(gain).max()) or 1.0
     found = linprog(

@@ -7,8 +7,9 @@ from functools import cached_property
 from itertools import chain
 
 import numpy as np
-import pitshell
 from numpy.typing import NDArray
+
+import pitshell
 
 from .problem import BlockProblem
 from .schedule import HAIR, BlockSchedule, nothing
@@ -28,7 +29,9 @@ class Room:
         self.amounts = [limit.amounts.tolist() for limit in problem.limits]
         self.dues = [due.amounts.tolist() for due in problem.dues]
         # Of sums that have a least, by their numbers, what each year holds above it: below 0 where it lacks.
-        self.above = {k: (-limit.floor * (1 - HAIR)).tolist() for k, limit in enumerate(problem.limits) if (limit.floor > 0).any()}
+        self.above = {
+            k: (-limit.floor * (1 - HAIR)).tolist() for k, limit in enumerate(problem.limits) if (limit.floor > 0).any()
+        }
 
     def fits(self, block: int, destination: int, year: int) -> bool:
         return all(amounts[block][destination] <= left[year] for amounts, left in zip(self.amounts, self.left))

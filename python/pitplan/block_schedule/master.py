@@ -67,9 +67,22 @@ class Master:
         """The limits that there are, those from above first."""
         problem = self.nodes.problem
         limits, years = problem.limits, range(problem.years)
-        above = [Place(k, year, limit.most[year], 1) for k, limit in enumerate(limits) for year in np.flatnonzero(np.isfinite(limit.most))]
-        below = [Place(k, year, limit.floor[year], -1) for k, limit in enumerate(limits) for year in years if limit.floor[year] > 0]
-        return [*above, *below, *(Place(len(limits) + k, None, due.least, -1) for k, due in enumerate(problem.dues) if due.least > 0)]
+        above = [
+            Place(k, year, limit.most[year], 1)
+            for k, limit in enumerate(limits)
+            for year in np.flatnonzero(np.isfinite(limit.most))
+        ]
+        below = [
+            Place(k, year, limit.floor[year], -1)
+            for k, limit in enumerate(limits)
+            for year in years
+            if limit.floor[year] > 0
+        ]
+        return [
+            *above,
+            *below,
+            *(Place(len(limits) + k, None, due.least, -1) for k, due in enumerate(problem.dues) if due.least > 0),
+        ]
 
     def solve(self, groups: Groups, seeks_dues: bool = False) -> Restricted:
         """The optimum of these groups; or the least that lacks of what is due, whatever it earns. Raises PlanError where HiGHS finds
@@ -110,7 +123,10 @@ class Master:
         """What each group adds to each of the places: shape (places, groups)."""
         problem = self.nodes.problem
         sums = [self.sums(it.amounts, groups) for it in (*problem.limits, *problem.dues)]
-        found = [sums[place.number].sum(axis=0) if place.year is None else sums[place.number][place.year] for place in self.places]
+        found = [
+            sums[place.number].sum(axis=0) if place.year is None else sums[place.number][place.year]
+            for place in self.places
+        ]
         return np.array(found).reshape(len(self.places), groups.count)
 
     def sums(self, amounts: NDArray[np.float64], groups: Groups) -> NDArray[np.float64]:

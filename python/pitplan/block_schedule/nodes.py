@@ -107,7 +107,9 @@ class Nodes:
         for year, part in zip(range(first, last), parts):
             offset = self.before[year] - base
             row = np.repeat(np.arange(len(part.starts) - 1), np.diff(part.starts.astype(np.int64)))
-            needed[starts[offset + row] + np.arange(len(part.needed)) - part.starts[row]] = part.needed + np.uint32(offset)
+            needed[starts[offset + row] + np.arange(len(part.needed)) - part.starts[row]] = part.needed + np.uint32(
+                offset
+            )
             if year + 1 < last:
                 nodes = last_of_year[year - first]
                 needed[starts[nodes + 1] - 1] = self.before[year + 1] - base + np.arange(len(nodes)) * destinations
@@ -127,5 +129,7 @@ def nodes_of(problem: BlockProblem, first: NDArray[np.int64]) -> Nodes:
     """The nodes of a problem whose blocks stand by rising first years. Raises PlanError where those of a year are more than the library
     takes."""
     nodes = Nodes(problem, first)
-    demand_room(problem.blocks * problem.destinations, len(problem.needs.needed) + problem.blocks * problem.destinations)
+    demand_room(
+        problem.blocks * problem.destinations, len(problem.needs.needed) + problem.blocks * problem.destinations
+    )
     return nodes

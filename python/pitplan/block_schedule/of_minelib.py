@@ -6,6 +6,7 @@ from pathlib import Path
 from typing import Optional
 
 import numpy as np
+
 from minelib import precedence, schedule_models
 from minelib.schedule_models import ScheduleModel
 

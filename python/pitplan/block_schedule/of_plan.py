@@ -5,8 +5,9 @@ from __future__ import annotations
 from dataclasses import dataclass, replace
 
 import numpy as np
-import pitshell
 from numpy.typing import NDArray
+
+import pitshell
 
 from .. import trim
 from ..errors import PlanError
@@ -113,9 +114,13 @@ def dues_of(forced: NDArray[np.bool_], destinations: int) -> tuple[Due, ...]:
 def limits_of_blocks(project: Project, rules: ScheduleRules) -> Limits:
     """The limits of `[schedule]` and `[shells]`, those of sums and the least amounts among them."""
     limits, names = limits_of(project, rules), {"ore": ORE, "rock": ROCK}
-    names |= {metal.name: f"metal_{metal.name}" for metal in project.metals} | {it.name: f"{ORE}_{it.name}" for it in project.processes}
+    names |= {metal.name: f"metal_{metal.name}" for metal in project.metals} | {
+        it.name: f"{ORE}_{it.name}" for it in project.processes
+    }
     most = limits.most | {f"{SUM}{it.name}": it.most for it in rules.sums if it.most is not None}
-    least = {names[name]: amount for name, amount in rules.least.items()} | {f"{SUM}{it.name}": it.least for it in rules.sums if it.least}
+    least = {names[name]: amount for name, amount in rules.least.items()} | {
+        f"{SUM}{it.name}": it.least for it in rules.sums if it.least
+    }
     return replace(limits, most=most, least={name: amount for name, amount in least.items() if amount > 0})
 
 
@@ -151,7 +156,9 @@ def demand_of_blocks(project: Project, rules: ScheduleRules) -> None:
         "[schedule] sinking_rate: is of the benches of a phase": rules.sinking_rate is not None,
         "[schedule] bins: are of benches, and a block is ore or waste as a whole": rules.bins is not None,
         "[money] fixed_cost_per_year, capital: what years cost is no part of a schedule by block": costs_years,
-        "[pushbacks] mining_cost_added: is by phase, and blocks are in none": bool(project.phases and project.phases.mining_cost_added),
+        "[pushbacks] mining_cost_added: is by phase, and blocks are in none": bool(
+            project.phases and project.phases.mining_cost_added
+        ),
     }
     for why, is_asked in asked.items():
         if is_asked:
@@ -186,9 +193,14 @@ def of_money(plan: Plan) -> Flows:
     nothing, columns = np.zeros(plan.grid.count), {ROCK: [plan.values.tonnes] * (1 + len(plan.values.ways))}
     columns[ORE] = [nothing, *[values.feed] * len(values.ways)]
     for number, process in enumerate(processes, 1):
-        columns[f"{ORE}_{process.name}"] = [values.feed if place == number else nothing for place in range(1 + len(processes))]
+        columns[f"{ORE}_{process.name}"] = [
+            values.feed if place == number else nothing for place in range(1 + len(processes))
+        ]
     columns |= {f"metal_{name}": [nothing, *(way.metal[name] for way in values.ways)] for name in values.metal}
-    columns[CASH] = [-values.mining / MILLION, *((way.revenue - way.cost - values.mining) / MILLION for way in values.ways)]
+    columns[CASH] = [
+        -values.mining / MILLION,
+        *((way.revenue - way.cost - values.mining) / MILLION for way in values.ways),
+    ]
     return {name: np.stack(amounts, axis=1) for name, amounts in columns.items()}
 
 

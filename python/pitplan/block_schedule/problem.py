@@ -67,7 +67,6 @@ class Needs:
         np.cumsum(np.bincount(number[users[both]], minlength=len(starts) - 1), out=starts[1:], dtype=np.uint32)
         return Needs(starts, number[self.needed[both]].astype(np.uint32))
 
-
     def in_order(self, order: NDArray[np.int64]) -> Needs:
         """The same needs with the blocks in an order."""
         number = np.empty(len(order), dtype=np.uint32)
@@ -104,7 +103,9 @@ class BlockProblem:
     def owing(self) -> NDArray[np.bool_]:
         """The blocks that add to a sum that has a least: a truth for each, shape (blocks,)."""
         found = np.zeros(self.blocks, dtype=bool)
-        owed = [it.amounts for it in self.limits if (it.floor > 0).any()] + [due.amounts for due in self.dues if due.least > 0]
+        owed = [it.amounts for it in self.limits if (it.floor > 0).any()] + [
+            due.amounts for due in self.dues if due.least > 0
+        ]
         for amounts in owed:
             found |= (amounts > 0).any(axis=1)
         return found
@@ -123,12 +124,16 @@ class BlockProblem:
 
     def in_order(self, order: NDArray[np.int64]) -> BlockProblem:
         """The same problem with its blocks in an order."""
-        limits, dues = (tuple(replace(it, amounts=it.amounts[order]) for it in sums) for sums in (self.limits, self.dues))
+        limits, dues = (
+            tuple(replace(it, amounts=it.amounts[order]) for it in sums) for sums in (self.limits, self.dues)
+        )
         return BlockProblem(self.values[order], self.needs.in_order(order), limits, dues)
 
     def of_blocks(self, kept: NDArray[np.bool_]) -> BlockProblem:
         """The problem of these blocks alone, which need none of the others."""
-        limits, dues = (tuple(replace(it, amounts=it.amounts[kept]) for it in sums) for sums in (self.limits, self.dues))
+        limits, dues = (
+            tuple(replace(it, amounts=it.amounts[kept]) for it in sums) for sums in (self.limits, self.dues)
+        )
         return BlockProblem(self.values[kept], self.needs.within(kept), limits, dues)
 
 
@@ -137,7 +142,9 @@ def demand_sound(problem: BlockProblem) -> None:
     would hold."""
     shape = problem.values.shape
     if len(shape) != 3 or 0 in shape[1:] or not np.isfinite(problem.values).all():
-        raise PlanError("values of blocks are finite numbers by block, destination and year, of one destination and one year at least")
+        raise PlanError(
+            "values of blocks are finite numbers by block, destination and year, of one destination and one year at least"
+        )
     for limit in problem.limits:
         if limit.amounts.shape != shape[:2] or limit.most.shape != shape[2:]:
             raise PlanError(f"{limit.name}: amounts are by block and destination, and the most by year")
@@ -150,7 +157,9 @@ def demand_sound(problem: BlockProblem) -> None:
             raise PlanError(f"{limit.name}: the least of a year is negative or no number")
         if (floor > limit.most).any():
             year = int((floor > limit.most).argmax())
-            raise PlanError(f"{limit.name}: the least of year {year + 1} is {floor[year]:.10g}, above its most of {limit.most[year]:.10g}")
+            raise PlanError(
+                f"{limit.name}: the least of year {year + 1} is {floor[year]:.10g}, above its most of {limit.most[year]:.10g}"
+            )
     for due in problem.dues:
         is_whole = due.amounts.shape == shape[:2] and np.isfinite(due.amounts).all() and not (due.amounts < 0).any()
         if not is_whole or not 0 <= due.least < np.inf:

@@ -5,8 +5,9 @@ from __future__ import annotations
 from itertools import cycle
 
 import numpy as np
-import pitshell
 from numpy.typing import NDArray
+
+import pitshell
 
 from .problem import BlockProblem
 from .topological import Ranks, cone_sums

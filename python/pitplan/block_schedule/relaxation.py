@@ -12,8 +12,9 @@ from collections.abc import Callable, Iterator
 from dataclasses import dataclass, field, replace
 
 import numpy as np
-import pitshell
 from numpy.typing import NDArray
+
+import pitshell
 
 from ..errors import PlanError
 from ..schedule_rules import Effort
@@ -109,7 +110,9 @@ class Solver:
             self.restricted, self.label = restricted, self.groups.label
             self.bound, count = min(self.bound, closure.bound), self.groups.count
             self.groups = self.groups.divided(closure.in_closure)
-            self.rounds.append(Round(len(self.rounds) + 1, self.bound, restricted.value, count, time.monotonic() - self.began))
+            self.rounds.append(
+                Round(len(self.rounds) + 1, self.bound, restricted.value, count, time.monotonic() - self.began)
+            )
             yield self.rounds[-1]
 
     def relaxation(self, interrupted: bool) -> Relaxation:

@@ -60,7 +60,9 @@ class ScheduledBlocks:
         cash = cash_of(self.planned.flows, of_project(project), problem.years)
         dug = np.arange(problem.blocks), slice(None), np.minimum(schedule.year, problem.years - 1)
         sums = {
-            name: np.bincount(schedule.year, (amounts * schedule.share).sum(axis=1), minlength=problem.years + 1)[: self.count]
+            name: np.bincount(schedule.year, (amounts * schedule.share).sum(axis=1), minlength=problem.years + 1)[
+                : self.count
+            ]
             for name, amounts in (self.planned.flows | {CASH: cash[dug]}).items()
         }
         discounted = sums[CASH] * year_discounts(project.schedule, problem.years)[: self.count]
@@ -107,7 +109,10 @@ class ScheduledBlocks:
             "ramp_up": list(limits.ramp_up),
             "blocks": found.blocks,
             "nodes": found.nodes,
-            "rounds": [{"bound": round(one.bound, 3), "relaxation": round(one.value, 3), "groups": one.groups} for one in found.rounds],
+            "rounds": [
+                {"bound": round(one.bound, 3), "relaxation": round(one.value, 3), "groups": one.groups}
+                for one in found.rounds
+            ],
             "interrupted": found.interrupted,
             "solver": f"libpitshell, and HiGHS of scipy {scipy.__version__}",
         }
@@ -123,7 +128,9 @@ class ScheduledBlocks:
         if not self.count:
             said.append("nothing is mined: at these prices and costs no block pays for itself and what it needs")
         if found.interrupted:
-            said.append("WARNING: the run was interrupted before it was through: this is the best schedule so far, and the bound holds")
+            said.append(
+                "WARNING: the run was interrupted before it was through: this is the best schedule so far, and the bound holds"
+            )
         return said
 
 

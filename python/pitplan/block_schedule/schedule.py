@@ -43,7 +43,10 @@ class BlockSchedule:
         """What lacks of what years must hold at least, as shares of it added up; 0 where nothing does but for a hair."""
         floors = np.array([limit.floor for limit in problem.limits]).reshape(len(problem.limits), problem.years)
         short = [np.maximum(floors - self.sums(problem), 0.0) / np.where(floors > 0, floors, 1.0)]
-        short += [np.array([max(due.least - float((due.amounts * self.share).sum()), 0.0) / (due.least or 1.0)]) for due in problem.dues]
+        short += [
+            np.array([max(due.least - float((due.amounts * self.share).sum()), 0.0) / (due.least or 1.0)])
+            for due in problem.dues
+        ]
         shares = np.concatenate([part.ravel() for part in short])
         return float(shares[shares > HAIR].sum())
 
@@ -63,7 +66,12 @@ class BlockSchedule:
         whole = np.abs(self.share.sum(axis=1) - is_dug) <= HAIR
         most = np.array([limit.most for limit in problem.limits]).reshape(len(problem.limits), problem.years)
         ordered = self.year[problem.needs.users] >= self.year[problem.needs.needed]
-        return bool(whole.all() and (self.share >= 0).all() and ordered.all() and (self.sums(problem) <= most * (1 + HAIR) + HAIR).all())
+        return bool(
+            whole.all()
+            and (self.share >= 0).all()
+            and ordered.all()
+            and (self.sums(problem) <= most * (1 + HAIR) + HAIR).all()
+        )
 
 
 def nothing(problem: BlockProblem) -> BlockSchedule:

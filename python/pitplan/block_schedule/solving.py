@@ -114,7 +114,9 @@ def solve(problem: BlockProblem, effort: Optional[Effort] = None, progress: Prog
             raise PlanError("no schedule keeps what must be held at least: no block that adds to it can be dug in time")
         return Scheduled(nothing(problem), 0.0, 0.0, 0, 0)
     progress.say(f"bounding all schedules of {part.problem.blocks:,} blocks by {len(part.nodes):,} nodes")
-    relaxation = relaxed(part.nodes, Effort(RELAXED, effort and effort.seconds), lambda found: progress.say(told(found)))
+    relaxation = relaxed(
+        part.nodes, Effort(RELAXED, effort and effort.seconds), lambda found: progress.say(told(found))
+    )
     search = Search(part, relaxation, progress)
     try:
         if not relaxation.interrupted:
@@ -203,8 +205,13 @@ class Search:
         problem, sums, told = self.problem, self.best.sums(self.problem), []
         for limit, by_year in zip(problem.limits, sums):
             short = np.flatnonzero(by_year < limit.floor * (1 - HAIR))
-            told += [f"year {year + 1} has {by_year[year]:,.10g} of {limit.name} for {limit.floor[year]:,.10g}" for year in short[:TOLD]]
-        told += [due.name for due in problem.dues if float((due.amounts * self.best.share).sum()) < due.least * (1 - HAIR)]
+            told += [
+                f"year {year + 1} has {by_year[year]:,.10g} of {limit.name} for {limit.floor[year]:,.10g}"
+                for year in short[:TOLD]
+            ]
+        told += [
+            due.name for due in problem.dues if float((due.amounts * self.best.share).sum()) < due.least * (1 - HAIR)
+        ]
         why = "no schedule of whole blocks was found that keeps what must be held at least, which shares of blocks keep"
         raise PlanError(f"{why}: {'; '.join(told)}: ask for less, or give integer programmes more seconds")
 
@@ -245,7 +252,9 @@ class Search:
         year, share = np.full(problem.blocks, problem.years), np.zeros((problem.blocks, problem.destinations))
         year[self.part.kept], share[self.part.kept] = self.best.year, self.best.share
         schedule, size = BlockSchedule(year, share), (self.problem.blocks, len(self.part.nodes))
-        return Scheduled(schedule, schedule.value(problem), self.relaxation.bound, *size, self.relaxation.rounds, interrupted)
+        return Scheduled(
+            schedule, schedule.value(problem), self.relaxation.bound, *size, self.relaxation.rounds, interrupted
+        )
 
 
 def gap_of(value: float, bound: float) -> float:

@@ -49,7 +49,9 @@ def ranks_of(needs: Needs) -> Ranks:
     sizes = [len(rank) for rank in found]
     if sum(sizes) < blocks:
         raise ValueError("blocks need each other in a circle")
-    return Ranks(np.concatenate([*found, np.zeros(0, dtype=np.int64)]), np.concatenate([[0], np.cumsum(sizes)]).astype(np.int64))
+    return Ranks(
+        np.concatenate([*found, np.zeros(0, dtype=np.int64)]), np.concatenate([[0], np.cumsum(sizes)]).astype(np.int64)
+    )
 
 
 def places_of(starts: NDArray[np.integer], rows: NDArray[np.int64]) -> NDArray[np.int64]:
@@ -94,7 +96,9 @@ def summed(cones: NDArray[np.uint64], amounts: NDArray[np.float64]) -> NDArray[n
     """What the marked blocks of each cone, a bit for each, add up to."""
     parts = [np.zeros((0, amounts.shape[1]))]
     for start in range(0, len(cones), SUMMED):
-        rows = np.unpackbits(cones[start : start + SUMMED].view(np.uint8), axis=1, bitorder="little", count=len(amounts))
+        rows = np.unpackbits(
+            cones[start : start + SUMMED].view(np.uint8), axis=1, bitorder="little", count=len(amounts)
+        )
         parts.append(rows.astype(np.float64) @ amounts)
     return np.concatenate(parts)
 

@@ -11,8 +11,9 @@ from dataclasses import dataclass
 from fractions import Fraction
 
 import numpy as np
-import pitshell
 from numpy.typing import NDArray
+
+import pitshell
 
 BITS = 50
 # Half the distance from 1 to the next float: the greatest error, as a share, of one sum or product.

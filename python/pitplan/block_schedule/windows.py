@@ -129,9 +129,15 @@ class Window:
         """The free blocks and the window's years alone, with what the others leave as limits."""
         others = self.schedule.share.copy()
         others[self.blocks] = 0.0
-        taken, years = BlockSchedule(self.schedule.year, others).sums(self.problem)[:, self.first : self.last], slice(self.first, self.last)
+        taken, years = BlockSchedule(self.schedule.year, others).sums(self.problem)[:, self.first : self.last], slice(
+            self.first, self.last
+        )
         limits = [
-            Limit(limit.name, limit.amounts[self.blocks], *(np.maximum(it[years] - sums, 0.0) for it in (limit.most, limit.floor)))
+            Limit(
+                limit.name,
+                limit.amounts[self.blocks],
+                *(np.maximum(it[years] - sums, 0.0) for it in (limit.most, limit.floor)),
+            )
             for limit, sums in zip(self.problem.limits, taken)
         ]
         owed = [(due, due.least - float((due.amounts * others).sum())) for due in self.problem.dues]
@@ -188,7 +194,11 @@ def sizes_of(problem: BlockProblem) -> list[tuple[int, int]]:
 
 
 def window_of(
-    problem: BlockProblem, schedule: BlockSchedule, cumulative: NDArray[np.float64], years: tuple[int, int], most: int = MOST_UNKNOWNS
+    problem: BlockProblem,
+    schedule: BlockSchedule,
+    cumulative: NDArray[np.float64],
+    years: tuple[int, int],
+    most: int = MOST_UNKNOWNS,
 ) -> Window:
     """The window of years, with the blocks dug in them and those not dug that the relaxation begins by their end; where they make more than
     so many unknowns those whose expected year is nearest to the middle.

@@ -46,4 +46,6 @@ def run(options: argparse.Namespace) -> int:
 def demand_packages() -> None:
     missing = [name for name in REQUIRED if find_spec(name) is None]
     if missing:
-        raise MissingPackage(f"{', '.join(missing)}: not installed: apt-get install {' '.join(REQUIRED[name] for name in missing)}")
+        raise MissingPackage(
+            f"{', '.join(missing)}: not installed: apt-get install {' '.join(REQUIRED[name] for name in missing)}"
+        )

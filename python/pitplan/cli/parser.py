@@ -14,7 +14,9 @@ from minelib.__main__ import add_arguments as add_minelib
 from .. import __version__
 from . import subcommands
 
-DESCRIPTION = "Plan an open-pit mine: from a block model, prices, costs and slope angles to pit shells, pushbacks and schedules."
+DESCRIPTION = (
+    "Plan an open-pit mine: from a block model, prices, costs and slope angles to pit shells, pushbacks and schedules."
+)
 FORMATS = ("table", "csv", "xlsx", "vti", "vtu", "dxf", "stl", "obj", "gpkg", "str", "lines")
 STAGES = ("factor", "phase", "year")
 SURFACES = ("pit", "ground")
@@ -32,7 +34,9 @@ class Subparsers:
 
     def __init__(self, top: Parser) -> None:
         self.top = top
-        self.actions = top.add_subparsers(dest="command", required=True, metavar="SUBCOMMAND", help=argparse.SUPPRESS, prog=top.prog)
+        self.actions = top.add_subparsers(
+            dest="command", required=True, metavar="SUBCOMMAND", help=argparse.SUPPRESS, prog=top.prog
+        )
         self.lines: list[str] = []
 
     def group(self, title: str, *adders: Callable[[Subparsers], None]) -> None:
@@ -45,7 +49,9 @@ class Subparsers:
     def add(self, name: str, does: str, run: Run, more: str = "") -> Parser:
         """Adds a subcommand: what it does, the function that runs it, and what its own help says besides."""
         self.lines.append(f"  {name:<{INDENT - 2}}{does}")
-        sub: Parser = self.actions.add_parser(name, description=f"{does[0].upper()}{does[1:]}.{f' {more}' if more else ''}")
+        sub: Parser = self.actions.add_parser(
+            name, description=f"{does[0].upper()}{does[1:]}.{f' {more}' if more else ''}"
+        )
         sub.set_defaults(run=run)
         return sub
 
@@ -53,7 +59,9 @@ class Subparsers:
 def parser() -> Parser:
     """The parser of the whole command line."""
     usage = "pitplan [-h] [--version] SUBCOMMAND ..."
-    top = Parser(prog="pitplan", usage=usage, description=DESCRIPTION, formatter_class=argparse.RawDescriptionHelpFormatter)
+    top = Parser(
+        prog="pitplan", usage=usage, description=DESCRIPTION, formatter_class=argparse.RawDescriptionHelpFormatter
+    )
     top.add_argument("--version", action="version", version=f"pitplan {__version__}", help="print the version and exit")
     subs = Subparsers(top)
     subs.group("set up", add_init, add_check)
@@ -67,7 +75,9 @@ def parser() -> Parser:
 def add_init(subs: Subparsers) -> None:
     sub = subs.add("init", "write a project for a table of blocks, with each guess marked", subcommands.init)
     sub.add_argument("table", type=Path, help="table of blocks (.csv, .csv.gz, .zip)")
-    sub.add_argument("--out", type=Path, metavar="FILE", help="project to write (default: project.toml next to the table)")
+    sub.add_argument(
+        "--out", type=Path, metavar="FILE", help="project to write (default: project.toml next to the table)"
+    )
 
 
 def add_check(subs: Subparsers) -> None:
@@ -79,7 +89,9 @@ def add_check(subs: Subparsers) -> None:
 
 def add_prepare(subs: Subparsers) -> None:
     more = "It lists what was rounded, dropped and clipped."
-    sub = subs.add("prepare", "write the solver's input files and prepare.json, without solving", subcommands.prepare, more)
+    sub = subs.add(
+        "prepare", "write the solver's input files and prepare.json, without solving", subcommands.prepare, more
+    )
     add_project(sub)
     add_out(sub, "the project's output folder")
     add_quiet(sub)
@@ -95,7 +107,9 @@ def add_shells(subs: Subparsers) -> None:
 
 
 def add_pit(subs: Subparsers) -> None:
-    sub = subs.add("pit", "solve the pit of one factor with the fixed blocks and without, and compare the two", subcommands.pit)
+    sub = subs.add(
+        "pit", "solve the pit of one factor with the fixed blocks and without, and compare the two", subcommands.pit
+    )
     add_project(sub)
     add_out(sub, "pit in the project's output folder")
     add_writing(sub)
@@ -240,7 +254,9 @@ def add_out(sub: Parser, default: str) -> None:
 
 
 def add_plan_folder(sub: Parser) -> None:
-    sub.add_argument("--out", type=Path, metavar="FOLDER", help="folder of the plan (default: the project's output folder)")
+    sub.add_argument(
+        "--out", type=Path, metavar="FOLDER", help="folder of the plan (default: the project's output folder)"
+    )
 
 
 def add_quiet(sub: Parser) -> None:
@@ -253,7 +269,9 @@ def add_writing(sub: Parser) -> None:
 
 
 def add_figures(sub: Parser) -> None:
-    sub.add_argument("--no-figures", action="store_true", help="draw no figures, and remove those of an earlier run in the folder")
+    sub.add_argument(
+        "--no-figures", action="store_true", help="draw no figures, and remove those of an earlier run in the folder"
+    )
 
 
 def add_solver(sub: Parser) -> None:
@@ -268,11 +286,18 @@ def add_factor(sub: Parser, kind: Callable[[str], int]) -> None:
 
 
 def add_workers(sub: Parser) -> None:
-    sub.add_argument("--workers", type=positive, metavar="NUMBER", help="number of processes of local (default: one for each processor)")
+    sub.add_argument(
+        "--workers",
+        type=positive,
+        metavar="NUMBER",
+        help="number of processes of local (default: one for each processor)",
+    )
 
 
 def add_gathering(sub: Parser) -> None:
-    text = "price factor whose probabilities are drawn, in per mille (default: the project's chosen one, otherwise 1000)"
+    text = (
+        "price factor whose probabilities are drawn, in per mille (default: the project's chosen one, otherwise 1000)"
+    )
     sub.add_argument("--factor", type=int, help=text)
     sub.add_argument("--partial", action="store_true", help="gather although scenarios have no answer")
 

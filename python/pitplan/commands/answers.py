@@ -72,7 +72,11 @@ def write_answer(answered: Answered, run: Run) -> pd.DataFrame:
 def note_answer(answered: Answered, factor: int, run: Run) -> None:
     """Adds the parts of the answer to the record; `factor` is that of the chosen shell, in per mille."""
     record = run.record
-    record["shells"] = {"factors": list(answered.plan.project.schedule.factors), "chosen": factor, "solver": record.pop("solver")}
+    record["shells"] = {
+        "factors": list(answered.plan.project.schedule.factors),
+        "chosen": factor,
+        "solver": record.pop("solver"),
+    }
     if answered.phases is not None:
         record["phases"] = len(answered.phases.factors)
     if answered.schedule is not None:

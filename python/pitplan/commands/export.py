@@ -14,7 +14,9 @@ from ..stages import FACTOR, Shape
 from .writing import Place
 
 
-def export(folder: Place, kind: str, factor: int = REFERENCE_FACTOR, progress: Progress = silent, shape: Shape = Shape()) -> NotedPath:
+def export(
+    folder: Place, kind: str, factor: int = REFERENCE_FACTOR, progress: Progress = silent, shape: Shape = Shape()
+) -> NotedPath:
     """Writes the shells of a folder that `write_shells` has written for other programs.
 
     Parameters

@@ -10,8 +10,18 @@ from typing import Any, Iterable, Iterator, Optional, Union
 
 import pandas as pd
 
-from .. import block_pictures, csv_file, exports, files, mine as mines, project_text
-from .. import sensitivity_files, sensitivity_pictures, staging, verification
+from .. import (
+    block_pictures,
+    csv_file,
+    exports,
+    files,
+    mine as mines,
+    project_text,
+    sensitivity_files,
+    sensitivity_pictures,
+    staging,
+    verification,
+)
 from ..errors import PlanError
 from ..mine import Mine
 from ..picture_bounds import demand_within
@@ -84,7 +94,13 @@ class Writing:
             The names of figures, such as plans.png; `*` is any text.
         """
         stems = [] if self.figures else [Path(name).stem for name in names]
-        found = {path.name for stem in stems for kind in ("png", *FORMATS) for path in folder.glob(f"{stem}.{kind}") if path.is_file()}
+        found = {
+            path.name
+            for stem in stems
+            for kind in ("png", *FORMATS)
+            for path in folder.glob(f"{stem}.{kind}")
+            if path.is_file()
+        }
         return tuple(sorted(found))
 
 

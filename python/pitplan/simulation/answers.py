@@ -67,7 +67,9 @@ def read_answer(shared: Shared, scenario: Scenario) -> tuple[np.ndarray, pd.Data
         answer = kept_arrays.read(path, scenario.key)
         table = pd.DataFrame(answer["table"], columns=answer["columns"])
         worth, places = answer["worth_at_factor"], answer["places"].astype(np.int64)
-        if places.shape != (len(shared.frame),) or not 0 <= places.min(initial=0) <= places.max(initial=0) <= len(shared.record["factors"]):
+        if places.shape != (len(shared.frame),) or not 0 <= places.min(initial=0) <= places.max(initial=0) <= len(
+            shared.record["factors"]
+        ):
             raise kept_arrays.NoAnswer("it holds other blocks or factors")
         table["blocks"] = table["blocks"].astype(np.int64)
     except (OSError, ValueError, KeyError, TypeError) as error:
@@ -88,7 +90,11 @@ def heads_of(scenario: Scenario) -> dict[str, object]:
 def quantiles(table: pd.DataFrame) -> pd.DataFrame:
     """One row a set of prices and factor, over the models: mean, least, greatest and quantiles of each amount."""
     by = [name for name in table.columns if name.startswith("price_")] + ["factor"]
-    amounts = [name for name in ("blocks", "tonnes", "ore_tonnes", "in_situ_ore_tonnes", "waste_tonnes") if name in table.columns]
+    amounts = [
+        name
+        for name in ("blocks", "tonnes", "ore_tonnes", "in_situ_ore_tonnes", "waste_tonnes")
+        if name in table.columns
+    ]
     amounts += [name for name in table.columns if name.startswith("metal_")] + ["worth", "worth_at_factor"]
     return spread_of(table.assign(worth_at_factor=table["worth_at_factor"].astype(float)), by, amounts)
 

@@ -46,7 +46,8 @@ class Schedules:
 
     def record(self, shared: Shared) -> dict[str, Any]:
         """What one_schedule.json says: how the one schedule was made, and over all scenarios that have an answer what it earns, what a
-        schedule of each one's own earns, and the bounds of these; and what knowing the ground before digging would be worth at most."""
+        schedule of each one's own earns, and the bounds of these; and what knowing the ground before digging would be worth at most.
+        """
         spread = answers.spread_of(self.answered, [], list(VALUES)).iloc[0]
         words = [name.removeprefix("bound_") for name in spread.index if name.startswith("bound_")]
         return {

@@ -29,7 +29,9 @@ def demand_apt(project: Project) -> None:
     demand_of_blocks(project, project.schedule_rules or ScheduleRules())
     demand_of_scenarios(project)
     if project.solver == PROGRAM:
-        raise PlanError("--solver program: finds pits alone, and schedules by block are made with the library: leave it out")
+        raise PlanError(
+            "--solver program: finds pits alone, and schedules by block are made with the library: leave it out"
+        )
 
 
 def write(laid: Laid, folder: Path, progress: Progress) -> None:
@@ -45,7 +47,13 @@ def write(laid: Laid, folder: Path, progress: Progress) -> None:
         scenarios = prepare.keyed(laid.scenarios, project, parts)
         one = Scenario(len(scenarios) + 1, ONE, "", {}, folders.key_of({"mean": [it.key for it in scenarios]}))
         limits = limits_of_scenarios(project)
-        more = {"by": folders.BLOCK, "years": blocks.years, "limits": limits.most, "ramp_up": list(limits.ramp_up), "mean": vars(one)}
+        more = {
+            "by": folders.BLOCK,
+            "years": blocks.years,
+            "limits": limits.most,
+            "ramp_up": list(limits.ramp_up),
+            "mean": vars(one),
+        }
         prepare.write_record(laid, scenarios, written, stage, **more)
 
 

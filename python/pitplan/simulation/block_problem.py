@@ -100,7 +100,11 @@ def limits_of_scenarios(project: Project) -> Limits:
 
 def years_asked(weights: Weights, pit: NDArray[np.bool_], project: Project) -> int:
     """The years in which a pit can be dug, and a fifth more. Raises PlanError where they are too many."""
-    return years_of({name: float(amounts[pit].sum()) for name, amounts in weights.flows.items()}, limits_of_scenarios(project), project)
+    return years_of(
+        {name: float(amounts[pit].sum()) for name, amounts in weights.flows.items()},
+        limits_of_scenarios(project),
+        project,
+    )
 
 
 def problem_of(diggable: Diggable, weights: Weights, project: Project) -> BlockProblem:
@@ -109,7 +113,9 @@ def problem_of(diggable: Diggable, weights: Weights, project: Project) -> BlockP
     return BlockProblem(
         values=flows[CASH][:, :, None] * year_discounts(project.schedule, diggable.years),
         needs=diggable.needs,
-        limits=tuple(Limit(name, flows[name], most) for name, most in zip(limits.most, limits.of_years(diggable.years).T)),
+        limits=tuple(
+            Limit(name, flows[name], most) for name, most in zip(limits.most, limits.of_years(diggable.years).T)
+        ),
         dues=dues_of(diggable.forced, 2),
     )
 

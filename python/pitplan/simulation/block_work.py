@@ -128,7 +128,10 @@ def read_answer(shared: Shared, job: Scenario) -> Kept:
         kept = kept_arrays.read(path, job.key)
         row = dict(zip(kept["names"].tolist(), kept["amounts"].tolist()))
         year, share = kept["year"].astype(np.int64), kept["share"]
-        is_of_these = year.shape == share.shape == (len(shared.frame),) and 0 <= year.min(initial=0) <= year.max(initial=0) <= shared.record["years"]
+        is_of_these = (
+            year.shape == share.shape == (len(shared.frame),)
+            and 0 <= year.min(initial=0) <= year.max(initial=0) <= shared.record["years"]
+        )
         if not is_of_these:
             raise kept_arrays.NoAnswer("it holds other blocks or years")
         row |= {name: int(row[name]) for name in WHOLE}

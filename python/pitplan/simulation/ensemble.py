@@ -205,7 +205,9 @@ def envelope(base: Base, greatest: np.ndarray) -> Plan:
         return max(prices.get(metal.name, metal.price) for prices in scenarios_of(project).prices)
 
     metals = tuple(replace(metal, price=dearest(metal), selling_cost=Decimal(0)) for metal in project.metals)
-    plan = plan_of(replace(project, metals=metals), base.with_grades(greatest), base.grid, base.walls, base.table.source)
+    plan = plan_of(
+        replace(project, metals=metals), base.with_grades(greatest), base.grid, base.walls, base.table.source
+    )
     plan.filled = base.table.filled
     plan.notes = notes_of(plan)
     return plan

@@ -136,7 +136,9 @@ class Shared:
         try:
             grades: np.ndarray = np.load(path, allow_pickle=False)
         except (OSError, EOFError, ValueError, SyntaxError) as error:
-            raise PlanError(f"{path}: cannot be read as grades: remove it, and run pitplan scenarios again: {error}") from error
+            raise PlanError(
+                f"{path}: cannot be read as grades: remove it, and run pitplan scenarios again: {error}"
+            ) from error
         if hash_of_arrays({"grades": grades}) != scenario.grades:
             raise PlanError(f"{path}: has changed since it was written: remove it, and run pitplan scenarios again")
         return grades
@@ -204,7 +206,10 @@ def meaning_of_years(project: Project, years: int) -> dict[str, Any]:
     """What besides changes a schedule of so many years: limits, discounting, and how schedules are searched for, which no proof settles."""
     shells, rules = project.schedule, project.schedule_rules or ScheduleRules()
     limits = {"ore": shells.ore_per_year, "rock": shells.rock_per_year, "rules": asdict(rules)}
-    search = {"highs": f"scipy {scipy.__version__}", "sources": [files.hash_of(path) for path in sorted(SEARCH.glob("*.py"))]}
+    search = {
+        "highs": f"scipy {scipy.__version__}",
+        "sources": [files.hash_of(path) for path in sorted(SEARCH.glob("*.py"))],
+    }
     return {**limits, **search, "rate": shells.rate, "discounting": shells.discounting, "years": years}
 
 

@@ -122,7 +122,9 @@ def demand_writable(kind: str, folder: str) -> None:
     """Raises PlanError where a script cannot name the folder, or Slurm would take a sign of it for one of its own patterns."""
     if "\n" in folder or (kind == "slurm" and any(sign in folder for sign in "%\\")):
         others = ", a % or a backslash" if kind == "slurm" else ""
-        raise PlanError(f"{folder!r}: a folder of jobs may not have a line's end{others} in its name: name another by --out")
+        raise PlanError(
+            f"{folder!r}: a folder of jobs may not have a line's end{others} in its name: name another by --out"
+        )
     try:
         folder.encode()
     except UnicodeEncodeError as error:

@@ -19,8 +19,8 @@ from scipy.optimize import linprog
 
 from ..errors import PlanError
 from ..phase_benches import CASH, ORE, ROCK
-from ..schedule import year_discounts
 from ..project import Project
+from ..schedule import year_discounts
 from .block_problem import Weights, limits_of_scenarios
 
 # By such a share of it a limit may be missed, as sums of floats do, and a year may lack of what was planned.
@@ -58,7 +58,9 @@ class Dug:
         return share
 
 
-def best_shares(gain: NDArray[np.float64], takes: NDArray[np.float64], most: NDArray[np.float64]) -> NDArray[np.float64]:
+def best_shares(
+    gain: NDArray[np.float64], takes: NDArray[np.float64], most: NDArray[np.float64]
+) -> NDArray[np.float64]:
     """The shares of blocks in the mill that earn most: of a limit that alone is reached by what earns most a unit of it, else by a linear
     programme.
 
@@ -75,7 +77,9 @@ def best_shares(gain: NDArray[np.float64], takes: NDArray[np.float64], most: NDA
     if len(over) == 1:
         return by_worth(gain, takes[over[0]] * pays, float(most[over[0]])) * pays
     unit = np.maximum(takes[over].max(axis=1), np.finfo(float).tiny)
-    rows, upper = {"A_ub": takes[over] / unit[:, None], "b_ub": most[over] / unit}, np.stack([np.zeros_like(pays), pays], axis=1)
+    rows, upper = {"A_ub": takes[over] / unit[:, None], "b_ub": most[over] / unit}, np.stack(
+        [np.zeros_like(pays), pays], axis=1
+    )
     found = linprog(-gain / gain.max(), **rows, bounds=upper, method="highs-ds")
     if found.status != 0:
         raise PlanError(f"HiGHS found no best ore of a year: {found.message}")

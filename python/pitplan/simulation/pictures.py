@@ -20,7 +20,19 @@ from matplotlib.lines import Line2D
 from ..grid import metres
 from ..map_marks import axes_of_map, mark_map, mark_section_cells, section_titles
 from ..outlines import edges
-from ..pictures import GROUND, MAP, STYLE, finish, list_of, name_axes, scaled, section_column, section_levels, section_row, write_maps
+from ..pictures import (
+    GROUND,
+    MAP,
+    STYLE,
+    finish,
+    list_of,
+    name_axes,
+    scaled,
+    section_column,
+    section_levels,
+    section_row,
+    write_maps,
+)
 from .likely import Likely
 
 STEPS = np.linspace(0, 1, 11)
@@ -141,7 +153,8 @@ def write_spread(table: pd.DataFrame, currency: str, path: Path) -> None:
 
 def plot_spread(table: pd.DataFrame, currency: str, axes: Any) -> list[Axes]:
     """Tonnes, and worth, by factor at each scenario's own prices, on two axes, which it gives: for each set of prices the median of its
-    models, and of up to six sets the band in which eight in ten of them lie. The table has the columns of scenarios.csv."""
+    models, and of up to six sets the band in which eight in ten of them lie. The table has the columns of scenarios.csv.
+    """
     found = list_of(axes, 2)
     sets = sets_of(table.assign(worth_at_factor=table["worth_at_factor"].astype(float)))
     columns = (

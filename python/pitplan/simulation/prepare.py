@@ -132,7 +132,12 @@ def write_shared(laid: Laid, stage: Path) -> list[str]:
     project_text.write(base.project, stage / folders.PROJECT, base.project.path.parent)
     frame = plan.blocks
     grades = [metal.column for metal in base.project.metals]
-    costs = ["mining_cost", "revenue", "processing_cost", *(["haulage_cost", "ore_haulage_cost"] if base.project.haulage else [])]
+    costs = [
+        "mining_cost",
+        "revenue",
+        "processing_cost",
+        *(["haulage_cost", "ore_haulage_cost"] if base.project.haulage else []),
+    ]
     csv_file.write(stage / BLOCKS, frame.drop(columns=[*grades, *costs]))
     return [folders.BASE, folders.PROJECT, BLOCKS]
 
@@ -176,7 +181,8 @@ def keyed(scenarios: list[Scenario], project: Project, common: dict[str, Any]) -
     """Scenarios with the keys of their answers, told by their grades and prices, and by what is common to all."""
     given = {metal.name: str(metal.price) for metal in project.metals}
     return [
-        replace(it, key=folders.key_of({**common, "grades": it.grades, "prices": {**given, **it.prices}})) for it in scenarios
+        replace(it, key=folders.key_of({**common, "grades": it.grades, "prices": {**given, **it.prices}}))
+        for it in scenarios
     ]
 
 

@@ -20,7 +20,12 @@ from .likely import Likely
 
 PROBABILITY, IMAGE, TABLE, QUANTILES = "probability.csv", "probability.vti", "scenarios.csv", "quantiles.csv"
 # Of schedules by block those of all scenarios, and the one for all by block and by year.
-SCHEDULES, ONE, ONE_YEARS, ONE_RECORD = "schedules.csv", "one_schedule.csv", "one_schedule_years.csv", "one_schedule.json"
+SCHEDULES, ONE, ONE_YEARS, ONE_RECORD = (
+    "schedules.csv",
+    "one_schedule.csv",
+    "one_schedule_years.csv",
+    "one_schedule.json",
+)
 
 
 @dataclass(frozen=True)

@@ -52,7 +52,10 @@ def solve(project: Project, folder: Path, request: Request, progress: Progress) 
     if not shared.is_by_block:
         shown_factor(shared, request)
     missing, count = shared.missing(), len(shared.jobs)
-    notes = [*shared.record["notes"], f"{count - len(missing):,} of {count:,} {shared.called} have their answer already"]
+    notes = [
+        *shared.record["notes"],
+        f"{count - len(missing):,} of {count:,} {shared.called} have their answer already",
+    ]
     if request.where in ("slurm", "parallel"):
         start = job_lists.write(request.where, folder, missing, shared.solver) if missing else None
         return Solved(tuple(notes), start)

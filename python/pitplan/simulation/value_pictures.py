@@ -33,7 +33,8 @@ def write(table: pd.DataFrame, currency: str, path: Path) -> None:
 
 def plot(table: pd.DataFrame, currency: str, axes: Any) -> list[Axes]:
     """The value of the one schedule in each scenario, of the scenario's own, and its bound, by rising bounds; and how each of these three
-    is spread; on two axes, which it gives. The table has the columns of schedules.csv, of the scenarios that have a schedule."""
+    is spread; on two axes, which it gives. The table has the columns of schedules.csv, of the scenarios that have a schedule.
+    """
     each, spread = found = list_of(axes, 2)
     size, sign = scaled(float(table[list(LOOKS)].abs().max().max()))
     rising = table.sort_values("bound", kind="stable")[list(LOOKS)] / size

@@ -135,4 +135,6 @@ def write_answer(shared: Shared, scenario: Scenario) -> None:
     with staged_file(shared.answer(scenario)) as path:
         # The place of a block's least factor in the list, from 1; 0: in no pit.
         places = np.where(entry > 0, np.searchsorted(factors, entry) + 1, 0).astype(np.uint16)
-        kept_arrays.write(path, scenario.key, places=places, columns=table.columns.to_numpy().astype(str), table=table, **texts)
+        kept_arrays.write(
+            path, scenario.key, places=places, columns=table.columns.to_numpy().astype(str), table=table, **texts
+        )

@@ -40,12 +40,40 @@ import pandas as pd
 
 from ..errors import PlanError
 from ..project import Project
-from . import absent, answer as answers, block_scenarios, block_schedule, depletion, fixed, haulage, money, phases, planned_table, reach, reblocked
-from . import scenarios, schedule, sensitivity, sums, walls, words, years
+from . import (
+    absent,
+    answer as answers,
+    block_scenarios,
+    block_schedule,
+    depletion,
+    fixed,
+    haulage,
+    money,
+    phases,
+    planned_table,
+    reach,
+    reblocked,
+    scenarios,
+    schedule,
+    sensitivity,
+    sums,
+    walls,
+    words,
+    years,
+)
 from .answer import TOLD, Answer, Rule, rule
 
 OF_PITS = (walls.verify, sums.verify, sums.verify_worth, years.verify)
-CHECKS = (fixed.verify_places, absent.verify, walls.verify, walls.verify_steepness, fixed.verify, money.verify, *OF_PITS[1:], words.verify)
+CHECKS = (
+    fixed.verify_places,
+    absent.verify,
+    walls.verify,
+    walls.verify_steepness,
+    fixed.verify,
+    money.verify,
+    *OF_PITS[1:],
+    words.verify,
+)
 
 
 def verify(folder: Path, project: Optional[Project] = None, table: Optional[pd.DataFrame] = None) -> list[Rule]:
@@ -61,7 +89,9 @@ def verify(folder: Path, project: Optional[Project] = None, table: Optional[pd.D
     more += [haulage.verify(answer, money.sample(answer))] if answer.project.haulage else []
     more += [verify_free(answer, answer.free)] if answer.free else []
     more += phases.verify(answer) if answer.phases is not None else []
-    more += [planned_table.verify(answer, folder / planned_table.NAME)] if (folder / planned_table.NAME).exists() else []
+    more += (
+        [planned_table.verify(answer, folder / planned_table.NAME)] if (folder / planned_table.NAME).exists() else []
+    )
     more += by_record(block_schedule.verify, answer, block_schedule.FILE) if answer.is_by_block else []
     more += by_record(schedule.verify, answer, schedule.FILE) if answer.schedule is not None else []
     return [*(check(answer) for check in CHECKS), *more]
@@ -75,7 +105,9 @@ def by_record(check: Callable[[Answer], list[Rule]], answer: Answer, name: str) 
         raise PlanError(f"{error.filename}: cannot be read: run pitplan schedule first") from error
     except (LookupError, ValueError, TypeError, AttributeError) as error:
         why = f"{type(error).__name__} {error}"
-        raise PlanError(f"{answer.folder / name}: does not fit the tables beside it ({why}): run pitplan schedule again") from error
+        raise PlanError(
+            f"{answer.folder / name}: does not fit the tables beside it ({why}): run pitplan schedule again"
+        ) from error
 
 
 def verify_table(folder: Path, path: Path) -> Rule:

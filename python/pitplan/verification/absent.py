@@ -29,23 +29,37 @@ def words(answer: Answer, rock: AbsentRock) -> dict[str, str | float]:
     and its id."""
     columns = answer.project.table
     told = {columns.tonnes: rock.tonnes, columns.rock: rock.rock, columns.region: rock.region}
-    passed = {columns.x, columns.y, columns.z, columns.id, *([columns.tonnes, UNCUT] if answer.project.cuts_blocks else [])}
+    passed = {
+        columns.x,
+        columns.y,
+        columns.z,
+        columns.id,
+        *([columns.tonnes, UNCUT] if answer.project.cuts_blocks else []),
+    }
     return {name: told.get(name, 0.0) for name in answer.rows.columns if name not in passed}
 
 
 def unlike_cells(answer: Answer) -> tuple[list[str], int]:
     """Cells that lack such a block, blocks where there is none to be, and blocks that are not called by the number of their cell."""
-    table, added = (tuple(axis[part] for axis in answer.cells) for part in (slice(answer.known), slice(answer.known, None)))
+    table, added = (
+        tuple(axis[part] for axis in answer.cells) for part in (slice(answer.known), slice(answer.known, None))
+    )
     known = np.zeros(answer.shape, dtype=bool)
     known[table] = True
-    top = pd.DataFrame({"place": table[1] * answer.shape[2] + table[2], "level": table[0]}).groupby("place")["level"].min()
+    top = (
+        pd.DataFrame({"place": table[1] * answer.shape[2] + table[2], "level": table[0]})
+        .groupby("place")["level"]
+        .min()
+    )
     highest = top.reindex(range(answer.shape[1] * answer.shape[2]), fill_value=-1).to_numpy().reshape(answer.shape[1:])
     ground = ~known & (np.arange(answer.shape[0])[:, None, None] > highest)
     blocks = np.zeros(answer.shape, dtype=bool)
     blocks[added] = True
     lacking, more = np.flatnonzero(ground & ~blocks), np.flatnonzero((blocks & ~ground)[added])
     differences = [f"the cell {cell} has no row, and no block stands for it" for cell in lacking[:TOLD]]
-    differences += [f"{answer.called(answer.known + k)} stands for a cell above the highest of its column" for k in more[:TOLD]]
+    differences += [
+        f"{answer.called(answer.known + k)} stands for a cell above the highest of its column" for k in more[:TOLD]
+    ]
     named, cells = answer.project.table.id, np.ravel_multi_index(added, answer.shape)
     called = answer.rows[named].iloc[answer.known :] if named else [f"absent-{cell}" for cell in cells]
     off = [f"block {name} is of the cell {cell}" for name, cell in zip(called, cells) if name != f"absent-{cell}"]

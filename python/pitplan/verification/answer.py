@@ -152,7 +152,10 @@ class Answer:
     def feeds(self) -> dict[str, np.ndarray]:
         """Of several processes the tonnes of ore that come to each, by the name of the amount."""
         names = [process.name for process in self.project.processes]
-        return {f"ore_tonnes_{name}": np.where(self.ore & (self.process == k), self.feed, 0.0) for k, name in enumerate(names)}
+        return {
+            f"ore_tonnes_{name}": np.where(self.ore & (self.process == k), self.feed, 0.0)
+            for k, name in enumerate(names)
+        }
 
     @property
     def amounts_of_ways(self) -> list[tuple[str, str]]:
@@ -242,7 +245,9 @@ class Answer:
         if name:
             return f"block {self.rows[name].iloc[row]}"
         columns = self.project.table
-        return "the block at " + ", ".join(f"{self.rows[axis].iloc[row]:.10g}" for axis in (columns.x, columns.y, columns.z))
+        return "the block at " + ", ".join(
+            f"{self.rows[axis].iloc[row]:.10g}" for axis in (columns.x, columns.y, columns.z)
+        )
 
 
 def read(folder: Path, project: Optional[Project] = None, table: Optional[pd.DataFrame] = None) -> Answer:
@@ -256,9 +261,13 @@ def read(folder: Path, project: Optional[Project] = None, table: Optional[pd.Dat
         project = project or as_run_or_edited(folder, record)
         found, expected = len(record.get("walls", project.slopes.walls)), len(project.slopes.walls)
         if found < expected:
-            raise PlanError(f"{folder / 'prepare.json'}: walls: found {found}, expected {expected} as in the project: run pitplan shells again")
+            raise PlanError(
+                f"{folder / 'prepare.json'}: walls: found {found}, expected {expected} as in the project: run pitplan shells again"
+            )
         own = [own_name(name) for name in (*tables.names_of(project), project.table.tonnes)]
-        written = read_blocks(folder / "blocks.csv", project, (*said_of(project), *FREE, PHASE, YEAR, *shares_of(project), *own))
+        written = read_blocks(
+            folder / "blocks.csv", project, (*said_of(project), *FREE, PHASE, YEAR, *shares_of(project), *own)
+        )
         rows = rows_of(project, written, record["grid"], table)
         return (read_shells if "shells" in record else read_pits)(folder, record, project, written, rows)
     except OSError as error:
@@ -282,11 +291,16 @@ def said_of(project: Project) -> tuple[str, ...]:
     return (*SAID, *hauled, PROCESS, *of_each)
 
 
-def read_shells(folder: Path, record: dict[str, Any], project: Project, written: pd.DataFrame, table: TableRows) -> Answer:
+def read_shells(
+    folder: Path, record: dict[str, Any], project: Project, written: pd.DataFrame, table: TableRows
+) -> Answer:
     """The answer of `pitplan shells`, `pitplan pushbacks` or `pitplan schedule`."""
     shells = read_table(folder / "shells.csv")
     demand_factors(shells, record["shells"]["factors"], "shells.csv")
-    shells, years = shells.set_index("factor"), read_table(folder / "years.csv", ["case"]) if (folder / "years.csv").exists() else None
+    shells, years = (
+        shells.set_index("factor"),
+        read_table(folder / "years.csv", ["case"]) if (folder / "years.csv").exists() else None,
+    )
     frame, parts, beyond = table
     rows, known, order = beside(frame, written, project, record["grid"], "blocks.csv")
     phases = read_table(folder / "phases.csv").set_index("phase") if "phases" in record else None
@@ -294,13 +308,17 @@ def read_shells(folder: Path, record: dict[str, Any], project: Project, written:
     is_by_block = "by_block" in record
     shares = shares_of(project) if is_by_block else []
     more = [*([PHASE] if phases is not None else []), *([YEAR] if schedule is not None or is_by_block else []), *shares]
-    said, factors = written[[*said_of(project), *more]].iloc[order].reset_index(drop=True), tuple(record["shells"]["factors"])
+    said, factors = written[[*said_of(project), *more]].iloc[order].reset_index(drop=True), tuple(
+        record["shells"]["factors"]
+    )
     found = {"phases": phases, "schedule": schedule, "parts": parts, "beyond": beyond, "is_by_block": is_by_block}
     found["own"] = own_columns(written, rows, order)
     return Answer(folder, project, rows, known, said, shells, years, record, factors, **found)
 
 
-def rows_of(project: Project, written: pd.DataFrame, grid: dict[str, Any], table: Optional[pd.DataFrame] = None) -> TableRows:
+def rows_of(
+    project: Project, written: pd.DataFrame, grid: dict[str, Any], table: Optional[pd.DataFrame] = None
+) -> TableRows:
     """A row a block of the table, which is read unless it is given, that lies in the answer's grid; where its rows are put together to blocks
     these rows; and where some were left out the blocks beyond the grid. Raises PlanError as `beside` does."""
     frame = tables.read(project).frame if table is None else table
@@ -312,10 +330,16 @@ def rows_of(project: Project, written: pd.DataFrame, grid: dict[str, Any], table
     found = written_rows(inside, own.loc[:, ~own.columns.duplicated(keep="last")], project, grid)
     # What is cut is what was put together.
     tonnes = project.table.tonnes
-    return found if not project.cuts_blocks else found.assign(**{tonnes: inside[tonnes].to_numpy().round(6)}), frame, beyond
+    return (
+        found if not project.cuts_blocks else found.assign(**{tonnes: inside[tonnes].to_numpy().round(6)}),
+        frame,
+        beyond,
+    )
 
 
-def read_pits(folder: Path, record: dict[str, Any], project: Project, written: pd.DataFrame, table: TableRows) -> Answer:
+def read_pits(
+    folder: Path, record: dict[str, Any], project: Project, written: pd.DataFrame, table: TableRows
+) -> Answer:
     """The two answers of `pitplan pit`: that which keeps to the fixed blocks, and in it the one that does not."""
     pits = read_table(folder / "pits.csv", ["fixed_blocks"])
     demand_factors(pits, [record["factors"][-1]] * 2, "pits.csv")
@@ -329,18 +353,23 @@ def read_pits(folder: Path, record: dict[str, Any], project: Project, written: p
     factors = tuple(record["factors"])
     alone = Answer(folder, replace(project, fixed=None), rows, known, other, free, None, record, factors)
     own = own_columns(written, rows, order)
-    return Answer(folder, project, rows, known, said, kept, None, record, factors, alone, parts=parts, beyond=beyond, own=own)
+    return Answer(
+        folder, project, rows, known, said, kept, None, record, factors, alone, parts=parts, beyond=beyond, own=own
+    )
 
 
 def read_blocks(path: Path, project: Project, said: Optional[tuple[str, ...]] = None) -> pd.DataFrame:
     """The centres and those of these columns that the file has; every column where none are named, where rows may stand for cells that the
-    table has none of, or where they are put together or cut. Raises PlanError where a field that is to be a number is none."""
+    table has none of, or where they are put together or cut. Raises PlanError where a field that is to be a number is none.
+    """
     columns = project.table
     codes = {own_name(name): str for name in (columns.id, columns.rock, columns.region) if name}
     wanted = {*(said or ()), *(own_name(name) for name in (columns.x, columns.y, columns.z))}
     is_whole = said is None or isinstance(columns.absent, AbsentRock) or bool(columns.reblock or project.cuts_blocks)
     usecols = None if is_whole else wanted.__contains__
-    found = pd.read_csv(path, dtype=codes, keep_default_na=False, na_values={}, float_precision="round_trip", usecols=usecols)
+    found = pd.read_csv(
+        path, dtype=codes, keep_default_na=False, na_values={}, float_precision="round_trip", usecols=usecols
+    )
     demand_numbers(found, path.name, [*codes, PROCESS])
     return found
 

@@ -94,10 +94,16 @@ class Schedules:
     def order(self) -> Rule:
         """Cones, what is fixed, and years and shares, of the one schedule and of those of a sample."""
         sample = [(scenario.label, Kept.of(scenario.file)) for scenario in self.whole.sample]
-        differences = [f"{name}: {said}" for name, kept in [("the one schedule", self.one), *sample] for said in self.out_of_order(kept)]
+        differences = [
+            f"{name}: {said}"
+            for name, kept in [("the one schedule", self.one), *sample]
+            for said in self.out_of_order(kept)
+        ]
         count = f"{len(sample):,} of {len(self.whole.folder.answered):,} others"
         holds = f"in the one schedule and {count} no block is dug before its whole cone is"
-        return rule("block order", f"{holds}, what must be dug is in some year, and what may not be in none", differences)
+        return rule(
+            "block order", f"{holds}, what must be dug is in some year, and what may not be in none", differences
+        )
 
     def out_of_order(self, kept: Kept) -> list[str]:
         answer = replace(self.ground, said=self.ground.said.assign(factor=kept.year))
@@ -108,7 +114,9 @@ class Schedules:
             must, never = fixed.demanded(answer, answer.project.fixed)
             wrong |= (must & (kept.year == 0)) | (never & (kept.year > 0))
         rows = np.flatnonzero(wrong)[:TOLD]
-        return found + [f"{answer.called(row)}: year {kept.year[row]}, of which {kept.share[row]:.6g} is milled" for row in rows]
+        return found + [
+            f"{answer.called(row)}: year {kept.year[row]}, of which {kept.share[row]:.6g} is milled" for row in rows
+        ]
 
     def values(self) -> list[Rule]:
         """What every schedule holds and earns, by the amounts of its scenario, and the tables that tell it."""
@@ -135,7 +143,9 @@ class Schedules:
         """What each block holds in a scenario: rock_tonnes, ore_tonnes and metals where it pays, what digging it costs and what milling
         it earns besides, in money; 0 where it is not dug."""
         whole = self.whole.in_scenario(scenario)
-        part = replace(whole, rows=whole.rows[is_dug].reset_index(drop=True), said=whole.said[is_dug].reset_index(drop=True))
+        part = replace(
+            whole, rows=whole.rows[is_dug].reset_index(drop=True), said=whole.said[is_dug].reset_index(drop=True)
+        )
         found = at_price(part)
         columns = {ROCK: part.tonnes, ORE: found.ore, **{f"metal_{name}": it for name, it in found.metals.items()}}
         frame = pd.DataFrame(columns | {"mining": found.mining, "gain": found.gain})
@@ -147,7 +157,10 @@ class Schedules:
         sums = milled.groupby(kept.year).sum().drop(index=0, errors="ignore")
         yield from self.above_limits(sums)
         cash = sums["gain"] - held["mining"].groupby(kept.year).sum().drop(index=0, errors="ignore")
-        value, bound = float(sum(amount * discount(self.ground, int(year)) for year, amount in cash.items())), kept.row["bound"]
+        value, bound = (
+            float(sum(amount * discount(self.ground, int(year)) for year, amount in cash.items())),
+            kept.row["bound"],
+        )
         is_dug = kept.year > 0
         expected = {"value": value, "years": int(kept.year.max()), "blocks": int((is_dug & (held[ROCK] > 0)).sum())}
         expected |= {"tonnes": held[ROCK][is_dug].sum(), "below_bound": (bound - value) / abs(bound) if bound else 0.0}
@@ -176,7 +189,9 @@ class Schedules:
             ore = float(blocks[ORE].sum())
             milled = min(ore, most[0]) if len(of_mill) == 1 else ore if (takes.sum(axis=1) <= most).all() else math.nan
             cash = most_earned(blocks["gain"].to_numpy(), takes, most) - blocks["mining"].sum()
-            rows.append({"year": year, ROCK: blocks[ROCK].sum(), ORE: milled, LEFT: ore - milled, "total": ore, "cash": cash})
+            rows.append(
+                {"year": year, ROCK: blocks[ROCK].sum(), ORE: milled, LEFT: ore - milled, "total": ore, "cash": cash}
+            )
         frame = pd.DataFrame(rows, columns=["year", ROCK, ORE, LEFT, "total", "cash"]).set_index("year")
         return frame.assign(discounted=frame["cash"] * [discount(self.ground, year) for year in frame.index])
 
@@ -244,32 +259,50 @@ class Tables:
                 yield f"year {year}: {name} {said[name][year]:.12g} for {expected[name][year]:.12g}"
         whole = dug["total"]
         off = said.index[(said[ORE] + said[LEFT] - whole).abs() > CENT + 1e-9 * whole]
-        yield from (f"year {year}: {said[ORE][year]:.12g} and {said[LEFT][year]:.12g} t of ore for {whole[year]:.12g}" for year in off)
+        yield from (
+            f"year {year}: {said[ORE][year]:.12g} and {said[LEFT][year]:.12g} t of ore for {whole[year]:.12g}"
+            for year in off
+        )
 
     def of_all(self) -> list[str]:
         """Where schedules.csv, the blocks, the quantiles or the record differ."""
         if self.rows["scenario"].tolist() != [scenario.number for scenario in self.scenarios]:
             return [f"{TABLE}: has rows of scenarios {self.rows['scenario'].tolist()[:TOLD]} and so on"]
         rows = self.rows.set_index("scenario")
-        found = [f"{TABLE}: {it.label}: {said}" for it in self.scenarios for said in self.unlike_row(rows.loc[it.number], it)]
+        found = [
+            f"{TABLE}: {it.label}: {said}" for it in self.scenarios for said in self.unlike_row(rows.loc[it.number], it)
+        ]
         for scenario in self.scenarios:
             years = self.years[self.years["scenario"] == scenario.number]
-            heads = {"model": scenario.model.name, **{f"price_{metal}": float(price) for metal, price in scenario.prices.items()}}
-            found += [f"{YEARS}: {scenario.label}: {name}" for name, value in heads.items() if not (years[name] == value).all()]
+            heads = {
+                "model": scenario.model.name,
+                **{f"price_{metal}": float(price) for metal, price in scenario.prices.items()},
+            }
+            found += [
+                f"{YEARS}: {scenario.label}: {name}"
+                for name, value in heads.items()
+                if not (years[name] == value).all()
+            ]
         return [*found, *self.unlike_blocks(), *self.unlike_quantiles(), *self.unlike_record()]
 
     def unlike_row(self, row: Any, scenario: Scenario) -> Iterator[str]:
         """Where a row of schedules.csv differs."""
         years = self.years[self.years["scenario"] == scenario.number]
         expected: dict[str, float] = {f"price_{metal}": float(price) for metal, price in scenario.prices.items()}
-        expected |= {"one_value": years["discounted"].sum(), "one_ore_tonnes": years[ORE].sum(), "one_ore_left_tonnes": years[LEFT].sum()}
+        expected |= {
+            "one_value": years["discounted"].sum(),
+            "one_ore_tonnes": years[ORE].sum(),
+            "one_ore_left_tonnes": years[LEFT].sum(),
+        }
         expected["one_years_short"] = int((years[ORE] < years[PLANNED] * (1 - 1e-9)).sum())
         own = Kept.of(scenario.file).row if scenario.file.is_file() else {}
         expected |= own or dict.fromkeys(("value", "bound", "below_bound"), math.nan)
         if (row["status"] == "solved") != bool(own) or row["model"] != scenario.model.name:
             yield f"status {row['status']!r} of model {row['model']}"
         for name, amount in expected.items():
-            if not np.isclose(row[name], amount, rtol=1e-9, atol=1e-9 if name == "below_bound" else CENT, equal_nan=True):
+            if not np.isclose(
+                row[name], amount, rtol=1e-9, atol=1e-9 if name == "below_bound" else CENT, equal_nan=True
+            ):
                 yield f"{name} {row[name]:.12g} for {amount:.12g}"
 
     def unlike_blocks(self) -> list[str]:
@@ -277,20 +310,28 @@ class Tables:
         told, one, ground = self.schedules.whole.folder.told, self.schedules.one, self.schedules.ground
         off = (told["year"].to_numpy() != one.year) | ~(np.abs(told["share_mill"].to_numpy() - one.share) <= SLIGHT)
         rows = np.flatnonzero(off)[:TOLD]
-        return [f"{ONE}: {ground.called(row)}: year {told['year'][row]} for {one.year[row]}, or its share of the mill" for row in rows]
+        return [
+            f"{ONE}: {ground.called(row)}: year {told['year'][row]} for {one.year[row]}, or its share of the mill"
+            for row in rows
+        ]
 
     def unlike_quantiles(self) -> list[str]:
         """Where quantiles.csv does not follow from the rows, of each set of prices."""
         written, solved = self.read(QUANTILES), self.solved
         names = [name for name in solved if name.startswith("price_")]
-        sets = [dict(zip(names, values)) for values in (solved[names].drop_duplicates().to_numpy().tolist() if names else [()])]
+        sets = [
+            dict(zip(names, values))
+            for values in (solved[names].drop_duplicates().to_numpy().tolist() if names else [()])
+        ]
         found = [] if len(written) == len(sets) else [f"{QUANTILES}: has {len(written):,} rows for {len(sets):,}"]
         for prices in sets:
             rows, mine = at_prices(solved, prices), at_prices(written, prices)
             if len(mine) != 1 or mine["models"].iloc[0] != len(rows):
                 found.append(f"{QUANTILES}: {prices}: {len(mine)} rows, of which the first has not {len(rows)} models")
                 continue
-            said = {name: {word: float(mine[f"{name}_{word}"].iloc[0]) for word in spread(rows[name])} for name in VALUES}
+            said = {
+                name: {word: float(mine[f"{name}_{word}"].iloc[0]) for word in spread(rows[name])} for name in VALUES
+            }
             found += [f"{QUANTILES}: {prices}: {difference}" for difference in unlike_spreads(said, rows)]
         return found
 
@@ -299,9 +340,15 @@ class Tables:
         told = json.loads((self.schedules.whole.folder.tables / RECORD).read_text(encoding="utf-8"))
         solved, one = self.solved, self.schedules.one.row
         ramps = next(ramps for name, ramps, _ in self.schedules.limits if name == ORE)
-        expected = {"scenarios": len(self.rows), "answered": len(solved), "years": self.schedules.whole.folder.record["years"]}
+        expected = {
+            "scenarios": len(self.rows),
+            "answered": len(solved),
+            "years": self.schedules.whole.folder.record["years"],
+        }
         expected |= {"limits": {name: most for name, _, most in self.schedules.limits}, "ramp_up": list(ramps)}
-        yield from (f"{RECORD}: {name} {told[name]} for {value}" for name, value in expected.items() if told[name] != value)
+        yield from (
+            f"{RECORD}: {name} {told[name]} for {value}" for name, value in expected.items() if told[name] != value
+        )
         known = float(solved["bound"].mean() - solved["one_value"].mean())
         amounts = {"value_as_planned": one["value"], "bound_as_planned": one["bound"], "perfect_information": known}
         for name, amount in amounts.items():

@@ -31,7 +31,12 @@ def verify(answer: Answer) -> list[Rule]:
     told = json.loads((answer.folder / FILE).read_text(encoding="utf-8"))
     flows = flows_of(answer)
     sums = flows.groupby(answer.said[YEAR].to_numpy()).sum()
-    rules = [verify_order(answer, told), verify_limits(answer, told, sums), verify_fixed(answer), verify_value(answer, told, sums)]
+    rules = [
+        verify_order(answer, told),
+        verify_limits(answer, told, sums),
+        verify_fixed(answer),
+        verify_value(answer, told, sums),
+    ]
     return [found for found in rules if found is not None]
 
 
@@ -43,7 +48,12 @@ def verify_fixed(answer: Answer) -> Optional[Rule]:
     left, dug = np.flatnonzero(must & (year == 0)), np.flatnonzero(never & (year > 0))
     differences = [f"{answer.called(row)} must be dug, and is in no year" for row in left[:TOLD]]
     differences += [f"{answer.called(row)} may not be dug, and is in year {year[row]}" for row in dug[:TOLD]]
-    return rule("block fixed", "what must be dug is dug in some year, and what may not be in none", differences, len(left) + len(dug))
+    return rule(
+        "block fixed",
+        "what must be dug is dug in some year, and what may not be in none",
+        differences,
+        len(left) + len(dug),
+    )
 
 
 def flows_of(answer: Answer) -> pd.DataFrame:
@@ -52,7 +62,9 @@ def flows_of(answer: Answer) -> pd.DataFrame:
     columns = {"rock_tonnes": answer.tonnes, "ore_tonnes": sum(share for _, share in shares) * answer.feed}
     columns |= {f"ore_tonnes_{name}": share * answer.feed for name, share in shares if name}
     columns |= {f"sum_{it.name}": sum_of(answer, it, shares) for it in sums_asked(answer)}
-    columns |= {f"metal_{metal.name}": quantity(answer, number, shares) for number, metal in enumerate(answer.project.metals)}
+    columns |= {
+        f"metal_{metal.name}": quantity(answer, number, shares) for number, metal in enumerate(answer.project.metals)
+    }
     frame, said = pd.DataFrame(columns), answer.said
     amounts = zip(shares, answer.amounts_of_ways)
     gain = sum(share * (said[revenue] - said[cost]).to_numpy() for (_, share), (revenue, cost) in amounts)
@@ -83,7 +95,10 @@ def more_by_years(answer: Answer, flows: pd.DataFrame) -> np.ndarray:
     """What each block earns more by the prices of its year."""
     year, more = answer.said[YEAR].to_numpy(), np.zeros(len(flows))
     for each in np.unique(year[year > 0]).tolist():
-        premium = sum((price * flows[name].to_numpy() for name, price in premiums(answer.project, each).items()), np.zeros(len(flows)))
+        premium = sum(
+            (price * flows[name].to_numpy() for name, price in premiums(answer.project, each).items()),
+            np.zeros(len(flows)),
+        )
         more += np.where(year == each, premium, 0.0)
     return more
 
@@ -121,8 +136,12 @@ def verify_limits(answer: Answer, told: dict[str, Any], sums: pd.DataFrame) -> R
             if amount > allowed * (1 + 1e-8) + CENT:
                 differences.append(f"year {year}: {name} {amount:.10g} above {allowed:.10g}")
     rules = answer.project.schedule_rules
-    expected = {"ramp_up": list(rules.ramp_up) if rules else [1.0]} | ({"years": rules.years} if rules and rules.years else {})
-    differences += [f"{FILE}: {name} {told[name]} for {amount}" for name, amount in expected.items() if told[name] != amount]
+    expected = {"ramp_up": list(rules.ramp_up) if rules else [1.0]} | (
+        {"years": rules.years} if rules and rules.years else {}
+    )
+    differences += [
+        f"{FILE}: {name} {told[name]} for {amount}" for name, amount in expected.items() if told[name] != amount
+    ]
     due = dict(least_of(answer))
     if told.get("least", {}) != due:
         differences.append(f"least amounts are told as {told.get('least', {})} for {due}")
@@ -131,7 +150,9 @@ def verify_limits(answer: Answer, told: dict[str, Any], sums: pd.DataFrame) -> R
         amount, owed = float(sums[name].get(year, 0.0)), least * of_mill[min(year, len(of_mill)) - 1]
         if amount < owed * (1 - 1e-8) - CENT:
             differences.append(f"year {year}: {name} {amount:.10g} below {owed:.10g}")
-    return rule("block limits", "no year is above a limit of ore, rock, metal or a sum, nor below a least amount", differences)
+    return rule(
+        "block limits", "no year is above a limit of ore, rock, metal or a sum, nor below a least amount", differences
+    )
 
 
 def least_of(answer: Answer) -> Iterator[tuple[str, float]]:
@@ -167,7 +188,9 @@ def verify_value(answer: Answer, told: dict[str, Any], sums: pd.DataFrame) -> Ru
     assert answer.years is not None
     said = answer.years[answer.years["case"] == CASE].set_index("year")
     last = int(sums.index.max()) if len(sums) else 0
-    differences = [] if said.index.tolist() == list(range(1, last + 1)) else [f"years {said.index.tolist()} for 1 to {last}"]
+    differences = (
+        [] if said.index.tolist() == list(range(1, last + 1)) else [f"years {said.index.tolist()} for 1 to {last}"]
+    )
     sums = sums.reindex(range(1, last + 1), fill_value=0.0)
     sums["discounted"] = sums["cash"] * [discount(answer, year) for year in sums.index]
     for name in sums.columns:
@@ -184,5 +207,7 @@ def verify_value(answer: Answer, told: dict[str, Any], sums: pd.DataFrame) -> Ru
         differences.append(f"gap {told['gap']:.9g} for {gap:.9g}")
     dug = int(((answer.said[YEAR] > 0) & (answer.tonnes > 0)).sum())
     differences += ways_table.differences(answer, {CASE: {"value": told["value"], "bound": bound, "blocks": dug}})
-    holds = "cash is discounted as the project asks, years and value are the sums of blocks, and it is not above the bound"
+    holds = (
+        "cash is discounted as the project asks, years and value are the sums of blocks, and it is not above the bound"
+    )
     return rule("block value", holds, differences)

@@ -51,7 +51,11 @@ def verify_by_centres(answer: Answer, file: SurveyFile) -> Rule:
     before, after = answer.rows[UNCUT].to_numpy(), answer.tonnes
     wrong = (surface.above(answer, file) & (after != 0)) | ((after != 0) & (np.abs(after - before) > GRAM))
     differences = told(answer, wrong, np.where(surface.above(answer, file), 0.0, before))
-    return rule("as mined", "blocks with their centres above the as-mined surface have no tonnes, and others the table's", differences)
+    return rule(
+        "as mined",
+        "blocks with their centres above the as-mined surface have no tonnes, and others the table's",
+        differences,
+    )
 
 
 def shares(answer: Answer, original: SurveyFile, mined: SurveyFile, exactly: bool) -> tuple[np.ndarray, np.ndarray]:
@@ -63,9 +67,13 @@ def shares(answer: Answer, original: SurveyFile, mined: SurveyFile, exactly: boo
     at = np.full(len(places), -1)
     at[numbers] = np.arange(len(numbers))
     grounds = (Ground.of(answer, file) for file in (original, mined))
-    whole, below = (ground.exactly(places[numbers]) if exactly else ground.quickly(places[numbers]) for ground in grounds)
+    whole, below = (
+        ground.exactly(places[numbers]) if exactly else ground.quickly(places[numbers]) for ground in grounds
+    )
     up = answer.shape[0] - 1 - level
-    whole, left = (np.where(at[place] >= 0, share[at[place], up], np.nan) for share in (whole, np.minimum(whole, below)))
+    whole, left = (
+        np.where(at[place] >= 0, share[at[place], up], np.nan) for share in (whole, np.minimum(whole, below))
+    )
     return whole, left
 
 

@@ -20,7 +20,9 @@ def by_code(value: ByCode, rows: pd.DataFrame, columns: TableColumns) -> np.ndar
     if isinstance(value, Decimal):
         return np.full(len(rows), float(value))
     column, numbers = (columns.region, value.values) if isinstance(value, ByRegion) else (columns.rock, value)
-    return rows[column].astype(str).map({code: float(number) for code, number in numbers.items()}).fillna(0.0).to_numpy()
+    return (
+        rows[column].astype(str).map({code: float(number) for code, number in numbers.items()}).fillna(0.0).to_numpy()
+    )
 
 
 def of_code(value: ByCode, rock: str, region: str) -> Decimal:
@@ -34,8 +36,12 @@ def recovered(metal: Metal, rows: pd.DataFrame, project: Project) -> np.ndarray:
     """By row the grade that is recovered of each tonne of the block itself that comes to the mill, in the column's unit."""
     grades, table = rows[metal.column].to_numpy(), project.table
     tonnes_of = 1 + by_code(project.money.dilution, rows, table)
-    codes = [rows[name].astype(str).to_numpy() if name else np.full(len(rows), "") for name in (table.rock, table.region)]
-    of_rocks = metal.recovery if isinstance(metal.recovery, dict) else dict.fromkeys(np.unique(codes[0]), metal.recovery)
+    codes = [
+        rows[name].astype(str).to_numpy() if name else np.full(len(rows), "") for name in (table.rock, table.region)
+    ]
+    of_rocks = (
+        metal.recovery if isinstance(metal.recovery, dict) else dict.fromkeys(np.unique(codes[0]), metal.recovery)
+    )
     share = np.zeros(len(rows))
     for code, recovery in of_rocks.items():
         mine = np.flatnonzero(codes[0] == code)

@@ -72,7 +72,9 @@ def verify_places(answer: Answer) -> Rule:
     rules, (differences, count) = answer.project.grid, own_columns.unlike(answer)
     tolerance = rules.tolerance
     if rules.azimuth is not None and rules.azimuth != answer.azimuth:
-        differences.append(f"the grid's north has azimuth {answer.azimuth:.10g} for {rules.azimuth:.10g} of the project")
+        differences.append(
+            f"the grid's north has azimuth {answer.azimuth:.10g} for {rules.azimuth:.10g} of the project"
+        )
         count += 1
     for steps, cell, size in zip(answer.steps, answer.cells[::-1], answer.size):
         off = np.abs(steps - cell) * size
@@ -81,8 +83,15 @@ def verify_places(answer: Answer) -> Rule:
         count += len(far)
     number = np.ravel_multi_index(answer.cells, answer.shape, mode="clip")
     wrong = np.flatnonzero(number != answer.said["id"].to_numpy())
-    differences += [f"{answer.called(row)} has the id {answer.said['id'].iloc[row]} for {number[row]}" for row in wrong[:TOLD]]
+    differences += [
+        f"{answer.called(row)} has the id {answer.said['id'].iloc[row]} for {number[row]}" for row in wrong[:TOLD]
+    ]
     strange = np.flatnonzero(~answer.said["factor"].isin([0, *answer.factors]))
     differences += [f"{answer.called(row)} comes in at {answer.said['factor'].iloc[row]}" for row in strange[:TOLD]]
     count += len(wrong) + len(strange)
-    return rule("blocks", "every block of the table stands in the answer, in its own cell and with the table's own fields", differences, count)
+    return rule(
+        "blocks",
+        "every block of the table stands in the answer, in its own cell and with the table's own fields",
+        differences,
+        count,
+    )

@@ -32,7 +32,9 @@ def verify(answer: Answer, chosen: np.ndarray) -> Rule:
         count += len(far)
     for row in chosen.tolist() if not count else []:
         due_exactly = Decimal(repr(float(answer.tonnes[row]))) * a_tonne(told[row], rules.waste)
-        if not math.isclose(float(due_exactly.quantize(unit, ROUND_HALF_EVEN)), answer.said[WASTE].iloc[row], rel_tol=1e-15):
+        if not math.isclose(
+            float(due_exactly.quantize(unit, ROUND_HALF_EVEN)), answer.said[WASTE].iloc[row], rel_tol=1e-15
+        ):
             differences.append(f"{answer.called(row)}: {WASTE} {answer.said[WASTE].iloc[row]:.10g} for {due_exactly}")
     holds = "roads to the exit are right to a millimetre, and what hauling costs follows from them"
     return rule("haulage", holds, differences, max(count, len(differences)))

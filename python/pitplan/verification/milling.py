@@ -23,21 +23,30 @@ def parcels_of(answer: Answer, edges: list[float]) -> pd.DataFrame:
     gain = (answer.said["revenue"] - answer.said["processing_cost"]).to_numpy()
     with np.errstate(divide="ignore", invalid="ignore"):
         bins = 1 + (gain[:, None] / answer.feed[:, None] > np.array(edges)).sum(axis=1)
-    columns = {"ore_tonnes": answer.feed, "gain": gain} | {f"metal_{name}": metal for name, metal in answer.quantities.items()}
+    columns = {"ore_tonnes": answer.feed, "gain": gain} | {
+        f"metal_{name}": metal for name, metal in answer.quantities.items()
+    }
     frame = pd.DataFrame(columns | {"phase": answer.said["phase"].to_numpy(), "level": answer.cells[0], "bin": bins})
     return frame[(frame["phase"] > 0) & answer.ore & (answer.tonnes > 0)].groupby(KEYS).sum()
 
 
-def amounts(answer: Answer, rows: pd.DataFrame, plain: pd.DataFrame, told: dict[str, Any]) -> tuple[pd.DataFrame, pd.DataFrame, list[str]]:
+def amounts(
+    answer: Answer, rows: pd.DataFrame, plain: pd.DataFrame, told: dict[str, Any]
+) -> tuple[pd.DataFrame, pd.DataFrame, list[str]]:
     """What each row of a way's schedule should have, by how much it may be off, and what is wrong in milling.csv. `plain` is what it would
     have if all ore were milled as it is dug."""
     table = read_table(answer.folder / "milling.csv", ["way"])
     table = table[table["way"].isin(rows["way"].unique())].copy()
     # Of a way that mills nothing there are no rows, by which the reader could tell numbers.
-    table = table.astype({name: float if name.endswith("_tonnes") else int for name in table if name not in ("way", "bench")})
+    table = table.astype(
+        {name: float if name.endswith("_tonnes") else int for name in table if name not in ("way", "bench")}
+    )
     steps = ((answer.elevations[0] - table["bench"]) / answer.size[2]).astype(float)
     table["level"] = np.rint(steps).astype(int)
-    lost = [f"milling.csv: {z:.10g} is the middle of no bench" for z in table["bench"][(steps - table["level"]).abs() > SLIGHT].unique()]
+    lost = [
+        f"milling.csv: {z:.10g} is the middle of no bench"
+        for z in table["bench"][(steps - table["level"]).abs() > SLIGHT].unique()
+    ]
     whole = parcels_of(answer, told["edges"])
     of_parcel = whole.reindex(pd.MultiIndex.from_frame(table[KEYS])).reset_index(drop=True).astype(float)
     table = table.reset_index(drop=True)
@@ -52,12 +61,20 @@ def amounts(answer: Answer, rows: pd.DataFrame, plain: pd.DataFrame, told: dict[
     slack["gain"] += (cost or 0.0) * AMOUNT
     keys = [table["year"], table["phase"], table["level"]]
     at = pd.MultiIndex.from_frame(rows[["year", "phase", "level"]])
-    flowed, more = (frame.groupby(keys).sum().reindex(at).fillna(0.0).reset_index(drop=True) for frame in (flows, slack))
+    flowed, more = (
+        frame.groupby(keys).sum().reindex(at).fillna(0.0).reset_index(drop=True) for frame in (flows, slack)
+    )
     expected, loose = flowed.drop(columns="gain"), more.drop(columns="gain")
     expected["rock_tonnes"], loose["rock_tonnes"] = plain["rock_tonnes"], 0.0
     gains = whole["gain"].groupby(level=["phase", "level"]).sum().reindex(at.droplevel("year")).fillna(0.0).to_numpy()
-    expected["cash"], loose["cash"] = plain["cash"] - rows["share"] * gains + flowed["gain"], more["gain"] + 1e-9 * np.abs(gains)
-    wrong = [*unlike_rows(table, rows, of_parcel), *unlike_stock(table, whole, cost is not None), *unlike_cutoffs(table, told)]
+    expected["cash"], loose["cash"] = plain["cash"] - rows["share"] * gains + flowed["gain"], more[
+        "gain"
+    ] + 1e-9 * np.abs(gains)
+    wrong = [
+        *unlike_rows(table, rows, of_parcel),
+        *unlike_stock(table, whole, cost is not None),
+        *unlike_cutoffs(table, told),
+    ]
     return expected, loose, [*lost, *wrong]
 
 
@@ -81,8 +98,13 @@ def unlike_rows(table: pd.DataFrame, rows: pd.DataFrame, of_parcel: pd.DataFrame
     dug = share.fillna(0.0).to_numpy() * of_parcel["ore_tonnes"]
     slack = AMOUNT + SHARE * of_parcel["ore_tonnes"]
     wrong = (table["dug_tonnes"] - dug).abs() > slack
-    wrong |= (table["milled_tonnes"] > table["dug_tonnes"] + slack) | (table[["milled_tonnes", "reclaimed_tonnes"]] < 0).any(axis=1)
-    places = [f"year {row.year}, phase {row.phase}, bench {row.bench:.10g}, bin {row.bin}" for row in table[wrong].itertuples()]
+    wrong |= (table["milled_tonnes"] > table["dug_tonnes"] + slack) | (
+        table[["milled_tonnes", "reclaimed_tonnes"]] < 0
+    ).any(axis=1)
+    places = [
+        f"year {row.year}, phase {row.phase}, bench {row.bench:.10g}, bin {row.bin}"
+        for row in table[wrong].itertuples()
+    ]
     return [f"milling.csv, {place}: dug or milled tonnes are wrong" for place in places]
 
 
@@ -92,10 +114,16 @@ def unlike_stock(table: pd.DataFrame, whole: pd.DataFrame, is_stocked: bool) -> 
         return ["ore is reclaimed, and there is no stockpile"] if (table["reclaimed_tonnes"] > 0).any() else []
     years = range(1, int(table["year"].max()) + 1) if len(table) else range(0)
     dug, milled, reclaimed = (
-        table.pivot_table(index=KEYS, columns="year", values=f"{name}_tonnes", aggfunc="sum").reindex(columns=years).fillna(0.0).cumsum(axis=1)
+        table.pivot_table(index=KEYS, columns="year", values=f"{name}_tonnes", aggfunc="sum")
+        .reindex(columns=years)
+        .fillna(0.0)
+        .cumsum(axis=1)
         for name in ("dug", "milled", "reclaimed")
     )
     stocked = (dug - milled).shift(1, axis=1, fill_value=0.0)
     slack = (SHARE * whole["ore_tonnes"]).reindex(dug.index) + AMOUNT * len(years) * 3
     wrong = reclaimed.gt(stocked.add(slack, axis=0)).any(axis=1)
-    return [f"milling.csv: more is reclaimed of phase {at[0]}, level {at[1]}, bin {at[2]} than is stocked" for at in wrong.index[wrong]]
+    return [
+        f"milling.csv: more is reclaimed of phase {at[0]}, level {at[1]}, bin {at[2]} than is stocked"
+        for at in wrong.index[wrong]
+    ]

@@ -31,10 +31,14 @@ def verify(answer: Answer) -> Rule:
     found = [near(part, names) for part, names in zip(parts, answer.amounts_of_ways)]
     differences, count = [said for told, _ in found for said in told], sum(count for _, count in found)
     if not count:
-        differences = [said for part, names in zip(parts, answer.amounts_of_ways) for said in not_exact(part, chosen, names)]
+        differences = [
+            said for part, names in zip(parts, answer.amounts_of_ways) for said in not_exact(part, chosen, names)
+        ]
         differences += unlike_best(answer) if answer.project.processes else []
         count = len(differences)
-    return rule("money", f"costs and revenue of all blocks are right, and exactly so for {len(chosen):,}", differences, count)
+    return rule(
+        "money", f"costs and revenue of all blocks are right, and exactly so for {len(chosen):,}", differences, count
+    )
 
 
 def unlike_best(answer: Answer) -> list[str]:
@@ -133,7 +137,10 @@ class Costs:
     def of(project: Project, rock: str, region: str) -> Costs:
         money, metals = project.money, project.metals
         told = (money.mining_cost, money.processing_cost, money.mining_recovery, money.dilution)
-        shares = [metal.recovery.get(rock, Decimal(0)) if isinstance(metal.recovery, dict) else metal.recovery for metal in metals]
+        shares = [
+            metal.recovery.get(rock, Decimal(0)) if isinstance(metal.recovery, dict) else metal.recovery
+            for metal in metals
+        ]
         tails = [of_code(metal.fixed_tail, rock, "") for metal in metals]
         return Costs(*(of_code(value, rock, region) for value in told), tuple(shares), tuple(tails))
 
@@ -169,7 +176,10 @@ class Exactly:
     @staticmethod
     def of(answer: Answer) -> "Exactly":
         project, columns = answer.project, answer.project.table
-        named = [answer.rows[name].astype(str).tolist() if name else [""] * len(answer.rows) for name in (columns.rock, columns.region)]
+        named = [
+            answer.rows[name].astype(str).tolist() if name else [""] * len(answer.rows)
+            for name in (columns.rock, columns.region)
+        ]
         codes = list(zip(*named))
         costs = {code: Costs.of(project, *code) for code in set(codes)}
         grades = [answer.rows[metal.column].tolist() for metal in project.metals]
@@ -191,7 +201,9 @@ class Exactly:
         metal."""
         project, tonnes, (level, road) = self.answer.project, Decimal(repr(rock)), place
         costs, rules = self.costs[codes], self.answer.project.haulage
-        waste, ore = (haulage.a_tonne(road, kind) for kind in (rules.waste, rules.ore)) if rules else (Decimal(0), Decimal(0))
+        waste, ore = (
+            (haulage.a_tonne(road, kind) for kind in (rules.waste, rules.ore)) if rules else (Decimal(0), Decimal(0))
+        )
         mining = tonnes * (costs.mining + self.depths[level] + waste)
         revenue = selling = Decimal(0)
         for number, (metal, told) in enumerate(zip(project.metals, grades)):
@@ -202,7 +214,12 @@ class Exactly:
             revenue += quantity * metal.price
             selling += quantity * metal.selling_cost
         unit = Decimal(1).scaleb(-project.money.decimals)
-        processing = tonnes * costs.mining_recovery * (1 + costs.dilution) * (costs.processing + project.money.royalty_per_tonne + ore - waste)
+        processing = (
+            tonnes
+            * costs.mining_recovery
+            * (1 + costs.dilution)
+            * (costs.processing + project.money.royalty_per_tonne + ore - waste)
+        )
         amounts = (mining, revenue - revenue * project.money.royalty, processing + selling)
         mining, revenue, processing = (amount.quantize(unit, ROUND_HALF_EVEN) for amount in amounts)
         return mining, revenue, processing if revenue else Decimal(0)

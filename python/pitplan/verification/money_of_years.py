@@ -13,7 +13,9 @@ HAIR = 1e-9
 def premiums(project: Project, year: int) -> dict[str, float]:
     """By the name of a metal's amount what a unit of it earns more in a year, numbered from 1, than at the price as given."""
     return {
-        f"metal_{metal.name}": float((metal.prices[min(year, len(metal.prices)) - 1] - metal.price) * (1 - project.money.royalty))
+        f"metal_{metal.name}": float(
+            (metal.prices[min(year, len(metal.prices)) - 1] - metal.price) * (1 - project.money.royalty)
+        )
         for metal in project.metals
         if metal.prices
     }
@@ -32,7 +34,11 @@ def more_by_prices(project: Project, rows: pd.DataFrame) -> np.ndarray:
 def most_premium(project: Project) -> float:
     """The sum over all metals of the greatest that a unit earns more or less in any year."""
     years = range(1, 1 + max((len(metal.prices) for metal in project.metals), default=0))
-    return sum(max(abs(premiums(project, year)[name]) for year in years) for name in premiums(project, 1)) if years else 0.0
+    return (
+        sum(max(abs(premiums(project, year)[name]) for year in years) for name in premiums(project, 1))
+        if years
+        else 0.0
+    )
 
 
 def capital(project: Project, year: int) -> float:

@@ -37,7 +37,9 @@ def holds(answer: Answer) -> str:
     asked, wide = answer.project.phases, []
     for metres, of_what in ((asked and asked.width, "its phase"), (asked and asked.bottom, "the pit up to its phase")):
         if metres:
-            wide.append(f"each block lies in a square {metres:g} m wide of {of_what} on its level, with air and what must be dug; ")
+            wide.append(
+                f"each block lies in a square {metres:g} m wide of {of_what} on its level, with air and what must be dug; "
+            )
     return "".join(wide) + "pieces and least width of each phase are what its blocks make"
 
 

@@ -22,7 +22,9 @@ def verify(answer: Answer) -> list[Rule]:
 def of_phases(of_shells: Rule) -> Rule:
     """What was found of phases as if they were shells, in words of phases."""
     holds = of_shells.holds.replace("of any shell", "of the phases up to any").replace("in every shell", "in phase 1")
-    differences = tuple(text.replace("from factor", "from phase").replace("dug at", "in phase") for text in of_shells.differences)
+    differences = tuple(
+        text.replace("from factor", "from phase").replace("dug at", "in phase") for text in of_shells.differences
+    )
     return Rule(f"phase {of_shells.name}", holds, differences, of_shells.count)
 
 
@@ -79,7 +81,11 @@ def verify_sums(answer: Answer) -> Rule:
     for number, said in answer.phases.iterrows():
         mine, up_to = phase == number, (phase > 0) & (phase <= number)
         lost = answer.worths[sums.within(answer, int(said["factor"]))].sum() - answer.worths[up_to].sum()
-        later = {"deferred_value": 0.0, "cost_of_width": lost} if number == answer.phases.index[-1] else {"deferred_value": lost, "cost_of_width": 0.0}
+        later = (
+            {"deferred_value": 0.0, "cost_of_width": lost}
+            if number == answer.phases.index[-1]
+            else {"deferred_value": lost, "cost_of_width": 0.0}
+        )
         for name, amount in later.items():
             if not np.isclose(said[name], amount, rtol=1e-9, atol=CENT):
                 differences.append(f"phase {number}: {name} {said[name]:.10g} for {amount:.10g}")
@@ -92,7 +98,11 @@ def verify_sums(answer: Answer) -> Rule:
             slack = 0.6 * sums.smallest(name) + (1e-12 * gross if name == "worth" else 0.0)
             if not np.isclose(said[name], amount, rtol=1e-9, atol=slack, equal_nan=True):
                 differences.append(f"phase {number}: {name} {said[name]:.10g} for {amount:.10g}")
-    return rule("phases", "blocks, tonnes, grades, ratios, metal and worth of each phase are the sums of its blocks", differences)
+    return rule(
+        "phases",
+        "blocks, tonnes, grades, ratios, metal and worth of each phase are the sums of its blocks",
+        differences,
+    )
 
 
 def of_blocks(answer: Answer, mine: np.ndarray, ore: np.ndarray) -> dict[str, float]:

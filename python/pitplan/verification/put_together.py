@@ -64,7 +64,9 @@ def written_rows(expected: pd.DataFrame, written: pd.DataFrame, project: Project
 
     at = places(written).get_indexer(places(expected))
     if (at < 0).any():
-        raise PlanError(f"blocks.csv: {np.count_nonzero(at < 0):,} blocks of the table's rows are not in it: has the table changed since?")
+        raise PlanError(
+            f"blocks.csv: {np.count_nonzero(at < 0):,} blocks of the table's rows are not in it: has the table changed since?"
+        )
     return written.iloc[at][list(expected.columns)].reset_index(drop=True)
 
 

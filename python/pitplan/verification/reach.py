@@ -25,7 +25,12 @@ def verify(answer: Answer) -> Rule:
     for way in answer.project.ways:
         part = replace(answer, project=way, rows=rows, said=pd.DataFrame(index=rows.index), found={})
         revenue, processing = gains_by_floats(part)
-        pays = rock_of(part, np.flatnonzero(factor / 1000 * revenue - processing > HAIR * revenue + 10.0**-answer.project.money.decimals))
+        pays = rock_of(
+            part,
+            np.flatnonzero(
+                factor / 1000 * revenue - processing > HAIR * revenue + 10.0**-answer.project.money.decimals
+            ),
+        )
         differences += [f"{part.called(row)} was left out, and pays at factor {factor}" for row in pays[:TOLD]]
         count += len(pays)
     fixed = answer.project.fixed
@@ -35,7 +40,10 @@ def verify(answer: Answer) -> Rule:
         differences += [f"{part.called(row)} was left out, and must be dug" for row in forced[:TOLD]]
         count += len(forced)
     reaching = leading_off(answer)
-    differences += [f"{answer.called(row)}, dug at {answer.said['factor'].iloc[row]}, needs ground that was left out" for row in reaching[:TOLD]]
+    differences += [
+        f"{answer.called(row)}, dug at {answer.said['factor'].iloc[row]}, needs ground that was left out"
+        for row in reaching[:TOLD]
+    ]
     holds = f"of {len(rows):,} blocks that were left out none pays for its processing or must be dug, and no shell needs ground there"
     return rule("reach", holds, differences, count + len(reaching))
 
@@ -66,11 +74,15 @@ def leading_off(answer: Answer) -> np.ndarray:
         mine = (entry == number) & (dug != UNDUG) & (dug != NOTHING)
         for up in range(1, answer.levels(wall) + 1):
             for run in runs(cone(wall, answer.size, up, answer.azimuth)):
-                wrong |= mine & (level >= up) & leads_off(run, row, column, (answer.shape[1:], (south, north, west, east)))
+                wrong |= (
+                    mine & (level >= up) & leads_off(run, row, column, (answer.shape[1:], (south, north, west, east)))
+                )
     return np.flatnonzero(wrong)
 
 
-def leads_off(run: Run, row: np.ndarray, column: np.ndarray, sides: tuple[tuple[int, int], tuple[int, int, int, int]]) -> np.ndarray:
+def leads_off(
+    run: Run, row: np.ndarray, column: np.ndarray, sides: tuple[tuple[int, int], tuple[int, int, int, int]]
+) -> np.ndarray:
     """Whether cells of a run above each place lie in the model and beside the grid, of so many rows and columns, with more beside it."""
     (rows, columns), (south, north, west, east) = sides
     to, first, last = row + run.north, column + run.west, column + run.east

@@ -21,7 +21,9 @@ def verify(answer: Answer) -> Rule:
     """Blocks lie where the project puts them, and each holds its rows: tonnes, grades, rock, region, and what is fixed."""
     parts, said = answer.parts, answer.rows
     assert parts is not None
-    expected = divided(together(parts, answer.project, answer.record["grid"]), answer.project, answer.record["grid"])[0].reset_index(drop=True)
+    expected = divided(together(parts, answer.project, answer.record["grid"]), answer.project, answer.record["grid"])[
+        0
+    ].reset_index(drop=True)
     differences = unlike_grid(parts, answer.project, answer.record["grid"])
     columns, count = answer.project.table, len(differences)
     if len(expected) != answer.known:
@@ -32,7 +34,11 @@ def verify(answer: Answer) -> Rule:
         column = said[name].iloc[: answer.known].to_numpy()
         slack = TONNES if name == columns.tonnes else GRADE
         is_code = name in (columns.id, columns.rock, columns.region)
-        other = column != expected[name] if is_code else np.abs(column - expected[name]) > slack + 1e-12 * np.abs(expected[name])
+        other = (
+            column != expected[name]
+            if is_code
+            else np.abs(column - expected[name]) > slack + 1e-12 * np.abs(expected[name])
+        )
         off = np.flatnonzero(other)
         differences += [f"{answer.called(row)}: {name} {column[row]} for {expected[name][row]}" for row in off[:TOLD]]
         count += len(off)
@@ -47,7 +53,9 @@ def unlike_grid(parts: pd.DataFrame, project: Project, grid: dict[str, Any]) -> 
     levels, axes = grid["shape"][0], [columns.x, columns.y, columns.z]
     # Metres along the grid's own axes from its first block, where it is turned, else the planner's.
     first = np.array([0.0, 0.0, grid["origin"][2]]) if grid.get("azimuth") else np.array(grid["origin"])
-    along = steps_of(parts[axes].to_numpy(), grid) * grid["size"] + first if grid.get("azimuth") else parts[axes].to_numpy()
+    along = (
+        steps_of(parts[axes].to_numpy(), grid) * grid["size"] + first if grid.get("azimuth") else parts[axes].to_numpy()
+    )
     for k, name in enumerate(axes):
         centres, size = np.unique(along[:, k]), grid["size"][k]
         edge = first[k] - size / 2 - (size * (levels - 1) if k == 2 else 0.0)
@@ -57,11 +65,17 @@ def unlike_grid(parts: pd.DataFrame, project: Project, grid: dict[str, Any]) -> 
             # What no shell can reach may be left out: whole blocks.
             start += size * np.rint((edge - start) / size)
             steps = (centres - centres[0]) / own
-            if np.abs(steps - np.rint(steps)).max() * own > project.grid.tolerance * 2 or not on_steps(np.diff(np.rint(steps))):
+            if np.abs(steps - np.rint(steps)).max() * own > project.grid.tolerance * 2 or not on_steps(
+                np.diff(np.rint(steps))
+            ):
                 found.append(f"{name}: blocks of {size:.10g} m are no {rules.counts[k]} of the table's")
         else:
             assert rules.size is not None and rules.corner is not None
-            corner = (steps_of(np.array([rules.corner]), grid)[0] * grid["size"] + first)[k] if grid.get("azimuth") else rules.corner[k]
+            corner = (
+                (steps_of(np.array([rules.corner]), grid)[0] * grid["size"] + first)[k]
+                if grid.get("azimuth")
+                else rules.corner[k]
+            )
             expected, start = rules.size[k], corner + size * np.rint((edge - corner) / size)
         if abs(expected - size) > HAIR or abs(edge - start) > max(HAIR, project.grid.tolerance):
             found.append(f"{name}: blocks of {size:.10g} m from {edge:.10g} on for {expected:.10g} from {start:.10g}")

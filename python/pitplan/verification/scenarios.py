@@ -54,7 +54,9 @@ def named(folder: Path) -> Iterator[None]:
     except OSError as error:
         raise PlanError(f"{error.filename}: cannot be read: {error.strerror}") from error
     except KeyError as error:
-        raise PlanError(f"{folder}: is no folder that pitplan scenarios and gather have written: {error} is missing") from error
+        raise PlanError(
+            f"{folder}: is no folder that pitplan scenarios and gather have written: {error} is missing"
+        ) from error
 
 
 @dataclass(frozen=True)
@@ -74,21 +76,36 @@ class Verification:
         said = pd.DataFrame({"id": folder.told["id"].to_numpy(), "factor": 0})
         rows, known = folder.rows, len(folder.table)
         own = own_columns(folder.told, rows, np.arange(len(rows)))
-        return Answer(folder.folder, folder.project, rows, known, said, pd.DataFrame(), None, folder.record, folder.factors, own=own)
+        return Answer(
+            folder.folder,
+            folder.project,
+            rows,
+            known,
+            said,
+            pd.DataFrame(),
+            None,
+            folder.record,
+            folder.factors,
+            own=own,
+        )
 
     def listed(self) -> Rule:
         """Every model at every set of prices is a scenario, and the list has no other."""
         folder, differences = self.folder, []
         own, listed = folder.scenarios, folder.record["scenarios"]
         if len(own) != len(listed):
-            differences.append(f"scenarios.json lists {len(listed):,} scenarios, and the models and prices make {len(own):,}")
+            differences.append(
+                f"scenarios.json lists {len(listed):,} scenarios, and the models and prices make {len(own):,}"
+            )
         if tuple(folder.record["factors"]) != folder.factors:
             differences.append(f"scenarios.json lists the factors {folder.record['factors']}")
         for scenario, entry in zip(own, listed):
             prices = {metal: Decimal(price) for metal, price in entry["prices"].items()}
             if entry["model"] != scenario.model.name or prices != scenario.prices:
                 differences.append(f"scenarios.json lists {entry['model']} at {entry['prices']} for {scenario.label}")
-        return rule("scenarios", "each model at each set of prices is a scenario, at the project's factors", differences)
+        return rule(
+            "scenarios", "each model at each set of prices is a scenario, at the project's factors", differences
+        )
 
     @cached_property
     def sample(self) -> list[Scenario]:
@@ -165,18 +182,29 @@ class Verification:
         words = f"each is the share of {len(tables):,} answers whose pit holds the block"
         return [
             rule("probability", words, *self.unlike_shares(held / max(len(tables), 1))),
-            rule("tables", "blocks and tonnes of all answers add up, and every row of the tables follows from the answers", differences),
+            rule(
+                "tables",
+                "blocks and tonnes of all answers add up, and every row of the tables follows from the answers",
+                differences,
+            ),
         ]
 
     def unlike_places(self, scenario: Scenario, told: Told, inside: np.ndarray) -> list[str]:
         """Where an answer's count of blocks and of tonnes are not those of the blocks that it holds."""
         folder = self.folder
-        found = [] if told.places.max(initial=0) <= len(folder.factors) else [f"{scenario.label}: a block comes in at no factor"]
+        found = (
+            []
+            if told.places.max(initial=0) <= len(folder.factors)
+            else [f"{scenario.label}: a block comes in at no factor"]
+        )
         tonnes = self.ground.tonnes
         for name, amounts in (("blocks", inside[tonnes > 0].sum(axis=0)), ("tonnes", tonnes @ inside)):
             said = told.table[name].to_numpy()
             off = np.flatnonzero(~np.isclose(said, amounts, rtol=1e-9, atol=1e-9))
-            found += [f"{scenario.label}: factor {folder.factors[k]}: {name} {said[k]:.10g} for {amounts[k]:.10g}" for k in off]
+            found += [
+                f"{scenario.label}: factor {folder.factors[k]}: {name} {said[k]:.10g} for {amounts[k]:.10g}"
+                for k in off
+            ]
         return found
 
     def unlike_shares(self, expected: np.ndarray) -> tuple[list[str], int]:
@@ -186,7 +214,9 @@ class Verification:
             said = self.folder.told[f"probability_{factor}"].to_numpy()
             off = np.flatnonzero(~(np.abs(said - expected[:, number]) <= 1e-6))
             for row in off[:TOLD]:
-                differences.append(f"{self.ground.called(row)}: probability_{factor} {said[row]:g} for {expected[row, number]:.6g}")
+                differences.append(
+                    f"{self.ground.called(row)}: probability_{factor} {said[row]:g} for {expected[row, number]:.6g}"
+                )
             count += len(off)
         return differences, count
 
@@ -225,7 +255,10 @@ def unlike_row(rows: pd.DataFrame, scenario: Scenario, table: pd.DataFrame) -> l
             off = np.array([Decimal(said) != Decimal(worth) for said, worth in zip(rows[name], expected[name])])
         else:
             off = ~np.isclose(rows[name].to_numpy(), expected[name].to_numpy(), rtol=1e-9, atol=1e-9, equal_nan=True)
-        found += [f"factor {rows.index[k]}: {name} {rows[name].iloc[k]} for {expected[name].iloc[k]}" for k in np.flatnonzero(off)]
+        found += [
+            f"factor {rows.index[k]}: {name} {rows[name].iloc[k]} for {expected[name].iloc[k]}"
+            for k in np.flatnonzero(off)
+        ]
     return found
 
 
@@ -238,10 +271,16 @@ def unlike_quantiles(folder: Simulated, tables: list[tuple[Scenario, pd.DataFram
         sets.setdefault(prices, []).append(table)
     found = [] if len(written) == len(sets) * len(folder.factors) else [f"{QUANTILES}: has {len(written):,} rows"]
     for prices, group in sets.items():
-        of_set = written[np.logical_and.reduce([np.isclose(written[name], price) for name, price in prices] or [written["factor"] > 0])]
+        of_set = written[
+            np.logical_and.reduce(
+                [np.isclose(written[name], price) for name, price in prices] or [written["factor"] > 0]
+            )
+        ]
         for factor in folder.factors:
             rows = of_set[of_set["factor"] == factor]
-            found += unlike_spread(rows, [table.loc[factor] for table in group], f"{QUANTILES}: factor {factor} of {prices}")
+            found += unlike_spread(
+                rows, [table.loc[factor] for table in group], f"{QUANTILES}: factor {factor} of {prices}"
+            )
     return found
 
 

@@ -75,9 +75,14 @@ def ways_of(answer: Answer, told: dict[str, Any]) -> tuple[list[str], list[Way]]
     rows["level"] = np.rint(steps).astype(int)
     lost = (abs(steps - rows["level"]) > SLIGHT) | ~rows["level"].between(0, answer.shape[0] - 1)
     # Of ore that is reclaimed from a stockpile nothing is dug.
-    nothing = (rows["share"] < 0) | ((rows["share"] == 0) & ((rows["ore_tonnes"] <= 0) | ~rows["way"].isin(told["bins"])))
+    nothing = (rows["share"] < 0) | (
+        (rows["share"] == 0) & ((rows["ore_tonnes"] <= 0) | ~rows["way"].isin(told["bins"]))
+    )
     lost |= ~rows["phase"].between(1, answer.said["phase"].max()) | (rows["year"] < 1) | nothing
-    differences = [f"{row.way}, year {row.year}: no bench {row.bench:.10g} of phase {row.phase}, or no share {row.share:g}" for row in rows[lost].itertuples()]
+    differences = [
+        f"{row.way}, year {row.year}: no bench {row.bench:.10g} of phase {row.phase}, or no share {row.share:g}"
+        for row in rows[lost].itertuples()
+    ]
     if not set(rows["way"]) <= set(told["ways"]):
         differences.append(f"ways {sorted(set(rows['way']))} for {sorted(told['ways'])}")
     rows = rows[~lost]
@@ -86,7 +91,11 @@ def ways_of(answer: Answer, told: dict[str, Any]) -> tuple[list[str], list[Way]]
 
 def sums_of_benches(answer: Answer) -> pd.DataFrame:
     """By phase and level what the blocks add up to, of benches that hold rock."""
-    columns = {"rock_tonnes": answer.tonnes, "ore_tonnes": np.where(answer.ore, answer.feed, 0.0), "cash": answer.earned}
+    columns = {
+        "rock_tonnes": answer.tonnes,
+        "ore_tonnes": np.where(answer.ore, answer.feed, 0.0),
+        "cash": answer.earned,
+    }
     columns |= answer.feeds
     columns |= {f"metal_{name}": np.where(answer.ore, metal, 0.0) for name, metal in answer.quantities.items()}
     frame = pd.DataFrame(columns | {"phase": answer.said["phase"].to_numpy(), "level": answer.cells[0]})
@@ -108,9 +117,15 @@ def verify_amounts(ways: list[Way], told: dict[str, Any], sums: pd.DataFrame, mi
         for name in sums.columns:
             expected = amounts[name]
             off = (rows[name] - expected).abs() > slack[name] + 1e-9 * expected.abs()
-            differences += [f"{place(row)}: {name} {getattr(row, name):.10g} for {expected[row.Index]:.10g}" for row in rows[off].itertuples()]
+            differences += [
+                f"{place(row)}: {name} {getattr(row, name):.10g} for {expected[row.Index]:.10g}"
+                for row in rows[off].itertuples()
+            ]
         twice = np.argwhere(way.done[:, :, -1] > 1 + SLIGHT)
-        differences += [f"{way.name}: phase {phase}, level {level} is dug {way.done[phase, level, -1]:.9g} times" for phase, level in twice]
+        differences += [
+            f"{way.name}: phase {phase}, level {level} is dug {way.done[phase, level, -1]:.9g} times"
+            for phase, level in twice
+        ]
     holds = "each row of the schedule is a share of the blocks of its bench, and no tonne is dug twice"
     return rule("schedule amounts", holds, differences[:TOLD], len(differences))
 
@@ -130,7 +145,11 @@ def verify_order(ways: list[Way], sums: pd.DataFrame) -> Rule:
         least = np.minimum.accumulate(np.where(is_there[:, :, None], way.done, 1.0), axis=1)
         for row in way.rows.itertuples():
             down = min(row.level + lag, least.shape[1] - 1)
-            waited = [1.0, *([least[row.phase, row.level - 1, row.year]] if row.level else []), *least[: row.phase, down, row.year]]
+            waited = [
+                1.0,
+                *([least[row.phase, row.level - 1, row.year]] if row.level else []),
+                *least[: row.phase, down, row.year],
+            ]
             if min(waited) < 1 - SLIGHT:
                 differences.append(f"{place(row)}: is begun when one that it waits for is dug to {min(waited):.6g}")
     holds = "no bench is begun before all that it waits for is through"
@@ -140,7 +159,9 @@ def verify_order(ways: list[Way], sums: pd.DataFrame) -> Rule:
 def limits_of(way: Way) -> Iterator[tuple[str, float, float]]:
     """Name of an amount, the most of a year, and by how much its sum may be off for rounding."""
     rules, shells = way.project_rules, way.answer.project.schedule
-    ore, rock = (rules and rules.ore_per_year) or shells.ore_per_year, (rules and rules.rock_per_year) or shells.rock_per_year
+    ore, rock = (rules and rules.ore_per_year) or shells.ore_per_year, (
+        rules and rules.rock_per_year
+    ) or shells.rock_per_year
     yield "ore_tonnes", ore, CENT
     yield "rock_tonnes", rock or math.inf, CENT
     for process in way.answer.project.processes:
@@ -153,9 +174,15 @@ def unlike_limits(way: Way, told: dict[str, Any]) -> Iterator[str]:
     """What schedule.json says of limits and years, and is not the project's."""
     rules = way.project_rules
     due: dict[str, Any] = {"limits": {name: most for name, most, _ in limits_of(way) if most < math.inf}}
-    due |= {"ramp_up": list(rules.ramp_up) if rules else [1.0], "lag": rules.lag if rules else 0, "sinking_rate": rules and rules.sinking_rate}
+    due |= {
+        "ramp_up": list(rules.ramp_up) if rules else [1.0],
+        "lag": rules.lag if rules else 0,
+        "sinking_rate": rules and rules.sinking_rate,
+    }
     due |= {"years": rules.years} if rules and rules.years else {}
-    yield from (f"schedule.json: {name} {told[name]} for {amount}" for name, amount in due.items() if told[name] != amount)
+    yield from (
+        f"schedule.json: {name} {told[name]} for {amount}" for name, amount in due.items() if told[name] != amount
+    )
 
 
 def verify_limits(ways: list[Way], told: dict[str, Any]) -> Rule:
@@ -173,7 +200,10 @@ def verify_limits(ways: list[Way], told: dict[str, Any]) -> Rule:
                     differences.append(f"{way.name}, year {year}: {name} {amount:.10g} above {most * share:.10g}")
         sunk = way.rows.groupby(["phase", "year"])["share"].sum()
         deepest = (rules and rules.sinking_rate) or math.inf
-        differences += [f"{way.name}: phase {at[0]} sinks {by:.9g} benches in year {at[1]}" for at, by in sunk[sunk > deepest + SLIGHT].items()]
+        differences += [
+            f"{way.name}: phase {at[0]} sinks {by:.9g} benches in year {at[1]}"
+            for at, by in sunk[sunk > deepest + SLIGHT].items()
+        ]
         if way.last > told["years"]:
             differences.append(f"{way.name}: something is dug in year {way.last}")
     holds = "no year is above a limit of ore, rock, metal or sinking"
@@ -187,21 +217,31 @@ def verify_value(ways: list[Way], told: dict[str, Any], sums: pd.DataFrame) -> R
         rows = way.rows
         present = rows["cash"] * rows["year"].map(lambda year: discount(way.answer, int(year)))
         off = (rows["discounted"] - present).abs() > 2 * AMOUNT + 1e-9 * present.abs()
-        differences += [f"{place(row)}: discounted {row.discounted:.10g} for {present[row.Index]:.10g}" for row in rows[off].itertuples()]
+        differences += [
+            f"{place(row)}: discounted {row.discounted:.10g} for {present[row.Index]:.10g}"
+            for row in rows[off].itertuples()
+        ]
         left = sums["rock_tonnes"].sum() - rows["rock_tonnes"].sum()
         costs = sum(present_costs(way.answer, year) for year in range(1, way.last + 1))
         expected = {"value": rows["discounted"].sum() - costs, "years": way.last, "left_tonnes": left}
         for name, amount in expected.items():
             if abs(way.said[name] - amount) > CENT + AMOUNT * len(rows) + 1e-9 * abs(amount):
                 differences.append(f"{way.name}: {name} {way.said[name]:.12g} for {amount:.12g}")
-        if way.name == "rule" and not (way.project_rules and way.project_rules.years) and left > CENT + AMOUNT * len(rows):
+        if (
+            way.name == "rule"
+            and not (way.project_rules and way.project_rules.years)
+            and left > CENT + AMOUNT * len(rows)
+        ):
             differences.append(f"{way.name} leaves {left:.10g} t")
         for name in ("bound", "milp_bound"):
             if told[name] is not None and way.said["value"] > told[name] + CENT + 1e-7 * abs(told[name]):
                 differences.append(f"{way.name}: value {way.said['value']:.12g} is above {name} {told[name]:.12g}")
         differences += unlike_years(way, told["factor"])
     if ways:
-        of_record = {way.name: {"value": way.said["value"], "bound": told["bound"], "left_tonnes": way.said["left_tonnes"]} for way in ways}
+        of_record = {
+            way.name: {"value": way.said["value"], "bound": told["bound"], "left_tonnes": way.said["left_tonnes"]}
+            for way in ways
+        }
         differences += ways_table.differences(ways[0].answer, of_record)
     holds = "cash is discounted as the project asks, values and years are the sums of it, and none is above the bound"
     return rule("schedule value", holds, differences[:TOLD], len(differences))
@@ -231,7 +271,10 @@ def unlike_years(way: Way, factor: int) -> list[str]:
     for name in [name for name in said.columns if name not in ("case", "factor")]:
         total = of_years(way, name, said.index)
         off = (said[name] - total).abs() > CENT + AMOUNT * len(way.rows) + 1e-9 * total.abs()
-        found += [f"{way.name}, year {year}: {name} {said[name][year]:.12g} for {total[year]:.12g}" for year in said.index[off]]
+        found += [
+            f"{way.name}, year {year}: {name} {said[name][year]:.12g} for {total[year]:.12g}"
+            for year in said.index[off]
+        ]
     return found
 
 
@@ -253,7 +296,9 @@ def verify_years_of_blocks(ways: list[Way], told: dict[str, Any], sums: pd.DataF
     values = {name: way["value"] for name, way in told["ways"].items()}
     best = max(values, key=values.__getitem__)
     # Values that differ by a rounding alone may be told in either order.
-    differences = [] if values.get(told["shown"], -math.inf) > values[best] - CENT else [f"shown is {told['shown']} for {best}"]
+    differences = (
+        [] if values.get(told["shown"], -math.inf) > values[best] - CENT else [f"shown is {told['shown']} for {best}"]
+    )
     for way in ways:
         if way.name != told["shown"]:
             continue
@@ -261,6 +306,8 @@ def verify_years_of_blocks(ways: list[Way], told: dict[str, Any], sums: pd.DataF
         year = np.where(through.any(axis=2), through.argmax(axis=2), 0)
         expected = year[way.answer.said["phase"].to_numpy(), way.answer.cells[0]]
         off = np.flatnonzero(expected != way.answer.said["year"].to_numpy())
-        differences += [f"{way.answer.called(row)}: year {way.answer.said['year'][row]} for {expected[row]}" for row in off]
+        differences += [
+            f"{way.answer.called(row)}: year {way.answer.said['year'][row]} for {expected[row]}" for row in off
+        ]
     holds = f"each block has the year by whose end its bench is through, as {told['shown']} digs it"
     return rule("years of blocks", holds, differences[:TOLD], len(differences))

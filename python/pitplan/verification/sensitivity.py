@@ -122,8 +122,16 @@ class Told:
         if not listed.differences:
             for number, case in enumerate(self.cases):
                 for name, it in self.of_case(case, self.rows.iloc[[number]]).items():
-                    found[name].append(replace(it, differences=tuple(f"{case.label}: {said}" for said in it.differences)))
-        of_ground = [fixed.verify_places(self.ground), absent.verify(self.ground), self.as_given(), listed, self.outside_skin()]
+                    found[name].append(
+                        replace(it, differences=tuple(f"{case.label}: {said}" for said in it.differences))
+                    )
+        of_ground = [
+            fixed.verify_places(self.ground),
+            absent.verify(self.ground),
+            self.as_given(),
+            listed,
+            self.outside_skin(),
+        ]
         of_ground += depletion.verify_cuts(self.ground)
         count = f"in {len(self.cases):,} cases: "
         return [*of_ground, *(joined(name, count + holds, found[name]) for name, holds in OF_EACH.items())]
@@ -134,12 +142,16 @@ class Told:
         there = [tuple(row) for row in self.rows[list(AXES)].itertuples(index=False)]
         noted = [padded([(name, float(share)) for name, share in case.changes]) for case in self.cases]
         if sorted(there) != due:
-            differences.append(f"sensitivity.csv has {len(there):,} cases, and the project asks for {len(due):,} or others")
+            differences.append(
+                f"sensitivity.csv has {len(there):,} cases, and the project asks for {len(due):,} or others"
+            )
         if there != noted:
             differences.append("sensitivity.json lists other cases than sensitivity.csv")
         if not (self.rows["factor"] == self.factor).all():
             differences.append(f"sensitivity.csv has another factor than {self.factor}")
-        return rule("cases", "each number that is varied has a row for each share, and each pair for each two", differences)
+        return rule(
+            "cases", "each number that is varied has a row for each share, and each pair for each two", differences
+        )
 
     def as_given(self) -> Rule:
         """What blocks.csv says of the project as given: costs, revenue and roads, and the least factor whose pit holds each block."""
@@ -162,10 +174,20 @@ class Told:
             differences.append("a block of the skin is not in the pit")
         whole, part = (float(tonnes[inside[ids]].sum()) for inside in (given.entry > 0, given.skin))
         if abs(part - record["tonnes"]) > 1e-6 * whole or part < float(share_of(self.text)) * whole * (1 - 1e-9):
-            differences.append(f"the skin has {part:,.0f} t of {whole:,.0f}, and sensitivity.json says {record['tonnes']:,.0f}")
+            differences.append(
+                f"the skin has {part:,.0f} t of {whole:,.0f}, and sensitivity.json says {record['tonnes']:,.0f}"
+            )
         expected = {"share": part / whole if part else 0.0, "worth": float(self.rows["skin_worth"].iloc[0])}
-        differences += [f"the skin's {name} {record[name]:.12g} for {it:.12g}" for name, it in expected.items() if abs(record[name] - it) > 6e-4]
-        return rule("skin's shell", "the pit without its skin is a shell, and the skin has at least the share asked for", differences)
+        differences += [
+            f"the skin's {name} {record[name]:.12g} for {it:.12g}"
+            for name, it in expected.items()
+            if abs(record[name] - it) > 6e-4
+        ]
+        return rule(
+            "skin's shell",
+            "the pit without its skin is a shell, and the skin has at least the share asked for",
+            differences,
+        )
 
     def of_case(self, case: Case, row: pd.DataFrame) -> dict[str, Rule]:
         """Everything that a row says."""
@@ -173,7 +195,11 @@ class Told:
         whole = self.dug(case.entry, project, case.walls)
         pit = replace(weighed(whole), shells=row.set_index("factor"))
         mean = (row["npv_best"] + row["npv_worst"]) / 2
-        unlike = [] if np.allclose(mean, row["npv"], rtol=0, atol=2e-3) else [f"npv {row['npv'].iloc[0]:.12g} for {mean.iloc[0]:.12g}"]
+        unlike = (
+            []
+            if np.allclose(mean, row["npv"], rtol=0, atol=2e-3)
+            else [f"npv {row['npv'].iloc[0]:.12g} for {mean.iloc[0]:.12g}"]
+        )
         npv = years.verify(pit)
         return {
             "walls": walls.verify(whole),
@@ -183,18 +209,24 @@ class Told:
             "worth": rule("worth", "", sums.unlike_worth(pit)),
             "years": rule("years", "", [*npv.differences, *unlike], npv.count + len(unlike)),
             "kept": self.kept(project, row.set_index("factor"), any(name == "slopes" for name, _ in case.changes)),
-            "skin": self.skin(project, float(row["skin_worth"].iloc[0]), any(name == "slopes" for name, _ in case.changes)),
+            "skin": self.skin(
+                project, float(row["skin_worth"].iloc[0]), any(name == "slopes" for name, _ in case.changes)
+            ),
         }
 
     def kept(self, project: Project, row: pd.DataFrame, moves_walls: bool) -> Rule:
         """The pit of the project as given, at the numbers of a case; nothing where walls are others."""
         said = row[[f"kept_{name}" for name in KEPT]].set_axis(list(KEPT), axis=1)
         if moves_walls:
-            return rule("kept", "", [] if said.isna().all(axis=None) else ["kept_ amounts are given, and walls are others"])
+            return rule(
+                "kept", "", [] if said.isna().all(axis=None) else ["kept_ amounts are given, and walls are others"]
+            )
         pit = replace(weighed(self.dug(self.cases[0].entry, project, self.cases[0].walls)), shells=said)
         worth, gross = sums.sums(pit, self.factor)["worth"], float(np.abs(pit.worths).sum())
         off = abs(float(said["worth"].iloc[0]) - worth) > 6e-4 + 1e-12 * gross
-        wrong = [f"kept_worth {said['worth'].iloc[0]:.12g} for {worth:.12g}"] if off or said["worth"].isna().any() else []
+        wrong = (
+            [f"kept_worth {said['worth'].iloc[0]:.12g} for {worth:.12g}"] if off or said["worth"].isna().any() else []
+        )
         return rule("kept", "", [*wrong, *years.verify(pit).differences])
 
     def skin(self, project: Project, said: float, moves_walls: bool) -> Rule:
@@ -230,7 +262,12 @@ def cases_in(folder: Path, record: Data) -> Iterator[Case]:
         path = folder / "cases" / f"{entry['key']}.npz"
         try:
             said = kept_arrays.read(path, entry["key"])
-            case = Case(tuple((name, Decimal(share)) for name, share in entry["changes"]), said["entry"], entry["walls"], said.get("skin"))
+            case = Case(
+                tuple((name, Decimal(share)) for name, share in entry["changes"]),
+                said["entry"],
+                entry["walls"],
+                said.get("skin"),
+            )
         except (ValueError, KeyError, TypeError) as error:
             raise PlanError(f"{path}: is no answer of a case: run pitplan sensitivity again: {error}") from error
         yield case
@@ -307,7 +344,9 @@ def in_recoveries(data: Data, by: Decimal, metal: str) -> None:
     """Those of metals, or of these in each of several processes."""
     in_metals("recovery", most=Decimal(1))(data, by, metal)
     for process in data.get("processes", []):
-        process["recovery"] |= {name: times(it, by, Decimal(1)) for name, it in process["recovery"].items() if metal in ("", name)}
+        process["recovery"] |= {
+            name: times(it, by, Decimal(1)) for name, it in process["recovery"].items() if metal in ("", name)
+        }
 
 
 def in_walls(data: Data, by: Decimal, metal: str) -> None:

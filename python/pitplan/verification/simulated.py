@@ -133,7 +133,9 @@ class Simulated:
             row_of[nearest_cells(self.rows[axes].to_numpy(), grid)] = np.arange(len(self.rows))
             at = row_of[nearest_cells(frame[axes].to_numpy(dtype=np.float64), grid)]
         if (at < 0).any():
-            raise PlanError(f"{file}: {np.count_nonzero(at < 0):,} of its blocks are not in the table: has it changed since?")
+            raise PlanError(
+                f"{file}: {np.count_nonzero(at < 0):,} of its blocks are not in the table: has it changed since?"
+            )
         return at
 
     def answers(self) -> Iterator[tuple[Scenario, Told]]:
@@ -149,7 +151,9 @@ class Simulated:
         except (ValueError, KeyError, TypeError) as error:
             raise PlanError(f"{scenario.file}: is no answer of {scenario.label}: {error}") from error
         if len(told.places) != len(self.rows):
-            raise PlanError(f"{scenario.file}: tells of {len(told.places):,} blocks, and the table has {len(self.rows):,}")
+            raise PlanError(
+                f"{scenario.file}: tells of {len(told.places):,} blocks, and the table has {len(self.rows):,}"
+            )
         return told
 
 
@@ -185,7 +189,9 @@ def models_of(project: Project) -> list[Model]:
         files = [path for path in scenarios.folder.iterdir() if path.name.endswith((".csv", ".csv.gz"))]
         return [Model(path.name.split(".")[0], {}, path) for path in sorted(files)]
     header = tables.read_header(table.file, format_of(table.file, table))
-    named = {metal: [it for name in names for it in matching(name, header)] for metal, names in scenarios.columns.items()}
+    named = {
+        metal: [it for name in names for it in matching(name, header)] for metal, names in scenarios.columns.items()
+    }
     return [Model(columns[0], dict(zip(named, columns))) for columns in zip(*named.values())]
 
 
@@ -207,4 +213,6 @@ def read_table(project: Project) -> pd.DataFrame:
     metals = {metal.name: metal for metal in project.metals}
     wanted = {(name, column) for model in models_of(project) for name, column in model.columns.items()}
     wanted |= {(name, metal.column) for name, metal in metals.items() if name not in asked(project).columns}
-    return tables.read(replace(project, metals=tuple(replace(metals[name], column=column) for name, column in sorted(wanted)))).frame
+    return tables.read(
+        replace(project, metals=tuple(replace(metals[name], column=column) for name, column in sorted(wanted)))
+    ).frame

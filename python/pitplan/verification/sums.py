@@ -23,7 +23,11 @@ def verify(answer: Answer) -> Rule:
             slack = 0.6 * smallest(name) + (1e-12 * gross if name == "worth" else 0.0)
             if not np.isclose(said, amount, rtol=1e-9, atol=slack, equal_nan=True):
                 differences.append(f"factor {factor}: {name} {said:.10g} for {amount:.10g}")
-    return rule("shells", "blocks, tonnes, grades, ratios, metal and worth of each shell are the sums of its blocks", differences)
+    return rule(
+        "shells",
+        "blocks, tonnes, grades, ratios, metal and worth of each shell are the sums of its blocks",
+        differences,
+    )
 
 
 def smallest(name: str) -> float:
@@ -78,7 +82,9 @@ def unlike_worth(answer: Answer) -> list[str]:
         gain, cost = int(factor) * total(revenue), 1000 * (total(processing) + total(mining[inside]))
         said = Decimal(answer.shells["worth_at_factor"][factor]).scaleb(9)
         if abs(said - (gain - cost)) > lost * (gain + cost):
-            differences.append(f"factor {factor}: worth_at_factor {said.scaleb(-9)} for {Decimal(gain - cost).scaleb(-9)}")
+            differences.append(
+                f"factor {factor}: worth_at_factor {said.scaleb(-9)} for {Decimal(gain - cost).scaleb(-9)}"
+            )
     return differences
 
 
@@ -92,7 +98,9 @@ def chosen(answer: Answer, factor: int, rows: np.ndarray) -> tuple[np.ndarray, n
         first, second = (millionths(answer, name)[rows] for name in names)
         worth = price * first - 1000 * second
         better = np.asarray(worth > gain, dtype=bool)
-        revenue, processing, gain = (np.where(better, new, old) for new, old in ((first, revenue), (second, processing), (worth, gain)))
+        revenue, processing, gain = (
+            np.where(better, new, old) for new, old in ((first, revenue), (second, processing), (worth, gain))
+        )
     return revenue, processing
 
 

@@ -16,7 +16,9 @@ from .turned import places_of
 OTHERS = (".dxf", ".str", ".gpkg", ".shp", ".geojson", ".json", ".tif", ".tiff", ".asc")
 
 
-def heights(file: SurveyFile, grid: dict[str, Any], cells: Optional[np.ndarray] = None) -> tuple[np.ndarray, np.ndarray]:
+def heights(
+    file: SurveyFile, grid: dict[str, Any], cells: Optional[np.ndarray] = None
+) -> tuple[np.ndarray, np.ndarray]:
     """Rows x, y, z of points, and of triangles three numbers of points; a table has none of these. Of a raster what lies round the grid, or
     round some cells, a row of the column and the row each."""
     if file.path.suffix.lower() not in OTHERS:

@@ -124,7 +124,10 @@ def verify(answer: Answer) -> Rule:
     up, before, after = answer.shape[0] - 1 - level, answer.rows[UNCUT].to_numpy(), answer.tonnes
     differences = told(answer, (after < 0) | (after > before + GRAM), before)
     looked, exact = some(len(places), MANY), some(len(places), EXACTLY)
-    for numbers, share, missed in ((looked, ground.quickly(places[looked]), MISSED), (exact, ground.exactly(places[exact]), HAIR)):
+    for numbers, share, missed in (
+        (looked, ground.quickly(places[looked]), MISSED),
+        (exact, ground.exactly(places[exact]), HAIR),
+    ):
         at = np.full(len(places), -1)
         at[numbers] = np.arange(len(numbers))
         expected = np.where(at[place] >= 0, share[at[place], up], np.nan) * before

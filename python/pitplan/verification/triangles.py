@@ -25,7 +25,9 @@ def near(places: np.ndarray, corners: np.ndarray, reach: float) -> Iterator[tupl
         found = cKDTree(middles[some]).query_ball_point(places, radii[some].max() * (1 + HAIR) + reach + HAIR)
         counts = np.array([len(numbers) for numbers in found])
         if counts.sum():
-            yield np.repeat(np.arange(len(places)), counts), some[np.concatenate([np.array(it, dtype=int) for it in found if it])]
+            yield np.repeat(np.arange(len(places)), counts), some[
+                np.concatenate([np.array(it, dtype=int) for it in found if it])
+            ]
 
 
 def highest(places: np.ndarray, corners: np.ndarray) -> np.ndarray:

@@ -30,7 +30,9 @@ class Run:
 def flatness(wall: Wall, azimuth: np.ndarray) -> np.ndarray:
     """Metres that the wall steps back for each metre up, by azimuth in degrees: between two that are named linear, round the circle."""
     if wall.bench:
-        return np.full(np.shape(azimuth), 1 / math.tan(math.radians(wall.bench.face)) + wall.bench.berm / wall.bench.height)
+        return np.full(
+            np.shape(azimuth), 1 / math.tan(math.radians(wall.bench.face)) + wall.bench.berm / wall.bench.height
+        )
     given = [azimuth for azimuth, _ in wall.angles]
     back = [math.cos(math.radians(angle)) / math.sin(math.radians(angle)) for _, angle in wall.angles]
     return np.interp(azimuth, [given[-1] - 360, *given, given[0] + 360], [back[-1], *back, back[0]])
@@ -95,7 +97,10 @@ def verify(answer: Answer) -> Rule:
             if not inside:
                 continue
             reach = max(max(abs(run.north), abs(run.west), abs(run.east)) for run in inside)
-            wide = tuple(slice(max(0, it.start - reach * (axis > 0)), it.stop + reach * (axis > 0)) for axis, it in enumerate(below))
+            wide = tuple(
+                slice(max(0, it.start - reach * (axis > 0)), it.stop + reach * (axis > 0))
+                for axis, it in enumerate(below)
+            )
             part = dug[:-up][wide]
             standing = np.maximum.reduce([latest(part, run) for run in inside]) > dug[up:][wide]
             wrong[up:][wide] |= standing & mine[up:][wide]
@@ -113,8 +118,14 @@ def verify_steepness(answer: Answer) -> Rule:
         if not wall.pattern and not wall.steps:
             steeper = float((high_walls(wall, answer.size, levels, answer.azimuth) - asked(wall, answer.azimuth)).max())
         if steeper > STEEPER + 1e-6 and levels < MOST_LEVELS:
-            differences.append(f"wall entry {number + 1}: over {levels} levels it comes out {steeper:.2f} degrees steeper than asked")
-    return rule("levels", f"no wall comes out more than {STEEPER} degrees steeper than asked, or needs reach over {MOST_LEVELS} levels", differences)
+            differences.append(
+                f"wall entry {number + 1}: over {levels} levels it comes out {steeper:.2f} degrees steeper than asked"
+            )
+    return rule(
+        "levels",
+        f"no wall comes out more than {STEEPER} degrees steeper than asked, or needs reach over {MOST_LEVELS} levels",
+        differences,
+    )
 
 
 def asked(wall: Wall, turn: float) -> np.ndarray:
@@ -168,7 +179,10 @@ def box(mask: np.ndarray) -> tuple[slice, slice, slice] | None:
 
 def told(answer: Answer, wrong: np.ndarray) -> tuple[list[str], int]:
     rows = np.flatnonzero(wrong[answer.cells])
-    said = [f"{answer.called(row)}, dug at {answer.said['factor'].iloc[row]}, needs a block that is not" for row in rows[:TOLD]]
+    said = [
+        f"{answer.called(row)}, dug at {answer.said['factor'].iloc[row]}, needs a block that is not"
+        for row in rows[:TOLD]
+    ]
     return said, len(rows)
 
 

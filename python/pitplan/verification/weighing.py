@@ -60,7 +60,9 @@ def at_price(answer: Answer) -> AtPrice:
     exactly = money.Exactly.of(answer) if rows else None
     for row in rows:
         assert exactly is not None
-        rounded[:, row] = [float(amount / Decimal(1).scaleb(-answer.project.money.decimals)) for amount in exactly.amounts(row)]
+        rounded[:, row] = [
+            float(amount / Decimal(1).scaleb(-answer.project.money.decimals)) for amount in exactly.amounts(row)
+        ]
     mining, revenue, processing = rounded * unit
     pays = revenue > np.where(revenue > 0, processing, 0.0)
     metals = {name: np.where(pays, quantity, 0.0) for name, quantity in answer.quantities.items()}

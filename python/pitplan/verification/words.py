@@ -19,7 +19,11 @@ def verify(answer: Answer) -> Rule:
         if not path.is_file():
             continue
         header = set(pd.read_csv(path, nrows=0).columns)
-        table = pd.read_csv(path, usecols=sorted(header & {*WORDS, "case"}), dtype=str) if header & {*WORDS} else pd.DataFrame()
+        table = (
+            pd.read_csv(path, usecols=sorted(header & {*WORDS, "case"}), dtype=str)
+            if header & {*WORDS}
+            else pd.DataFrame()
+        )
         said = set(table.get("discounting", pd.Series(dtype=str)))
         if DISCOUNTED & header and (said - {due} or "discounting" not in header):
             differences.append(f"{name}: discounting {', '.join(sorted(map(str, said))) or 'is missing'} for {due}")
@@ -36,4 +40,8 @@ def unlike_outline(answer: Answer, name: str, table: pd.DataFrame) -> list[str]:
     if "outline" not in table:
         return [f"{name}: has no column outline"]
     is_shell = table["case"].isin(["best", "worst"]) if "case" in table else pd.Series(True, index=table.index)
-    return [] if (table["outline"] == is_shell.map({True: "shell", False: "pushback"})).all() else [f"{name}: outline is wrong in some row"]
+    return (
+        []
+        if (table["outline"] == is_shell.map({True: "shell", False: "pushback"})).all()
+        else [f"{name}: outline is wrong in some row"]
+    )

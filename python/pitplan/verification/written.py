@@ -40,7 +40,11 @@ def demand_numbers(frame: pd.DataFrame, source: str, texts: Iterable[str]) -> No
             lacking &= column.notna()
         if lacking.any():
             row = int(lacking.to_numpy().argmax())
-            why = f'"{column.iloc[row]}" is not a number' if column.notna().iloc[row] and column.iloc[row] != "" else "is empty"
+            why = (
+                f'"{column.iloc[row]}" is not a number'
+                if column.notna().iloc[row] and column.iloc[row] != ""
+                else "is empty"
+            )
             raise at_row(source, row, name, why)
 
 
@@ -48,4 +52,6 @@ def demand_factors(frame: pd.DataFrame, factors: Iterable[int], source: str) -> 
     """Raises PlanError where a table has not one row for each factor, in their order."""
     there, due = frame["factor"].tolist(), list(factors)
     if there != due:
-        raise PlanError(f"{source}: has rows of the factors {', '.join(map(str, there))} for {', '.join(map(str, due))}")
+        raise PlanError(
+            f"{source}: has rows of the factors {', '.join(map(str, there))} for {', '.join(map(str, due))}"
+        )

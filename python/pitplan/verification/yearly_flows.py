@@ -60,14 +60,18 @@ def discounts(until: np.ndarray, years: np.ndarray, project: Project) -> np.ndar
 def uses_of(pieces: pd.DataFrame, project: Project) -> list[list[float]]:
     """How many years of each capacity each piece uses."""
     schedule = project.schedule
-    capacities = {"ore": schedule.ore_per_year, **{f"ore_tonnes_{process.name}": process.per_year for process in project.processes}}
+    capacities = {
+        "ore": schedule.ore_per_year,
+        **{f"ore_tonnes_{process.name}": process.per_year for process in project.processes},
+    }
     capacities |= {} if schedule.rock_per_year is None else {"rock": schedule.rock_per_year}
     return np.column_stack([pieces[name] / capacity for name, capacity in capacities.items()]).tolist()
 
 
 def years_of(pieces: pd.DataFrame, project: Project) -> tuple[pd.DataFrame, float]:
     """A row a year, from 1: the amounts of the pieces, the last of which is cash at the price as given; fixed_cost and capital where the
-    project has such; cash after these, at the prices of the year; and that discounted. With the years from the start to the end."""
+    project has such; cash after these, at the prices of the year; and that discounted. With the years from the start to the end.
+    """
     parts = parts_of(uses_of(pieces, project))
     years = np.arange(1, int(parts.year.max()) + 1)
     flows = {name: amounts[parts.piece] * parts.share for name, amounts in zip(pieces, pieces.to_numpy().T)}
@@ -76,7 +80,11 @@ def years_of(pieces: pd.DataFrame, project: Project) -> tuple[pd.DataFrame, floa
     for name in premiums(project, 1):
         found["cash"] += found[name] * [premiums(project, int(year))[name] for year in years]
     money, until = project.money, np.clip(parts.life, years - 1.0, years)
-    fixed, spent = float(money.fixed_cost_per_year) * (until - (years - 1.0)), np.array([capital(project, int(year)) for year in years])
-    present = (found["cash"] - fixed) * discounts(until, years, project) - spent * (1 + project.schedule.rate) ** -(years - 1.0)
+    fixed, spent = float(money.fixed_cost_per_year) * (until - (years - 1.0)), np.array(
+        [capital(project, int(year)) for year in years]
+    )
+    present = (found["cash"] - fixed) * discounts(until, years, project) - spent * (1 + project.schedule.rate) ** -(
+        years - 1.0
+    )
     of_years = {"fixed_cost": fixed, "capital": spent} if money.fixed_cost_per_year or money.capital else {}
     return found.assign(**of_years, cash=found["cash"] - fixed - spent, discounted=present), parts.life

@@ -38,23 +38,32 @@ def over_capacity(answer: Answer, years: pd.DataFrame) -> list[str]:
     limits |= {f"ore_tonnes_{process.name}": process.per_year for process in answer.project.processes}
     for name, most in limits.items():
         over = years[years[name] > most * (1 + 1e-9) + CENT]
-        found += [f"{row.case} case of factor {row.factor}, year {row.year}: {name} {getattr(row, name):.10g} above {most:.10g}" for row in over.itertuples()]
+        found += [
+            f"{row.case} case of factor {row.factor}, year {row.year}: {name} {getattr(row, name):.10g} above {most:.10g}"
+            for row in over.itertuples()
+        ]
     return found
 
 
 def unlike_years(answer: Answer, years: pd.DataFrame, flows: pd.DataFrame) -> Iterator[str]:
     """Where a year of a case is not what flows in it, as benches are dug one after the other, or is missing or one too many."""
     factors = flows.index.get_level_values("factor")
-    due = [(case, factor) for case, factor in product(CASES, answer.shells.index) if flows["rock"][factors <= factor].sum()]
+    due = [
+        (case, factor) for case, factor in product(CASES, answer.shells.index) if flows["rock"][factors <= factor].sum()
+    ]
     groups = {pit: rows.set_index("year") for pit, rows in years.groupby(["case", "factor"])}
-    yield from (f"years of the {case} case of factor {factor}, which is none" for case, factor in groups.keys() - set(due))
+    yield from (
+        f"years of the {case} case of factor {factor}, which is none" for case, factor in groups.keys() - set(due)
+    )
     for case, factor in due:
         pieces = flows[factors <= factor]
         pieces = pieces if case == "best" else pieces.groupby("level").sum()
         expected = years_of(pieces.drop(columns="gross"), answer.project)[0].rename(columns=NAMES)
         slack = CENT + 1e-12 * float(pieces["gross"].sum())
         if (case, factor) in groups:
-            yield from (f"{case} case of factor {factor}{said}" for said in unlike_rows(groups[case, factor], expected, slack))
+            yield from (
+                f"{case} case of factor {factor}{said}" for said in unlike_rows(groups[case, factor], expected, slack)
+            )
         else:
             yield f"{case} case of factor {factor}: has no years"
 
@@ -67,7 +76,9 @@ def unlike_rows(said: pd.DataFrame, expected: pd.DataFrame, slack: float) -> Ite
     for name in expected:
         there = said.get(name, pd.Series(np.nan, index=said.index))
         off = ~((there - expected[name]).abs() <= slack + 1e-9 * expected[name].abs())
-        yield from (f", year {year}: {name} {there[year]:.12g} for {expected[name][year]:.12g}" for year in said.index[off])
+        yield from (
+            f", year {year}: {name} {there[year]:.12g} for {expected[name][year]:.12g}" for year in said.index[off]
+        )
 
 
 def verify_npv(answer: Answer, flows: pd.DataFrame) -> Rule:
@@ -87,8 +98,13 @@ def verify_npv(answer: Answer, flows: pd.DataFrame) -> Rule:
 def flows_of(answer: Answer) -> pd.DataFrame:
     """Rock, ore, metals, cash, and cash without signs, of each shell's part of each level."""
     rock, cash = answer.tonnes, answer.earned
-    frame = pd.DataFrame({"rock": rock, "ore": np.where(answer.ore, answer.feed, 0.0), "cash": cash, "gross": np.abs(cash)})
-    frame = frame.assign(**answer.feeds, **{f"metal_{name}": np.where(answer.ore, metal, 0.0) for name, metal in answer.quantities.items()})
+    frame = pd.DataFrame(
+        {"rock": rock, "ore": np.where(answer.ore, answer.feed, 0.0), "cash": cash, "gross": np.abs(cash)}
+    )
+    frame = frame.assign(
+        **answer.feeds,
+        **{f"metal_{name}": np.where(answer.ore, metal, 0.0) for name, metal in answer.quantities.items()},
+    )
     frame = frame.assign(factor=answer.said["factor"].to_numpy(), level=answer.cells[0])
     return frame[frame["factor"] > 0].groupby(["factor", "level"]).sum()
 
