@@ -75,8 +75,8 @@ def by_library(mine) -> dict:
 
 
 def by_program(mine, program: str) -> dict:
-    from pitplan import text
-    from pitplan.files import write_model
+    from pitplan.core import byte_lines
+    from pitplan.core.files import write_model
 
     n = len(mine["values"])
     before = peak()
@@ -91,7 +91,7 @@ def by_program(mine, program: str) -> dict:
         with open(prec, "wb") as file:
             for begin in range(0, n, 100_000):
                 rows = np.arange(begin, min(n, begin + 100_000))
-                file.write(text.ragged([text.whole(rows), text.whole(counts[rows])], many[rows], -1))
+                file.write(byte_lines.ragged([byte_lines.whole(rows), byte_lines.whole(counts[rows])], many[rows], -1))
         clock.step("write needs")
         ran = subprocess.run([program, "solve", "--model", model, "--prec", prec, "--mode", "single"], stdout=subprocess.PIPE, check=True)
         clock.step("program")

@@ -17,15 +17,17 @@ from pathlib import Path
 import numpy as np
 import pandas as pd
 
-from . import files, fixed as fixing, installation, run
+from pitplan.core import files, paths
+from pitplan.core.files import Folder
+from pitplan.core.progress import Progress
+
+from . import fixed as fixing, run
 from .errors import PlanError
-from .files import Folder
 from .mine import values_at
 from .plan import Plan, prepare
 from .planned_table import project_of
-from .progress import Progress
 
-CHECKER = installation.checker()
+CHECKER = paths.checker()
 MODEL, PREC, FIXED, CERTIFICATE = "shell.upit", "shell.prec", "shell.fixed", "shell.cert"
 PIT, RECORD, SCRIPT = "pit.txt", "audit.json", "check.sh"
 

@@ -10,10 +10,12 @@ from typing import Callable, Iterator, Optional
 import numpy as np
 import pandas as pd
 
-from . import csv_file, drawings, files, line_files, planned_table, staging, surfaces, workbook
+from pitplan.core import csv_writer, files, staging
+from pitplan.core.files import Folder
+from pitplan.core.optional_packages import load
+
+from . import drawings, line_files, planned_table, surfaces, workbook
 from .errors import PlanError
-from .files import Folder
-from .packages import load
 from .stages import FACTOR, GROUND, Shape, places_of
 from .vtk_files import PACKAGE, save, write_image
 
@@ -82,7 +84,7 @@ def write_table(path: Path, folder: Folder, shape: Shape) -> None:
 def write_csv(path: Path, folder: Folder, shape: Shape) -> None:
     """The blocks of the greatest pit by id, with the least factor of each; `shape` is not looked at."""
     blocks = folder.blocks
-    csv_file.write(path, blocks[blocks["factor"] > 0])
+    csv_writer.write(path, blocks[blocks["factor"] > 0])
 
 
 def write_vti(path: Path, folder: Folder, shape: Shape) -> None:

@@ -13,7 +13,9 @@ from typing import Optional
 import numpy as np
 import pandas as pd
 
-from . import as_mined, survey_files, terrain, text
+from pitplan.core import byte_lines
+
+from . import as_mined, survey_files, terrain
 from .errors import PlanError
 from .fixed_rules import Area
 from .grid import Grid
@@ -137,4 +139,4 @@ def write(path: Path, fixed: FixedBlocks) -> None:
     ids = np.concatenate([fixed.forced, fixed.barred])
     words = np.array([b"in"] * len(fixed.forced) + [b"out"] * len(fixed.barred), dtype="S3")
     order = np.argsort(ids, kind="stable")
-    path.write_bytes(text.lines([words[order].view(np.uint8).reshape(-1, 3), text.whole(ids[order])]))
+    path.write_bytes(byte_lines.lines([words[order].view(np.uint8).reshape(-1, 3), byte_lines.whole(ids[order])]))

@@ -15,7 +15,8 @@ from dataclasses import dataclass
 
 import numpy as np
 
-from .exact import Exact
+from pitplan.core.decimals import Exact
+
 from .grid import Grid
 from .haulage_rules import Haulage, Road
 

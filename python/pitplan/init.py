@@ -12,10 +12,11 @@ from typing import Optional
 import numpy as np
 import pandas as pd
 
+from pitplan.core.files import staged_file
+from pitplan.core.numeric_fields import holds_texts
+
 from .doubts import of_codes
 from .errors import PlanError
-from .fields import holds_texts
-from .files import staged_file
 from .guesses import PRECIOUS, Columns, MetalGuess, columns_of
 from .project import GridRules
 from .summary import Axis, Grade, mean_of, not_used

@@ -12,9 +12,10 @@ from typing import Any, Callable, Optional
 import numpy as np
 import pandas as pd
 
-from . import files
+from pitplan.core import files
+from pitplan.core.optional_packages import LIBRARY, is_of
+
 from .errors import ProgramError
-from .packages import LIBRARY, is_of
 from .rows import Rows
 from .run import Solution, ended
 

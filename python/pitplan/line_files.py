@@ -9,10 +9,11 @@ from typing import Any
 
 import pandas as pd
 
+from pitplan.core.files import Folder
+from pitplan.core.optional_packages import load
+
 from .errors import PlanError
-from .files import Folder
 from .grid import metres
-from .packages import load
 from .pit_lines import TOE, Line, lines_of
 from .stages import Shape
 

@@ -15,14 +15,16 @@ from typing import Iterator, Optional, Union
 import numpy as np
 import pandas as pd
 
-from . import absent, files, fixed as fixing, library, run
+from pitplan.core import files
+from pitplan.core.decimals import at_factor, greatest
+from pitplan.core.files import Needs, Pairs
+from pitplan.core.progress import Progress, silent
+
+from . import absent, fixed as fixing, library, run
 from .errors import PlanError
-from .exact import at_factor, greatest
-from .files import Needs, Pairs
 from .fixed import Settled
 from .money import Values
 from .plan import Plan
-from .progress import Progress, silent
 from .rows import Rows, rows_of
 from .run import Solution
 from .solver import LIBRARY, Solver, chosen

@@ -21,9 +21,10 @@ from typing import Callable, Optional
 import numpy as np
 import pandas as pd
 
+from pitplan.core.decimals import Exact, Rounding, at_factor, product, total
+
 from . import recoveries
 from .errors import PlanError
-from .exact import Exact, Rounding, at_factor, product, total
 from .fixed import Settled
 from .grid import MOST_BLOCKS, Grid
 from .haulage import Hauled, Roads

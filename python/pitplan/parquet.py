@@ -8,8 +8,9 @@ from typing import Any
 import numpy as np
 import pandas as pd
 
+from pitplan.core.optional_packages import is_of
+
 from .errors import MissingPackage, PlanError
-from .packages import is_of
 
 ENDING = ".parquet"
 

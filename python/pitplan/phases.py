@@ -15,13 +15,14 @@ import numpy as np
 import pandas as pd
 from scipy import ndimage
 
+from pitplan.core.progress import Progress, silent
+
 from . import analyse, mine as mines, widths
 from .doubts import WARNING
 from .errors import PlanError
 from .mine import Mine
 from .phase_rules import MOST_PHASES, PhaseRules
 from .plan import Plan
-from .progress import Progress, silent
 from .project import REFERENCE_FACTOR, Project
 from .run import Solution
 

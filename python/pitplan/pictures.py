@@ -24,11 +24,12 @@ from matplotlib.figure import Figure
 from matplotlib.image import AxesImage
 from matplotlib.ticker import MaxNLocator
 
+from pitplan.core.cell_outlines import edges
+
 from . import analyse
 from .errors import PlanError
 from .grid import Grid, metres
 from .map_marks import axes_of_map, contours, floor_of, mark_map, mark_section_cells, section_titles
-from .outlines import edges
 from .picture_rules import PictureRules
 from .plan import Plan
 from .project import Metal

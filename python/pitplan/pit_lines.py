@@ -10,9 +10,10 @@ from dataclasses import dataclass
 
 import numpy as np
 
-from .files import Folder
+from pitplan.core.cell_outlines import rings
+from pitplan.core.files import Folder
+
 from .grid import Grid
-from .outlines import rings
 from .stages import Shape, Stage, places_of, stages_of
 
 TOE, CREST = "toe", "crest"

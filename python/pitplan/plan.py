@@ -12,11 +12,14 @@ from typing import Any, Optional, Union
 import numpy as np
 import pandas as pd
 
+from pitplan.core import files
+from pitplan.core.files import MOST_PAIRS, Needs, Pairs
+from pitplan.core.progress import Progress, silent
+
 from . import (
     absent,
     as_mined,
     doubts,
-    files,
     fixed as fixing,
     grid as grids,
     haulage,
@@ -32,11 +35,9 @@ from . import (
 )
 from .conventions import IN_WORDS
 from .errors import PlanError
-from .files import MOST_PAIRS, Needs, Pairs
 from .fixed import NOTHING, FixedBlocks, Settled
 from .grid import Grid
 from .money import Values
-from .progress import Progress, silent
 from .project import Project, load
 from .reach import Model
 from .walls import Walls

@@ -7,9 +7,10 @@ from pathlib import Path
 import numpy as np
 import pandas as pd
 
+from pitplan.core.files import Folder, hash_of
+
 from . import project_text, table as tables
 from .errors import PlanError
-from .files import Folder, hash_of
 from .grid import Grid
 from .plan import shown_name
 from .project import Project

@@ -13,7 +13,7 @@ from dataclasses import dataclass
 
 import numpy as np
 
-from .exact import at_factor
+from pitplan.core.decimals import at_factor
 
 
 @dataclass(frozen=True)

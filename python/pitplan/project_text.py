@@ -8,7 +8,8 @@ from dataclasses import asdict, replace
 from pathlib import Path
 from typing import Any, Optional
 
-from .files import AS_RUN, hash_of
+from pitplan.core.files import AS_RUN, hash_of
+
 from .fixed_rules import BLOCKS, FixedRules
 from .haulage_rules import KINDS, Haulage
 from .money_rules import ByRegion, Curve, Metal, Money, Process

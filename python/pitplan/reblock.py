@@ -14,8 +14,9 @@ from functools import cached_property
 import numpy as np
 import pandas as pd
 
+from pitplan.core.decimals import MOST_WHOLE, Exact, greatest, nearest, product
+
 from . import grid as grids
-from .exact import MOST_WHOLE, Exact, greatest, nearest, product
 from .frame import Frame
 from .project import GridRules, Project, Reblock
 from .schedule_rules import ScheduleRules

@@ -13,10 +13,12 @@ from typing import Any, Callable, Optional
 
 import pandas as pd
 
-from . import files, project_text, report, schedule_pictures
+from pitplan.core import files
+from pitplan.core.files import hash_of
+
+from . import project_text, report, schedule_pictures
 from .conventions import IN_WORDS
 from .errors import PlanError
-from .files import hash_of
 from .project import REFERENCE_FACTOR, Project
 from .report import TEMPLATES, Columns
 

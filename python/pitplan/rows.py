@@ -6,7 +6,8 @@ from dataclasses import dataclass
 
 import numpy as np
 
-from .files import Needs, Pairs
+from pitplan.core.files import Needs, Pairs
+
 from .needs import ABSENT, slices
 
 

@@ -12,9 +12,10 @@ from typing import Optional, Union
 import numpy as np
 import pandas as pd
 
-from . import files
+from pitplan.core import files
+from pitplan.core.paths import program
+
 from .errors import BudgetUsedUp, ProgramError
-from .installation import program
 
 
 @dataclass(frozen=True)

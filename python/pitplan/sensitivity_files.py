@@ -8,7 +8,8 @@ from typing import Any
 import numpy as np
 import pandas as pd
 
-from . import files
+from pitplan.core import files
+
 from .varied_cases import SKIN_WORTH, Case, Sensitivity
 
 WRITTEN = TABLE, RECORD = "sensitivity.csv", "sensitivity.json"

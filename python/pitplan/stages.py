@@ -6,8 +6,9 @@ from dataclasses import dataclass
 
 import numpy as np
 
+from pitplan.core.files import Folder
+
 from .errors import PlanError
-from .files import Folder
 from .grid import Grid
 from .project import REFERENCE_FACTOR
 

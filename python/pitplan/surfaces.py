@@ -10,10 +10,11 @@ from typing import Any
 
 import numpy as np
 
+from pitplan.core.files import Folder
+from pitplan.core.optional_packages import load
+
 from . import ground
 from .errors import PlanError
-from .files import Folder
-from .packages import load
 from .stages import FACTOR, GROUND, Shape, Stage, places_of, rock, stages_of
 from .vtk_files import PACKAGE, image_of, save
 

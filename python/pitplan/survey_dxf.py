@@ -9,8 +9,9 @@ from typing import Any, Iterable
 
 import numpy as np
 
+from pitplan.core.optional_packages import load
+
 from .errors import PlanError
-from .packages import load
 from .survey_layers import Layer
 from .survey_rules import SurveyFile
 

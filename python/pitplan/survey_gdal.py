@@ -7,8 +7,9 @@ from typing import Any, Optional
 
 import numpy as np
 
+from pitplan.core.optional_packages import load
+
 from .errors import PlanError
-from .packages import load
 from .survey_layers import Layer
 from .survey_rules import SurveyFile
 

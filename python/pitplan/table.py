@@ -15,10 +15,12 @@ from typing import Optional
 import numpy as np
 import pandas as pd
 
-from . import formulas, parquet
+from pitplan.core import spreadsheet_formulas
+from pitplan.core.decimals import Exact
+from pitplan.core.numeric_fields import HEADER_ROWS, at_row, holds_texts, numbers_of, without_truths
+
+from . import parquet
 from .errors import PlanError
-from .exact import Exact
-from .fields import HEADER_ROWS, at_row, holds_texts, numbers_of, without_truths
 from .project import Project, TableColumns
 from .section import FARTHEST
 from .table_format import (
@@ -237,7 +239,9 @@ def checked(frame: pd.DataFrame, project: Project, source: str = "table") -> Tab
         raise PlanError(f"{source} column {columns.tonnes}: all are 0, so there is no rock")
     demand_codes(result, project, source)
     unused = tuple(str(name) for name in frame.columns if name not in names_of(project))
-    return Table(result, source, filled, unused=unused, warned=tuple(formulas.warnings_of(frame, codes, source)))
+    return Table(
+        result, source, filled, unused=unused, warned=tuple(spreadsheet_formulas.warnings_of(frame, codes, source))
+    )
 
 
 def stripped(codes: pd.Series) -> np.ndarray:

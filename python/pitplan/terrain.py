@@ -12,8 +12,9 @@ from dataclasses import dataclass
 
 import numpy as np
 
+from pitplan.core.optional_packages import load
+
 from .grid import Grid, metres
-from .packages import load
 from .survey_files import Box, Topography
 
 # Triangles over columns that are in memory at once.

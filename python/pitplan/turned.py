@@ -11,9 +11,10 @@ from typing import Optional
 
 import numpy as np
 
+from pitplan.core.optional_packages import load
+
 from .errors import PlanError
 from .frame import PLACES, turn_of
-from .packages import load
 from .project import GridRules
 from .table import at_row
 

@@ -15,11 +15,13 @@ from typing import Any
 import numpy as np
 import pandas as pd
 
-from . import analyse, files, kept_arrays, mine, solver, table as tables
+from pitplan.core import files, keyed_arrays
+from pitplan.core.optional_packages import load
+from pitplan.core.progress import Progress, silent
+
+from . import analyse, mine, solver, table as tables
 from .errors import PlanError
-from .packages import load
 from .plan import Plan, prepare
-from .progress import Progress, silent
 from .project import Project
 from .sensitivity_rules import SensitivityRules
 from .simulation import on_dask
@@ -219,7 +221,7 @@ def write(path: Path, found: Found) -> None:
     texts = {"worth_at_factor": f"{found.row['worth_at_factor']:f}", "walls": json.dumps(found.walls)}
     skin = {} if found.skin is None else {"skin": found.skin.cells, "skin_factor": found.skin.factor}
     with files.staged_file(path) as place:
-        kept_arrays.write(
+        keyed_arrays.write(
             place, path.stem, entry=found.entry, names=list(numbers), amounts=list(numbers.values()), **texts, **skin
         )
 
@@ -227,12 +229,12 @@ def write(path: Path, found: Found) -> None:
 def read(path: Path, cells: int) -> Found:
     """The answer of a case on a grid with this number of cells. Raises PlanError if the file has no such answer."""
     try:
-        said = kept_arrays.read(path, path.stem)
+        said = keyed_arrays.read(path, path.stem)
         row: dict[str, Any] = dict(zip(said["names"].tolist(), said["amounts"].tolist()))
         row |= {name: int(row[name]) for name in ("factor", *WHOLE)}
         skin = Skin(int(said["skin_factor"]), said["skin"]) if "skin" in said else None
         if said["entry"].shape != (cells,):
-            raise kept_arrays.NoAnswer("it holds other blocks")
+            raise keyed_arrays.NoAnswer("it holds other blocks")
         return Found(
             row | {"worth_at_factor": str(said["worth_at_factor"])}, said["entry"], json.loads(str(said["walls"])), skin
         )

@@ -7,10 +7,11 @@ from typing import Any
 
 import numpy as np
 
+from pitplan.core.optional_packages import load
+
 from .errors import PlanError
 from .frame import turn_of
 from .grid import Grid
-from .packages import load
 
 PACKAGE = "python3-vtk9"
 

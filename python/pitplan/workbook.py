@@ -7,7 +7,7 @@ from pathlib import Path
 import numpy as np
 import pandas as pd
 
-from .packages import load
+from pitplan.core.optional_packages import load
 
 WIDEST = 24
 # By the beginning of a column's name how its numbers are shown; others have thousands and no decimals.

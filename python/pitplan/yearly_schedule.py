@@ -11,13 +11,14 @@ import numpy as np
 import pandas as pd
 import scipy
 
+from pitplan.core.progress import Progress, silent
+
 from . import grade_bins, integer_programme, linear_programme, phase_benches, yearly_money
 from .errors import PlanError
 from .linear_programme import Relaxed
 from .milling_programme import Milling, MillingProblem
 from .phase_benches import CASH, ORE, ROCK, PhaseBenches
 from .phases import Phases
-from .progress import Progress, silent
 from .project import Project, Schedule
 from .schedule import year_discounts
 from .schedule_rules import ScheduleRules

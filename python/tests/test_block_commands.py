@@ -14,9 +14,10 @@ from test_processes import WITH
 from test_pushbacks import UPRIGHT, pillars
 
 import pitplan
-from pitplan import PlanError, block_pictures, files, load, prepare
+from pitplan import PlanError, block_pictures, load, prepare
 from pitplan.block_schedule import of_plan, result
 from pitplan.cli import main
+from pitplan.core import files
 from pitplan.verification import verify
 
 pytestmark = pytest.mark.usefixtures("without_figures")

@@ -22,7 +22,7 @@ from test_scenarios import hill, write_models
 import pitplan
 from pitplan import MissingPackage, PlanError, Request, gather, load, write_scenarios
 from pitplan.cli import main
-from pitplan.progress import silent
+from pitplan.core.progress import silent
 from pitplan.simulation import folder as folders, prepare, value_pictures, work
 from pitplan.simulation.one_schedule import best_shares
 

@@ -18,9 +18,10 @@ from test_fixed import FIXED_SECTION, ores_and_fixed, with_section
 from test_scenarios import COLUMNS, PRICES, UPRIGHT, pillar
 
 import pitplan
-from pitplan import PlanError, ProgramError, files, library, load, run, solver, table as tables, varied_cases
+from pitplan import PlanError, ProgramError, library, load, run, solver, table as tables, varied_cases
 from pitplan.cli import main
 from pitplan.commands import answers
+from pitplan.core import files
 from pitplan.mine import counted_rows
 from pitplan.rows import Rows
 from pitplan.simulation import folder as folders, prepare, work
@@ -363,7 +364,7 @@ def other_library(monkeypatch):
 def test_a_worker_with_another_library_solves_nothing(plan_folder, monkeypatch):
     """Nor goes it on with its program."""
     project = replace(load(plan_folder(pillar(), COLUMNS, UPRIGHT)), solver="library")
-    shared = prepare.prepare(project, project.folder, pitplan.progress.silent)
+    shared = prepare.prepare(project, project.folder, pitplan.core.progress.silent)
     assert shared.solver.by == "library" and work.solve(str(shared.folder), 1).status == 0
     other_library(monkeypatch)
     outcome = work.solve(str(shared.folder), 2)

@@ -5,7 +5,7 @@ import pandas as pd
 import pytest
 from hypothesis import given, strategies as st
 
-from pitplan import csv_file
+from pitplan.core import csv_writer
 
 ODD = [
     0.0,
@@ -51,8 +51,8 @@ def test_any_table_is_written_as_by_pandas(tmp_path_factory, rows, data):
     table.columns = names
     path = tmp_path_factory.mktemp("table") / "table.csv"
     with pytest.MonkeyPatch.context() as patch:
-        patch.setattr(csv_file, "ROWS", rows)
-        csv_file.write(path, table)
+        patch.setattr(csv_writer, "ROWS", rows)
+        csv_writer.write(path, table)
     assert path.read_bytes() == table.to_csv(index=False).encode()
 
 
@@ -62,9 +62,9 @@ def test_pandas_is_asked_for_what_is_quoted_alone(tmp_path, monkeypatch):
     monkeypatch.setattr(
         pd.DataFrame, "to_csv", lambda table, *words, **more: asked.append(len(table)) or to_csv(table, *words, **more)
     )
-    monkeypatch.setattr(csv_file, "ROWS", 2)
-    csv_file.write(tmp_path / "plain.csv", plain)
-    csv_file.write(tmp_path / "quoted.csv", plain.assign(id=["a", "b", "c", "d,e"]))
+    monkeypatch.setattr(csv_writer, "ROWS", 2)
+    csv_writer.write(tmp_path / "plain.csv", plain)
+    csv_writer.write(tmp_path / "quoted.csv", plain.assign(id=["a", "b", "c", "d,e"]))
     assert (tmp_path / "plain.csv").read_text() == "id,x\na,5.0\nb,15.0\nc,\nd,-0.0\n"
     assert (tmp_path / "quoted.csv").read_text() == 'id,x\na,5.0\nb,15.0\nc,\n"d,e",-0.0\n'
     assert asked == [0, 0, 2], "the headings of both, and two rows"

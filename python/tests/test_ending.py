@@ -11,7 +11,7 @@ import time
 import pytest
 from conftest import ROOT, rows
 
-from pitplan.progress import Progress
+from pitplan.core.progress import Progress
 
 PITPLAN = [sys.executable, str(ROOT / "tools" / "pitplan")]
 CONVERT = [*PITPLAN, "convert", "minelib"]

@@ -6,8 +6,8 @@ import numpy as np
 import pytest
 from hypothesis import given, strategies as st
 
-from pitplan import text
-from pitplan.exact import Exact, at_factor
+from pitplan.core import byte_lines as text
+from pitplan.core.decimals import Exact, at_factor
 
 short = st.decimals(-(10**7), 10**7, places=6, allow_nan=False)
 

@@ -16,12 +16,13 @@ import pytest
 from conftest import PROJECT, ROOT, rows
 
 import pitplan
-from pitplan import BudgetUsedUp, PlanError, ProgramError, auditing, files, load, mine, outlines, packages, run
+from pitplan import BudgetUsedUp, PlanError, ProgramError, auditing, load, mine, run
 from pitplan.cli import main
 from pitplan.commands import answers
 from pitplan.commands.prepare import write_plan
 from pitplan.commands.writing import PICTURES
-from pitplan.progress import silent
+from pitplan.core import cell_outlines, files, optional_packages
+from pitplan.core.progress import silent
 from pitplan.rounded_tables import shown
 
 ORE = {"cu": lambda i, j, k: {(3, 3, 1): 6, (4, 3, 1): 2.5, (3, 4, 0): 9}.get((i, j, k), 0)}
@@ -263,7 +264,7 @@ def test_dxf_has_the_area_of_the_pit_on_each_level(solved):
 def test_rings_go_round_exactly_the_cells(seed):
     mask = np.random.default_rng(seed).random((7, 9)) < 0.5
     area = 0.0
-    for ring in outlines.rings(mask):
+    for ring in cell_outlines.rings(mask):
         x, y = np.array(ring).T
         area += (x * np.roll(y, -1) - np.roll(x, -1) * y).sum() / 2
         steps = np.abs(np.diff(np.array([*ring, ring[0]]), axis=0))
@@ -280,7 +281,7 @@ def test_rings_have_a_point_at_each_corner_and_at_no_other(seed):
     count = sum(round_it)
     touching = (count == 2) & (round_it[0] == round_it[3])
     corners = [(x, y) for y, x in np.argwhere(count % 2 == 1)] + 2 * [(x, y) for y, x in np.argwhere(touching)]
-    assert sorted(tuple(map(int, point)) for ring in outlines.rings(mask) for point in ring) == sorted(corners)
+    assert sorted(tuple(map(int, point)) for ring in cell_outlines.rings(mask) for point in ring) == sorted(corners)
 
 
 def test_the_planners_own_table_is_never_written_over(plan_folder):
@@ -338,9 +339,9 @@ def test_missing_libraries_are_named_with_their_packages(monkeypatch, tmp_path):
     for module, package in (("vtk", "python3-vtk9"), ("ezdxf", "python3-ezdxf")):
         monkeypatch.setitem(sys.modules, module, None)
         with pytest.raises(PlanError, match=f"export needs the Debian package {package}: apt-get install {package}"):
-            packages.load(module, package, "export")
+            optional_packages.load(module, package, "export")
     with pytest.raises(PlanError, match="the 3D page needs the Debian package libjs-three"):
-        packages.three_scripts(tmp_path)
+        optional_packages.three_scripts(tmp_path)
 
 
 def test_a_missing_program_is_named(monkeypatch):

@@ -14,11 +14,12 @@ from hypothesis import given, strategies as st
 from test_shells import BOX, CLOSED, SMALL, best_by_trying, grades, project_of
 
 import pitplan
-from pitplan import files, fixed, load, mine, prepare, run
+from pitplan import fixed, load, mine, prepare, run
 from pitplan.cli import main
+from pitplan.core import files
+from pitplan.core.progress import Progress, silent
 from pitplan.errors import PlanError
 from pitplan.fixed_rules import FixedRules
-from pitplan.progress import Progress, silent
 
 
 def with_section(text):

@@ -10,8 +10,9 @@ import pytest
 from test_surfaces import triangles_of, volume_of
 
 import pitplan
-from pitplan import PlanError, files, ground, stages
+from pitplan import PlanError, ground, stages
 from pitplan.cli import main
+from pitplan.core import files
 from pitplan.grid import Grid
 from pitplan.stages import Shape, Stage
 

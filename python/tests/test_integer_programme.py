@@ -16,7 +16,8 @@ from test_sequencing import THREE, benches_of, demand_diggable, problem_of, rand
 from test_yearly_schedule import PHASES
 
 import pitplan
-from pitplan import PlanError, files, highs, integer_programme as ip, load, optimiser
+from pitplan import PlanError, highs, integer_programme as ip, load, optimiser
+from pitplan.core import files
 from pitplan.schedule_rules import Effort
 from pitplan.sequencing import Limits
 from pitplan.verification import verify

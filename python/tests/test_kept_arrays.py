@@ -8,29 +8,30 @@ import pytest
 from conftest import PROJECT
 from test_scenarios import COLUMNS, UPRIGHT, pillar, prepared, solved_in_turn
 
-from pitplan import PlanError, kept_arrays, load, varied_cases
+from pitplan import PlanError, load, varied_cases
+from pitplan.core import keyed_arrays
 from pitplan.simulation import answers, work
 
 
 def test_arrays_that_are_kept_are_read_whole_or_refused(tmp_path):
     file = tmp_path / "answer.npz"
     arrays = {"entry": np.arange(300, dtype=np.int32), "names": ["a", "b"]}
-    kept_arrays.write(file, "key", **arrays)
+    keyed_arrays.write(file, "key", **arrays)
     whole = file.read_bytes()
-    assert {name: array.tolist() for name, array in kept_arrays.read(file, "key").items()} == {
+    assert {name: array.tolist() for name, array in keyed_arrays.read(file, "key").items()} == {
         "entry": list(range(300)),
         "names": ["a", "b"],
     }
     for length in range(0, len(whole), 7):
         file.write_bytes(whole[:length])
-        with pytest.raises(kept_arrays.NoAnswer):
-            kept_arrays.read(file, "key")
+        with pytest.raises(keyed_arrays.NoAnswer):
+            keyed_arrays.read(file, "key")
     rng = random.Random(3)
     for place in range(0, len(whole), 3):
         file.write_bytes(whole[:place] + bytes([whole[place] ^ rng.randrange(1, 256)]) + whole[place + 1 :])
         try:
-            found = kept_arrays.read(file, "key")
-        except kept_arrays.NoAnswer:
+            found = keyed_arrays.read(file, "key")
+        except keyed_arrays.NoAnswer:
             continue
         # What a change of no byte of the arrays leaves, such as a date.
         assert all(np.array_equal(found[name], array) for name, array in arrays.items() if name in found)
@@ -38,14 +39,14 @@ def test_arrays_that_are_kept_are_read_whole_or_refused(tmp_path):
 
 def test_an_answer_of_something_else_is_refused(tmp_path):
     file = tmp_path / "answer.npz"
-    kept_arrays.write(file, "one", entry=[1])
-    with pytest.raises(kept_arrays.NoAnswer, match="it answers something else: has a file been copied here?"):
-        kept_arrays.read(file, "other")
+    keyed_arrays.write(file, "one", entry=[1])
+    with pytest.raises(keyed_arrays.NoAnswer, match="it answers something else: has a file been copied here?"):
+        keyed_arrays.read(file, "other")
     np.savez_compressed(file, entry=[1])
-    with pytest.raises(kept_arrays.NoAnswer, match="it answers something else"):
-        kept_arrays.read(file, "one")
+    with pytest.raises(keyed_arrays.NoAnswer, match="it answers something else"):
+        keyed_arrays.read(file, "one")
     with pytest.raises(FileNotFoundError):
-        kept_arrays.read(tmp_path / "nowhere.npz", "one")
+        keyed_arrays.read(tmp_path / "nowhere.npz", "one")
 
 
 def test_an_answer_of_another_scenario_is_refused(plan_folder):

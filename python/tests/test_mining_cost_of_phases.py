@@ -8,7 +8,8 @@ from test_phase_widths import RICH, floor, square
 from test_pushbacks import UPRIGHT, pillars, with_phases
 
 import pitplan
-from pitplan import PlanError, files, phases
+from pitplan import PlanError, phases
+from pitplan.core import files
 from pitplan.verification import verify
 
 pytestmark = pytest.mark.usefixtures("without_figures")

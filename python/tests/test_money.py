@@ -9,7 +9,8 @@ import pytest
 from conftest import PROJECT, rows
 
 import pitplan
-from pitplan import PlanError, files, money
+from pitplan import PlanError, money
+from pitplan.core import files
 from pitplan.verification import money as verified_money
 
 MILLION = 10**6

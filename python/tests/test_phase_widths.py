@@ -10,7 +10,8 @@ from hypothesis import given, settings, strategies as st
 from test_pushbacks import UPRIGHT, blocks_of, with_phases, wrong
 
 import pitplan
-from pitplan import PlanError, files, load, phases, prepare, trim, widths
+from pitplan import PlanError, load, phases, prepare, trim, widths
+from pitplan.core import files
 from pitplan.phase_rules import PhaseRules
 from pitplan.verification.phase_widths import blocks_across, cells_in
 

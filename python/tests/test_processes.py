@@ -9,7 +9,8 @@ from conftest import PROJECT, rows
 from hypothesis import given, strategies as st
 
 import pitplan
-from pitplan import PlanError, analyse, files, money, processes, write_schedule
+from pitplan import PlanError, analyse, money, processes, write_schedule
+from pitplan.core import files
 from pitplan.processes import Way, best_way, steps_of
 from pitplan.verification import verify
 

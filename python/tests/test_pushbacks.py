@@ -9,8 +9,9 @@ from conftest import PROJECT, rows
 from hypothesis import given, settings, strategies as st
 
 import pitplan
-from pitplan import PlanError, files, load, phases
+from pitplan import PlanError, load, phases
 from pitplan.cli import main
+from pitplan.core import files
 from pitplan.phase_rules import PhaseRules
 from pitplan.verification import verify
 

@@ -7,7 +7,8 @@ import re
 import pytest
 
 import pitplan
-from pitplan import PlanError, files, records, verification
+from pitplan import PlanError, verification
+from pitplan.core import files, json_records
 
 
 def parts_of(value, place=()):
@@ -65,7 +66,7 @@ OTHERS = (None, True, -1, 2.5, float("nan"), "", "\0", [], [1], {}, {"a": 1}, 10
 def test_each_part_of_a_record_is_of_its_kind_or_named(solved):
     _, folder = solved
     whole, file = files.read_record(folder), folder / "prepare.json"
-    reader, count = records.Reader(file, "pitplan shells"), 0
+    reader, count = json_records.Reader(file, "pitplan shells"), 0
     for place in parts_of(whole):
         if (
             place[0] not in READ
@@ -76,8 +77,8 @@ def test_each_part_of_a_record_is_of_its_kind_or_named(solved):
         for value in OTHERS:
             changed = bent(whole, place, value)
             try:
-                reader.demand(changed, records.PLAN, "")
-                records.demand_plan(reader, changed)
+                reader.demand(changed, json_records.PLAN, "")
+                json_records.demand_plan(reader, changed)
             except PlanError as error:
                 count += 1
                 said = str(error)
@@ -124,10 +125,10 @@ def test_what_is_found_and_what_is_expected(solved, place, value, said):
     record = files.read_record(folder)
     (folder / "prepare.json").write_text(json.dumps(bent(record, place, value)))
     if place == ("title",):
-        records.read_plan(folder / "prepare.json")
+        json_records.read_plan(folder / "prepare.json")
         return
     with pytest.raises(PlanError) as error:
-        records.read_plan(folder / "prepare.json")
+        json_records.read_plan(folder / "prepare.json")
     assert str(error.value) == f"{folder / 'prepare.json'}: {said}: run pitplan shells again"
 
 

@@ -11,7 +11,7 @@ from hypothesis import given, strategies as st
 
 import pitplan
 from pitplan import PlanError, money, recoveries
-from pitplan.exact import Exact
+from pitplan.core.decimals import Exact
 from pitplan.money_rules import Curve
 from pitplan.recoveries import Head
 from pitplan.verification import feed, verify

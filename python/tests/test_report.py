@@ -14,8 +14,9 @@ from browser import Browser, needs_chromium
 from conftest import PROJECT, rows
 
 import pitplan
-from pitplan import PlanError, files, report_page
+from pitplan import PlanError, report_page
 from pitplan.cli import main
+from pitplan.core import files
 from pitplan.verification import verify
 
 CHROMIUM, PDFTOTEXT = shutil.which("chromium"), shutil.which("pdftotext")
@@ -308,7 +309,7 @@ def test_on_a_telephone_nothing_is_cut_off(written, tmp_path):
 
 def test_the_way_of_a_schedule_is_told_in_words(written):
     folder, project = written / "plan" / "schedule", pitplan.load(written / "project.toml")
-    record = pitplan.files.read_record(folder)
+    record = pitplan.core.files.read_record(folder)
     told = [report_page.of_answer(folder, project, record | {"schedule": way})["way"] for way in ("rule", "lp")]
     assert told == ["rule", "linear programme"]
     assert (
@@ -325,10 +326,10 @@ def test_the_bound_of_a_schedule_names_its_premise(written):
         "that sends each block to its assigned process earns more" in page and "divides ore by these bins" not in page
     )
     assert "Upper bound, these pushbacks and processes" in page
-    record = pitplan.files.read_record(folder)
-    (folder / pitplan.files.MILLING).write_text("")
-    pitplan.files.write_json(
-        folder / pitplan.files.RECORD, record | {"files": record["files"] | {pitplan.files.MILLING: "0" * 64}}
+    record = pitplan.core.files.read_record(folder)
+    (folder / pitplan.core.files.MILLING).write_text("")
+    pitplan.core.files.write_json(
+        folder / pitplan.core.files.RECORD, record | {"files": record["files"] | {pitplan.core.files.MILLING: "0" * 64}}
     )
     report_page.write(written / "binned.html", folder, project)
     assert "that divides ore by these bins earns more" in " ".join((written / "binned.html").read_text().split())

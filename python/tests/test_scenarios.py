@@ -19,7 +19,7 @@ import pitplan
 from pitplan import MissingPackage, PlanError, ProgramError, Request, load
 from pitplan.cli import main, parser
 from pitplan.commands import scenario_files
-from pitplan.progress import Progress, silent
+from pitplan.core.progress import Progress, silent
 from pitplan.simulation import answers, folder as folders, job_lists, on_dask, pictures, prepare, work
 
 UPRIGHT = ('pattern = "1:5"', "angle = 90")

@@ -14,7 +14,8 @@ from conftest import PROJECT, rows
 from hypothesis import given, strategies as st
 
 import pitplan
-from pitplan import PlanError, analyse, files
+from pitplan import PlanError, analyse
+from pitplan.core import files
 from pitplan.project import of_data, read_schedule
 from pitplan.rounded_tables import shown
 from pitplan.run import Solution

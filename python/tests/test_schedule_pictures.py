@@ -12,7 +12,8 @@ import pytest
 from matplotlib.figure import Figure
 from test_sequencing import THREE, benches_of, problem_of
 
-from pitplan import PlanError, files, page, schedule_pictures as pictures, workbook, yearly_schedule
+from pitplan import PlanError, page, schedule_pictures as pictures, workbook, yearly_schedule
+from pitplan.core import files
 from pitplan.grade_bins import Parcels
 from pitplan.linear_programme import Relaxed
 from pitplan.milling_programme import Milling

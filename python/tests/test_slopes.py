@@ -11,7 +11,8 @@ from conftest import PROJECT, ROOT, rows
 from hypothesis import given, strategies as st
 
 import pitplan
-from pitplan import PlanError, cones, files, slopes
+from pitplan import PlanError, cones, slopes
+from pitplan.core import files
 from pitplan.wall_rules import Slopes, Wall
 
 CUBE, FLAT = (10.0, 10.0, 10.0), (20.0, 20.0, 15.0)

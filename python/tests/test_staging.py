@@ -10,10 +10,11 @@ import pytest
 from conftest import PROJECT, rows
 
 import pitplan
-from pitplan import PlanError, Request, Shape, exports, staging
+from pitplan import PlanError, Request, Shape, exports
 from pitplan.cli import main
 from pitplan.commands.prepare import write_plan
 from pitplan.commands.writing import Writing
+from pitplan.core import staging
 
 pytestmark = pytest.mark.usefixtures("without_figures")
 ORE = {"cu": lambda i, j, k: {(3, 3, 1): 6, (4, 3, 1): 2.5, (3, 4, 0): 9}.get((i, j, k), 0)}

@@ -11,8 +11,9 @@ from test_turned import turned
 from test_verify import looked_at
 
 import pitplan
-from pitplan import PlanError, files, terrain, topography
+from pitplan import PlanError, terrain, topography
 from pitplan.cli import main
+from pitplan.core import files
 from pitplan.survey_files import NO_FACES, Topography
 from pitplan.verification import verify
 

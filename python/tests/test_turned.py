@@ -13,8 +13,9 @@ from conftest import PROJECT, rows
 from matplotlib.figure import Figure
 
 import pitplan
-from pitplan import PlanError, files, map_marks, page
+from pitplan import PlanError, map_marks, page
 from pitplan.cli import main
+from pitplan.core import files
 from pitplan.grid import Grid
 from pitplan.simulation import ensemble
 

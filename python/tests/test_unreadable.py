@@ -109,7 +109,9 @@ def test_the_name_of_a_column_with_a_line_s_end_stays_on_the_line(plan_folder, c
 
 
 def test_what_a_run_says_of_a_column_stays_on_its_line(plan_folder, capsys):
-    pitplan.prepare(plan_folder(rows(3, 2, 2).assign(**{"a\nb": 1})), progress=pitplan.progress.on_standard_error())
+    pitplan.prepare(
+        plan_folder(rows(3, 2, 2).assign(**{"a\nb": 1})), progress=pitplan.core.progress.on_standard_error()
+    )
     assert "columns not used: a\\nb\n" in capsys.readouterr().err
 
 

@@ -11,9 +11,10 @@ from conftest import PROJECT, rows
 from hypothesis import HealthCheck, given, settings, strategies as st
 
 import pitplan
-from pitplan import PlanError, absent, files, fixed, load, money, prepare, schedule, slopes, solve, table as tables
+from pitplan import PlanError, absent, fixed, load, money, prepare, schedule, slopes, solve, table as tables
 from pitplan.cli import main
 from pitplan.commands.answers import Answered, write_tables
+from pitplan.core import files
 from pitplan.verification import answer as answers, demand, sums, verify
 from pitplan.verification.answer import read
 from pitplan.verification.money import sample

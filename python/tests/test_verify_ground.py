@@ -16,7 +16,8 @@ from test_scenarios import COLUMNS, UPRIGHT, pillar, prepared, solved_in_turn
 from test_verify import looked_at, ore_everywhere, wrong
 
 import pitplan
-from pitplan import PlanError, absent, files, fixed, load, mine, prepare, terrain
+from pitplan import PlanError, absent, fixed, load, mine, prepare, terrain
+from pitplan.core import files
 from pitplan.verification import verify
 
 

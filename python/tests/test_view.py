@@ -14,8 +14,9 @@ import pytest
 from browser import Browser, needs_chromium
 
 import pitplan
-from pitplan import PlanError, files, page as pages
-from pitplan.progress import silent
+from pitplan import PlanError, page as pages
+from pitplan.core import files
+from pitplan.core.progress import silent
 
 KEPT = Path(__file__).parent / "expected" / "view.png"
 

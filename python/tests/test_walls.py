@@ -10,7 +10,7 @@ from conftest import rows
 from hypothesis import given, settings, strategies as st
 
 import pitplan
-from pitplan import files
+from pitplan.core import files
 from pitplan.project import of_data
 
 CUBE, FLAT, TALL = (10.0, 10.0, 10.0), (20.0, 20.0, 15.0), (5.0, 10.0, 12.0)

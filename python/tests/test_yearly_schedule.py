@@ -11,8 +11,9 @@ from conftest import PROJECT, rows
 from test_pushbacks import UPRIGHT, pillars, with_phases
 
 import pitplan
-from pitplan import PlanError, files, load, yearly_schedule
+from pitplan import PlanError, load, yearly_schedule
 from pitplan.cli import main
+from pitplan.core import files
 from pitplan.verification import verify
 
 pytestmark = pytest.mark.usefixtures("without_figures")

@@ -13,10 +13,10 @@ import pandas as pd
 from minelib import MinelibError
 from minelib.ending import INTERRUPTED, ended
 from minelib.schedule_models import SECONDS
+from pitplan.core.files import staged_file
+from pitplan.core.progress import on_standard_error, silent
 
 from ..errors import PlanError
-from ..files import staged_file
-from ..progress import on_standard_error, silent
 from ..schedule_rules import Effort
 from .of_minelib import of_minelib
 from .solving import Scheduled, solve

@@ -10,9 +10,10 @@ import numpy as np
 import pandas as pd
 import scipy
 
+from pitplan.core.progress import Progress, silent
+
 from ..phase_benches import CASH, ORE, ROCK
 from ..plan import Plan
-from ..progress import Progress, silent
 from ..project import REFERENCE_FACTOR
 from ..schedule import year_discounts
 from ..schedule_rules import ScheduleRules

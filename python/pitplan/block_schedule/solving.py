@@ -10,8 +10,9 @@ from typing import Optional
 import numpy as np
 from numpy.typing import NDArray
 
+from pitplan.core.progress import Progress, silent
+
 from ..errors import PlanError
-from ..progress import Progress, silent
 from ..schedule_rules import Effort
 from .destinations import with_best_shares
 from .filling import Filling, preferences

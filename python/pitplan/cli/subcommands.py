@@ -10,8 +10,7 @@ from pathlib import Path
 from typing import TYPE_CHECKING
 
 from minelib.ending import tell
-
-from ..progress import Progress, on_standard_error, silent
+from pitplan.core.progress import Progress, on_standard_error, silent
 
 if TYPE_CHECKING:
     from ..commands.writing import Writing
@@ -88,7 +87,8 @@ def shells(options: Namespace) -> int:
 
 
 def pit(options: Namespace) -> int:
-    from .. import files
+    from pitplan.core import files
+
     from ..commands.pit import write_pit
     from ..commands.writing import PITS
     from ..report import cells_of, columns_of
@@ -119,7 +119,8 @@ def pushbacks(options: Namespace) -> int:
 
 def schedule(options: Namespace) -> int:
     """Raises KeyboardInterrupt after the best schedule is written if the search was interrupted."""
-    from .. import files
+    from pitplan.core import files
+
     from ..commands.schedule import write_block_schedule, write_schedule
     from ..report import columns_by_block, columns_of_ways
     from .printing import print_answer
@@ -134,7 +135,9 @@ def schedule(options: Namespace) -> int:
 
 
 def sensitivity(options: Namespace) -> int:
-    from .. import files, report, sensitivity_files
+    from pitplan import report, sensitivity_files
+    from pitplan.core import files
+
     from ..commands.sensitivity import write_sensitivity
     from ..simulation.on_dask import Where
     from .printing import print_notes, print_table

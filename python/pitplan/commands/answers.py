@@ -8,12 +8,14 @@ from typing import TYPE_CHECKING, Optional
 
 import pandas as pd
 
-from .. import analyse, files, mine as mines, phases as phasing, report_page, workbook, yearly_schedule as scheduling
+from pitplan import analyse, mine as mines, phases as phasing, report_page, workbook, yearly_schedule as scheduling
+from pitplan.core import files
+from pitplan.core.progress import Progress
+
 from ..conventions import with_discounting, with_outline
 from ..mine import Mine
 from ..phases import Phases
 from ..plan import Plan
-from ..progress import Progress
 from ..rounded_tables import shown, write_csv
 from ..run import Solution
 from ..yearly_schedule import YearlySchedule

@@ -2,9 +2,11 @@
 
 from __future__ import annotations
 
-from .. import auditing, files, staging
-from ..noted_path import NotedPath, noted
-from ..progress import Progress, silent
+from pitplan import auditing
+from pitplan.core import files, staging
+from pitplan.core.noted_path import NotedPath, noted
+from pitplan.core.progress import Progress, silent
+
 from .export import read_factor
 from .writing import Place
 

@@ -2,10 +2,11 @@
 
 from __future__ import annotations
 
+from pitplan.core.progress import Progress, silent
+
 from ..mine import counted_rows
 from ..picture_bounds import demand_within
 from ..plan import prepare
-from ..progress import Progress, silent
 from .writing import Source, read
 
 

@@ -5,10 +5,12 @@ from __future__ import annotations
 from dataclasses import replace
 from pathlib import Path
 
-from .. import exports, files, verification
+from pitplan import exports, verification
+from pitplan.core import files
+from pitplan.core.noted_path import NotedPath, noted
+from pitplan.core.progress import Progress, silent
+
 from ..errors import PlanError
-from ..noted_path import NotedPath, noted
-from ..progress import Progress, silent
 from ..project import REFERENCE_FACTOR
 from ..stages import FACTOR, Shape
 from .writing import Place

@@ -8,7 +8,9 @@ from typing import Optional
 
 import pandas as pd
 
-from .. import absent, analyse, files, mine as mines
+from pitplan import absent, analyse, mine as mines
+from pitplan.core import files
+
 from ..errors import PlanError
 from ..project import REFERENCE_FACTOR, Project
 from ..rounded_tables import shown, write_csv

@@ -5,10 +5,12 @@ from __future__ import annotations
 from pathlib import Path
 from typing import Any
 
-from .. import files, project_text, staging
+from pitplan import project_text
+from pitplan.core import files, staging
+from pitplan.core.progress import Progress, silent
+
 from ..picture_bounds import demand_within
 from ..plan import prepare
-from ..progress import Progress, silent
 from ..project import Project
 from .writing import demand_apart, finish, write_table
 

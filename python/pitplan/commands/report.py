@@ -5,8 +5,10 @@ from __future__ import annotations
 from pathlib import Path
 from typing import Optional
 
-from .. import files, planned_table, report_page
-from ..progress import Progress, silent
+from pitplan import planned_table, report_page
+from pitplan.core import files
+from pitplan.core.progress import Progress, silent
+
 from .writing import REPORT, Place
 
 

@@ -8,10 +8,12 @@ from typing import TYPE_CHECKING
 import numpy as np
 import pandas as pd
 
-from .. import csv_file, files, verification
+from pitplan import verification
+from pitplan.core import csv_writer, files
+from pitplan.core.optional_packages import load_library
+
 from ..conventions import with_discounting
 from ..errors import MissingPackage
-from ..packages import load_library
 from ..picture_rules import PictureRules
 from ..pictures import also_as
 from ..plan import codes_of
@@ -129,7 +131,7 @@ def write_tables(shared: Shared, gathered: Gathered, stage: Path) -> None:
 def write_schedule_tables(schedules: Schedules, quantiles: pd.DataFrame, shared: Shared, stage: Path) -> None:
     """Writes the tables of schedules and of the one for all, and one_schedule.json."""
     blocks = answers.read_blocks(shared.folder, codes_of(shared.project))
-    csv_file.write(stage / ONE, schedules.by_block(shared, blocks))
+    csv_writer.write(stage / ONE, schedules.by_block(shared, blocks))
     tables = {SCHEDULES: schedules.table, ONE_YEARS: schedules.years, QUANTILES: quantiles}
     for name, table in tables.items():
         with_discounting(table, shared.project).to_csv(stage / name, index=False, float_format="%.12g")

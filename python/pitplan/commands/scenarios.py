@@ -5,7 +5,8 @@ from __future__ import annotations
 from pathlib import Path
 from typing import Optional
 
-from .. import staging
+from pitplan.core import staging
+
 from ..simulation import run
 from ..simulation.folder import BLOCK, FOLDERS, read_shared
 from ..simulation.request import Request

@@ -7,8 +7,9 @@ from typing import Optional
 
 import pandas as pd
 
+from pitplan.core.optional_packages import load_library
+
 from .. import mine as mines, phases as phasing, workbook, yearly_schedule as scheduling
-from ..packages import load_library
 from .answers import Answered, write_answer
 from .writing import Place, Source, Writing, begun, read
 

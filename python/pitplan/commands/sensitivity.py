@@ -8,16 +8,9 @@ from typing import Optional
 
 import pandas as pd
 
-from .. import (
-    csv_file,
-    files,
-    project_text,
-    sensitivity_files,
-    sensitivity_pictures,
-    staging,
-    varied_cases,
-    verification,
-)
+from pitplan import project_text, sensitivity_files, sensitivity_pictures, varied_cases, verification
+from pitplan.core import csv_writer, files, staging
+
 from ..conventions import with_discounting
 from ..pictures import also_as
 from ..sensitivity_files import RECORD, TABLE
@@ -102,5 +95,5 @@ def write_tables(found: Sensitivity, cases: pd.DataFrame, stage: Path) -> None:
     """Writes sensitivity.csv, and blocks.csv with the factor of each block in the pits of the project as given."""
     blocks = found.plan.blocks
     blocks["factor"] = found.answers[Case()].entry[blocks["id"].to_numpy()]
-    csv_file.write(stage / files.TABLE, blocks)
+    csv_writer.write(stage / files.TABLE, blocks)
     with_discounting(sensitivity_files.shown(cases), found.project).to_csv(stage / TABLE, index=False)

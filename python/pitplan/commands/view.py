@@ -4,8 +4,10 @@ from __future__ import annotations
 
 from pathlib import Path
 
-from .. import files, page
-from ..progress import Progress, silent
+from pitplan import page
+from pitplan.core import files
+from pitplan.core.progress import Progress, silent
+
 from .writing import VIEW, Place
 
 

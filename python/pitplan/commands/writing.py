@@ -10,24 +10,23 @@ from typing import Any, Iterable, Iterator, Optional, Union
 
 import pandas as pd
 
-from .. import (
+from pitplan import (
     block_pictures,
-    csv_file,
     exports,
-    files,
     mine as mines,
     project_text,
     sensitivity_files,
     sensitivity_pictures,
-    staging,
     verification,
 )
+from pitplan.core import csv_writer, files, staging
+from pitplan.core.progress import Progress, silent
+
 from ..errors import PlanError
 from ..mine import Mine
 from ..picture_bounds import demand_within
 from ..picture_rules import FORMATS
 from ..plan import Plan, prepare as prepare_plan
-from ..progress import Progress, silent
 from ..project import Project, inputs_beside, load
 from ..solver import PROGRAM, chosen
 
@@ -193,7 +192,7 @@ def note_verified(plan: Plan, run: Run) -> None:
 
 def write_table(blocks: pd.DataFrame, stage: Path) -> None:
     """Writes blocks.csv."""
-    csv_file.write(stage / files.TABLE, blocks)
+    csv_writer.write(stage / files.TABLE, blocks)
 
 
 def finish(plan: Plan, record: dict[str, Any], names: list[str], stage: Path) -> dict[str, Any]:

@@ -8,7 +8,8 @@ from pathlib import Path
 import numpy as np
 import pandas as pd
 
-from .. import kept_arrays
+from pitplan.core import keyed_arrays
+
 from ..errors import PlanError
 from . import folder as folders
 from .folder import Scenario, Shared
@@ -64,13 +65,13 @@ def read_answer(shared: Shared, scenario: Scenario) -> tuple[np.ndarray, pd.Data
     """The place of each block's least factor (0: in no pit), and the scenario's rows of the table."""
     path = shared.answer(scenario)
     try:
-        answer = kept_arrays.read(path, scenario.key)
+        answer = keyed_arrays.read(path, scenario.key)
         table = pd.DataFrame(answer["table"], columns=answer["columns"])
         worth, places = answer["worth_at_factor"], answer["places"].astype(np.int64)
         if places.shape != (len(shared.frame),) or not 0 <= places.min(initial=0) <= places.max(initial=0) <= len(
             shared.record["factors"]
         ):
-            raise kept_arrays.NoAnswer("it holds other blocks or factors")
+            raise keyed_arrays.NoAnswer("it holds other blocks or factors")
         table["blocks"] = table["blocks"].astype(np.int64)
     except (OSError, ValueError, KeyError, TypeError) as error:
         raise PlanError(f"{path}: is no answer: remove it, and run pitplan scenarios again: {error}") from error

@@ -7,11 +7,12 @@ from pathlib import Path
 import numpy as np
 import pandas as pd
 
-from .. import files
+from pitplan.core import files
+from pitplan.core.progress import Progress
+
 from ..block_schedule.of_plan import demand_of_blocks, diggable, pit_of
 from ..errors import PlanError
 from ..phase_benches import CASH
-from ..progress import Progress
 from ..project import REFERENCE_FACTOR, Project
 from ..schedule_rules import ScheduleRules
 from ..solver import PROGRAM

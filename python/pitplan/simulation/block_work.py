@@ -10,10 +10,12 @@ from typing import Any
 import numpy as np
 from numpy.typing import NDArray
 
-from .. import absent, kept_arrays, solver
+from pitplan import absent, solver
+from pitplan.core import keyed_arrays
+from pitplan.core.files import staged_file
+
 from ..block_schedule import Scheduled, solve
 from ..errors import PlanError
-from ..files import staged_file
 from ..phase_benches import ORE, ROCK
 from ..project import REFERENCE_FACTOR
 from . import folder as folders
@@ -52,7 +54,7 @@ def write_answer(shared: Shared, job: Scenario) -> None:
     row = made.row | {"seconds": time.perf_counter() - began}
     year, share = made.by_row
     with staged_file(shared.answer(job)) as path:
-        kept_arrays.write(path, job.key, year=year, share=share, names=list(row), amounts=list(row.values()))
+        keyed_arrays.write(path, job.key, year=year, share=share, names=list(row), amounts=list(row.values()))
 
 
 @dataclass(frozen=True)
@@ -125,7 +127,7 @@ def read_answer(shared: Shared, job: Scenario) -> Kept:
     """Raises PlanError where the answer cannot be read, or is of other blocks."""
     path = shared.answer(job)
     try:
-        kept = kept_arrays.read(path, job.key)
+        kept = keyed_arrays.read(path, job.key)
         row = dict(zip(kept["names"].tolist(), kept["amounts"].tolist()))
         year, share = kept["year"].astype(np.int64), kept["share"]
         is_of_these = (
@@ -133,7 +135,7 @@ def read_answer(shared: Shared, job: Scenario) -> Kept:
             and 0 <= year.min(initial=0) <= year.max(initial=0) <= shared.record["years"]
         )
         if not is_of_these:
-            raise kept_arrays.NoAnswer("it holds other blocks or years")
+            raise keyed_arrays.NoAnswer("it holds other blocks or years")
         row |= {name: int(row[name]) for name in WHOLE}
     except (OSError, ValueError, KeyError, TypeError) as error:
         raise PlanError(f"{path}: is no answer: remove it, and run pitplan scenarios again: {error}") from error

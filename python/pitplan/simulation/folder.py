@@ -28,9 +28,10 @@ import numpy as np
 import pandas as pd
 import scipy
 
-from .. import files
+from pitplan.core import files
+from pitplan.core.files import staged_file
+
 from ..errors import PlanError
-from ..files import staged_file
 from ..fixed import Settled
 from ..grid import Grid
 from ..project import Project, load

@@ -14,10 +14,11 @@ import shlex
 import sys
 from pathlib import Path
 
+from pitplan.core.files import staged_file
+from pitplan.core.paths import PACKAGES
+
 from .. import solver as solvers
 from ..errors import PlanError
-from ..files import staged_file
-from ..installation import PACKAGES
 from ..solver import Solver
 from .folder import Scenario
 

@@ -12,9 +12,10 @@ from dataclasses import dataclass
 from pathlib import Path
 from typing import Any, Iterator, Optional
 
+from pitplan.core.optional_packages import load
+from pitplan.core.progress import Progress
+
 from ..errors import PlanError
-from ..packages import load
-from ..progress import Progress
 from . import work
 from .folder import Scenario
 

@@ -10,13 +10,15 @@ from typing import Any
 
 import numpy as np
 
-from .. import csv_file, files, project_text, summary as summaries
+from pitplan import project_text, summary as summaries
+from pitplan.core import csv_writer, files
+from pitplan.core.optional_packages import load_library
+from pitplan.core.progress import Progress
+
 from ..mine import counted_rows
 from ..money_rules import ByRegion
-from ..packages import load_library
 from ..picture_bounds import demand_within
 from ..plan import Plan
-from ..progress import Progress
 from ..project import Project
 from ..solver import LIBRARY, Solver, chosen
 from . import folder as folders
@@ -138,7 +140,7 @@ def write_shared(laid: Laid, stage: Path) -> list[str]:
         "processing_cost",
         *(["haulage_cost", "ore_haulage_cost"] if base.project.haulage else []),
     ]
-    csv_file.write(stage / BLOCKS, frame.drop(columns=[*grades, *costs]))
+    csv_writer.write(stage / BLOCKS, frame.drop(columns=[*grades, *costs]))
     return [folders.BASE, folders.PROJECT, BLOCKS]
 
 

@@ -10,8 +10,9 @@ from typing import Any, Optional
 
 import pandas as pd
 
+from pitplan.core.files import grid_of
+
 from ..errors import PlanError
-from ..files import grid_of
 from ..picture_rules import PictureRules
 from ..plan import codes_of, shown_name
 from ..project import REFERENCE_FACTOR, load

@@ -11,8 +11,9 @@ from dataclasses import dataclass
 from pathlib import Path
 from typing import Optional
 
+from pitplan.core.progress import Progress
+
 from ..errors import PlanError
-from ..progress import Progress
 from ..project import REFERENCE_FACTOR, Project
 from . import folder as folders, job_lists, on_dask, prepare, work
 from .folder import Shared

@@ -11,10 +11,12 @@ from pathlib import Path
 
 import numpy as np
 
-from .. import absent, analyse, files, kept_arrays, library, mine, money, run, solver
+from pitplan import absent, analyse, library, mine, money, run, solver
+from pitplan.core import files, keyed_arrays
+from pitplan.core.files import staged_file
+from pitplan.core.optional_packages import load_library
+
 from ..errors import PlanError, ProgramError
-from ..files import staged_file
-from ..packages import load_library
 from ..plan import Plan
 from ..run import Solution
 from ..walls import Walls
@@ -135,6 +137,6 @@ def write_answer(shared: Shared, scenario: Scenario) -> None:
     with staged_file(shared.answer(scenario)) as path:
         # The place of a block's least factor in the list, from 1; 0: in no pit.
         places = np.where(entry > 0, np.searchsorted(factors, entry) + 1, 0).astype(np.uint16)
-        kept_arrays.write(
+        keyed_arrays.write(
             path, scenario.key, places=places, columns=table.columns.to_numpy().astype(str), table=table, **texts
         )

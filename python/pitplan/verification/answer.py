@@ -10,7 +10,9 @@ from typing import Any, Optional
 import numpy as np
 import pandas as pd
 
-from .. import records, table as tables
+from pitplan import table as tables
+from pitplan.core import json_records
+
 from ..errors import PlanError
 from ..money_rules import GRADE_UNITS
 from ..project import AbsentRock, Project
@@ -257,7 +259,7 @@ def read(folder: Path, project: Optional[Project] = None, table: Optional[pd.Dat
     Raises PlanError where the folder has no answer of `pitplan shells` or `pit`, or the project is not where it was.
     """
     try:
-        record = records.read_plan(folder / "prepare.json", is_whole=False)
+        record = json_records.read_plan(folder / "prepare.json", is_whole=False)
         project = project or as_run_or_edited(folder, record)
         found, expected = len(record.get("walls", project.slopes.walls)), len(project.slopes.walls)
         if found < expected:

@@ -18,7 +18,8 @@ from typing import Any, Optional
 import numpy as np
 import pandas as pd
 
-from .. import kept_arrays
+from pitplan.core import keyed_arrays
+
 from ..errors import PlanError
 from . import absent, fixed, walls
 from .answer import TOLD, Answer, Rule, rule
@@ -60,7 +61,7 @@ class Kept:
     @staticmethod
     def of(file: Path) -> Kept:
         try:
-            said = kept_arrays.read(file, file.stem)
+            said = keyed_arrays.read(file, file.stem)
             row = dict(zip(said["names"].tolist(), said["amounts"].tolist()))
             return Kept(said["year"].astype(np.int64), said["share"], row)
         except (ValueError, KeyError, TypeError) as error:

@@ -15,7 +15,9 @@ from typing import Any, Optional
 import numpy as np
 import pandas as pd
 
-from .. import kept_arrays, toml_text
+from pitplan import toml_text
+from pitplan.core import keyed_arrays
+
 from ..errors import PlanError
 from ..project import Project, of_data
 from ..project_text import AS_RUN, as_run
@@ -261,7 +263,7 @@ def cases_in(folder: Path, record: Data) -> Iterator[Case]:
     for entry in record["cases"]:
         path = folder / "cases" / f"{entry['key']}.npz"
         try:
-            said = kept_arrays.read(path, entry["key"])
+            said = keyed_arrays.read(path, entry["key"])
             case = Case(
                 tuple((name, Decimal(share)) for name, share in entry["changes"]),
                 said["entry"],

@@ -14,7 +14,9 @@ from typing import Any, Iterator, Optional
 import numpy as np
 import pandas as pd
 
-from .. import kept_arrays, table as tables
+from pitplan import table as tables
+from pitplan.core import keyed_arrays
+
 from ..errors import PlanError
 from ..project import Project, Scenarios, load
 from ..table_format import format_of
@@ -145,7 +147,7 @@ class Simulated:
 
     def answer(self, scenario: Scenario) -> Told:
         try:
-            said = kept_arrays.read(scenario.file, scenario.file.stem)
+            said = keyed_arrays.read(scenario.file, scenario.file.stem)
             table = pd.DataFrame(said["table"], columns=said["columns"], index=pd.Index(self.factors, name="factor"))
             told = Told(said["places"].astype(np.int64), table.assign(worth_at_factor=said["worth_at_factor"]))
         except (ValueError, KeyError, TypeError) as error:

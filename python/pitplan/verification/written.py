@@ -7,8 +7,9 @@ from pathlib import Path
 
 import pandas as pd
 
+from pitplan.core.numeric_fields import at_row, is_numeric
+
 from ..errors import PlanError
-from ..fields import at_row, is_numeric
 
 # How the names of columns begin that are empty where there is no such amount: a ratio to no ore, a width of nothing, a bound that was not
 # sought, what is of other cases alone.

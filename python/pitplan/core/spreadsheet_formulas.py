@@ -7,7 +7,7 @@ from itertools import chain
 
 import pandas as pd
 
-from .fields import HEADER_ROWS, holds_texts
+from .numeric_fields import HEADER_ROWS, holds_texts
 
 SIGNS = frozenset("=+-@")
 # Of a longer text the beginning is shown.

@@ -6,7 +6,7 @@ import importlib
 from pathlib import Path
 from types import ModuleType
 
-from .errors import MissingPackage
+from pitplan.errors import MissingPackage
 
 # The package of the library of pits.
 LIBRARY = "pitshell"

@@ -13,12 +13,13 @@ from typing import Any, Iterable, Iterator, Mapping, Optional
 import numpy as np
 import pandas as pd
 
-from . import records, staging, text
-from .errors import PlanError
-from .fixed import Settled
-from .grid import Grid
-from .needs import ABSENT, slices
-from .walls import Walls
+from pitplan.errors import PlanError
+from pitplan.fixed import Settled
+from pitplan.grid import Grid
+from pitplan.needs import ABSENT, slices
+from pitplan.walls import Walls
+
+from . import byte_lines, json_records, staging
 
 BLOCKS, MODEL, PREC, FIXED = "mine.blocks", "mine.upit", "mine.prec", "mine.fixed"
 REST_BLOCKS, REST_PREC, PIT_MODEL = "rest.blocks", "rest.prec", "pit.upit"
@@ -89,9 +90,13 @@ def write_blocks(path: Path, grid: Grid, processed: np.ndarray, nodes: tuple[np.
         for start in range(0, len(block), CHUNK):
             part = slice(start, min(start + CHUNK, len(block)))
             column, row, level = grid.indices(block[part])
-            places = [text.whole(axis) for axis in (column, row, grid.shape[0] - 1 - level)]
-            numbers = text.whole(np.arange(part.start, part.stop))
-            file.write(text.lines([numbers, *places, text.decimals(revenue[part]), text.decimals(cost[part])]))
+            places = [byte_lines.whole(axis) for axis in (column, row, grid.shape[0] - 1 - level)]
+            numbers = byte_lines.whole(np.arange(part.start, part.stop))
+            file.write(
+                byte_lines.lines(
+                    [numbers, *places, byte_lines.decimals(revenue[part]), byte_lines.decimals(cost[part])]
+                )
+            )
 
 
 def write_model(path: Path, name: str, values: np.ndarray) -> None:
@@ -101,7 +106,7 @@ def write_model(path: Path, name: str, values: np.ndarray) -> None:
         for start in range(0, len(values), CHUNK):
             part = values[start : start + CHUNK]
             numbers = np.arange(start, start + len(part))
-            file.write(text.lines([text.whole(numbers), text.decimals(part)]))
+            file.write(byte_lines.lines([byte_lines.whole(numbers), byte_lines.decimals(part)]))
 
 
 @dataclass(frozen=True)
@@ -160,12 +165,16 @@ def write_prec(path: Path, needs: Needs, most: int) -> Pairs:
             written += int(count.sum())
             clipped += part.clipped
             if some.any() and written <= most:
-                heads = [text.whole(part.ids[some]), text.whole(count[some])]
-                file.write(text.ragged(heads, needed[some], ABSENT))
+                heads = [byte_lines.whole(part.ids[some]), byte_lines.whole(count[some])]
+                file.write(byte_lines.ragged(heads, needed[some], ABSENT))
         for start in range(0, len(nodes), CHUNK):
             part_of = slice(start, start + CHUNK)
             ones = np.ones(len(nodes[part_of]))
-            file.write(text.lines([text.whole(nodes[part_of]), text.whole(ones), text.whole(blocks[part_of])]))
+            file.write(
+                byte_lines.lines(
+                    [byte_lines.whole(nodes[part_of]), byte_lines.whole(ones), byte_lines.whole(blocks[part_of])]
+                )
+            )
     return Pairs(written, clipped, len(nodes))
 
 
@@ -199,7 +208,7 @@ def grid_of(box: dict[str, Any], rows: np.ndarray) -> Grid:
 
 def read_record(folder: Path) -> dict[str, Any]:
     """What prepare.json says. Raises PlanError where a part of it is missing or of another kind, and OSError where it cannot be opened."""
-    return records.read_plan(folder / RECORD)
+    return json_records.read_plan(folder / RECORD)
 
 
 def read_json(path: Path) -> dict[str, Any]:

@@ -14,7 +14,7 @@ from contextlib import contextmanager, suppress
 from pathlib import Path
 from typing import Iterator
 
-from .errors import PlanError
+from pitplan.errors import PlanError
 
 LOCK, PREFIX = ".pitplan.lock", ".pitplan-"
 

@@ -7,7 +7,7 @@ import time
 from contextlib import contextmanager, suppress
 from typing import Iterable, Iterator, Optional, TextIO
 
-from .errors import on_one_line
+from pitplan.errors import on_one_line
 
 
 class Progress:

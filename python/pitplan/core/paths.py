@@ -6,9 +6,9 @@ import os
 import shutil
 from pathlib import Path
 
-from .errors import ProgramError
+from pitplan.errors import ProgramError
 
-PACKAGE = Path(__file__).resolve().parent
+PACKAGE = Path(__file__).resolve().parents[1]
 PACKAGES = PACKAGE.parent
 
 

@@ -6,7 +6,7 @@ import numpy as np
 import pandas as pd
 from pandas.api import types
 
-from .errors import PlanError
+from pitplan.errors import PlanError
 
 HEADER_ROWS = 2
 # Kinds of fields among which are no truths, dates and the like.

@@ -1,0 +1,1 @@
+"""Foundations without mining content: exact decimals, text and CSV files, folders, progress."""
