@@ -44,6 +44,8 @@ from importlib.util import find_spec
 from typing import TYPE_CHECKING, Any
 
 if TYPE_CHECKING:
+    from pitplan.config.project import Project, load
+
     from .analyse import blocks, shells, years
     from .commands.audit import audit
     from .commands.check import check
@@ -61,7 +63,6 @@ if TYPE_CHECKING:
     from .errors import BudgetUsedUp, MissingPackage, PlanError, ProgramError
     from .mine import solve
     from .plan import Plan, prepare
-    from .project import Project, load
     from .run import Solution
     from .simulation.on_dask import Where
     from .simulation.request import Request

@@ -12,9 +12,10 @@ from dataclasses import replace
 import numpy as np
 import pandas as pd
 
+from pitplan.config.project import AbsentRock, Project
+
 from .errors import PlanError
 from .grid import Grid
-from .project import AbsentRock, Project
 
 
 def unknown_cells(grid: Grid) -> np.ndarray:

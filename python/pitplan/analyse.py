@@ -11,10 +11,11 @@ from typing import Optional
 import numpy as np
 import pandas as pd
 
+from pitplan.config.project import REFERENCE_FACTOR, Schedule
+
 from . import schedule as schedules, yearly_money
 from .errors import PlanError
 from .plan import MILLION, Plan
-from .project import REFERENCE_FACTOR, Schedule
 from .run import Solution
 from .schedule import Benches
 

@@ -14,12 +14,13 @@ from pathlib import Path
 import numpy as np
 import pandas as pd
 
+from pitplan.config.project import Project
+from pitplan.config.survey import SurveyFile
+
 from . import survey_files, terrain, topography
 from .errors import PlanError
 from .grid import Grid
-from .project import Project
 from .survey_files import Topography
-from .survey_rules import SurveyFile
 from .table import TONNES_PLACES
 from .terrain import HAIR
 

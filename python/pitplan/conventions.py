@@ -5,7 +5,7 @@ from __future__ import annotations
 import numpy as np
 import pandas as pd
 
-from .project import Project
+from pitplan.config.project import Project
 
 IN_WORDS = {
     "end_of_year": "from the end of each year",

@@ -6,8 +6,9 @@ from typing import Sequence
 
 import numpy as np
 
+from pitplan.config.economics import METAL_UNITS, Metal
+
 from .grid import Grid
-from .money_rules import METAL_UNITS, Metal
 
 WARNING = "WARNING: "
 # Tonnes a cubic metre between which blocks of rock lie, cut ones among them: lighter than pumice, heavier than massive sulphide ore.

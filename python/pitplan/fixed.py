@@ -13,13 +13,13 @@ from typing import Optional
 import numpy as np
 import pandas as pd
 
+from pitplan.config.constraints import Area
+from pitplan.config.project import Project
 from pitplan.core import byte_lines
 
 from . import as_mined, survey_files, terrain
 from .errors import PlanError
-from .fixed_rules import Area
 from .grid import Grid
-from .project import Project
 from .table import called
 from .trim import used_blocks, users_of
 from .walls import Walls

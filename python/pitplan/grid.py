@@ -8,10 +8,11 @@ from typing import Any
 import numpy as np
 import pandas as pd
 
+from pitplan.config.project import GridRules, Project, TableColumns
+
 from . import turned
 from .errors import PlanError
 from .frame import Frame, turn_of
-from .project import GridRules, Project, TableColumns
 from .table import at_row
 
 MOST_BLOCKS = 4_194_304

@@ -15,10 +15,10 @@ from dataclasses import dataclass
 
 import numpy as np
 
+from pitplan.config.haulage import Haulage, Road
 from pitplan.core.decimals import Exact
 
 from .grid import Grid
-from .haulage_rules import Haulage, Road
 
 # Lengths are kept to a millimetre, elevations of floors to a micrometre.
 LENGTH_PLACES, ELEVATION_PLACES = 3, 6

@@ -12,13 +12,13 @@ from typing import Optional
 import numpy as np
 import pandas as pd
 
+from pitplan.config.project import GridRules
 from pitplan.core.files import staged_file
 from pitplan.core.numeric_fields import holds_texts
 
 from .doubts import of_codes
 from .errors import PlanError
 from .guesses import PRECIOUS, Columns, MetalGuess, columns_of
-from .project import GridRules
 from .summary import Axis, Grade, mean_of, not_used
 from .table import filled_numbers, has_decimal_commas, read_columns
 from .table_format import NAMES, UNREADABLE, TableFormat, demand_text, guessed_separator, opened, unreadable

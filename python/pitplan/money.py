@@ -21,6 +21,8 @@ from typing import Callable, Optional
 import numpy as np
 import pandas as pd
 
+from pitplan.config.economics import GRADE_UNITS, ByCode, ByRegion, Curve, Metal, Money
+from pitplan.config.project import REFERENCE_FACTOR, Project
 from pitplan.core.decimals import Exact, Rounding, at_factor, product, total
 
 from . import recoveries
@@ -28,9 +30,7 @@ from .errors import PlanError
 from .fixed import Settled
 from .grid import MOST_BLOCKS, Grid
 from .haulage import Hauled, Roads
-from .money_rules import GRADE_UNITS, ByCode, ByRegion, Curve, Metal, Money
 from .processes import Steps, Way, best_way, steps_of, worth
-from .project import REFERENCE_FACTOR, Project
 from .recoveries import Head
 from .table import HEADER_ROWS, at_row
 

@@ -12,10 +12,11 @@ from typing import Optional
 
 import numpy as np
 
+from pitplan.config.schedule import Effort
+
 from . import highs
 from .errors import PlanError
 from .highs import Optimum, Programme
-from .schedule_rules import Effort
 
 # A linear programme of so few unknowns is solved before a process has begun.
 FEW = 2_000

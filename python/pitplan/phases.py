@@ -15,15 +15,15 @@ import numpy as np
 import pandas as pd
 from scipy import ndimage
 
+from pitplan.config.project import REFERENCE_FACTOR, Project
+from pitplan.config.pushbacks import MOST_PHASES, PhaseRules
 from pitplan.core.progress import Progress, silent
 
 from . import analyse, mine as mines, widths
 from .doubts import WARNING
 from .errors import PlanError
 from .mine import Mine
-from .phase_rules import MOST_PHASES, PhaseRules
 from .plan import Plan
-from .project import REFERENCE_FACTOR, Project
 from .run import Solution
 
 LEAST_FACTOR = 1

@@ -2,10 +2,11 @@
 
 from __future__ import annotations
 
+from pitplan.config.figures import PictureRules
+from pitplan.config.project import Project
+
 from .errors import PlanError
 from .grid import Grid, metres
-from .picture_rules import PictureRules
-from .project import Project
 
 
 def demand_within(project: Project, grid: Grid) -> None:

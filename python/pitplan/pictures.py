@@ -24,15 +24,15 @@ from matplotlib.figure import Figure
 from matplotlib.image import AxesImage
 from matplotlib.ticker import MaxNLocator
 
+from pitplan.config.figures import PictureRules
+from pitplan.config.project import Metal
 from pitplan.core.cell_outlines import edges
 
 from . import analyse
 from .errors import PlanError
 from .grid import Grid, metres
 from .map_marks import axes_of_map, contours, floor_of, mark_map, mark_section_cells, section_titles
-from .picture_rules import PictureRules
 from .plan import Plan
-from .project import Metal
 from .run import Solution
 
 ORE, WASTE, GROUND = "#3b6ea5", "#cfc9bd", "#ece8df"

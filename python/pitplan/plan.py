@@ -12,6 +12,7 @@ from typing import Any, Optional, Union
 import numpy as np
 import pandas as pd
 
+from pitplan.config.project import Project, load
 from pitplan.core import files
 from pitplan.core.files import MOST_PAIRS, Needs, Pairs
 from pitplan.core.progress import Progress, silent
@@ -38,7 +39,6 @@ from .errors import PlanError
 from .fixed import NOTHING, FixedBlocks, Settled
 from .grid import Grid
 from .money import Values
-from .project import Project, load
 from .reach import Model
 from .walls import Walls
 

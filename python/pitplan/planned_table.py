@@ -7,13 +7,14 @@ from pathlib import Path
 import numpy as np
 import pandas as pd
 
+from pitplan.config import project_writer
+from pitplan.config.project import Project
 from pitplan.core.files import Folder, hash_of
 
-from . import project_text, table as tables
+from . import table as tables
 from .errors import PlanError
 from .grid import Grid
 from .plan import shown_name
-from .project import Project
 from .table_format import TableFormat, demand_text, format_of, names_in_header
 
 # What blocks.csv has of a block's pits, phase and year, in this order; each where the folder has it.
@@ -54,7 +55,7 @@ def cells_of(frame: pd.DataFrame, project: Project, grid: Grid) -> np.ndarray:
 
 def project_of(folder: Folder) -> Project:
     """The project that the folder was made of. Raises PlanError if it, its table or another of its inputs has changed since."""
-    project = project_text.as_run(folder.path, folder.record["project"])
+    project = project_writer.as_run(folder.path, folder.record["project"])
     for name, path in project.named_inputs.items():
         try:
             is_same = folder.record["inputs"].get(name) == hash_of(path)

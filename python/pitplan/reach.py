@@ -13,10 +13,11 @@ from dataclasses import dataclass, replace
 import numpy as np
 import pandas as pd
 
+from pitplan.config.project import Project
+
 from . import fixed as fixing, grid as grids, money, trim
 from .errors import PlanError
 from .grid import Grid
-from .project import Project
 from .walls import Walls
 
 

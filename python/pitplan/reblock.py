@@ -14,12 +14,12 @@ from functools import cached_property
 import numpy as np
 import pandas as pd
 
+from pitplan.config.project import GridRules, Project, Reblock
+from pitplan.config.schedule import ScheduleRules
 from pitplan.core.decimals import MOST_WHOLE, Exact, greatest, nearest, product
 
 from . import grid as grids
 from .frame import Frame
-from .project import GridRules, Project, Reblock
-from .schedule_rules import ScheduleRules
 from .table import TONNES_PLACES, Table, at_row
 
 # Kept of grades, so that they have an end of decimals; halves to the even one.

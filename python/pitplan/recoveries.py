@@ -7,9 +7,8 @@ from typing import Union
 
 import numpy as np
 
+from pitplan.config.economics import Curve, Recovery
 from pitplan.core.decimals import Exact, nearest, whole_and_places
-
-from .money_rules import Curve, Recovery
 
 # A recovery by grade is kept to a millionth, since the line between two grades has no end of decimals.
 PLACES = 6

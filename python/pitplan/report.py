@@ -7,9 +7,10 @@ from pathlib import Path
 import pandas as pd
 from jinja2 import Environment, FileSystemLoader, select_autoescape
 
-from .money_rules import Metal
+from pitplan.config.economics import Metal
+from pitplan.config.project import Project
+
 from .pictures import scaled
-from .project import Project
 
 TEMPLATES = Environment(
     loader=FileSystemLoader(Path(__file__).parent / "templates"),

@@ -13,13 +13,14 @@ from typing import Any, Callable, Optional
 
 import pandas as pd
 
+from pitplan.config import project_writer
+from pitplan.config.project import REFERENCE_FACTOR, Project
 from pitplan.core import files
 from pitplan.core.files import hash_of
 
-from . import project_text, report, schedule_pictures
+from . import report, schedule_pictures
 from .conventions import IN_WORDS
 from .errors import PlanError
-from .project import REFERENCE_FACTOR, Project
 from .report import TEMPLATES, Columns
 
 SENSITIVITY, SENSITIVITY_RECORD, TORNADO = "sensitivity.csv", "sensitivity.json", "tornado.png"
@@ -101,7 +102,7 @@ def differing(first: dict[str, str], second: dict[str, str]) -> list[str]:
 
 def differing_as_run(project: Project, folder: Path, record: dict[str, Any]) -> list[str]:
     """The name of the project's text if that of the sensitivity in a folder, which may have been moved, is of another project."""
-    both = (project, project_text.as_run(folder, record["project"]))
+    both = (project, project_writer.as_run(folder, record["project"]))
     texts = {replace(it, folder=it.path.parent).to_toml() for it in both}
     return [files.AS_RUN] if len(texts) > 1 else []
 

@@ -7,8 +7,9 @@ from pathlib import Path
 import numpy as np
 import pandas as pd
 
+from pitplan.config.project import Project
+
 from .conventions import with_discounting
-from .project import Project
 
 
 def write_csv(table: pd.DataFrame, path: Path, project: Project) -> None:

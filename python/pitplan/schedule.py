@@ -15,9 +15,10 @@ from functools import cached_property
 import numpy as np
 import pandas as pd
 
+from pitplan.config.economics import MOST_YEARS
+from pitplan.config.project import Project, Schedule
+
 from .errors import PlanError
-from .money_rules import MOST_YEARS
-from .project import Project, Schedule
 from .yearly_money import PLAIN, YearlyMoney
 
 ROCK, ORE, CASH = 0, 1, -1

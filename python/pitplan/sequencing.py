@@ -7,11 +7,12 @@ from typing import Optional
 
 import numpy as np
 
+from pitplan.config.project import Project, Schedule
+from pitplan.config.schedule import ScheduleRules
+
 from .errors import PlanError
 from .phase_benches import CASH, ORE, ROCK, PhaseBenches
-from .project import Project, Schedule
 from .schedule import MOST_YEARS, year_discounts
-from .schedule_rules import ScheduleRules
 from .yearly_money import PLAIN, YearlyMoney
 
 # A share so small is taken as nothing, since sums of fractions miss it by a hair.

@@ -13,9 +13,10 @@ from dataclasses import dataclass, replace
 import numpy as np
 from scipy.spatial import ConvexHull, QhullError
 
+from pitplan.config.slopes import MOST_LEVELS, Slopes, Wall
+
 from . import cones
 from .errors import PlanError
-from .wall_rules import MOST_LEVELS, Slopes, Wall
 
 Offset = tuple[int, int, int]
 # Pairs of azimuth and angle in degrees.

@@ -6,11 +6,11 @@ from dataclasses import dataclass
 
 import numpy as np
 
+from pitplan.config.project import REFERENCE_FACTOR
 from pitplan.core.files import Folder
 
 from .errors import PlanError
 from .grid import Grid
-from .project import REFERENCE_FACTOR
 
 FACTOR, PHASE, YEAR = "factor", "phase", "year"
 KINDS = (FACTOR, PHASE, YEAR)

@@ -7,9 +7,10 @@ from typing import Optional, Sequence
 
 import numpy as np
 
+from pitplan.config.economics import GRADE_SIGNS, GRADE_UNITS, METAL_UNITS, Metal
+from pitplan.config.project import Project, TableColumns
+
 from .grid import Grid, metres
-from .money_rules import GRADE_SIGNS, GRADE_UNITS, METAL_UNITS, Metal
-from .project import Project, TableColumns
 from .table import Table
 
 OPTIONAL = ("id", "rock", "region")

@@ -9,11 +9,11 @@ from typing import Any, Iterable
 
 import numpy as np
 
+from pitplan.config.survey import SurveyFile
 from pitplan.core.optional_packages import load
 
 from .errors import PlanError
 from .survey_layers import Layer
-from .survey_rules import SurveyFile
 
 PACKAGE = "python3-ezdxf"
 # Metres by which the chords of an arc may lie off it.

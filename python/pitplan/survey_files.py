@@ -13,11 +13,12 @@ from pathlib import Path
 
 import numpy as np
 
+from pitplan.config.survey import SurveyFile
+from pitplan.config.toml_section import FARTHEST
+
 from . import survey_dxf, survey_gdal, survey_strings
 from .errors import PlanError
-from .section import FARTHEST
 from .survey_layers import Layer, chosen, named
-from .survey_rules import SurveyFile
 from .table import at_row, demand_columns, numbers_of, read_columns
 from .table_format import TableFormat, guessed_separator
 

@@ -7,11 +7,11 @@ from typing import Any, Optional
 
 import numpy as np
 
+from pitplan.config.survey import SurveyFile
 from pitplan.core.optional_packages import load
 
 from .errors import PlanError
 from .survey_layers import Layer
-from .survey_rules import SurveyFile
 
 PACKAGE = "python3-gdal"
 # The driver of each ending.

@@ -8,8 +8,9 @@ from fnmatch import fnmatchcase
 
 import numpy as np
 
+from pitplan.config.survey import SurveyFile
+
 from .errors import PlanError
-from .survey_rules import SurveyFile
 
 # So many layers are told in a refusal.
 TOLD = 8

@@ -15,14 +15,14 @@ from typing import Optional
 import numpy as np
 import pandas as pd
 
+from pitplan.config.project import Project, TableColumns
+from pitplan.config.toml_section import FARTHEST
 from pitplan.core import spreadsheet_formulas
 from pitplan.core.decimals import Exact
 from pitplan.core.numeric_fields import HEADER_ROWS, at_row, holds_texts, numbers_of, without_truths
 
 from . import parquet
 from .errors import PlanError
-from .project import Project, TableColumns
-from .section import FARTHEST
 from .table_format import (
     NAMES,
     UNREADABLE,

@@ -15,9 +15,10 @@ from dataclasses import dataclass
 from pathlib import Path
 from typing import IO, Optional
 
+from pitplan.config.project import TableColumns
+
 from .errors import PlanError
 from .parquet import is_parquet
-from .project import TableColumns
 
 SEPARATORS = (",", ";", "\t", "|")
 NAMES = {",": "commas", ";": "semicolons", "\t": "tabs", "|": "bars"}

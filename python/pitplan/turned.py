@@ -11,11 +11,11 @@ from typing import Optional
 
 import numpy as np
 
+from pitplan.config.project import GridRules
 from pitplan.core.optional_packages import load
 
 from .errors import PlanError
 from .frame import PLACES, turn_of
-from .project import GridRules
 from .table import at_row
 
 # So many centres tell the first guess, each by so many neighbours; their directions are so much alike, 1 being the same.

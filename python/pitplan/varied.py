@@ -6,9 +6,10 @@ from dataclasses import replace
 from decimal import Decimal
 from typing import Callable, Union
 
+from pitplan.config.economics import ByRock, Curve, Metal, Process, Recovery
+from pitplan.config.project import Project
+
 from .errors import PlanError
-from .money_rules import ByRock, Curve, Metal, Process, Recovery
-from .project import Project
 
 # A number's name, as `[sensitivity]` gives it, and a share: 0.1 for a tenth more.
 Change = tuple[str, Decimal]

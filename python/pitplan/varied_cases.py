@@ -15,6 +15,8 @@ from typing import Any
 import numpy as np
 import pandas as pd
 
+from pitplan.config.project import Project
+from pitplan.config.sensitivity import SensitivityRules
 from pitplan.core import files, keyed_arrays
 from pitplan.core.optional_packages import load
 from pitplan.core.progress import Progress, silent
@@ -22,8 +24,6 @@ from pitplan.core.progress import Progress, silent
 from . import analyse, mine, solver, table as tables
 from .errors import PlanError
 from .plan import Plan, prepare
-from .project import Project
-from .sensitivity_rules import SensitivityRules
 from .simulation import on_dask
 from .simulation.folder import key_of
 from .skin import Skin, of_pit

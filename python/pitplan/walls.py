@@ -12,11 +12,12 @@ from dataclasses import dataclass
 import numpy as np
 import pandas as pd
 
+from pitplan.config.slopes import Slopes
+
 from . import cones
 from .errors import PlanError
 from .grid import Grid
 from .slopes import Pattern, pattern_of
-from .wall_rules import Slopes
 
 
 @dataclass(frozen=True)

@@ -23,10 +23,11 @@ from typing import Optional
 import numpy as np
 from scipy import ndimage
 
+from pitplan.config.pushbacks import PhaseRules
+
 from . import absent, trim
 from .errors import PlanError
 from .grid import metres
-from .phase_rules import PhaseRules
 from .plan import Plan
 
 # Rows and columns of blocks.

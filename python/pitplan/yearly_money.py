@@ -6,7 +6,7 @@ from dataclasses import dataclass, field
 
 import numpy as np
 
-from .project import Project
+from pitplan.config.project import Project
 
 
 @dataclass(frozen=True)

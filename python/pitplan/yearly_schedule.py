@@ -11,6 +11,8 @@ import numpy as np
 import pandas as pd
 import scipy
 
+from pitplan.config.project import Project, Schedule
+from pitplan.config.schedule import ScheduleRules
 from pitplan.core.progress import Progress, silent
 
 from . import grade_bins, integer_programme, linear_programme, phase_benches, yearly_money
@@ -19,9 +21,7 @@ from .linear_programme import Relaxed
 from .milling_programme import Milling, MillingProblem
 from .phase_benches import CASH, ORE, ROCK, PhaseBenches
 from .phases import Phases
-from .project import Project, Schedule
 from .schedule import year_discounts
-from .schedule_rules import ScheduleRules
 from .sequencing import Problem, by_rule, limits_of, running
 
 RULE, LP, MILP = "rule", "lp", "milp"

@@ -19,7 +19,7 @@ from pitplan.block_schedule.relaxation import relaxed
 from pitplan.block_schedule.solving import reduced
 from pitplan.block_schedule.topological import ranks_of
 from pitplan.block_schedule.whole_values import upward
-from pitplan.schedule_rules import Effort
+from pitplan.config.schedule import Effort
 
 EXACT = Effort(1e-9)
 

@@ -16,7 +16,7 @@ from pitplan.block_schedule.problem import Due, demand_sound as demand_problem
 from pitplan.block_schedule.reduction import worth_digging
 from pitplan.block_schedule.relaxation import relaxed
 from pitplan.block_schedule.solving import reduced
-from pitplan.schedule_rules import Effort
+from pitplan.config.schedule import Effort
 
 
 def with_dues(problem, seed):

@@ -20,7 +20,7 @@ from pitplan.block_schedule.solving import reduced
 from pitplan.block_schedule.topological import ranks_of
 from pitplan.block_schedule.toposort import Sequence, in_order, sequences
 from pitplan.block_schedule.windows import window_of
-from pitplan.schedule_rules import Effort
+from pitplan.config.schedule import Effort
 
 
 def demand_sound(problem, schedule):

@@ -16,10 +16,10 @@ from test_shells import BOX, CLOSED, SMALL, best_by_trying, grades, project_of
 import pitplan
 from pitplan import fixed, load, mine, prepare, run
 from pitplan.cli import main
+from pitplan.config.constraints import FixedRules
 from pitplan.core import files
 from pitplan.core.progress import Progress, silent
 from pitplan.errors import PlanError
-from pitplan.fixed_rules import FixedRules
 
 
 def with_section(text):

@@ -12,7 +12,7 @@ from test_turned import turned
 import pitplan
 from pitplan import PlanError, verification
 from pitplan.cli import main
-from pitplan.project import load
+from pitplan.config.project import load
 
 MILLION = 1_000_000
 # The exit lies 30 m west and 40 m north of the middle of the column 4, 0, at 30 m.

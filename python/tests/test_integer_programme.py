@@ -17,8 +17,8 @@ from test_yearly_schedule import PHASES
 
 import pitplan
 from pitplan import PlanError, highs, integer_programme as ip, load, optimiser
+from pitplan.config.schedule import Effort
 from pitplan.core import files
-from pitplan.schedule_rules import Effort
 from pitplan.sequencing import Limits
 from pitplan.verification import verify
 

@@ -8,7 +8,7 @@ from conftest import ROOT
 
 from pitplan import exports, solver, stages
 from pitplan.cli import parser as arguments
-from pitplan.project import REFERENCE_FACTOR
+from pitplan.config.project import REFERENCE_FACTOR
 
 PAGE = ROOT / "man" / "pitplan.1"
 # convert minelib has a command line of its own (python/minelib), with --out alone.

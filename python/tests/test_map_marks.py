@@ -10,8 +10,8 @@ from matplotlib.figure import Figure
 
 import pitplan
 from pitplan import PlanError, map_marks, phase_pictures, pictures
+from pitplan.config.figures import PictureRules
 from pitplan.grid import Grid
-from pitplan.picture_rules import PictureRules
 from pitplan.simulation import pictures as many
 
 METALS = '[[metals]]\nname = "gold"\ncolumn = "au"\nunit = "gram_per_tonne"\nprice = 60\nrecovery = 0.9\n[slopes]\n'
@@ -27,7 +27,7 @@ def scene(rules=PictureRules()):
     factor = np.zeros((4, 5, 6), dtype=int)
     factor[0, 2:5, 3:6] = 500
     factor[1, 3, 4] = 1000
-    metal = pitplan.project.Metal("copper", "cu", "percent", 0, 0, 1)
+    metal = pitplan.config.project.Metal("copper", "cu", "percent", 0, 0, 1)
     return pictures.Scene(grid(), factor, np.ones((4, 5, 6), dtype=bool), np.ones((4, 5, 6)), metal, 1000, rules)
 
 

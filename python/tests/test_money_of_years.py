@@ -22,8 +22,8 @@ from pitplan import (
     write_schedule,
     yearly_money,
 )
+from pitplan.config.schedule import Effort
 from pitplan.phase_benches import PhaseBenches
-from pitplan.schedule_rules import Effort
 from pitplan.sequencing import Limits, Problem, by_rule
 from pitplan.verification import verify
 from pitplan.yearly_money import YearlyMoney

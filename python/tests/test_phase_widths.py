@@ -11,8 +11,8 @@ from test_pushbacks import UPRIGHT, blocks_of, with_phases, wrong
 
 import pitplan
 from pitplan import PlanError, load, phases, prepare, trim, widths
+from pitplan.config.pushbacks import PhaseRules
 from pitplan.core import files
-from pitplan.phase_rules import PhaseRules
 from pitplan.verification.phase_widths import blocks_across, cells_in
 
 pytestmark = pytest.mark.usefixtures("without_figures")

@@ -195,7 +195,7 @@ def demand_plain_coordinates(figure):
 
 def test_plans_and_sections_have_coordinates_in_full(monkeypatch):
     grid, factor = at_a_zone()
-    metal = pitplan.project.Metal("copper", "cu", "percent", 0, 0, 1)
+    metal = pitplan.config.project.Metal("copper", "cu", "percent", 0, 0, 1)
     scene = pictures.Scene(grid, factor, np.ones(grid.shape, dtype=bool), np.ones(grid.shape), metal, 1000)
     for draw in (pictures.write_plans, pictures.write_sections):
         figure = drawn_of(monkeypatch, pictures, lambda draw=draw: draw(scene, None))
@@ -276,7 +276,7 @@ SHELLS = pd.DataFrame(
 
 def scene():
     grid, factor = at_a_zone()
-    metal = pitplan.project.Metal("copper", "cu", "percent", 0, 0, 1)
+    metal = pitplan.config.project.Metal("copper", "cu", "percent", 0, 0, 1)
     return pictures.Scene(grid, factor, np.ones(grid.shape, dtype=bool), np.ones(grid.shape), metal, 1000)
 
 

@@ -11,9 +11,9 @@ from conftest import ROOT
 import pitplan
 from pitplan import yearly_schedule
 from pitplan.block_schedule import result as block_result
-from pitplan.phase_rules import PhaseRules
-from pitplan.schedule_rules import ScheduleRules
-from pitplan.sensitivity_rules import SensitivityRules
+from pitplan.config.pushbacks import PhaseRules
+from pitplan.config.schedule import ScheduleRules
+from pitplan.config.sensitivity import SensitivityRules
 
 PAGE = (ROOT / "docs" / "PLANNING.md").read_text(encoding="utf-8")
 EXAMPLE = ROOT / "examples" / "plan" / "project.toml"

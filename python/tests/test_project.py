@@ -7,7 +7,7 @@ from conftest import PROJECT, ROOT, rows
 
 import pitplan
 from pitplan import PlanError
-from pitplan.section import Section
+from pitplan.config.toml_section import Section
 
 EXAMPLE = ROOT / "examples" / "plan" / "project.toml"
 

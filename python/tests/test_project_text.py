@@ -10,7 +10,8 @@ import pytest
 from conftest import PROJECT, ROOT
 from test_features_together import haulage, pick, project_of
 
-from pitplan import PlanError, load, project_text
+from pitplan import PlanError, load
+from pitplan.config import project_writer
 
 EXAMPLES = sorted((ROOT / "examples").glob("*/project.toml"))
 ODD = 'a "b" \\ c\td é 矿 #=[]{}'
@@ -102,7 +103,7 @@ def table_keys(rng):
         rng,
         "",
         'topography = "../ground.csv"\n',
-        f'topography = {{ file = "t.dxf", layer = {project_text.shown(ODD)} }}\n',
+        f'topography = {{ file = "t.dxf", layer = {project_writer.shown(ODD)} }}\n',
     )
     text += pick(rng, "", "reblock = [2, 1, 3]\n", "reblock = { size = [20, 20, 12.5], corner = [-0.5, 1e3, 0] }\n")
     text += pick(
@@ -130,7 +131,7 @@ def test_random_projects_read_back_as_themselves(plan_folder, tmp_path, seed):
         ]
         changes += [
             ("[500, 1000, 1500]", pick(rng, "[500, 1500]", "{ to = 2000, step = 250 }", "[1000]")),
-            ('title = "Test hill"', f"title = {project_text.shown('Zinc é 矿')}"),
+            ('title = "Test hill"', f"title = {project_writer.shown('Zinc é 矿')}"),
         ]
         path = plan_folder("", PROJECT + haulage(rng) + sections_of(rng), *changes)
         try:
@@ -188,7 +189,7 @@ def test_keys_that_few_projects_have_read_back_as_themselves(plan_folder, tmp_pa
 
 @pytest.mark.parametrize("odd", [ODD, "DEL \x7f", "line\u2028separator", "'single'", "-", "ключ"])
 def test_odd_names_read_back_as_themselves(plan_folder, tmp_path, odd):
-    name = project_text.shown(odd)
+    name = project_writer.shown(odd)
     changes = (
         ('rock = "rock"', f"rock = {name}"),
         ("mining_cost = 2", f"mining_cost = {{ {name} = 2, R = 2.50 }}"),

@@ -11,8 +11,8 @@ from hypothesis import given, settings, strategies as st
 import pitplan
 from pitplan import PlanError, load, phases
 from pitplan.cli import main
+from pitplan.config.pushbacks import PhaseRules
 from pitplan.core import files
-from pitplan.phase_rules import PhaseRules
 from pitplan.verification import verify
 
 pytestmark = pytest.mark.usefixtures("without_figures")

@@ -11,8 +11,8 @@ from hypothesis import given, strategies as st
 
 import pitplan
 from pitplan import PlanError, money, recoveries
+from pitplan.config.economics import Curve
 from pitplan.core.decimals import Exact
-from pitplan.money_rules import Curve
 from pitplan.recoveries import Head
 from pitplan.verification import feed, verify
 from pitplan.verification.feed import at_grade

@@ -15,11 +15,11 @@ from hypothesis import given, strategies as st
 
 import pitplan
 from pitplan import PlanError, analyse
+from pitplan.config.project import of_data, read_schedule
+from pitplan.config.toml_section import Section
 from pitplan.core import files
-from pitplan.project import of_data, read_schedule
 from pitplan.rounded_tables import shown
 from pitplan.run import Solution
-from pitplan.section import Section
 
 FACTORS = (400, 700, 1000)
 BOX = (3, 2, 4)

@@ -13,11 +13,11 @@ from matplotlib.figure import Figure
 from test_sequencing import THREE, benches_of, problem_of
 
 from pitplan import PlanError, page, schedule_pictures as pictures, workbook, yearly_schedule
+from pitplan.config.project import Metal
 from pitplan.core import files
 from pitplan.grade_bins import Parcels
 from pitplan.linear_programme import Relaxed
 from pitplan.milling_programme import Milling
-from pitplan.project import Metal
 from pitplan.sequencing import Limits
 
 METAL = Metal("copper", "cu", "percent", 8000, 0, 0.5)

@@ -10,7 +10,7 @@ from test_processes import WITH
 
 import pitplan
 from pitplan import PlanError, load, varied
-from pitplan.money_rules import Curve
+from pitplan.config.economics import Curve
 
 pytestmark = pytest.mark.usefixtures("without_figures")
 BY = "ore_per_year = 100", "ore_per_year = 100\nchosen = 1000"

@@ -12,8 +12,8 @@ from hypothesis import HealthCheck, given, settings, strategies as st
 
 import pitplan
 from pitplan import analyse
-from pitplan.project import of_data, read_slopes
-from pitplan.section import Section
+from pitplan.config.project import of_data, read_slopes
+from pitplan.config.toml_section import Section
 from pitplan.slopes import FIVE
 
 SMALL = settings(max_examples=25, suppress_health_check=[HealthCheck.function_scoped_fixture])

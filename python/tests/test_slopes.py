@@ -12,8 +12,8 @@ from hypothesis import given, strategies as st
 
 import pitplan
 from pitplan import PlanError, cones, slopes
+from pitplan.config.slopes import Slopes, Wall
 from pitplan.core import files
-from pitplan.wall_rules import Slopes, Wall
 
 CUBE, FLAT = (10.0, 10.0, 10.0), (20.0, 20.0, 15.0)
 

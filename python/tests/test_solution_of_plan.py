@@ -8,7 +8,7 @@ from conftest import PROJECT, rows
 
 import pitplan
 from pitplan import PlanError, analyse, pictures
-from pitplan.project import load
+from pitplan.config.project import load
 
 ORE = {"cu": lambda i, j, k: {(3, 3, 1): 6, (4, 3, 1): 2.5, (3, 4, 0): 9}.get((i, j, k), 0)}
 PAIRS = {

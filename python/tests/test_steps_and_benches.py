@@ -10,8 +10,8 @@ from conftest import PROJECT, rows
 
 import pitplan
 from pitplan import PlanError, analyse, slopes
+from pitplan.config.slopes import Bench
 from pitplan.verification import verify
-from pitplan.wall_rules import Bench
 
 WALL = '[[slopes.walls]]\npattern = "1:5"'
 

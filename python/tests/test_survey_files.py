@@ -13,7 +13,7 @@ from test_verify import looked_at
 
 import pitplan
 from pitplan import PlanError, fixed, load, prepare, survey_files, terrain
-from pitplan.survey_rules import SurveyFile
+from pitplan.config.survey import SurveyFile
 
 gdal.UseExceptions()
 ogr.UseExceptions()

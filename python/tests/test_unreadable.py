@@ -11,7 +11,7 @@ from test_survey_files import AROUND, HOLED, gis, tiff
 
 import pitplan
 from pitplan import PlanError, survey_files
-from pitplan.survey_rules import SurveyFile
+from pitplan.config.survey import SurveyFile
 
 ZIP = ('"blocks.csv"', '"blocks.zip"')
 STRINGS = "a,b\n0,0\n" + "".join(f"1, {y}.0, {x}.0, {x * y}.0\n" for x in range(3) for y in range(3)) + "0,0,0,0\n"

@@ -14,12 +14,12 @@ import pitplan
 from pitplan import PlanError, absent, fixed, load, money, prepare, schedule, slopes, solve, table as tables
 from pitplan.cli import main
 from pitplan.commands.answers import Answered, write_tables
+from pitplan.config.slopes import Wall
 from pitplan.core import files
 from pitplan.verification import answer as answers, demand, sums, verify
 from pitplan.verification.answer import read
 from pitplan.verification.money import sample
 from pitplan.verification.walls import flatness, high_walls
-from pitplan.wall_rules import Wall
 
 TEXT = (
     PROJECT.replace(

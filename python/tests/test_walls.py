@@ -10,8 +10,8 @@ from conftest import rows
 from hypothesis import given, settings, strategies as st
 
 import pitplan
+from pitplan.config.project import of_data
 from pitplan.core import files
-from pitplan.project import of_data
 
 CUBE, FLAT, TALL = (10.0, 10.0, 10.0), (20.0, 20.0, 15.0), (5.0, 10.0, 12.0)
 NAMED = {"1:5": {(0, 0), (-1, 0), (1, 0), (0, -1), (0, 1)}, "1:9": {(x, y) for x in (-1, 0, 1) for y in (-1, 0, 1)}}

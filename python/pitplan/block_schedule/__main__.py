@@ -13,11 +13,11 @@ import pandas as pd
 from minelib import MinelibError
 from minelib.ending import INTERRUPTED, ended
 from minelib.schedule_models import SECONDS
+from pitplan.config.schedule import Effort
 from pitplan.core.files import staged_file
 from pitplan.core.progress import on_standard_error, silent
 
 from ..errors import PlanError
-from ..schedule_rules import Effort
 from .of_minelib import of_minelib
 from .solving import Scheduled, solve
 

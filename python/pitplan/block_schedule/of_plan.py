@@ -8,15 +8,15 @@ import numpy as np
 from numpy.typing import NDArray
 
 import pitshell
+from pitplan.config.project import Project
+from pitplan.config.schedule import MOST_YEARS, ScheduleRules, Sum
 
 from .. import trim
 from ..errors import PlanError
 from ..needs import ABSENT, slices
 from ..phase_benches import CASH, ORE, ROCK
 from ..plan import MILLION, Plan
-from ..project import Project
 from ..schedule import year_discounts
-from ..schedule_rules import MOST_YEARS, ScheduleRules, Sum
 from ..sequencing import Limits, limits_of
 from ..yearly_money import YearlyMoney, of_project
 from .problem import BlockProblem, Due, Limit, Needs

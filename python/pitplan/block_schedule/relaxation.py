@@ -15,9 +15,9 @@ import numpy as np
 from numpy.typing import NDArray
 
 import pitshell
+from pitplan.config.schedule import Effort
 
 from ..errors import PlanError
-from ..schedule_rules import Effort
 from .closure import priced
 from .groups import Groups, renumbered
 from .master import Master, Restricted

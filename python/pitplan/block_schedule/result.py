@@ -10,13 +10,13 @@ import numpy as np
 import pandas as pd
 import scipy
 
+from pitplan.config.project import REFERENCE_FACTOR
+from pitplan.config.schedule import ScheduleRules
 from pitplan.core.progress import Progress, silent
 
 from ..phase_benches import CASH, ORE, ROCK
 from ..plan import Plan
-from ..project import REFERENCE_FACTOR
 from ..schedule import year_discounts
-from ..schedule_rules import ScheduleRules
 from ..yearly_money import of_project
 from .of_plan import PlannedBlocks, cash_of, of_plan
 from .solving import Scheduled, gap_of, solve

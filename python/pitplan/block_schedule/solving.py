@@ -10,10 +10,10 @@ from typing import Optional
 import numpy as np
 from numpy.typing import NDArray
 
+from pitplan.config.schedule import Effort
 from pitplan.core.progress import Progress, silent
 
 from ..errors import PlanError
-from ..schedule_rules import Effort
 from .destinations import with_best_shares
 from .filling import Filling, preferences
 from .moving import moved

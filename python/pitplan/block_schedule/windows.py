@@ -15,9 +15,10 @@ import numpy as np
 from numpy.typing import NDArray
 from scipy.sparse import bmat, coo_matrix, csr_matrix, eye, hstack, kron, vstack
 
+from pitplan.config.schedule import Effort
+
 from ..highs import Programme
 from ..optimiser import solve
-from ..schedule_rules import Effort
 from .problem import BlockProblem, Due, Limit
 from .reduction import earliest_years
 from .schedule import HAIR, BlockSchedule

@@ -13,8 +13,9 @@ from minelib.ending import tell
 from pitplan.core.progress import Progress, on_standard_error, silent
 
 if TYPE_CHECKING:
+    from pitplan.config.project import Project
+
     from ..commands.writing import Writing
-    from ..project import Project
     from ..simulation.result import ScenarioResult
 
 
@@ -26,7 +27,7 @@ def project_of(options: Namespace) -> Project:
     """The project, with the solver that is asked for."""
     from dataclasses import replace
 
-    from ..project import load
+    from pitplan.config.project import load
 
     return replace(load(options.project), solver=getattr(options, "solver", None))
 

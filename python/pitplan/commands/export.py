@@ -6,12 +6,12 @@ from dataclasses import replace
 from pathlib import Path
 
 from pitplan import exports, verification
+from pitplan.config.project import REFERENCE_FACTOR
 from pitplan.core import files
 from pitplan.core.noted_path import NotedPath, noted
 from pitplan.core.progress import Progress, silent
 
 from ..errors import PlanError
-from ..project import REFERENCE_FACTOR
 from ..stages import FACTOR, Shape
 from .writing import Place
 

@@ -9,10 +9,10 @@ from typing import Optional
 import pandas as pd
 
 from pitplan import absent, analyse, mine as mines
+from pitplan.config.project import REFERENCE_FACTOR, Project
 from pitplan.core import files
 
 from ..errors import PlanError
-from ..project import REFERENCE_FACTOR, Project
 from ..rounded_tables import shown, write_csv
 from .answers import check_fixed
 from .writing import PITS, Place, Source, Writing, begun, finish, note_verified, read, write_table

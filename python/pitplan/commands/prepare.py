@@ -5,13 +5,13 @@ from __future__ import annotations
 from pathlib import Path
 from typing import Any
 
-from pitplan import project_text
+from pitplan.config import project_writer
+from pitplan.config.project import Project
 from pitplan.core import files, staging
 from pitplan.core.progress import Progress, silent
 
 from ..picture_bounds import demand_within
 from ..plan import prepare
-from ..project import Project
 from .writing import demand_apart, finish, write_table
 
 
@@ -35,6 +35,6 @@ def write_plan(project: Project, folder: Path, progress: Progress = silent) -> d
             demand_within(project, plan.grid)
             with progress.step("writing blocks and needs"):
                 pairs = plan.write(stage)
-            project_text.write(project, stage / files.AS_RUN, folder)
+            project_writer.write(project, stage / files.AS_RUN, folder)
             write_table(plan.blocks, stage)
             return finish(plan, plan.record(pairs), [*files.of_program(stage), files.TABLE], stage)

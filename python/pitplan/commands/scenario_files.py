@@ -9,12 +9,12 @@ import numpy as np
 import pandas as pd
 
 from pitplan import verification
+from pitplan.config.figures import PictureRules
 from pitplan.core import csv_writer, files
 from pitplan.core.optional_packages import load_library
 
 from ..conventions import with_discounting
 from ..errors import MissingPackage
-from ..picture_rules import PictureRules
 from ..pictures import also_as
 from ..plan import codes_of
 from ..simulation import answers, pictures, run, value_pictures

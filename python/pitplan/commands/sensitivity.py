@@ -8,7 +8,8 @@ from typing import Optional
 
 import pandas as pd
 
-from pitplan import project_text, sensitivity_files, sensitivity_pictures, varied_cases, verification
+from pitplan import sensitivity_files, sensitivity_pictures, varied_cases, verification
+from pitplan.config import project_writer
 from pitplan.core import csv_writer, files, staging
 
 from ..conventions import with_discounting
@@ -75,7 +76,7 @@ def write_cases(found: Sensitivity, folder: Path, writing: Writing) -> pd.DataFr
     with files.staged(folder, RECORD, writing.removed(folder, FIGURES)) as stage:
         record = sensitivity_files.record(found, os.path.relpath(project.path, folder)) | {"figures": writing.figures}
         write_tables(found, cases, stage)
-        project_text.write(found.asked, stage / files.AS_RUN, folder)
+        project_writer.write(found.asked, stage / files.AS_RUN, folder)
         files.write_json(stage / RECORD, record)
         if writing.verifies:
             with progress.step("verifying"):

@@ -10,24 +10,17 @@ from typing import Any, Iterable, Iterator, Optional, Union
 
 import pandas as pd
 
-from pitplan import (
-    block_pictures,
-    exports,
-    mine as mines,
-    project_text,
-    sensitivity_files,
-    sensitivity_pictures,
-    verification,
-)
+from pitplan import block_pictures, exports, mine as mines, sensitivity_files, sensitivity_pictures, verification
+from pitplan.config import project_writer
+from pitplan.config.figures import FORMATS
+from pitplan.config.project import Project, inputs_beside, load
 from pitplan.core import csv_writer, files, staging
 from pitplan.core.progress import Progress, silent
 
 from ..errors import PlanError
 from ..mine import Mine
 from ..picture_bounds import demand_within
-from ..picture_rules import FORMATS
 from ..plan import Plan, prepare as prepare_plan
-from ..project import Project, inputs_beside, load
 from ..solver import PROGRAM, chosen
 
 # A project, or the path of its project.toml; and a folder.
@@ -170,7 +163,7 @@ def begun(project: Project, folder: Path, writing: Writing, planned: Optional[Pr
         solver = chosen(project.solver)
         plan = prepare_plan(planned or project, progress=progress)
         with files.staged(folder, whole=(*files.OF_PROGRAM, *writing.removed(folder, FIGURES))) as stage:
-            project_text.write(project, stage / files.AS_RUN, folder)
+            project_writer.write(project, stage / files.AS_RUN, folder)
             demand_within(project, plan.grid)
             with progress.step("writing blocks and needs" if solver.by == PROGRAM else "listing the needs"):
                 mine = mines.ready(plan, solver, stage)

@@ -14,8 +14,8 @@ from dataclasses import dataclass
 from pathlib import Path
 from typing import Any
 
+from pitplan.config.toml_section import FARTHEST, cut
 from pitplan.errors import PlanError
-from pitplan.section import FARTHEST, cut
 
 # Cells that a grid may have along an axis and in all.
 MOST_ALONG, MOST_CELLS = 10**6, 64 * 10**6

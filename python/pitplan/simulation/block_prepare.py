@@ -7,14 +7,14 @@ from pathlib import Path
 import numpy as np
 import pandas as pd
 
+from pitplan.config.project import REFERENCE_FACTOR, Project
+from pitplan.config.schedule import ScheduleRules
 from pitplan.core import files
 from pitplan.core.progress import Progress
 
 from ..block_schedule.of_plan import demand_of_blocks, diggable, pit_of
 from ..errors import PlanError
 from ..phase_benches import CASH
-from ..project import REFERENCE_FACTOR, Project
-from ..schedule_rules import ScheduleRules
 from ..solver import PROGRAM
 from . import folder as folders, prepare
 from .block_problem import Diggable, Weights, demand_of_scenarios, limits_of_scenarios, weights_of, years_asked

@@ -11,13 +11,13 @@ import numpy as np
 from numpy.typing import NDArray
 
 from pitplan import absent, solver
+from pitplan.config.project import REFERENCE_FACTOR
 from pitplan.core import keyed_arrays
 from pitplan.core.files import staged_file
 
 from ..block_schedule import Scheduled, solve
 from ..errors import PlanError
 from ..phase_benches import ORE, ROCK
-from ..project import REFERENCE_FACTOR
 from . import folder as folders
 from .block_problem import MILL, Diggable, Weights, problem_of, weights_of
 from .folder import Scenario, Shared

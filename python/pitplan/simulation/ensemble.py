@@ -11,12 +11,13 @@ from typing import Iterator
 import numpy as np
 import pandas as pd
 
+from pitplan.config.economics import Metal
+from pitplan.config.project import Project, Scenarios
+
 from .. import absent, grid as grids, table as tables, walls as laying
 from ..errors import PlanError
 from ..grid import Grid
-from ..money_rules import Metal
 from ..plan import Plan, notes_of, plan_of
-from ..project import Project, Scenarios
 from ..table import HEADER_ROWS, Table, at_row
 from ..table_format import demand_text, format_of
 from ..walls import Walls

@@ -28,15 +28,15 @@ import numpy as np
 import pandas as pd
 import scipy
 
+from pitplan.config.project import Project, load
+from pitplan.config.schedule import ScheduleRules
 from pitplan.core import files
 from pitplan.core.files import staged_file
 
 from ..errors import PlanError
 from ..fixed import Settled
 from ..grid import Grid
-from ..project import Project, load
 from ..rows import Rows
-from ..schedule_rules import ScheduleRules
 from ..solver import Solver
 
 RECORD, PROJECT, BASE = "scenarios.json", "project.toml", "base.npz"

@@ -6,8 +6,9 @@ from dataclasses import dataclass
 
 import numpy as np
 
+from pitplan.config.figures import PictureRules
+
 from ..grid import Grid
-from ..picture_rules import PictureRules
 
 
 @dataclass(frozen=True)

@@ -17,9 +17,10 @@ import pandas as pd
 from numpy.typing import NDArray
 from scipy.optimize import linprog
 
+from pitplan.config.project import Project
+
 from ..errors import PlanError
 from ..phase_benches import CASH, ORE, ROCK
-from ..project import Project
 from ..schedule import year_discounts
 from .block_problem import Weights, limits_of_scenarios
 

@@ -10,16 +10,17 @@ from typing import Any
 
 import numpy as np
 
-from pitplan import project_text, summary as summaries
+from pitplan import summary as summaries
+from pitplan.config import project_writer
+from pitplan.config.economics import ByRegion
+from pitplan.config.project import Project
 from pitplan.core import csv_writer, files
 from pitplan.core.optional_packages import load_library
 from pitplan.core.progress import Progress
 
 from ..mine import counted_rows
-from ..money_rules import ByRegion
 from ..picture_bounds import demand_within
 from ..plan import Plan
-from ..project import Project
 from ..solver import LIBRARY, Solver, chosen
 from . import folder as folders
 from .ensemble import Base, envelope, models, read_base, scenarios_of
@@ -131,7 +132,7 @@ def write_shared(laid: Laid, stage: Path) -> list[str]:
     base, plan = laid.base, laid.plan
     np.savez_compressed(stage / folders.BASE, ore=plan.values.processed, **arrays_of(base), **arrays_of_settled(plan))
     # Of another folder than its own: whoever reads it names the place of the first.
-    project_text.write(base.project, stage / folders.PROJECT, base.project.path.parent)
+    project_writer.write(base.project, stage / folders.PROJECT, base.project.path.parent)
     frame = plan.blocks
     grades = [metal.column for metal in base.project.metals]
     costs = [

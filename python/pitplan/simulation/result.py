@@ -10,12 +10,12 @@ from typing import Any, Optional
 
 import pandas as pd
 
+from pitplan.config.figures import PictureRules
+from pitplan.config.project import REFERENCE_FACTOR, load
 from pitplan.core.files import grid_of
 
 from ..errors import PlanError
-from ..picture_rules import PictureRules
 from ..plan import codes_of, shown_name
-from ..project import REFERENCE_FACTOR, load
 from . import folder as folders
 from .likely import Likely
 

@@ -11,10 +11,10 @@ from dataclasses import dataclass
 from pathlib import Path
 from typing import Optional
 
+from pitplan.config.project import REFERENCE_FACTOR, Project
 from pitplan.core.progress import Progress
 
 from ..errors import PlanError
-from ..project import REFERENCE_FACTOR, Project
 from . import folder as folders, job_lists, on_dask, prepare, work
 from .folder import Shared
 from .request import Request

@@ -38,8 +38,9 @@ from typing import Optional
 
 import pandas as pd
 
+from pitplan.config.project import Project
+
 from ..errors import PlanError
-from ..project import Project
 from . import (
     absent,
     answer as answers,

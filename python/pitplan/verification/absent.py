@@ -5,7 +5,8 @@ from __future__ import annotations
 import numpy as np
 import pandas as pd
 
-from ..project import AbsentRock
+from pitplan.config.project import AbsentRock
+
 from .answer import TOLD, UNCUT, Answer, Rule, rule
 
 

@@ -11,13 +11,13 @@ import numpy as np
 import pandas as pd
 
 from pitplan import table as tables
+from pitplan.config.economics import GRADE_UNITS
+from pitplan.config.project import AbsentRock, Project
+from pitplan.config.project_writer import as_run_or_edited
+from pitplan.config.slopes import Wall
 from pitplan.core import json_records
 
 from ..errors import PlanError
-from ..money_rules import GRADE_UNITS
-from ..project import AbsentRock, Project
-from ..project_text import as_run_or_edited
-from ..wall_rules import Wall
 from .feed import by_code, recovered
 from .put_together import divided, together, written_rows
 from .turned import steps_of

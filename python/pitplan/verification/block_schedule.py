@@ -12,8 +12,9 @@ from typing import Any, Optional
 import numpy as np
 import pandas as pd
 
-from ..money_rules import GRADE_UNITS
-from ..schedule_rules import Sum
+from pitplan.config.economics import GRADE_UNITS
+from pitplan.config.schedule import Sum
+
 from . import fixed, walls, ways_table
 from .answer import SHARE, TOLD, YEAR, Answer, Rule, rule
 from .feed import recovered

@@ -7,8 +7,9 @@ from typing import Optional
 
 import numpy as np
 
-from ..fixed_rules import FixedRules
-from ..survey_rules import SurveyFile
+from pitplan.config.constraints import FixedRules
+from pitplan.config.survey import SurveyFile
+
 from . import surface, topography
 from .answer import UNCUT, Answer, Rule, rule
 from .topography import ACROSS, EXACTLY, GRAM, HAIR, MANY, MISSED, Ground, some, told

@@ -8,8 +8,8 @@ from fractions import Fraction
 import numpy as np
 import pandas as pd
 
-from ..money_rules import ByCode, ByRegion, Curve, Metal, Recovery
-from ..project import Project, TableColumns
+from pitplan.config.economics import ByCode, ByRegion, Curve, Metal, Recovery
+from pitplan.config.project import Project, TableColumns
 
 # Where a recovery is so few millionths from the middle of two, the nearer one is told exactly.
 NEAR = 1e-3

@@ -5,7 +5,8 @@ from __future__ import annotations
 import numpy as np
 from matplotlib.path import Path as Outline
 
-from ..fixed_rules import FixedRules
+from pitplan.config.constraints import FixedRules
+
 from . import depletion, own_columns, survey
 from .answer import TOLD, Answer, Rule, rule
 

@@ -7,7 +7,8 @@ from decimal import ROUND_HALF_EVEN, Decimal
 
 import numpy as np
 
-from ..haulage_rules import Haulage, Road
+from pitplan.config.haulage import Haulage, Road
+
 from .answer import HAULED, TOLD, Answer, Rule, rule
 from .turned import places_of
 

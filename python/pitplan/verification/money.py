@@ -10,8 +10,9 @@ from fractions import Fraction
 
 import numpy as np
 
-from ..money_rules import GRADE_UNITS, Curve, Recovery
-from ..project import Project
+from pitplan.config.economics import GRADE_UNITS, Curve, Recovery
+from pitplan.config.project import Project
+
 from . import haulage
 from .answer import PROCESS, TOLD, UNDUG, Answer, Rule, rule
 from .feed import at_grade, by_code, of_code

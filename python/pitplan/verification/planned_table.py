@@ -11,8 +11,9 @@ from pathlib import Path
 import numpy as np
 import pandas as pd
 
+from pitplan.config.project import Project
+
 from .. import table as tables
-from ..project import Project
 from ..table_format import format_of, opened
 from .answer import Answer, Rule, own_name, rule
 from .turned import steps_of

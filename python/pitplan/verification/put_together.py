@@ -7,8 +7,9 @@ from typing import Any, Optional
 import numpy as np
 import pandas as pd
 
+from pitplan.config.project import Project, TableColumns
+
 from ..errors import PlanError
-from ..project import Project, TableColumns
 from .turned import places_of, steps_of
 
 

@@ -7,7 +7,8 @@ from typing import Any
 import numpy as np
 import pandas as pd
 
-from ..project import Project
+from pitplan.config.project import Project
+
 from .answer import TOLD, Answer, Rule, rule
 from .put_together import divided, together
 from .turned import steps_of

@@ -16,8 +16,9 @@ from typing import Any, Iterator, Optional
 import numpy as np
 import pandas as pd
 
+from pitplan.config.project import Project
+
 from ..errors import PlanError
-from ..project import Project
 from . import absent, fixed, money, sums, walls
 from .answer import TOLD, Answer, Rule, own_columns, rule
 from .simulated import QUANTILES, SCENARIOS, Scenario, Simulated, Told, prices_of, read

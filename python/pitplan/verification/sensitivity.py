@@ -15,12 +15,12 @@ from typing import Any, Optional
 import numpy as np
 import pandas as pd
 
-from pitplan import toml_text
+from pitplan.config import toml_text
+from pitplan.config.project import Project, of_data
+from pitplan.config.project_writer import AS_RUN, as_run
 from pitplan.core import keyed_arrays
 
 from ..errors import PlanError
-from ..project import Project, of_data
-from ..project_text import AS_RUN, as_run
 from . import absent, depletion, fixed, haulage, money, sums, walls, years
 from .answer import TOLD, Answer, Rule, beside, own_columns, read_blocks, rows_of, rule, said_of
 from .weighing import gains, weighed

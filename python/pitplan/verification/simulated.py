@@ -15,10 +15,10 @@ import numpy as np
 import pandas as pd
 
 from pitplan import table as tables
+from pitplan.config.project import Project, Scenarios, load
 from pitplan.core import keyed_arrays
 
 from ..errors import PlanError
-from ..project import Project, Scenarios, load
 from ..table_format import format_of
 from .answer import beside, nearest_cells, read_blocks
 

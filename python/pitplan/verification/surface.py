@@ -14,7 +14,8 @@ import pandas as pd
 from matplotlib.tri import Triangulation
 from scipy.spatial import ConvexHull, cKDTree
 
-from ..survey_rules import SurveyFile
+from pitplan.config.survey import SurveyFile
+
 from .answer import Answer
 from .survey import heights
 from .triangles import cross, highest as highest_of

@@ -8,8 +8,9 @@ from typing import Any, Optional
 import numpy as np
 import pandas as pd
 
+from pitplan.config.survey import SurveyFile
+
 from .. import survey_files
-from ..survey_rules import SurveyFile
 from .turned import places_of
 
 # Endings of what is no table.

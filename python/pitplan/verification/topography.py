@@ -11,7 +11,8 @@ import numpy as np
 import pandas as pd
 from scipy.spatial import Delaunay
 
-from ..survey_rules import SurveyFile
+from pitplan.config.survey import SurveyFile
+
 from . import survey
 from .answer import TOLD, UNCUT, Answer, Rule, rule
 from .triangles import highest, near

@@ -9,7 +9,8 @@ import numpy as np
 from scipy.ndimage import maximum_filter1d
 from scipy.spatial import ConvexHull, QhullError
 
-from ..wall_rules import Wall
+from pitplan.config.slopes import Wall
+
 from .answer import NOTHING, TOLD, UNDUG, Answer, Rule, rule
 
 NEIGHBOURS = {"1:5": 1, "1:9": 2}

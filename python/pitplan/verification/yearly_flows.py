@@ -8,8 +8,9 @@ from dataclasses import dataclass
 import numpy as np
 import pandas as pd
 
-from ..money_rules import MOST_YEARS
-from ..project import Project
+from pitplan.config.economics import MOST_YEARS
+from pitplan.config.project import Project
+
 from .money_of_years import HAIR, capital, premiums
 
 

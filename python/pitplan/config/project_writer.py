@@ -10,16 +10,16 @@ from typing import Any, Optional
 
 from pitplan.core.files import AS_RUN, hash_of
 
-from .fixed_rules import BLOCKS, FixedRules
-from .haulage_rules import KINDS, Haulage
-from .money_rules import ByRegion, Curve, Metal, Money, Process
-from .phase_rules import PhaseRules
-from .picture_rules import PictureRules
+from .constraints import BLOCKS, FixedRules
+from .economics import ByRegion, Curve, Metal, Money, Process
+from .figures import PictureRules
+from .haulage import KINDS, Haulage
 from .project import REFERENCE_FACTOR, AbsentRock, GridRules, Project, Reblock, Scenarios, Schedule, TableColumns, load
-from .schedule_rules import ScheduleRules, Sum
-from .sensitivity_rules import SensitivityRules
-from .survey_rules import SurveyFile
-from .wall_rules import Slopes, Wall
+from .pushbacks import PhaseRules
+from .schedule import ScheduleRules, Sum
+from .sensitivity import SensitivityRules
+from .slopes import Slopes, Wall
+from .survey import SurveyFile
 
 # A section: values by key. A key whose value is None is left out.
 Values = dict[str, Any]

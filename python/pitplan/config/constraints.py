@@ -6,8 +6,8 @@ from dataclasses import dataclass
 from pathlib import Path
 from typing import Optional
 
-from .section import Section
-from .survey_rules import SurveyFile, read_survey
+from .survey import SurveyFile, read_survey
+from .toml_section import Section
 
 # The original ground is the tops of the blocks.
 BLOCKS = "blocks"

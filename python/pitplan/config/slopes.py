@@ -6,7 +6,7 @@ import math
 from dataclasses import dataclass
 from typing import Optional
 
-from .section import Section
+from .toml_section import Section
 
 PATTERNS = ("1:5", "1:9")
 MOST_LEVELS, MOST_STEPS = 40, 200

@@ -9,18 +9,19 @@ from decimal import Decimal
 from pathlib import Path
 from typing import Optional, Union
 
+from pitplan.errors import PlanError
+
 from . import toml_text
-from .errors import PlanError
-from .fixed_rules import FixedRules, read_fixed
-from .haulage_rules import Haulage, read_haulage
-from .money_rules import ByRegion, Metal, Money, Process, read_metal, read_money, read_process
-from .phase_rules import PhaseRules, read_phases
-from .picture_rules import PictureRules, read_pictures
-from .schedule_rules import ScheduleRules, read_schedule_rules
-from .section import Section, cut, shown
-from .sensitivity_rules import SensitivityRules, read_sensitivity
-from .survey_rules import SurveyFile, read_survey
-from .wall_rules import Slopes, read_slopes
+from .constraints import FixedRules, read_fixed
+from .economics import ByRegion, Metal, Money, Process, read_metal, read_money, read_process
+from .figures import PictureRules, read_pictures
+from .haulage import Haulage, read_haulage
+from .pushbacks import PhaseRules, read_phases
+from .schedule import ScheduleRules, read_schedule_rules
+from .sensitivity import SensitivityRules, read_sensitivity
+from .slopes import Slopes, read_slopes
+from .survey import SurveyFile, read_survey
+from .toml_section import Section, cut, shown
 
 REFERENCE_FACTOR = 1000
 GREATEST_FACTOR = 100_000
@@ -176,7 +177,7 @@ class Project:
     def to_toml(self, folder: Optional[Path] = None) -> str:
         """The text of a project.toml in a folder, by default that of the project's own file. It reads back as this project, but for `path`
         and `solver`."""
-        from .project_text import of_project
+        from .project_writer import of_project
 
         return of_project(self, self.path.parent if folder is None else folder)
 

@@ -5,7 +5,7 @@ from __future__ import annotations
 from dataclasses import dataclass
 from typing import Optional
 
-from .section import Section
+from .toml_section import Section
 
 MOST_LEVELS_SHOWN = 7
 FORMATS = ("pdf", "svg")

@@ -7,7 +7,7 @@ from dataclasses import dataclass, field
 from decimal import Decimal
 from typing import Optional
 
-from .section import Section
+from .toml_section import Section
 
 MOST_YEARS, MOST_BENCHES = 200, 1_000
 MOST_BINS = 50

@@ -6,7 +6,8 @@ import difflib
 from decimal import Decimal
 from typing import Any, Optional, Union
 
-from .errors import PlanError
+from pitplan.errors import PlanError
+
 from .toml_text import LEAST_POWER, Absurd
 
 Number = Union[int, Decimal]

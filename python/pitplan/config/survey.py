@@ -6,7 +6,7 @@ from dataclasses import dataclass
 from pathlib import Path
 from typing import Optional
 
-from .section import Section
+from .toml_section import Section
 
 
 @dataclass(frozen=True)

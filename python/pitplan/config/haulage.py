@@ -5,7 +5,7 @@ from __future__ import annotations
 from dataclasses import dataclass
 from decimal import Decimal
 
-from .section import Section
+from .toml_section import Section
 
 KINDS = ("ore", "waste")
 STEEPEST = Decimal("0.5")

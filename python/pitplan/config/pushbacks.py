@@ -6,7 +6,7 @@ from dataclasses import dataclass
 from decimal import Decimal
 from typing import Optional
 
-from .section import Section
+from .toml_section import Section
 
 MOST_PHASES = 100
 WAYS = ("count", "tonnes", "factors")

@@ -7,7 +7,7 @@ from dataclasses import dataclass
 from decimal import Decimal
 from typing import Any, Optional, Union
 
-from .section import Section
+from .toml_section import Section
 
 # A price or a cost: one for every rock, or one for each rock by its code.
 ByRock = Union[Decimal, dict[str, Decimal]]

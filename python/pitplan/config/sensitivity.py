@@ -5,7 +5,7 @@ from __future__ import annotations
 from dataclasses import dataclass
 from decimal import Decimal
 
-from .section import Section
+from .toml_section import Section
 
 NAMES = ("price", "mining_cost", "processing_cost", "selling_cost", "recovery", "slopes", "capacity", "haulage")
 # Those that may be one metal's alone, as "price copper".

@@ -10,7 +10,7 @@ from typing import Any
 
 import tomllib
 
-from .errors import PlanError
+from pitplan.errors import PlanError
 
 # A project's longest key has three parts. tomllib's time grows with the square of a key's parts.
 MOST_PARTS = 50
