@@ -16,11 +16,12 @@ import pandas as pd
 
 from pitplan.config.project import Project
 from pitplan.config.survey import SurveyFile
+from pitplan.survey import readers
+from pitplan.survey.readers import Topography
 
-from . import survey_files, terrain, topography
+from . import terrain, topography
 from .errors import PlanError
 from .grid import Grid
-from .survey_files import Topography
 from .table import TONNES_PLACES
 from .terrain import HAIR
 
@@ -86,7 +87,7 @@ def by_volumes(grid: Grid, original: SurveyFile, surface: SurveyFile) -> Ground:
 
 def by_centres(grid: Grid, file: SurveyFile) -> Ground:
     """Shares by the centres of blocks: a block with its centre above the surface is mined as a whole."""
-    read = survey_files.topography(file, terrain.box_of(grid))
+    read = readers.topography(file, terrain.box_of(grid))
     surface = surface_of(grid, read)
     height = surface.height[grid.rows % grid.per_level]
     if np.isinf(height).all():

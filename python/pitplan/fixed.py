@@ -16,8 +16,9 @@ import pandas as pd
 from pitplan.config.constraints import Area
 from pitplan.config.project import Project
 from pitplan.core import byte_lines
+from pitplan.survey import readers
 
-from . import as_mined, survey_files, terrain
+from . import as_mined, terrain
 from .errors import PlanError
 from .grid import Grid
 from .table import called
@@ -97,7 +98,7 @@ def marked(frame: pd.DataFrame, column: Optional[str]) -> np.ndarray:
 
 def in_area(grid: Grid, area: Area) -> tuple[np.ndarray, list[str]]:
     """Which rows have their centre in the barred side of an area, and notes. Raises PlanError where the file is not usable, or bars all."""
-    file, areas = area.polygon.path, survey_files.areas(area.polygon)
+    file, areas = area.polygon.path, readers.areas(area.polygon)
     x, y, _ = grid.centres(np.arange(grid.per_level))
     count = np.zeros(grid.per_level, dtype=np.int64)
     for polygon in areas.polygons:

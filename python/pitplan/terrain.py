@@ -13,9 +13,9 @@ from dataclasses import dataclass
 import numpy as np
 
 from pitplan.core.optional_packages import load
+from pitplan.survey.readers import Box, Topography
 
 from .grid import Grid, metres
-from .survey_files import Box, Topography
 
 # Triangles over columns that are in memory at once.
 PAIRS = 100_000

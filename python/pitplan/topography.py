@@ -14,11 +14,12 @@ import pandas as pd
 
 from pitplan.config.project import Project
 from pitplan.config.survey import SurveyFile
+from pitplan.survey import readers
+from pitplan.survey.readers import Topography
 
-from . import survey_files, terrain
+from . import terrain
 from .errors import PlanError
 from .grid import Grid, metres
-from .survey_files import Topography
 from .table import TONNES_PLACES
 from .terrain import HAIR, Below
 
@@ -58,7 +59,7 @@ def surveyed(file: SurveyFile, state: tuple[tuple[int, int], ...], box: Box) -> 
     `cut`."""
     shape, origin, size, azimuth = box
     grid = Grid(shape, origin, size, np.zeros(0, dtype=np.int64), azimuth)
-    read = survey_files.topography(file, terrain.box_of(grid))
+    read = readers.topography(file, terrain.box_of(grid))
     triangles = terrain.triangles_of(read)
     if not len(triangles):
         raise PlanError(f"{file.path}: its points lie on one line, and make no surface")

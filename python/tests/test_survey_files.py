@@ -12,8 +12,9 @@ from osgeo import gdal, ogr, osr
 from test_verify import looked_at
 
 import pitplan
-from pitplan import PlanError, fixed, load, prepare, survey_files, terrain
+from pitplan import PlanError, fixed, load, prepare, terrain
 from pitplan.config.survey import SurveyFile
+from pitplan.survey import readers
 
 gdal.UseExceptions()
 ogr.UseExceptions()
@@ -83,11 +84,11 @@ def tiff(path, heights, place, epsg=None, nothing=None, unit=None, bands=1):
 
 
 def read(path, *layers, height=None):
-    return survey_files.topography(SurveyFile(path, layers, height), AROUND)
+    return readers.topography(SurveyFile(path, layers, height), AROUND)
 
 
 def areas(path, *layers):
-    return survey_files.areas(SurveyFile(path, layers))
+    return readers.areas(SurveyFile(path, layers))
 
 
 PLANE = [(x, y, 21 - 0.4 * x + 0.3 * y) for x in (-17, 91) for y in (-23, 64)]

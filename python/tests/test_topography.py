@@ -14,7 +14,7 @@ import pitplan
 from pitplan import PlanError, terrain, topography
 from pitplan.cli import main
 from pitplan.core import files
-from pitplan.survey_files import NO_FACES, Topography
+from pitplan.survey.readers import NO_FACES, Topography
 from pitplan.verification import verify
 
 CUT = ('file = "blocks.csv"', 'file = "blocks.csv"\ntopography = "topo.csv"')

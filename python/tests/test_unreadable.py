@@ -10,8 +10,9 @@ from conftest import PROJECT, rows
 from test_survey_files import AROUND, HOLED, gis, tiff
 
 import pitplan
-from pitplan import PlanError, survey_files
+from pitplan import PlanError
 from pitplan.config.survey import SurveyFile
+from pitplan.survey import readers
 
 ZIP = ('"blocks.csv"', '"blocks.zip"')
 STRINGS = "a,b\n0,0\n" + "".join(f"1, {y}.0, {x}.0, {x * y}.0\n" for x in range(3) for y in range(3)) + "0,0,0,0\n"
@@ -140,8 +141,8 @@ def test_a_file_of_heights_that_is_cut_short_is_named(tmp_path, kind):
     for length in range(0, len(whole), max(1, len(whole) // 60)):
         file.write_bytes(whole[:length])
         for read in (
-            lambda: survey_files.topography(SurveyFile(file), AROUND),
-            lambda: survey_files.areas(SurveyFile(file)),
+            lambda: readers.topography(SurveyFile(file), AROUND),
+            lambda: readers.areas(SurveyFile(file)),
         ):
             try:
                 read()
@@ -155,11 +156,11 @@ def test_a_file_of_heights_that_is_cut_short_is_named(tmp_path, kind):
 def test_points_that_are_no_places_are_named(tmp_path, number):
     file = tmp_path / "a.str"
     file.write_text(STRINGS.replace("1, 1.0, 2.0, 2.0", f"1, 1.0, {number}, 2.0"))
-    said = refused(survey_files.topography, SurveyFile(file), AROUND)
+    said = refused(readers.topography, SurveyFile(file), AROUND)
     assert (
         said
         == f"{file}: has a point at {float(number):g}, 1, 2: expected metres, none beyond 1,000,000,000: export it again"
     )
     file = tmp_path / "lease.csv"
     file.write_text("x,y\n0,0\n1e12,0\n10,10\n")
-    assert "lease.csv: has a point at 1e+12, 0: expected metres" in refused(survey_files.areas, SurveyFile(file))
+    assert "lease.csv: has a point at 1e+12, 0: expected metres" in refused(readers.areas, SurveyFile(file))

@@ -9,8 +9,8 @@ import numpy as np
 import pandas as pd
 
 from pitplan.config.survey import SurveyFile
+from pitplan.survey import readers
 
-from .. import survey_files
 from .turned import places_of
 
 # Endings of what is no table.
@@ -29,7 +29,7 @@ def heights(
     (west, south), (east, north) = cells.min(axis=0) - 1.5, cells.max(axis=0) + 1.5
     ends = places_of(np.array([(x, y) for x in (west, east) for y in (south, north)]), grid)
     (west, south), (east, north) = ends.min(axis=0), ends.max(axis=0)
-    read = survey_files.topography(file, (west, east, south, north))
+    read = readers.topography(file, (west, east, south, north))
     return read.points, read.faces
 
 
@@ -37,7 +37,7 @@ def polygons(file: SurveyFile) -> list[list[np.ndarray]]:
     """Of each polygon its outline and then its holes, as rows x, y."""
     if file.path.suffix.lower() not in OTHERS:
         return [[table(file.path)[["x", "y"]].to_numpy(dtype=float)]]
-    return survey_files.areas(file).polygons
+    return readers.areas(file).polygons
 
 
 def table(path: Path) -> pd.DataFrame:

@@ -15,12 +15,12 @@ import numpy as np
 
 from pitplan.config.survey import SurveyFile
 from pitplan.config.toml_section import FARTHEST
+from pitplan.errors import PlanError
+from pitplan.table import at_row, demand_columns, numbers_of, read_columns
+from pitplan.table_format import TableFormat, guessed_separator
 
-from . import survey_dxf, survey_gdal, survey_strings
-from .errors import PlanError
-from .survey_layers import Layer, chosen, named
-from .table import at_row, demand_columns, numbers_of, read_columns
-from .table_format import TableFormat, guessed_separator
+from . import dxf, gdal, surpac
+from .layers import Layer, chosen, named
 
 TABLES = (".csv", ".txt", ".dat", ".xyz", ".gz", ".zip")
 DRAWING, STRINGS = ".dxf", ".str"
@@ -60,14 +60,14 @@ def topography(file: SurveyFile, around: Box) -> Topography:
     Raises PlanError, with the file and its layer, where it cannot be read or has no heights, and MissingPackage, with the Debian package,
     where what reads it is not installed.
     """
-    ending = ending_of(file, (*survey_gdal.MAPS, *survey_gdal.RASTERS))
-    if file.height is not None and ending not in survey_gdal.MAPS:
-        raise PlanError(f"{file.path}: has heights of its own: height is a field of {', '.join(survey_gdal.MAPS)}")
+    ending = ending_of(file, (*gdal.MAPS, *gdal.RASTERS))
+    if file.height is not None and ending not in gdal.MAPS:
+        raise PlanError(f"{file.path}: has heights of its own: height is a field of {', '.join(gdal.MAPS)}")
     if ending in TABLES:
         return demand_points(Topography(numbers_in(file.path, ("x", "y", "z")), NO_FACES), file)
-    if ending in survey_gdal.RASTERS:
+    if ending in gdal.RASTERS:
         with reading(file.path):
-            points, faces = survey_gdal.raster(file.path, around)
+            points, faces = gdal.raster(file.path, around)
         return demand_points(Topography(points, faces, (told(file, f"{len(points):,} cells of the raster"),)), file)
     layers, notes = layers_of(file)
     if any(layer.faces for layer in named(layers, file).values()):
@@ -86,7 +86,7 @@ def topography(file: SurveyFile, around: Box) -> Topography:
 
 def areas(file: SurveyFile) -> Areas:
     """The polygons of a file. Raises PlanError and MissingPackage as `topography` does, and PlanError where it has no polygons."""
-    if ending_of(file, tuple(survey_gdal.MAPS)) in TABLES:
+    if ending_of(file, tuple(gdal.MAPS)) in TABLES:
         corners = numbers_in(file.path, ("x", "y"))
         if len(corners) < 3:
             raise PlanError(f"{file.path}: a polygon has three corners or more")
@@ -115,7 +115,7 @@ def ending_of(file: SurveyFile, by_gdal: tuple[str, ...]) -> str:
         raise PlanError(f"{path}: {why}: give one of {', '.join(endings)}")
     if not path.is_file():
         raise PlanError(f"{path}: cannot be read: {'is a folder' if path.is_dir() else 'No such file or directory'}")
-    if file.layers and ending in (*TABLES, *survey_gdal.RASTERS):
+    if file.layers and ending in (*TABLES, *gdal.RASTERS):
         raise PlanError(f"{path}: has no layers: leave out layer")
     return ending
 
@@ -125,8 +125,8 @@ def layers_of(file: SurveyFile) -> tuple[dict[str, Layer], list[str]]:
     ending = file.path.suffix.lower()
     with reading(file.path):
         if ending == DRAWING:
-            return survey_dxf.layers_of(file)
-        return (survey_strings.layers_of(file.path) if ending == STRINGS else survey_gdal.layers_of(file)), []
+            return dxf.layers_of(file)
+        return (surpac.layers_of(file.path) if ending == STRINGS else gdal.layers_of(file)), []
 
 
 @contextmanager

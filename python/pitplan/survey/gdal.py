@@ -9,9 +9,9 @@ import numpy as np
 
 from pitplan.config.survey import SurveyFile
 from pitplan.core.optional_packages import load
+from pitplan.errors import PlanError
 
-from .errors import PlanError
-from .survey_layers import Layer
+from .layers import Layer
 
 PACKAGE = "python3-gdal"
 # The driver of each ending.

@@ -7,8 +7,9 @@ from pathlib import Path
 
 import numpy as np
 
-from .errors import PlanError
-from .survey_layers import Layer
+from pitplan.errors import PlanError
+
+from .layers import Layer
 
 # The file's own line, and that of its axis.
 HEAD = 2

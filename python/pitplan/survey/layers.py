@@ -9,8 +9,7 @@ from fnmatch import fnmatchcase
 import numpy as np
 
 from pitplan.config.survey import SurveyFile
-
-from .errors import PlanError
+from pitplan.errors import PlanError
 
 # So many layers are told in a refusal.
 TOLD = 8

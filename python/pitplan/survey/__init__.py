@@ -1,0 +1,1 @@
+"""Readers of survey files: points, strings, drawings, maps and rasters."""
