@@ -8,11 +8,11 @@ from typing import Any
 
 import numpy as np
 
+from pitplan.blockmodel.grid import metres
 from pitplan.core.files import Folder
 from pitplan.core.optional_packages import load
 
 from . import ground
-from .grid import metres
 from .pit_lines import lines_of
 from .stages import GROUND, Shape, Stage, places_of, rock, stages_of
 

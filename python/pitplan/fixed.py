@@ -13,15 +13,15 @@ from typing import Optional
 import numpy as np
 import pandas as pd
 
+from pitplan.blockmodel import depletion, tin
+from pitplan.blockmodel.grid import Grid
+from pitplan.blockmodel.reader import called
 from pitplan.config.constraints import Area
 from pitplan.config.project import Project
 from pitplan.core import byte_lines
 from pitplan.survey import readers
 
-from . import as_mined, terrain
 from .errors import PlanError
-from .grid import Grid
-from .table import called
 from .trim import used_blocks, users_of
 from .walls import Walls
 
@@ -79,7 +79,7 @@ def of_table(frame: pd.DataFrame, grid: Grid, project: Project, source: str = "t
     rock = frame[project.table.tonnes].to_numpy() > 0
     forced, barred = marked(frame, rules.forced) & rock, marked(frame, rules.barred) & rock
     notes = []
-    forced |= as_mined.is_mined(frame)
+    forced |= depletion.is_mined(frame)
     for area in rules.areas:
         inside, told = in_area(grid, area)
         barred |= inside & rock
@@ -108,7 +108,7 @@ def in_area(grid: Grid, area: Area) -> tuple[np.ndarray, list[str]]:
         twice = f"{np.count_nonzero(count > 1):,} columns of blocks lie in several of its polygons, and none of these is a hole"
         notes.append(f"WARNING: {file}: {twice}")
     if not barred.any():
-        said = f"{file}: no block lies in it: {terrain.beside(np.concatenate([polygon[0] for polygon in areas.polygons]), grid)}"
+        said = f"{file}: no block lies in it: {tin.beside(np.concatenate([polygon[0] for polygon in areas.polygons]), grid)}"
         if area.barred == "outside":
             raise PlanError(said)
         notes.append(f"WARNING: {said}")

@@ -10,8 +10,9 @@ from dataclasses import dataclass, replace
 
 import numpy as np
 
+from pitplan.blockmodel.grid import Grid, metres
+
 from .errors import PlanError
-from .grid import Grid, metres
 from .stages import Stage
 
 # By what part the volume under the surface may differ from that of the cells.

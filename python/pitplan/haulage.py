@@ -15,10 +15,9 @@ from dataclasses import dataclass
 
 import numpy as np
 
+from pitplan.blockmodel.grid import Grid
 from pitplan.config.haulage import Haulage, Road
 from pitplan.core.decimals import Exact
-
-from .grid import Grid
 
 # Lengths are kept to a millimetre, elevations of floors to a micrometre.
 LENGTH_PLACES, ELEVATION_PLACES = 3, 6

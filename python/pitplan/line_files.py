@@ -9,11 +9,11 @@ from typing import Any
 
 import pandas as pd
 
+from pitplan.blockmodel.grid import metres
 from pitplan.core.files import Folder
 from pitplan.core.optional_packages import load
 
 from .errors import PlanError
-from .grid import metres
 from .pit_lines import TOE, Line, lines_of
 from .stages import Shape
 

@@ -9,10 +9,9 @@ from matplotlib.axes import Axes
 from matplotlib.collections import LineCollection
 from matplotlib.patheffects import withStroke
 
+from pitplan.blockmodel.axes import turn_of
+from pitplan.blockmodel.grid import Grid, metres
 from pitplan.core.cell_outlines import edges
-
-from .frame import turn_of
-from .grid import Grid, metres
 
 MOST_CONTOURS, MOST_CONTOURS_NAMED = 20, 6
 # The share of a map's width that a scale bar has at most.

@@ -15,12 +15,13 @@ from typing import Iterator, Optional, Union
 import numpy as np
 import pandas as pd
 
+from pitplan.blockmodel import missing_blocks
 from pitplan.core import files
 from pitplan.core.decimals import at_factor, greatest
 from pitplan.core.files import Needs, Pairs
 from pitplan.core.progress import Progress, silent
 
-from . import absent, fixed as fixing, library, run
+from . import fixed as fixing, library, run
 from .errors import PlanError
 from .fixed import Settled
 from .money import Values
@@ -144,7 +145,7 @@ def solve(plan: Plan, mine: Optional[Mine] = None, progress: Progress = silent) 
     with progress.step(f"solving {len(factors)} factors by the {mine.solver.by}"):
         rest = mine.shells(factors)
     solution = replace(joined(rest, plan.settled, plan.values), of=plan.key)
-    absent.demand_known(solution.entry, plan.grid, plan.project, plan.source)
+    missing_blocks.demand_known(solution.entry, plan.grid, plan.project, plan.source)
     return solution
 
 

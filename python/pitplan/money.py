@@ -21,6 +21,8 @@ from typing import Callable, Optional
 import numpy as np
 import pandas as pd
 
+from pitplan.blockmodel.grid import MOST_BLOCKS, Grid
+from pitplan.blockmodel.reader import HEADER_ROWS, at_row
 from pitplan.config.economics import GRADE_UNITS, ByCode, ByRegion, Curve, Metal, Money
 from pitplan.config.project import REFERENCE_FACTOR, Project
 from pitplan.core.decimals import Exact, Rounding, at_factor, product, total
@@ -28,11 +30,9 @@ from pitplan.core.decimals import Exact, Rounding, at_factor, product, total
 from . import recoveries
 from .errors import PlanError
 from .fixed import Settled
-from .grid import MOST_BLOCKS, Grid
 from .haulage import Hauled, Roads
 from .processes import Steps, Way, best_way, steps_of, worth
 from .recoveries import Head
-from .table import HEADER_ROWS, at_row
 
 MILLIONTHS = 6
 # The files' decimals have twelve digits before the point, and a fixed cut-off adds two amounts.

@@ -7,7 +7,8 @@ from typing import Iterator
 
 import numpy as np
 
-from .grid import Grid
+from pitplan.blockmodel.grid import Grid
+
 from .walls import StepList, Walls
 
 ABSENT = -1

@@ -15,11 +15,11 @@ import matplotlib
 import numpy as np
 import pandas as pd
 
+from pitplan.blockmodel.axes import turn_of
 from pitplan.core.files import TABLE, Folder
 from pitplan.core.optional_packages import three_scripts
 
 from .errors import PlanError
-from .frame import turn_of
 from .report import TEMPLATES
 
 # A cell's byte: 0 is ground that no pit holds, 1 to 254 the place of its factor in the list, 255 air.

@@ -14,10 +14,10 @@ from matplotlib.collections import LineCollection
 from matplotlib.colors import BoundaryNorm, ListedColormap
 from matplotlib.figure import Figure
 
+from pitplan.blockmodel.grid import Grid, metres
 from pitplan.config.figures import PictureRules
 from pitplan.core.cell_outlines import edges
 
-from .grid import Grid, metres
 from .map_marks import axes_of_map, contours, floor_of, mark_map, mark_section_cells, section_titles
 from .phases import Phases
 from .pictures import (

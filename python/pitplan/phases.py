@@ -15,12 +15,12 @@ import numpy as np
 import pandas as pd
 from scipy import ndimage
 
+from pitplan.blockmodel.plausibility import WARNING
 from pitplan.config.project import REFERENCE_FACTOR, Project
 from pitplan.config.pushbacks import MOST_PHASES, PhaseRules
 from pitplan.core.progress import Progress, silent
 
 from . import analyse, mine as mines, widths
-from .doubts import WARNING
 from .errors import PlanError
 from .mine import Mine
 from .plan import Plan

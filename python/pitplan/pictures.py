@@ -24,13 +24,13 @@ from matplotlib.figure import Figure
 from matplotlib.image import AxesImage
 from matplotlib.ticker import MaxNLocator
 
+from pitplan.blockmodel.grid import Grid, metres
 from pitplan.config.figures import PictureRules
 from pitplan.config.project import Metal
 from pitplan.core.cell_outlines import edges
 
 from . import analyse
 from .errors import PlanError
-from .grid import Grid, metres
 from .map_marks import axes_of_map, contours, floor_of, mark_map, mark_section_cells, section_titles
 from .plan import Plan
 from .run import Solution

@@ -10,10 +10,10 @@ from dataclasses import dataclass
 
 import numpy as np
 
+from pitplan.blockmodel.grid import Grid
 from pitplan.core.cell_outlines import rings
 from pitplan.core.files import Folder
 
-from .grid import Grid
 from .stages import Shape, Stage, places_of, stages_of
 
 TOE, CREST = "toe", "crest"

@@ -12,32 +12,26 @@ from typing import Any, Optional, Union
 import numpy as np
 import pandas as pd
 
+from pitplan.blockmodel import (
+    depletion,
+    grid as grids,
+    missing_blocks,
+    plausibility,
+    reader,
+    reblock,
+    summary as summaries,
+    topography_cut,
+)
+from pitplan.blockmodel.grid import Grid
 from pitplan.config.project import Project, load
 from pitplan.core import files
 from pitplan.core.files import MOST_PAIRS, Needs, Pairs
 from pitplan.core.progress import Progress, silent
 
-from . import (
-    absent,
-    as_mined,
-    doubts,
-    fixed as fixing,
-    grid as grids,
-    haulage,
-    money,
-    reach,
-    reblock,
-    summary as summaries,
-    table as tables,
-    topography,
-    trim,
-    walls as laying,
-    yearly_money,
-)
+from . import fixed as fixing, haulage, money, reach, trim, walls as laying, yearly_money
 from .conventions import IN_WORDS
 from .errors import PlanError
 from .fixed import NOTHING, FixedBlocks, Settled
-from .grid import Grid
 from .money import Values
 from .reach import Model
 from .walls import Walls
@@ -110,7 +104,7 @@ class Plan:
 
     def called(self, cell: int) -> str:
         """What the planner calls the block of a cell."""
-        return tables.called(self.table, self.project, int((self.grid.rows == cell).argmax()))
+        return reader.called(self.table, self.project, int((self.grid.rows == cell).argmax()))
 
     @property
     def key(self) -> str:
@@ -130,7 +124,7 @@ class Plan:
         processes those of the best at the price as given and those of each; with `[haulage]` the road in metres, and what of the costs it
         is."""
         ids = self.grid.rows
-        frame = self.table.drop(columns=as_mined.MINED_SHARE, errors="ignore").rename(columns=shown_name)
+        frame = self.table.drop(columns=depletion.MINED_SHARE, errors="ignore").rename(columns=shown_name)
         frame.insert(0, "id", ids)
         for name in ("mining", "revenue", "processing"):
             frame[name if name == "revenue" else f"{name}_cost"] = getattr(self.values, name)[ids] / MILLION
@@ -226,7 +220,7 @@ class Plan:
             **self.grid.as_json(),
             "cells": self.grid.count,
             "cells_without_a_row": self.grid.count - len(self.table),
-            "of_these_not_above_the_highest_of_their_column": len(absent.unknown_cells(self.grid)),
+            "of_these_not_above_the_highest_of_their_column": len(missing_blocks.unknown_cells(self.grid)),
             "greatest_shift_of_a_centre": greatest_shift(self.table, self.grid, self.project),
             **({"rows_left_out": self.left_out} if self.left_out else {}),
         }
@@ -269,26 +263,26 @@ def prepare(
     project = project if isinstance(project, Project) else load(project)
     source = str(project.table.file) if table is None else "table"
     with progress.step(f"reading {source}"):
-        checked = tables.read(project) if table is None else tables.checked(table, project)
+        checked = reader.read(project) if table is None else reader.checked(table, project)
     read = checked.frame
     with progress.step("laying the grid"):
         checked, laid = reblock.of_table(checked, project)
         frame, source = checked.frame, checked.source
         bare = grids.of_table(frame, laid, source, any_size=True)
         summary = summaries.of_table(checked, bare, project)
-        frame, grid = absent.with_rows(frame, bare, project)
+        frame, grid = missing_blocks.with_rows(frame, bare, project)
     # Warnings come last, with the notes.
     warnings = [
-        *(line for line in summary if line.startswith(doubts.WARNING)),
-        *doubts.of_tonnes(frame[project.table.tonnes].to_numpy(), grid),
+        *(line for line in summary if line.startswith(plausibility.WARNING)),
+        *plausibility.of_tonnes(frame[project.table.tonnes].to_numpy(), grid),
     ]
-    summary = [line for line in summary if not line.startswith(doubts.WARNING)]
+    summary = [line for line in summary if not line.startswith(plausibility.WARNING)]
     progress.lines(summary)
     cut: list[str] = []
     if project.table.topography:
         with progress.step(f"cutting blocks by {project.table.topography.path}"):
-            frame, cut = topography.cut(frame, grid, project, project.table.topography)
-    frame, mined = as_mined.depleted(frame, grid, project)
+            frame, cut = topography_cut.cut(frame, grid, project, project.table.topography)
+    frame, mined = depletion.depleted(frame, grid, project)
     cut += mined
     with progress.step("laying the walls"):
         region = laying.regions_of(frame, grid, project.table.region)
@@ -350,7 +344,7 @@ def notes_of(plan: Plan) -> list[str]:
     grid, count = plan.grid, len(plan.table)
     levels, rows, columns = grid.shape
     notes = [f"{count:,} blocks lie on a grid of {columns} x {rows} x {levels} = {grid.count:,} cells"]
-    notes += absent.notes(plan.table, grid, plan.project)
+    notes += missing_blocks.notes(plan.table, grid, plan.project)
     if plan.values.cutoff == "moving":
         steps = len(plan.values.processed) - len(plan.values.ore)
         more = (
@@ -368,7 +362,7 @@ def notes_of(plan: Plan) -> list[str]:
     notes += [pattern.sentence() for pattern in plan.walls.patterns]
     notes += plan.values.notes
     grades = [plan.table[metal.column].to_numpy() for metal in plan.project.metals]
-    notes += doubts.of_prices(plan.values.pays, plan.project.metals, grades, plan.project.money.currency)
+    notes += plausibility.of_prices(plan.values.pays, plan.project.metals, grades, plan.project.money.currency)
     if plan.project.money.mining_cost_per_level and plan.project.money.mining_cost_reference is None:
         notes.append(
             f"mining costs more for each level below that of {plan.reference - grid.size[2]:.10g} to {plan.reference:.10g} m, the "

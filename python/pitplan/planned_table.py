@@ -7,15 +7,15 @@ from pathlib import Path
 import numpy as np
 import pandas as pd
 
+from pitplan.blockmodel import reader
+from pitplan.blockmodel.grid import Grid
+from pitplan.blockmodel.text_format import TableFormat, demand_text, format_of, names_in_header
 from pitplan.config import project_writer
 from pitplan.config.project import Project
 from pitplan.core.files import Folder, hash_of
 
-from . import table as tables
 from .errors import PlanError
-from .grid import Grid
 from .plan import shown_name
-from .table_format import TableFormat, demand_text, format_of, names_in_header
 
 # What blocks.csv has of a block's pits, phase and year, in this order; each where the folder has it.
 FOUND = ("factor", "process_factor", "phase", "year")
@@ -32,7 +32,7 @@ def write(path: Path, folder: Folder) -> None:
     project = project_of(folder)
     demand_text(project.table.file, "export --to table")
     frame, form = as_text(project.table.file, project)
-    cells = cells_of(tables.read(project).frame, project, folder.grid)
+    cells = cells_of(reader.read(project).frame, project, folder.grid)
     blocks = folder.blocks.set_index("id")
     for name in FOUND:
         if name in blocks:
@@ -69,6 +69,6 @@ def project_of(folder: Folder) -> Project:
 def as_text(file: Path, project: Project) -> tuple[pd.DataFrame, TableFormat]:
     """Every column of the table as texts, by the names that a plan gives them, and the table's format."""
     form = format_of(file, project.table)
-    frame = tables.read_columns(file, form, tables.read_header(file, form), [])
+    frame = reader.read_columns(file, form, reader.read_header(file, form), [])
     frame.columns = pd.Index([shown_name(name) if name in FOUND else name for name in names_in_header(file, form)])
     return frame, form

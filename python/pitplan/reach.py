@@ -13,11 +13,12 @@ from dataclasses import dataclass, replace
 import numpy as np
 import pandas as pd
 
+from pitplan.blockmodel import grid as grids
+from pitplan.blockmodel.grid import Grid
 from pitplan.config.project import Project
 
-from . import fixed as fixing, grid as grids, money, trim
+from . import fixed as fixing, money, trim
 from .errors import PlanError
-from .grid import Grid
 from .walls import Walls
 
 

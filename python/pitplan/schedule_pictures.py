@@ -14,9 +14,9 @@ from matplotlib.figure import Figure
 from matplotlib.patches import Rectangle
 from matplotlib.ticker import MaxNLocator
 
+from pitplan.blockmodel.grid import metres
 from pitplan.config.project import Metal
 
-from .grid import metres
 from .pictures import BEST, BEST_MARK, ORE, PLAIN, STYLE, WASTE, WORST, WORST_MARK, finish, list_of, scaled
 from .yearly import FAR_ABOVE, MARGIN, MILL, SHOVELS
 from .yearly_schedule import LP, MILP, RULE, YearlySchedule, years as years_of

@@ -6,11 +6,11 @@ from dataclasses import dataclass
 
 import numpy as np
 
+from pitplan.blockmodel.grid import Grid
 from pitplan.config.project import REFERENCE_FACTOR
 from pitplan.core.files import Folder
 
 from .errors import PlanError
-from .grid import Grid
 
 FACTOR, PHASE, YEAR = "factor", "phase", "year"
 KINDS = (FACTOR, PHASE, YEAR)

@@ -11,7 +11,8 @@ from __future__ import annotations
 
 import numpy as np
 
-from .grid import Grid
+from pitplan.blockmodel.grid import Grid
+
 from .walls import Walls
 
 

@@ -15,13 +15,14 @@ from typing import Any
 import numpy as np
 import pandas as pd
 
+from pitplan.blockmodel import reader
 from pitplan.config.project import Project
 from pitplan.config.sensitivity import SensitivityRules
 from pitplan.core import files, keyed_arrays
 from pitplan.core.optional_packages import load
 from pitplan.core.progress import Progress, silent
 
-from . import analyse, mine, solver, table as tables
+from . import analyse, mine, solver
 from .errors import PlanError
 from .plan import Plan, prepare
 from .simulation import on_dask
@@ -126,7 +127,7 @@ def solve(project: Project, folder: Path, where: on_dask.Where | None, progress:
     """
     found_by, given_project = solver.chosen(project.solver), project
     project = replace(project, solver=found_by.by)
-    frame = tables.read(project).frame
+    frame = reader.read(project).frame
     plan = prepare(project, frame, progress)
     if plan.left_out:
         why = "is too large for the program, and what shells can reach of it is another with each number: reblock it by [table] reblock"

@@ -7,11 +7,11 @@ from typing import Any
 
 import numpy as np
 
+from pitplan.blockmodel.axes import turn_of
+from pitplan.blockmodel.grid import Grid
 from pitplan.core.optional_packages import load
 
 from .errors import PlanError
-from .frame import turn_of
-from .grid import Grid
 
 PACKAGE = "python3-vtk9"
 

@@ -12,11 +12,11 @@ from dataclasses import dataclass
 import numpy as np
 import pandas as pd
 
+from pitplan.blockmodel.grid import Grid
 from pitplan.config.slopes import Slopes
 
 from . import cones
 from .errors import PlanError
-from .grid import Grid
 from .slopes import Pattern, pattern_of
 
 

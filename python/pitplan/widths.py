@@ -23,11 +23,12 @@ from typing import Optional
 import numpy as np
 from scipy import ndimage
 
+from pitplan.blockmodel import missing_blocks
+from pitplan.blockmodel.grid import metres
 from pitplan.config.pushbacks import PhaseRules
 
-from . import absent, trim
+from . import trim
 from .errors import PlanError
-from .grid import metres
 from .plan import Plan
 
 # Rows and columns of blocks.
@@ -82,7 +83,7 @@ def unknown(plan: Plan) -> np.ndarray:
     """A truth for each cell: whether nothing is known of its ground."""
     found = np.zeros(plan.grid.count, dtype=bool)
     if plan.project.table.absent != "air":
-        found[absent.unknown_cells(plan.grid)] = True
+        found[missing_blocks.unknown_cells(plan.grid)] = True
     return found
 
 

@@ -7,9 +7,10 @@ from conftest import PROJECT, rows
 from hypothesis import given, strategies as st
 
 import pitplan
-from pitplan import PlanError, absent
+from pitplan import PlanError
+from pitplan.blockmodel import missing_blocks
+from pitplan.blockmodel.grid import Grid
 from pitplan.cli import main
-from pitplan.grid import Grid
 
 SHAPE = (4, 2, 3)
 AIR = ('file = "blocks.csv"', 'file = "blocks.csv"\nabsent = "air"')
@@ -27,7 +28,7 @@ def test_what_is_not_known_by_definition(filled):
         is_air = len(rows_of_column) > 0 and level < rows_of_column.min()
         if not filled[cell] and not is_air:
             expected.append(cell)
-    assert absent.unknown_cells(grid).tolist() == expected
+    assert missing_blocks.unknown_cells(grid).tolist() == expected
 
 
 def deposit():

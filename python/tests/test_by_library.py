@@ -18,7 +18,8 @@ from test_fixed import FIXED_SECTION, ores_and_fixed, with_section
 from test_scenarios import COLUMNS, PRICES, UPRIGHT, pillar
 
 import pitplan
-from pitplan import PlanError, ProgramError, library, load, run, solver, table as tables, varied_cases
+from pitplan import PlanError, ProgramError, library, load, run, solver, varied_cases
+from pitplan.blockmodel import reader
 from pitplan.cli import main
 from pitplan.commands import answers
 from pitplan.core import files
@@ -377,7 +378,7 @@ def test_a_worker_with_another_library_solves_nothing(plan_folder, monkeypatch):
 
 def test_cases_of_a_sensitivity_are_not_begun_with_another_library(plan_folder, monkeypatch):
     project = load(plan_folder(rows(3, 1, 2, cu=lambda i, j, k: 3), PROJECT))
-    asked = varied_cases.Asked(project, tables.read(project).frame, solver.chosen("library"))
+    asked = varied_cases.Asked(project, reader.read(project).frame, solver.chosen("library"))
     assert varied_cases.find(varied_cases.Case(), asked).row["blocks"] == 6
     other_library(monkeypatch)
     with pytest.raises(ProgramError, match="the library here .* is another than that with which this was begun"):

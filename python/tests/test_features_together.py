@@ -118,7 +118,7 @@ def test_what_is_written_is_right(plan_folder, without_figures, monkeypatch, see
     changes, is_one = project_of(rng)
     if rng.random() < 0.3:
         # Of 1,440 cells what no shell can reach is left out: no cone above the ore goes beyond the 15th of 20 columns.
-        monkeypatch.setattr(pitplan.grid, "MOST_BLOCKS", 1200)
+        monkeypatch.setattr(pitplan.blockmodel.grid, "MOST_BLOCKS", 1200)
     rules = "[schedule]\nlag = 1\nyears = 9\n" + (
         pick(rng, "", "bins = 3\n", "bins = 3\nstockpile = { rehandling_cost = 0.4 }\n") if is_one else ""
     )

@@ -9,7 +9,8 @@ import pytest
 from conftest import PROJECT, rows
 
 import pitplan
-from pitplan import PlanError, init as beginning
+from pitplan import PlanError
+from pitplan.blockmodel import wizard
 
 CODES = ("name", "rock", "region")
 
@@ -49,7 +50,7 @@ def test_a_nul_byte_in_a_field_is_named_by_row_and_column(plan_folder, column, f
 
 
 def test_a_nul_byte_is_named_in_whatever_piece_form_and_place_it_stands(plan_folder, monkeypatch):
-    monkeypatch.setattr(pitplan.table, "PIECE", 3)
+    monkeypatch.setattr(pitplan.blockmodel.reader, "PIECE", 3)
     packed = ("blocks.csv", "blocks.csv.gz")
     text = text_with(11, "tonnes", "1\x000")
     path = plan_folder(text, PROJECT, packed)
@@ -90,7 +91,7 @@ def test_a_column_of_truths_is_none_of_numbers(plan_folder, column, word):
 
 
 def test_truths_in_one_piece_alone_are_refused_there(plan_folder, monkeypatch):
-    monkeypatch.setattr(pitplan.table, "PIECE", 3)
+    monkeypatch.setattr(pitplan.blockmodel.reader, "PIECE", 3)
     table = rows(3, 2, 2).astype(object)
     table.loc[3:5, "cu"] = "TRUE"
     assert 'row 5 column cu: "True" is not a number' in refused(plan_folder(table))
@@ -171,7 +172,7 @@ def test_a_code_of_a_frame_holds_no_nul_byte(plan_folder, column):
 def begun(tmp_path, table):
     (tmp_path / "model.csv").write_text(table if isinstance(table, str) else table.to_csv(index=False))
     with pytest.raises(PlanError) as said:
-        beginning.write(tmp_path / "model.csv", tmp_path / "project.toml")
+        wizard.write(tmp_path / "model.csv", tmp_path / "project.toml")
     assert not (tmp_path / "project.toml").exists()
     return str(said.value)
 

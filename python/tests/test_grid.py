@@ -7,7 +7,7 @@ from conftest import PROJECT, rows
 
 import pitplan
 from pitplan import PlanError
-from pitplan.grid import metres
+from pitplan.blockmodel.grid import metres
 
 NO_SIZE = ("[grid]\nsize = [10, 10, 10]\n", "")
 

@@ -11,9 +11,9 @@ from test_surfaces import triangles_of, volume_of
 
 import pitplan
 from pitplan import PlanError, ground, stages
+from pitplan.blockmodel.grid import Grid
 from pitplan.cli import main
 from pitplan.core import files
-from pitplan.grid import Grid
 from pitplan.stages import Shape, Stage
 
 

@@ -7,7 +7,8 @@ import pandas as pd
 import pytest
 from conftest import PROJECT, rows
 
-from pitplan import PlanError, guesses, init, load, prepare
+from pitplan import PlanError, load, prepare
+from pitplan.blockmodel import column_guesses, wizard
 from pitplan.cli import main
 
 ORE = {"cu": lambda i, j, k: 2.0 if k == 1 and i == 4 else 0.0}
@@ -79,7 +80,7 @@ def test_increments_a_density_and_decimal_commas(tmp_path):
 def test_grams_a_tonne_and_regions(tmp_path):
     more = {"region": lambda i, j, k: "NE" if i < 4 else "SW", "cu": lambda i, j, k: 12000.0 if k == 1 else 30.0}
     exported(tmp_path / "m.csv", SURPAC, "\t", **more)
-    init.write(tmp_path / "m.csv", tmp_path / "project.toml")
+    wizard.write(tmp_path / "m.csv", tmp_path / "project.toml")
     _, project = said(tmp_path / "project.toml")
     assert (project.metals[0].name, project.metals[0].unit, project.metals[0].price) == (
         "copper",
@@ -92,7 +93,7 @@ def test_grams_a_tonne_and_regions(tmp_path):
 
 def test_semicolons_do_not_make_decimals_of_commas(tmp_path):
     exported(tmp_path / "m.csv", SURPAC, ";")
-    told = init.write(tmp_path / "m.csv", tmp_path / "project.toml")
+    told = wizard.write(tmp_path / "m.csv", tmp_path / "project.toml")
     assert "the fields are parted by semicolons" in told and "decimals are written with a comma" not in told
     assert load(tmp_path / "project.toml").table.decimal in (None, ".")
 
@@ -100,7 +101,7 @@ def test_semicolons_do_not_make_decimals_of_commas(tmp_path):
 def test_a_volume_and_a_density(tmp_path):
     more = {"volume": lambda i, j, k: 1000.0 - k, "density": lambda i, j, k: 2.5 + i}
     exported(tmp_path / "m.csv", VULCAN, **more)
-    init.write(tmp_path / "m.csv", tmp_path / "project.toml")
+    wizard.write(tmp_path / "m.csv", tmp_path / "project.toml")
     table, plan = rows(8, 8, 4, **more), prepare(tmp_path / "project.toml")
     assert plan.table["tonnes"].tolist() == (table["volume"] * table["density"]).tolist()
     assert load(tmp_path / "project.toml").metals[0].column == "cu (%)"
@@ -108,7 +109,7 @@ def test_a_volume_and_a_density(tmp_path):
 
 def test_ids_and_letters_of_windows(tmp_path):
     exported(tmp_path / "m.csv", DESWIK, encoding="cp1252")
-    init.write(tmp_path / "m.csv", tmp_path / "project.toml")
+    wizard.write(tmp_path / "m.csv", tmp_path / "project.toml")
     _, project = said(tmp_path / "project.toml")
     assert (project.table.id, project.table.encoding, project.table.rock) == ("Block ID", "cp1252", None)
     assert (project.table.x, project.table.y, project.table.z) == ("Easting", "Northing", "RL")
@@ -136,7 +137,7 @@ def test_the_project_runs_as_it_stands(tmp_path, capsys):
 
 def test_each_guess_says_why(tmp_path):
     exported(tmp_path / "m.csv", SURPAC)
-    init.write(tmp_path / "m.csv", tmp_path / "project.toml")
+    wizard.write(tmp_path / "m.csv", tmp_path / "project.toml")
     why, _ = said(tmp_path / "project.toml")
     assert why.count("by its name") == 6
     assert "unit by the column's name" in why
@@ -145,7 +146,7 @@ def test_each_guess_says_why(tmp_path):
 
 def test_centres_without_a_name_are_told_by_their_steps():
     table = rows(4, 5, 3).rename(columns={"x": "p", "y": "q", "z": "r"})
-    found = guesses.columns_of(table[["tonnes", "p", "q", "r"]])
+    found = column_guesses.columns_of(table[["tonnes", "p", "q", "r"]])
     assert {axis: guess.column for axis, guess in found.centres.items()} == {"x": "p", "y": "q", "z": "r"}
     assert "steps" in found.centres["x"].why
 
@@ -163,7 +164,7 @@ def test_centres_without_a_name_are_told_by_their_steps():
 )
 def test_the_unit_of_a_name_that_tells_none(name, mean, unit, why):
     """By the metal, or by the mean of the grades above 0 where it is more than a per cent could be."""
-    guess = guesses.metal_of(pd.DataFrame({name: [0.0, mean - 1, mean + 1]}), name)
+    guess = column_guesses.metal_of(pd.DataFrame({name: [0.0, mean - 1, mean + 1]}), name)
     assert (guess.unit, guess.why) == (unit, why)
 
 
@@ -182,7 +183,7 @@ def test_what_makes_tonnes_is_counted_where_it_is_empty(tmp_path, headings, colu
         headings,
         **{**more, column: lambda i, j, k: float("nan") if (i, j) == (0, 0) and k < count else 2.5},
     )
-    told = init.write(tmp_path / "m.csv", tmp_path / "project.toml")
+    told = wizard.write(tmp_path / "m.csv", tmp_path / "project.toml")
     assert f"WARNING: {count} tonnes or grades are empty, and taken as 0" in told
 
 
@@ -196,13 +197,13 @@ def test_what_makes_tonnes_is_counted_where_it_is_empty(tmp_path, headings, colu
     ],
 )
 def test_a_sign_and_its_unit_may_be_one_word(name, metal, unit):
-    guess = guesses.metal_of(pd.DataFrame({name: [0.1, 0.2]}), name)
+    guess = column_guesses.metal_of(pd.DataFrame({name: [0.1, 0.2]}), name)
     assert (guess and guess.metal, guess and guess.unit) == (metal, unit)
 
 
 def test_texts_and_names_without_a_letter_are_no_grades():
     table = rows(3, 3, 3, cu=lambda i, j, k: 0.5 * k).assign(**{"Au class": "rich", "1": 0.5})
-    assert [metal.column for metal in guesses.columns_of(table).metals] == ["cu"]
+    assert [metal.column for metal in column_guesses.columns_of(table).metals] == ["cu"]
 
 
 @pytest.mark.parametrize(
@@ -219,12 +220,12 @@ def test_texts_and_names_without_a_letter_are_no_grades():
 )
 def test_centres_have_few_numbers_at_equal_steps(values, is_one):
     """At most half as many numbers as rows, two at least, and steps of more than half a metre."""
-    assert guesses.is_lattice(pd.DataFrame({"p": [float(value) for value in values]}), "p") == is_one
+    assert column_guesses.is_lattice(pd.DataFrame({"p": [float(value) for value in values]}), "p") == is_one
 
 
 def test_placeholders_of_prices_are_round():
     """Two digits, so that nobody takes one for a quotation."""
-    assert {metal: float(f"{price:.2g}") for metal, price in init.PRICES.items()} == init.PRICES
+    assert {metal: float(f"{price:.2g}") for metal, price in wizard.PRICES.items()} == wizard.PRICES
 
 
 def test_ore_a_year_is_by_taylors_rule(tmp_path):
@@ -234,14 +235,14 @@ def test_ore_a_year_is_by_taylors_rule(tmp_path):
     """
     table = rows(8, 8, 4, cu=lambda i, j, k: 0.16 if k == 1 else 0.15, tonnes=lambda i, j, k: 250_000)
     table.to_csv(tmp_path / "m.csv", index=False)
-    init.write(tmp_path / "m.csv", tmp_path / "project.toml")
+    wizard.write(tmp_path / "m.csv", tmp_path / "project.toml")
     assert load(tmp_path / "project.toml").schedule.ore_per_year == 1_300_000
 
 
 def test_sub_blocks_and_empty_grades_are_told(tmp_path):
     more = {**INCREMENTS, "density": lambda i, j, k: 2.5, "dx": lambda i, j, k: 10.0 if i else 5.0}
     exported(tmp_path / "m.csv", DATAMINE, **{**more, "cu": lambda i, j, k: 2.0 if k else float("nan")})
-    told = init.write(tmp_path / "m.csv", tmp_path / "project.toml")
+    told = wizard.write(tmp_path / "m.csv", tmp_path / "project.toml")
     assert "WARNING: blocks are of several sizes, and sub-blocks need [table] reblock" in told
     assert "x: centres in XC from 5 to 75 m, by its name" in told
     assert "WARNING: 64 tonnes or grades are empty, and taken as 0" in told
@@ -260,7 +261,7 @@ def test_what_cannot_be_guessed_is_named(tmp_path, dropped, why):
     table = rows(3, 3, 3, cu=lambda i, j, k: 0.5 * (i + j) + 0.1 * k).drop(columns=[dropped, "name"])
     table.to_csv(tmp_path / "m.csv", index=False)
     with pytest.raises(PlanError, match=f"m.csv row 1: {why}"):
-        init.write(tmp_path / "m.csv", tmp_path / "project.toml")
+        wizard.write(tmp_path / "m.csv", tmp_path / "project.toml")
     assert not (tmp_path / "project.toml").exists()
 
 
@@ -323,7 +324,7 @@ def test_a_folder_of_the_project_is_made_or_named(tmp_path, capsys):
 @pytest.mark.parametrize("name", ["a b.csv", "Größe <1>.csv", 'a "q" \\.csv', "two\nlines.csv", "\x7f.csv"])
 def test_a_table_may_have_any_name(tmp_path, name):
     rows(3, 3, 3, cu=lambda i, j, k: 1.0).rename(columns={"cu": "Cu \x7f é"}).to_csv(tmp_path / name, index=False)
-    init.write(tmp_path / name, tmp_path / "project.toml")
+    wizard.write(tmp_path / name, tmp_path / "project.toml")
     project = load(tmp_path / "project.toml")
     assert (project.table.file, project.metals[0].column) == (tmp_path / name, "Cu \x7f é")
     assert "\\u00" not in (tmp_path / "project.toml").read_text().replace("\\u007f", "")
@@ -333,7 +334,7 @@ def test_a_name_that_no_project_can_hold_is_told(tmp_path):
     table = tmp_path / os.fsdecode(b"caf\xe9.csv")
     rows(3, 3, 3, cu=lambda i, j, k: 1.0).to_csv(table, index=False)
     with pytest.raises(PlanError, match="has a name that is not UTF-8, as all of a project is: rename it"):
-        init.write(table, tmp_path / "project.toml")
+        wizard.write(table, tmp_path / "project.toml")
     assert list(tmp_path.iterdir()) == [table]
 
 
@@ -342,7 +343,7 @@ def test_a_name_that_no_project_can_hold_is_told(tmp_path):
 )
 def test_a_section_or_a_level_alone_runs_too(tmp_path, counts, size):
     rows(*counts, cu=lambda i, j, k: 1.0).to_csv(tmp_path / "m.csv", index=False)
-    told = init.write(tmp_path / "m.csv", tmp_path / "project.toml")
+    told = wizard.write(tmp_path / "m.csv", tmp_path / "project.toml")
     why, project = said(tmp_path / "project.toml")
     assert project.grid.size == size and prepare(tmp_path / "project.toml").grid.shape == counts[::-1]
     flat = " and ".join(axis for axis, count in zip("xyz", counts) if count == 1)
@@ -359,7 +360,7 @@ def test_a_workbook_and_a_file_that_is_no_text_are_told_so(tmp_path):
         ("m.dm", "is no text: save"),
     ):
         with pytest.raises(PlanError, match=f"{name}: {why}"):
-            init.write(tmp_path / name, tmp_path / "project.toml")
+            wizard.write(tmp_path / name, tmp_path / "project.toml")
 
 
 def test_a_project_that_names_a_workbook_is_told_so(plan_folder, tmp_path):

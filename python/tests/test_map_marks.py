@@ -10,8 +10,8 @@ from matplotlib.figure import Figure
 
 import pitplan
 from pitplan import PlanError, map_marks, phase_pictures, pictures
+from pitplan.blockmodel.grid import Grid
 from pitplan.config.figures import PictureRules
-from pitplan.grid import Grid
 from pitplan.simulation import pictures as many
 
 METALS = '[[metals]]\nname = "gold"\ncolumn = "au"\nunit = "gram_per_tonne"\nprice = 60\nrecovery = 0.9\n[slopes]\n'

@@ -8,7 +8,8 @@ import pytest
 from conftest import PROJECT, rows
 
 import pitplan
-from pitplan import MissingPackage, PlanError, init, parquet
+from pitplan import MissingPackage, PlanError
+from pitplan.blockmodel import parquet, wizard
 
 HAS_PYARROW = importlib.util.find_spec("pyarrow") is not None
 IN_PARQUET = ('file = "blocks.csv"', 'file = "blocks.parquet"')
@@ -70,4 +71,4 @@ def test_what_needs_text_says_so(tmp_path):
     with pytest.raises(
         PlanError, match="model.parquet: is Parquet, and pitplan init needs a table that is text, such as CSV"
     ):
-        init.write(tmp_path / "model.parquet", tmp_path / "project.toml")
+        wizard.write(tmp_path / "model.parquet", tmp_path / "project.toml")

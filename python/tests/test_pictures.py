@@ -13,7 +13,7 @@ from matplotlib.figure import Figure
 
 import pitplan
 from pitplan import phase_pictures, pictures, yearly
-from pitplan.grid import Grid
+from pitplan.blockmodel.grid import Grid
 from pitplan.simulation import pictures as many
 
 YEARS = pd.DataFrame(

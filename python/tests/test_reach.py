@@ -9,7 +9,7 @@ from conftest import PROJECT, rows
 
 import pitplan
 from pitplan import PlanError, analyse, reach
-from pitplan.grid import Grid
+from pitplan.blockmodel.grid import Grid
 from pitplan.reach import Box
 from pitplan.verification import verify
 
@@ -32,7 +32,7 @@ def deposit(**more):
 @pytest.fixture
 def few(monkeypatch):
     """The program takes but 3,000 blocks."""
-    monkeypatch.setattr(pitplan.grid, "MOST_BLOCKS", 3000)
+    monkeypatch.setattr(pitplan.blockmodel.grid, "MOST_BLOCKS", 3000)
 
 
 def solved(path):
@@ -47,7 +47,7 @@ def test_shells_are_the_same(plan_folder, monkeypatch):
     path = plan_folder(deposit(), PROJECT, ANGLES)
     whole, factors = solved(path)
     assert whole.grid.count == 4320
-    monkeypatch.setattr(pitplan.grid, "MOST_BLOCKS", 3000)
+    monkeypatch.setattr(pitplan.blockmodel.grid, "MOST_BLOCKS", 3000)
     part, same = solved(path)
     assert part.grid.count == 384 and factors.equals(same) and len(factors) > 40
     (note,) = [note for note in part.notes if "were left out: all" in note]
@@ -68,7 +68,7 @@ def test_costs_that_rise_from_the_highest_block_that_ore_needs(plan_folder, monk
     change = ("mining_cost = 2\n", "mining_cost = 2\nmining_cost_per_level = 0.25\n")
     path = plan_folder(deposit(), PROJECT, ANGLES, change)
     whole, factors = solved(path)
-    monkeypatch.setattr(pitplan.grid, "MOST_BLOCKS", 3000)
+    monkeypatch.setattr(pitplan.blockmodel.grid, "MOST_BLOCKS", 3000)
     part, same = solved(path)
     assert factors.equals(same) and part.reference == whole.reference
     costs = [plan.blocks.set_index("name")["mining_cost"] for plan in (whole, part)]
@@ -110,7 +110,7 @@ def test_what_must_be_dug_is_kept(plan_folder, few):
 
 
 def test_what_is_too_large_all_the_same_is_refused(plan_folder, monkeypatch):
-    monkeypatch.setattr(pitplan.grid, "MOST_BLOCKS", 300)
+    monkeypatch.setattr(pitplan.blockmodel.grid, "MOST_BLOCKS", 300)
     with pytest.raises(
         PlanError,
         match="the grid has 4,320 cells, of which shells may reach 384, and the program takes at most 300 blocks",
@@ -185,7 +185,7 @@ ABSENT = ('file = "blocks.csv"', 'file = "blocks.csv"\nabsent = { tonnes = 90, r
 @pytest.mark.parametrize("change", [('file = "blocks.csv"', 'file = "blocks.csv"\nreblock = [2, 1, 1]'), ABSENT])
 def test_rows_that_are_put_together_and_cells_without_rows(plan_folder, monkeypatch, without_figures, change):
     """A block of the floor and one in the ground have no row."""
-    monkeypatch.setattr(pitplan.grid, "MOST_BLOCKS", 1500)
+    monkeypatch.setattr(pitplan.blockmodel.grid, "MOST_BLOCKS", 1500)
     table = deposit()
     path = plan_folder(table[~table["name"].isin(["b20-2-0", "b9-8-6"])], PROJECT, ANGLES, change)
     pitplan.write_shells(path)

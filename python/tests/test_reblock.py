@@ -8,7 +8,8 @@ import pytest
 from conftest import PROJECT, rows
 
 import pitplan
-from pitplan import PlanError, reblock
+from pitplan import PlanError
+from pitplan.blockmodel import reblock
 from pitplan.verification import verify
 
 TWOS = ('file = "blocks.csv"', 'file = "blocks.csv"\nreblock = [2, 2, 1]')
@@ -207,7 +208,7 @@ def test_blocks_that_lie_elsewhere_are_found(solved_hill, monkeypatch, metres):
 
 
 def test_a_table_that_is_too_large_by_itself(plan_folder, monkeypatch):
-    monkeypatch.setattr(pitplan.grid, "MOST_BLOCKS", 200)
+    monkeypatch.setattr(pitplan.blockmodel.grid, "MOST_BLOCKS", 200)
     with pytest.raises(
         PlanError,
         match="the grid has 858 cells, of which shells may reach 858, and the program takes at most 200 blocks",

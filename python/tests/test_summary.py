@@ -135,7 +135,7 @@ def test_empty_fields_and_the_text_are_told(plan_folder):
 def test_a_table_without_tonnes_has_a_mean_of_nothing():
     from numpy import array
 
-    from pitplan.summary import mean_of
+    from pitplan.blockmodel.summary import mean_of
 
     assert mean_of(array([2.0, 4.0]), array([0.0, 0.0])) == 0 and mean_of(array([2.0, 4.0]), array([3.0, 1.0])) == 2.5
 

@@ -12,7 +12,8 @@ from osgeo import gdal, ogr, osr
 from test_verify import looked_at
 
 import pitplan
-from pitplan import PlanError, fixed, load, prepare, terrain
+from pitplan import PlanError, fixed, load, prepare
+from pitplan.blockmodel import tin as terrain
 from pitplan.config.survey import SurveyFile
 from pitplan.survey import readers
 

@@ -14,9 +14,9 @@ from matplotlib.figure import Figure
 
 import pitplan
 from pitplan import PlanError, map_marks, page
+from pitplan.blockmodel.grid import Grid
 from pitplan.cli import main
 from pitplan.core import files
-from pitplan.grid import Grid
 from pitplan.simulation import ensemble
 
 NO_SIZE = ("[grid]\nsize = [10, 10, 10]\n", "")
@@ -375,7 +375,7 @@ def test_a_turned_table_has_a_project_to_begin_with(tmp_path):
     """Blocks of 10 x 10 x 10 m whose volumes the density needs."""
     table = turned(rows(12, 11, 3, cu=lambda i, j, k: 0.5), 30).assign(density=2.5).drop(columns=["tonnes"])
     table.to_csv(tmp_path / "model.csv", index=False)
-    said = pitplan.init.write(tmp_path / "model.csv", tmp_path / "project.toml")
+    said = pitplan.blockmodel.wizard.write(tmp_path / "model.csv", tmp_path / "project.toml")
     assert any("azimuth 30" in line for line in said)
     assert "size = [10.0, 10.0, 10.0]" in (tmp_path / "project.toml").read_text()
     plan = pitplan.prepare(tmp_path / "project.toml")
@@ -391,7 +391,7 @@ def test_no_file_of_the_answer_has_other_coordinates(one_block):
 @pytest.mark.usefixtures("without_figures")
 def test_what_no_shell_can_reach_is_left_out_of_a_turned_model(plan_folder, monkeypatch):
     """Of 30 x 28 x 6 cells no more than 3,000 are taken; the second look, which is part of each run, finds the same sides."""
-    monkeypatch.setattr(pitplan.grid, "MOST_BLOCKS", 3000)
+    monkeypatch.setattr(pitplan.blockmodel.grid, "MOST_BLOCKS", 3000)
     found = []
     for degrees in (0, 30):
         table = turned(rows(30, 28, 6, cu=lambda i, j, k: ORE.get((i - 8, j - 8, k), 0)), degrees)

@@ -72,7 +72,7 @@ def test_a_bent_packed_table_is_named(packed, method):
             method, lambda data: data[:place] + bytes([data[place] ^ rng.randrange(1, 256)]) + data[place + 1 :]
         )
         try:
-            pitplan.table.read(pitplan.load(path))
+            pitplan.blockmodel.reader.read(pitplan.load(path))
         except PlanError as error:
             assert "blocks.zip" in str(error) and "\n" not in str(error)
 

@@ -11,7 +11,8 @@ from conftest import PROJECT, rows
 from hypothesis import HealthCheck, given, settings, strategies as st
 
 import pitplan
-from pitplan import PlanError, absent, fixed, load, money, prepare, schedule, slopes, solve, table as tables
+from pitplan import PlanError, fixed, load, money, prepare, schedule, slopes, solve
+from pitplan.blockmodel import missing_blocks, reader
 from pitplan.cli import main
 from pitplan.commands.answers import Answered, write_tables
 from pitplan.config.slopes import Wall
@@ -329,8 +330,8 @@ def refused(plan_folder, table=None, text=TEXT, *changes):
 
 def test_a_run_reads_its_table_once_and_a_later_look_reads_it_again(plan_folder, monkeypatch):
     """The second look of a run takes the rows as they were read, and would see what a later look sees."""
-    path, reads, read_table = plan_folder(deposit(), TEXT), [], tables.read
-    monkeypatch.setattr(tables, "read", lambda project: reads.append(project) or read_table(project))
+    path, reads, read_table = plan_folder(deposit(), TEXT), [], reader.read
+    monkeypatch.setattr(reader, "read", lambda project: reads.append(project) or read_table(project))
     pitplan.write_shells(path)
     assert len(reads) == 1 and wrong(path.parent / "plan") == set() and len(reads) == 2
     table = read_table(load(path)).frame
@@ -573,7 +574,7 @@ def test_a_surface_that_is_passed_over_is_found(plan_folder, tmp_path, monkeypat
 
 
 def test_ground_that_is_taken_as_air_is_found(plan_folder, monkeypatch):
-    monkeypatch.setattr(absent, "demand_known", lambda *_: None)
+    monkeypatch.setattr(missing_blocks, "demand_known", lambda *_: None)
     table = deposit()
     assert "walls: " in refused(plan_folder, table[table["name"] != "b5-4-3"])
 

@@ -16,7 +16,8 @@ from test_scenarios import COLUMNS, UPRIGHT, pillar, prepared, solved_in_turn
 from test_verify import looked_at, ore_everywhere, wrong
 
 import pitplan
-from pitplan import PlanError, absent, fixed, load, mine, prepare, terrain
+from pitplan import PlanError, fixed, load, mine, prepare
+from pitplan.blockmodel import missing_blocks, tin
 from pitplan.core import files
 from pitplan.verification import verify
 
@@ -56,7 +57,7 @@ def test_rock_of_cells_without_rows_is_that_of_the_project(plan_folder):
 )
 def test_rock_that_the_project_does_not_give_is_found(plan_folder, monkeypatch, column, value, said):
     """Each of the five blocks is bent."""
-    right = absent.with_rows
+    right = missing_blocks.with_rows
 
     def bent(frame, grid, project):
         table, grid = right(frame, grid, project)
@@ -65,7 +66,7 @@ def test_rock_that_the_project_does_not_give_is_found(plan_folder, monkeypatch, 
         return table.assign(**{column: table[column].where(~ids, values)}), grid
 
     path = plan_folder(holed(), PROJECT, ROCK)
-    monkeypatch.setattr(absent, "with_rows", bent)
+    monkeypatch.setattr(missing_blocks, "with_rows", bent)
     rule = absent_rule(path)
     assert rule.count == 5
     assert rule.differences[0] == (f"block absent-4: {said}" if said else "block none-13 is of the cell 4")
@@ -81,7 +82,7 @@ def test_rock_that_the_project_does_not_give_is_found(plan_folder, monkeypatch, 
 )
 def test_cells_that_are_passed_over_or_are_air_are_found(plan_folder, monkeypatch, cells, said):
     path = plan_folder(holed(), PROJECT, ROCK)
-    monkeypatch.setattr(absent, "unknown_cells", lambda grid: np.setdiff1d(cells, grid.rows))
+    monkeypatch.setattr(missing_blocks, "unknown_cells", lambda grid: np.setdiff1d(cells, grid.rows))
     rule = absent_rule(path)
     assert (rule.count, rule.differences) == (1, (said,))
 
@@ -90,10 +91,10 @@ def test_rock_of_scenarios_that_the_project_does_not_give_is_found(plan_folder, 
     table = pillar()
     rock = ("file =", 'absent = { tonnes = 90, rock = "R", region = "1" }\nfile =')
     path = plan_folder(table[table["name"] != "b0-0-1"], COLUMNS, UPRIGHT, rock)
-    right = absent.with_rows
+    right = missing_blocks.with_rows
     heavy = {"tonnes": 95.0}
     monkeypatch.setattr(
-        absent, "with_rows", lambda frame, grid, project: right(frame, grid, with_absent(project, heavy))
+        missing_blocks, "with_rows", lambda frame, grid, project: right(frame, grid, with_absent(project, heavy))
     )
     shared = prepared(path)
     solved_in_turn(shared)
@@ -126,11 +127,11 @@ def test_a_surface_that_is_not_laid_between_its_points_is_found(plan_folder, tmp
     path = surfaced(plan_folder, tmp_path, [(x, y, 20 - 0.3 * x) for x in (-90, 160) for y in (-70, 120)])
     assert fixed_rule(path).differences == ()
     assert "with the blocks that are mined" in fixed_rule(path).holds
-    monkeypatch.setattr(terrain, "heights", lambda triangles, grid: np.full(grid.per_level, 1000.0))
+    monkeypatch.setattr(tin, "heights", lambda triangles, grid: np.full(grid.per_level, 1000.0))
     rule = fixed_rule(path)
     assert (rule.count, rule.differences[0]) == (3 * 5 + 3 * 2, "block b5-0-0 must be dug, and is so from factor 0 on")
     monkeypatch.setattr(
-        terrain,
+        tin,
         "heights",
         lambda triangles, grid: 20 - 0.3 * (grid.centres(np.arange(grid.per_level))[0] - 600_000) + 3,
     )

@@ -7,11 +7,11 @@ from pathlib import Path
 import pandas as pd
 
 from minelib.ending import tell
+from pitplan.blockmodel.plausibility import WARNING
 from pitplan.core import files
 from pitplan.core.noted_path import NotedPath
 
 from ..commands.writing import REPORT
-from ..doubts import WARNING
 from ..report import Columns, cells_of
 
 

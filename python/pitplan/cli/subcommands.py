@@ -45,7 +45,8 @@ def writing_of(options: Namespace) -> Writing:
 
 
 def init(options: Namespace) -> int:
-    from .. import init as wizard
+    from pitplan.blockmodel import wizard
+
     from .printing import print_notes
 
     project_file = options.out or options.table.parent / "project.toml"

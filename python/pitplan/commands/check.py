@@ -2,10 +2,10 @@
 
 from __future__ import annotations
 
+from pitplan.blockmodel.figure_bounds import demand_within
 from pitplan.core.progress import Progress, silent
 
 from ..mine import counted_rows
-from ..picture_bounds import demand_within
 from ..plan import prepare
 from .writing import Source, read
 

@@ -8,7 +8,8 @@ from typing import Optional
 
 import pandas as pd
 
-from pitplan import absent, analyse, mine as mines
+from pitplan import analyse, mine as mines
+from pitplan.blockmodel import missing_blocks
 from pitplan.config.project import REFERENCE_FACTOR, Project
 from pitplan.core import files
 
@@ -57,7 +58,7 @@ def write_pit(
         plan = run.mine.plan
         keeping = mines.solve(plan, run.mine, writing.progress)
         free = replace(run.mine.free_shells(planned.schedule.factors), of=plan.key)
-        absent.demand_known(free.entry, plan.grid, project, plan.source)
+        missing_blocks.demand_known(free.entry, plan.grid, project, plan.source)
         check_fixed(run.mine, keeping, factor, writing.progress)
         table = pd.concat([analyse.shells(plan, solution).tail(1) for solution in (keeping, free)], ignore_index=True)
         table.insert(0, "fixed_blocks", ["kept", "free"])

@@ -5,12 +5,12 @@ from __future__ import annotations
 from pathlib import Path
 from typing import Any
 
+from pitplan.blockmodel.figure_bounds import demand_within
 from pitplan.config import project_writer
 from pitplan.config.project import Project
 from pitplan.core import files, staging
 from pitplan.core.progress import Progress, silent
 
-from ..picture_bounds import demand_within
 from ..plan import prepare
 from .writing import demand_apart, finish, write_table
 

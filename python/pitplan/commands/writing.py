@@ -11,6 +11,7 @@ from typing import Any, Iterable, Iterator, Optional, Union
 import pandas as pd
 
 from pitplan import block_pictures, exports, mine as mines, sensitivity_files, sensitivity_pictures, verification
+from pitplan.blockmodel.figure_bounds import demand_within
 from pitplan.config import project_writer
 from pitplan.config.figures import FORMATS
 from pitplan.config.project import Project, inputs_beside, load
@@ -19,7 +20,6 @@ from pitplan.core.progress import Progress, silent
 
 from ..errors import PlanError
 from ..mine import Mine
-from ..picture_bounds import demand_within
 from ..plan import Plan, prepare as prepare_plan
 from ..solver import PROGRAM, chosen
 

@@ -13,9 +13,9 @@ from typing import Any, Iterable, Iterator, Mapping, Optional
 import numpy as np
 import pandas as pd
 
+from pitplan.blockmodel.grid import Grid
 from pitplan.errors import PlanError
 from pitplan.fixed import Settled
-from pitplan.grid import Grid
 from pitplan.needs import ABSENT, slices
 from pitplan.walls import Walls
 

@@ -10,7 +10,8 @@ from typing import Any
 import numpy as np
 from numpy.typing import NDArray
 
-from pitplan import absent, solver
+from pitplan import solver
+from pitplan.blockmodel import missing_blocks
 from pitplan.config.project import REFERENCE_FACTOR
 from pitplan.core import keyed_arrays
 from pitplan.core.files import staged_file
@@ -50,7 +51,7 @@ def write_answer(shared: Shared, job: Scenario) -> None:
     solver.demand_same(shared.solver)
     began = time.perf_counter()
     made = Made.of(shared, job)
-    absent.demand_known(made.entry, shared.grid, shared.project, shared.project.table.file.name)
+    missing_blocks.demand_known(made.entry, shared.grid, shared.project, shared.project.table.file.name)
     row = made.row | {"seconds": time.perf_counter() - began}
     year, share = made.by_row
     with staged_file(shared.answer(job)) as path:

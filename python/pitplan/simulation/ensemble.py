@@ -11,15 +11,16 @@ from typing import Iterator
 import numpy as np
 import pandas as pd
 
+from pitplan import walls as laying
+from pitplan.blockmodel import grid as grids, missing_blocks, reader
+from pitplan.blockmodel.grid import Grid
+from pitplan.blockmodel.reader import HEADER_ROWS, Table, at_row
+from pitplan.blockmodel.text_format import demand_text, format_of
 from pitplan.config.economics import Metal
 from pitplan.config.project import Project, Scenarios
 
-from .. import absent, grid as grids, table as tables, walls as laying
 from ..errors import PlanError
-from ..grid import Grid
 from ..plan import Plan, notes_of, plan_of
-from ..table import HEADER_ROWS, Table, at_row
-from ..table_format import demand_text, format_of
 from ..walls import Walls
 
 
@@ -67,8 +68,10 @@ def read_base(project: Project) -> Base:
     by_name = {metal.name: metal for metal in project.metals}
     simulated = [replace(by_name[name], column=column) for name, columns in lists.items() for column in columns]
     in_table = [metal for metal in project.metals if scenarios_of(project).columns and metal.name not in lists]
-    checked = tables.read(replace(project, metals=(*simulated, *in_table)))
-    frame, grid = absent.with_rows(checked.frame, grids.of_table(checked.frame, project, checked.source), project)
+    checked = reader.read(replace(project, metals=(*simulated, *in_table)))
+    frame, grid = missing_blocks.with_rows(
+        checked.frame, grids.of_table(checked.frame, project, checked.source), project
+    )
     region = laying.regions_of(frame, grid, project.table.region)
     walls = laying.walls_of(region, grid, project.slopes)
     return Base(project, frame, grid, walls, lists, checked)
@@ -81,7 +84,7 @@ def column_lists(project: Project) -> dict[str, list[str]]:
         return {}
     columns = project.table
     demand_text(columns.file, "[scenarios] columns")
-    header = list(tables.read_header(columns.file, format_of(columns.file, columns)))
+    header = list(reader.read_header(columns.file, format_of(columns.file, columns)))
     lists = {}
     for metal, names in asked.items():
         lists[metal] = [found for name in names for found in (fnmatch.filter(header, name) if "*" in name else [name])]
@@ -132,15 +135,15 @@ def read_model(path: Path, base: Base) -> np.ndarray:
     source, grades = str(path), [metal.column for metal in metals]
     places = [columns.x, columns.y, columns.z]
     codes = [columns.id] if columns.id else []
-    frame, _ = tables.read_as_written(path, columns, codes, [*codes, *places, *grades])
+    frame, _ = reader.read_as_written(path, columns, codes, [*codes, *places, *grades])
     by_id = columns.id is not None and columns.id in frame.columns
-    tables.demand_columns(frame, [*(codes if by_id else places), *grades], source)
+    reader.demand_columns(frame, [*(codes if by_id else places), *grades], source)
     at = rows_by_id(frame, base, source) if by_id else rows_by_place(frame, base, source)
     demand_every_block(at, base, source)
     result = np.zeros((len(base.frame), len(metals)))
     for number, name in enumerate(grades):
-        values, _ = tables.filled_numbers(frame[name], source, name, columns.empty == "zero")
-        tables.demand_none_below_0(values, source, name)
+        values, _ = reader.filled_numbers(frame[name], source, name, columns.empty == "zero")
+        reader.demand_none_below_0(values, source, name)
         result[at, number] = values
     return result
 
@@ -160,7 +163,7 @@ def rows_by_place(frame: pd.DataFrame, base: Base, source: str) -> np.ndarray:
     """For each row of a model the row of the table whose block has the same centre."""
     grid, names = base.grid, base.project.table
     steps, inside = [], np.ones(len(frame), dtype=bool)
-    x, y, z = (tables.filled_numbers(frame[name], source, name, False)[0] for name in (names.x, names.y, names.z))
+    x, y, z = (reader.filled_numbers(frame[name], source, name, False)[0] for name in (names.x, names.y, names.z))
     for axis, step in enumerate((*grid.steps(x, y), (z - grid.origin[2]) / grid.size[2])):
         place = np.rint(step)
         inside &= np.abs(step - place) * grid.size[axis] <= base.project.grid.tolerance

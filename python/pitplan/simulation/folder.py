@@ -28,6 +28,7 @@ import numpy as np
 import pandas as pd
 import scipy
 
+from pitplan.blockmodel.grid import Grid
 from pitplan.config.project import Project, load
 from pitplan.config.schedule import ScheduleRules
 from pitplan.core import files
@@ -35,7 +36,6 @@ from pitplan.core.files import staged_file
 
 from ..errors import PlanError
 from ..fixed import Settled
-from ..grid import Grid
 from ..rows import Rows
 from ..solver import Solver
 

@@ -6,9 +6,8 @@ from dataclasses import dataclass
 
 import numpy as np
 
+from pitplan.blockmodel.grid import Grid
 from pitplan.config.figures import PictureRules
-
-from ..grid import Grid
 
 
 @dataclass(frozen=True)

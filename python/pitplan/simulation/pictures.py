@@ -17,9 +17,9 @@ from matplotlib.colors import BoundaryNorm, ListedColormap, to_rgba
 from matplotlib.figure import Figure
 from matplotlib.lines import Line2D
 
+from pitplan.blockmodel.grid import metres
 from pitplan.core.cell_outlines import edges
 
-from ..grid import metres
 from ..map_marks import axes_of_map, mark_map, mark_section_cells, section_titles
 from ..pictures import (
     GROUND,

@@ -10,7 +10,8 @@ from typing import Any
 
 import numpy as np
 
-from pitplan import summary as summaries
+from pitplan.blockmodel import summary
+from pitplan.blockmodel.figure_bounds import demand_within
 from pitplan.config import project_writer
 from pitplan.config.economics import ByRegion
 from pitplan.config.project import Project
@@ -19,7 +20,6 @@ from pitplan.core.optional_packages import load_library
 from pitplan.core.progress import Progress
 
 from ..mine import counted_rows
-from ..picture_bounds import demand_within
 from ..plan import Plan
 from ..solver import LIBRARY, Solver, chosen
 from . import folder as folders
@@ -51,10 +51,10 @@ def prepare(project: Project, folder: Path, progress: Progress, by: str = folder
     with progress.step(f"reading {project.table.file}"):
         base = read_base(project)
     demand_within(project, base.grid)
-    progress.lines(summaries.of_ground(base.table, base.grid, project))
+    progress.lines(summary.of_ground(base.table, base.grid, project))
     with progress.step("reading the models"):
         read = write_models(base, folder)
-    progress.lines(summaries.of_grades(grades_of(base, read)))
+    progress.lines(summary.of_grades(grades_of(base, read)))
     with progress.step("laying the needs that all scenarios share"):
         laid = Laid(base, envelope(base, read.greatest), list_of(base, read), solver)
     if of_blocks:
@@ -94,11 +94,11 @@ def write_models(base: Base, folder: Path) -> Models:
     for model in models(base):
         names.append((model.name, folders.save_grades(folder, model.grades)))
         greatest = np.maximum(greatest, model.grades)
-        totals += [summaries.mean_of(grades, tonnes) for grades in model.grades[: len(tonnes)].T]
+        totals += [summary.mean_of(grades, tonnes) for grades in model.grades[: len(tonnes)].T]
     return Models(names, greatest, totals / len(names))
 
 
-def grades_of(base: Base, read: Models) -> list[summaries.Grade]:
+def grades_of(base: Base, read: Models) -> list[summary.Grade]:
     """The grades of each metal, over all models."""
     found = []
     for number, metal in enumerate(base.project.metals):
@@ -106,7 +106,7 @@ def grades_of(base: Base, read: Models) -> list[summaries.Grade]:
         is_simulated = metal.name in base.lists or not base.lists
         column = f"{first} and so on, of {len(read.names):,} models" if is_simulated else metal.column
         mean, most = float(read.means[number]), float(read.greatest[:, number].max())
-        found.append(summaries.Grade(metal.name, column, metal.unit, mean, most))
+        found.append(summary.Grade(metal.name, column, metal.unit, mean, most))
     return found
 
 

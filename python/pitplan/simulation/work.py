@@ -11,7 +11,8 @@ from pathlib import Path
 
 import numpy as np
 
-from pitplan import absent, analyse, library, mine, money, run, solver
+from pitplan import analyse, library, mine, money, run, solver
+from pitplan.blockmodel import missing_blocks
 from pitplan.core import files, keyed_arrays
 from pitplan.core.files import staged_file
 from pitplan.core.optional_packages import load_library
@@ -128,7 +129,7 @@ def write_answer(shared: Shared, scenario: Scenario) -> None:
     """Raises ProgramError where the solver ends without an answer."""
     plan = plan_of(shared, scenario)
     solution = mine.joined(shells_of(shared, plan), plan.settled, plan.values)
-    absent.demand_known(solution.entry, plan.grid, plan.project, plan.source)
+    missing_blocks.demand_known(solution.entry, plan.grid, plan.project, plan.source)
     cells = analyse.cells_of(plan, solution)
     table = analyse.amounts(plan, cells).astype(np.float64)
     factors = np.array(plan.project.schedule.factors)

@@ -13,11 +13,11 @@ from pathlib import Path
 
 import numpy as np
 
+from pitplan.blockmodel.reader import at_row, demand_columns, numbers_of, read_columns
+from pitplan.blockmodel.text_format import TableFormat, guessed_separator
 from pitplan.config.survey import SurveyFile
 from pitplan.config.toml_section import FARTHEST
 from pitplan.errors import PlanError
-from pitplan.table import at_row, demand_columns, numbers_of, read_columns
-from pitplan.table_format import TableFormat, guessed_separator
 
 from . import dxf, gdal, surpac
 from .layers import Layer, chosen, named

@@ -10,7 +10,7 @@ from typing import Any, Optional
 import numpy as np
 import pandas as pd
 
-from pitplan import table as tables
+from pitplan.blockmodel import reader
 from pitplan.config.economics import GRADE_UNITS
 from pitplan.config.project import AbsentRock, Project
 from pitplan.config.project_writer import as_run_or_edited
@@ -266,7 +266,7 @@ def read(folder: Path, project: Optional[Project] = None, table: Optional[pd.Dat
             raise PlanError(
                 f"{folder / 'prepare.json'}: walls: found {found}, expected {expected} as in the project: run pitplan shells again"
             )
-        own = [own_name(name) for name in (*tables.names_of(project), project.table.tonnes)]
+        own = [own_name(name) for name in (*reader.names_of(project), project.table.tonnes)]
         written = read_blocks(
             folder / "blocks.csv", project, (*said_of(project), *FREE, PHASE, YEAR, *shares_of(project), *own)
         )
@@ -323,7 +323,7 @@ def rows_of(
 ) -> TableRows:
     """A row a block of the table, which is read unless it is given, that lies in the answer's grid; where its rows are put together to blocks
     these rows; and where some were left out the blocks beyond the grid. Raises PlanError as `beside` does."""
-    frame = tables.read(project).frame if table is None else table
+    frame = reader.read(project).frame if table is None else table
     if project.table.reblock is None:
         inside, beyond = divided(frame, project, grid)
         return inside, None, beyond

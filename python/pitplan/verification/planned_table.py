@@ -11,10 +11,10 @@ from pathlib import Path
 import numpy as np
 import pandas as pd
 
+from pitplan.blockmodel import reader
+from pitplan.blockmodel.text_format import format_of, opened
 from pitplan.config.project import Project
 
-from .. import table as tables
-from ..table_format import format_of, opened
 from .answer import Answer, Rule, own_name, rule
 from .turned import steps_of
 
@@ -53,7 +53,7 @@ def lines_due(answer: Answer) -> Iterator[list[str]]:
 def found_of(answer: Answer) -> pd.DataFrame:
     """For each row of the table what is said of the block whose centre is nearest, 0 where that is none of the answer's."""
     columns, shape = answer.project.table, np.array(answer.shape)
-    centres = tables.read(answer.project).frame[[columns.x, columns.y, columns.z]].to_numpy()
+    centres = reader.read(answer.project).frame[[columns.x, columns.y, columns.z]].to_numpy()
     east, north, up = np.rint(steps_of(centres, answer.record["grid"])).astype(np.int64).T
     cells = np.array([-up, north, east])
     inside = ((cells >= 0) & (cells < shape[:, None])).all(axis=0)

@@ -14,12 +14,12 @@ from typing import Any, Iterator, Optional
 import numpy as np
 import pandas as pd
 
-from pitplan import table as tables
+from pitplan.blockmodel import reader as tables
+from pitplan.blockmodel.text_format import format_of
 from pitplan.config.project import Project, Scenarios, load
 from pitplan.core import keyed_arrays
 
 from ..errors import PlanError
-from ..table_format import format_of
 from .answer import beside, nearest_cells, read_blocks
 
 PROBABILITY, SCENARIOS, QUANTILES = "probability.csv", "scenarios.csv", "quantiles.csv"

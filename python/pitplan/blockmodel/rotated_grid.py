@@ -13,10 +13,10 @@ import numpy as np
 
 from pitplan.config.project import GridRules
 from pitplan.core.optional_packages import load
+from pitplan.errors import PlanError
 
-from .errors import PlanError
-from .frame import PLACES, turn_of
-from .table import at_row
+from .axes import PLACES, turn_of
+from .reader import at_row
 
 # So many centres tell the first guess, each by so many neighbours; their directions are so much alike, 1 being the same.
 CENTRES, NEIGHBOURS, ALIKE = 2_000, 25, 0.99

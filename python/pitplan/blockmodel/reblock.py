@@ -19,8 +19,8 @@ from pitplan.config.schedule import ScheduleRules
 from pitplan.core.decimals import MOST_WHOLE, Exact, greatest, nearest, product
 
 from . import grid as grids
-from .frame import Frame
-from .table import TONNES_PLACES, Table, at_row
+from .axes import Frame
+from .reader import TONNES_PLACES, Table, at_row
 
 # Kept of grades, so that they have an end of decimals; halves to the even one.
 GRADE_PLACES = 9

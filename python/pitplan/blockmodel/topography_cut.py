@@ -14,14 +14,14 @@ import pandas as pd
 
 from pitplan.config.project import Project
 from pitplan.config.survey import SurveyFile
+from pitplan.errors import PlanError
 from pitplan.survey import readers
 from pitplan.survey.readers import Topography
 
-from . import terrain
-from .errors import PlanError
+from . import tin
 from .grid import Grid, metres
-from .table import TONNES_PLACES
-from .terrain import HAIR, Below
+from .reader import TONNES_PLACES
+from .tin import HAIR, Below
 
 # Of a grid the shape, the origin, the size and the azimuth.
 Box = tuple[tuple[int, int, int], tuple[float, float, float], tuple[float, float, float], float]
@@ -38,7 +38,7 @@ def cut(frame: pd.DataFrame, grid: Grid, project: Project, file: SurveyFile) -> 
     read, found = surveyed(file, file.state, (grid.shape, grid.origin, grid.size, grid.azimuth))
     place = grid.rows % grid.per_level
     if (found.covered[place] <= HAIR).all():
-        raise PlanError(f"{file.path}: lies over no block: {terrain.beside(read.points, grid)}")
+        raise PlanError(f"{file.path}: lies over no block: {tin.beside(read.points, grid)}")
     demand_one_height(found, grid, file.path)
     share = found.share[grid.shape[0] - 1 - grid.rows // grid.per_level, place]
     before = frame[project.table.tonnes].to_numpy()
@@ -59,11 +59,11 @@ def surveyed(file: SurveyFile, state: tuple[tuple[int, int], ...], box: Box) -> 
     `cut`."""
     shape, origin, size, azimuth = box
     grid = Grid(shape, origin, size, np.zeros(0, dtype=np.int64), azimuth)
-    read = readers.topography(file, terrain.box_of(grid))
-    triangles = terrain.triangles_of(read)
+    read = readers.topography(file, tin.box_of(grid))
+    triangles = tin.triangles_of(read)
     if not len(triangles):
         raise PlanError(f"{file.path}: its points lie on one line, and make no surface")
-    return read, terrain.below(triangles, grid)
+    return read, tin.below(triangles, grid)
 
 
 def demand_one_height(found: Below, grid: Grid, file: Path) -> None:

@@ -16,8 +16,8 @@ from pathlib import Path
 from typing import IO, Optional
 
 from pitplan.config.project import TableColumns
+from pitplan.errors import PlanError
 
-from .errors import PlanError
 from .parquet import is_parquet
 
 SEPARATORS = (",", ";", "\t", "|")

@@ -9,8 +9,7 @@ import numpy as np
 import pandas as pd
 
 from pitplan.core.optional_packages import is_of
-
-from .errors import MissingPackage, PlanError
+from pitplan.errors import MissingPackage, PlanError
 
 ENDING = ".parquet"
 

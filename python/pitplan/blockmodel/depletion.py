@@ -16,14 +16,14 @@ import pandas as pd
 
 from pitplan.config.project import Project
 from pitplan.config.survey import SurveyFile
+from pitplan.errors import PlanError
 from pitplan.survey import readers
 from pitplan.survey.readers import Topography
 
-from . import terrain, topography
-from .errors import PlanError
+from . import tin, topography_cut
 from .grid import Grid
-from .table import TONNES_PLACES
-from .terrain import HAIR
+from .reader import TONNES_PLACES
+from .tin import HAIR
 
 # The share of a block's volume from which on it counts as mined.
 MINED = 0.05
@@ -76,22 +76,22 @@ def is_mined(frame: pd.DataFrame) -> np.ndarray:
 def by_volumes(grid: Grid, original: SurveyFile, surface: SurveyFile) -> Ground:
     """Shares by the volumes below both surfaces. Columns that a surface does not cover are whole below it."""
     box = (grid.shape, grid.origin, grid.size, grid.azimuth)
-    (_, ground), (read, mined) = (topography.surveyed(file, file.state, box) for file in (original, surface))
+    (_, ground), (read, mined) = (topography_cut.surveyed(file, file.state, box) for file in (original, surface))
     level, place = grid.shape[0] - 1 - grid.rows // grid.per_level, grid.rows % grid.per_level
     if (mined.covered[place] <= HAIR).all():
-        raise PlanError(f"{surface.path}: lies over no block: {terrain.beside(read.points, grid)}")
-    topography.demand_one_height(mined, grid, surface.path)
+        raise PlanError(f"{surface.path}: lies over no block: {tin.beside(read.points, grid)}")
+    topography_cut.demand_one_height(mined, grid, surface.path)
     whole = ground.share[level, place]
     return Ground(whole, np.minimum(whole, mined.share[level, place]), tuple(read.notes))
 
 
 def by_centres(grid: Grid, file: SurveyFile) -> Ground:
     """Shares by the centres of blocks: a block with its centre above the surface is mined as a whole."""
-    read = readers.topography(file, terrain.box_of(grid))
+    read = readers.topography(file, tin.box_of(grid))
     surface = surface_of(grid, read)
     height = surface.height[grid.rows % grid.per_level]
     if np.isinf(height).all():
-        raise PlanError(f"{file.path}: lies over no block: {terrain.beside(read.points, grid)}")
+        raise PlanError(f"{file.path}: lies over no block: {tin.beside(read.points, grid)}")
     left = (grid.centres(grid.rows)[2] <= height).astype(float)
     return Ground(np.ones(len(left)), left, (*read.notes, *surface.notes(file.path, grid)))
 
@@ -123,7 +123,7 @@ class Surface:
 def surface_of(grid: Grid, survey: Topography) -> Surface:
     """The surface over each column of blocks. A survey of triangles gives its height at the middle of the column. A survey of points gives
     the mean of the points over the column, or the height of the triangles between points if no point lies over it."""
-    at_middle = terrain.heights(terrain.triangles_of(survey), grid)
+    at_middle = tin.heights(tin.triangles_of(survey), grid)
     if len(survey.faces):
         return Surface(at_middle, np.zeros(grid.per_level, dtype=bool))
     points = survey.points

@@ -15,16 +15,16 @@ import pandas as pd
 from pitplan.config.project import GridRules
 from pitplan.core.files import staged_file
 from pitplan.core.numeric_fields import holds_texts
+from pitplan.errors import PlanError
 
-from .doubts import of_codes
-from .errors import PlanError
-from .guesses import PRECIOUS, Columns, MetalGuess, columns_of
+from .column_guesses import PRECIOUS, Columns, MetalGuess, columns_of
+from .plausibility import of_codes
+from .reader import filled_numbers, has_decimal_commas, read_columns
+from .rotated_grid import Places, azimuth_of, of_centres
 from .summary import Axis, Grade, mean_of, not_used
-from .table import filled_numbers, has_decimal_commas, read_columns
-from .table_format import NAMES, UNREADABLE, TableFormat, demand_text, guessed_separator, opened, unreadable
-from .turned import Places, azimuth_of, of_centres
+from .text_format import NAMES, UNREADABLE, TableFormat, demand_text, guessed_separator, opened, unreadable
 
-TEMPLATES = Path(__file__).resolve().parent / "templates"
+TEMPLATES = Path(__file__).resolve().parents[1] / "templates"
 SEEN = 1 << 20
 MARKS = {codecs.BOM_UTF8: "utf-8-sig", codecs.BOM_UTF16_LE: "utf-16", codecs.BOM_UTF16_BE: "utf-16"}
 # Rounded prices of 2024 in US dollars, for a gram of precious metals and a tonne of others.

@@ -20,10 +20,10 @@ from pitplan.config.toml_section import FARTHEST
 from pitplan.core import spreadsheet_formulas
 from pitplan.core.decimals import Exact
 from pitplan.core.numeric_fields import HEADER_ROWS, at_row, holds_texts, numbers_of, without_truths
+from pitplan.errors import PlanError
 
 from . import parquet
-from .errors import PlanError
-from .table_format import (
+from .text_format import (
     NAMES,
     UNREADABLE,
     NulByte,

@@ -9,11 +9,11 @@ import numpy as np
 import pandas as pd
 
 from pitplan.config.project import GridRules, Project, TableColumns
+from pitplan.errors import PlanError
 
-from . import turned
-from .errors import PlanError
-from .frame import Frame, turn_of
-from .table import at_row
+from . import rotated_grid
+from .axes import Frame, turn_of
+from .reader import at_row
 
 MOST_BLOCKS = 4_194_304
 # Of a grid of up to so many cells blocks are put together, or what no shell can reach is left out.
@@ -135,7 +135,7 @@ def of_table(frame: pd.DataFrame, project: Project, source: str = "table", any_s
     try:
         return laid(frame, project, source, any_size)
     except PlanError as error:
-        azimuth = turned.azimuth_of(frame[[project.table.x, project.table.y]].to_numpy(), rules.tolerance)
+        azimuth = rotated_grid.azimuth_of(frame[[project.table.x, project.table.y]].to_numpy(), rules.tolerance)
         if azimuth is None:
             raise
         if rules.azimuth is not None:
@@ -177,7 +177,7 @@ def turned_axes(frame: pd.DataFrame, project: Project, source: str, azimuth: flo
     """The two axes of a turned grid; `first` of both are the planner's x and y of one block."""
     columns = project.table
     centres = frame[[columns.x, columns.y]].to_numpy()
-    found = turned.of_centres(centres, azimuth, project.grid, (source, f"{columns.x}, {columns.y}"))
+    found = rotated_grid.of_centres(centres, azimuth, project.grid, (source, f"{columns.x}, {columns.y}"))
     return (
         Axis(found.first[0], found.size[0], int(found.column.max()) + 1, found.column),
         Axis(found.first[1], found.size[1], int(found.row.max()) + 1, found.row),

@@ -13,8 +13,8 @@ import numpy as np
 import pandas as pd
 
 from pitplan.config.project import AbsentRock, Project
+from pitplan.errors import PlanError
 
-from .errors import PlanError
 from .grid import Grid
 
 

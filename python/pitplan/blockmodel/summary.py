@@ -11,7 +11,7 @@ from pitplan.config.economics import GRADE_SIGNS, GRADE_UNITS, METAL_UNITS, Meta
 from pitplan.config.project import Project, TableColumns
 
 from .grid import Grid, metres
-from .table import Table
+from .reader import Table
 
 OPTIONAL = ("id", "rock", "region")
 

@@ -4,8 +4,8 @@ from __future__ import annotations
 
 from pitplan.config.figures import PictureRules
 from pitplan.config.project import Project
+from pitplan.errors import PlanError
 
-from .errors import PlanError
 from .grid import Grid, metres
 
 

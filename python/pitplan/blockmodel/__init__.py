@@ -1,0 +1,1 @@
+"""The block model: tables of blocks, grids, reblocking, missing blocks, topography and depletion."""
