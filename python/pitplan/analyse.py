@@ -12,8 +12,9 @@ import numpy as np
 import pandas as pd
 
 from pitplan.config.project import REFERENCE_FACTOR, Schedule
+from pitplan.economics import period_costs
 
-from . import schedule as schedules, yearly_money
+from . import schedule as schedules
 from .errors import PlanError
 from .plan import MILLION, Plan
 from .run import Solution
@@ -111,7 +112,7 @@ def shells(plan: Plan, solution: Solution, more: Optional[np.ndarray] = None) ->
     """
     cells, settings = cells_of(plan, solution), plan.project.schedule
     benches = benches_of(plan, cells, more)
-    money = yearly_money.of_project(plan.project)
+    money = period_costs.of_project(plan.project)
     best, worst = schedules.best_case(benches, settings, money), schedules.worst_case(benches, settings, money)
     table = amounts(plan, cells)
     table.insert(0, "factor", settings.factors)
@@ -130,7 +131,7 @@ def years(plan: Plan, solution: Solution, more: Optional[np.ndarray] = None) -> 
     NPV, in money. What is ore is so at the price as given, and so is cash unless years have prices of their own. Raises
     PlanError where it takes too many years.
     """
-    money = yearly_money.of_project(plan.project)
+    money = period_costs.of_project(plan.project)
     return schedules.table_of(benches_of(plan, cells_of(plan, solution), more), plan.project.schedule, money)
 
 

@@ -20,11 +20,11 @@ from pitplan.core import files
 from pitplan.core.decimals import at_factor, greatest
 from pitplan.core.files import Needs, Pairs
 from pitplan.core.progress import Progress, silent
+from pitplan.economics.block_values import Values
 
 from . import fixed as fixing, library, run
 from .errors import PlanError
 from .fixed import Settled
-from .money import Values
 from .plan import Plan
 from .rows import Rows, rows_of
 from .run import Solution

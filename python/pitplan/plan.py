@@ -27,12 +27,13 @@ from pitplan.config.project import Project, load
 from pitplan.core import files
 from pitplan.core.files import MOST_PAIRS, Needs, Pairs
 from pitplan.core.progress import Progress, silent
+from pitplan.economics import block_values, haulage, period_costs
+from pitplan.economics.block_values import Values
 
-from . import fixed as fixing, haulage, money, reach, trim, walls as laying, yearly_money
+from . import fixed as fixing, reach, trim, walls as laying
 from .conventions import IN_WORDS
 from .errors import PlanError
 from .fixed import NOTHING, FixedBlocks, Settled
-from .money import Values
 from .reach import Model
 from .walls import Walls
 
@@ -302,7 +303,7 @@ def prepare(
 
 def plan_of(project: Project, frame: pd.DataFrame, grid: Grid, walls: Walls, source: str) -> Plan:
     """A plan of a checked table, without notes. Raises PlanError where its blocks cannot be weighed."""
-    values = money.values_of(frame, grid, project, source, lambda paying: trim.used_blocks(grid, walls, paying))
+    values = block_values.values_of(frame, grid, project, source, lambda paying: trim.used_blocks(grid, walls, paying))
     fixed = fixing.of_table(frame, grid, project, source)
     used = trim.used_blocks(grid, walls, wanted(values, project, fixed))
     plan = Plan(project, frame, grid, values, walls, used, source, fixed=fixed)
@@ -375,7 +376,7 @@ def notes_of(plan: Plan) -> list[str]:
         notes.append(f"for their sake {dug:,} blocks are dug in every pit and {left:,} in none")
     if plan.project.schedule.reference_added:
         notes.append("factor 1000, the price as given, was added to the factors")
-    notes += yearly_money.notes(plan.project)
+    notes += period_costs.notes(plan.project)
     settings = plan.project.schedule
     notes.append(
         f"net present values: {100 * settings.rate:.10g} % a year, cash discounted {IN_WORDS[settings.discounting]}"

@@ -16,8 +16,9 @@ import pandas as pd
 from pitplan.blockmodel import grid as grids
 from pitplan.blockmodel.grid import Grid
 from pitplan.config.project import Project
+from pitplan.economics import block_values
 
-from . import fixed as fixing, money, trim
+from . import fixed as fixing, trim
 from .errors import PlanError
 from .walls import Walls
 
@@ -86,7 +87,7 @@ def can_pay(model: Model, project: Project) -> np.ndarray:
     """The rows that pay for their processing at the greatest factor, exactly."""
     some = np.flatnonzero(with_metal(model.frame, project))
     grid = replace(model.grid, rows=model.grid.rows[some])
-    gains = money.greatest_gains(model.frame.iloc[some].reset_index(drop=True), grid, project, model.source)
+    gains = block_values.greatest_gains(model.frame.iloc[some].reset_index(drop=True), grid, project, model.source)
     return some[gains]
 
 

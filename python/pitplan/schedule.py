@@ -17,9 +17,9 @@ import pandas as pd
 
 from pitplan.config.economics import MOST_YEARS
 from pitplan.config.project import Project, Schedule
+from pitplan.economics.period_costs import PLAIN, YearlyMoney
 
 from .errors import PlanError
-from .yearly_money import PLAIN, YearlyMoney
 
 ROCK, ORE, CASH = 0, 1, -1
 # Capacities are compared to this part of a year's, since sums of fractions miss them by a hair.

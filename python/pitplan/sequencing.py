@@ -9,11 +9,11 @@ import numpy as np
 
 from pitplan.config.project import Project, Schedule
 from pitplan.config.schedule import ScheduleRules
+from pitplan.economics.period_costs import PLAIN, YearlyMoney
 
 from .errors import PlanError
 from .phase_benches import CASH, ORE, ROCK, PhaseBenches
 from .schedule import MOST_YEARS, year_discounts
-from .yearly_money import PLAIN, YearlyMoney
 
 # A share so small is taken as nothing, since sums of fractions miss it by a hair.
 HAIR = 1e-9

@@ -14,8 +14,9 @@ import scipy
 from pitplan.config.project import Project, Schedule
 from pitplan.config.schedule import ScheduleRules
 from pitplan.core.progress import Progress, silent
+from pitplan.economics import period_costs
 
-from . import grade_bins, integer_programme, linear_programme, phase_benches, yearly_money
+from . import grade_bins, integer_programme, linear_programme, phase_benches
 from .errors import PlanError
 from .linear_programme import Relaxed
 from .milling_programme import Milling, MillingProblem
@@ -116,7 +117,7 @@ def make(phases: Phases, progress: Progress = silent) -> YearlySchedule:
             f"{project.path}: [schedule] least, sums: are kept by --by block alone: leave them out, or schedule by block"
         )
     benches = phase_benches.of_phases(phases, rules.lag)
-    problem = Problem(benches, limits_of(project, rules), project.schedule, yearly_money.of_project(project))
+    problem = Problem(benches, limits_of(project, rules), project.schedule, period_costs.of_project(project))
     with progress.step(f"scheduling {len(benches):,} benches of {len(phases.factors)} phases by rule"):
         shares, lead = by_rule(problem, rules.years)
     years = rules.years or math.ceil((1 + MORE_YEARS) * shares.shape[1])

@@ -7,7 +7,8 @@ import pytest
 from conftest import PROJECT, rows
 
 import pitplan
-from pitplan import PlanError, money, write_pushbacks, write_schedule
+from pitplan import PlanError, write_pushbacks, write_schedule
+from pitplan.economics import block_values
 from pitplan.verification import verify
 
 MILLION = 10**6
@@ -150,7 +151,7 @@ def test_phases_and_schedules_count_what_comes_to_the_mill(plan_folder, without_
 
 def passed_over(**changed):
     """Weighing that passes over some keys of the project."""
-    weigh = money.values_of
+    weigh = block_values.values_of
 
     def values_of(frame, grid, project, *more):
         return weigh(frame, grid, replace(project, money=replace(project.money, **changed)), *more)
@@ -170,7 +171,7 @@ def passed_over(**changed):
 )
 def test_what_is_passed_over_is_found(plan_folder, monkeypatch, changed):
     path = plan_folder(one_block(), PROJECT, ("mining_cost = 2\n", TEXT))
-    monkeypatch.setattr(money, "values_of", passed_over(**changed))
+    monkeypatch.setattr(block_values, "values_of", passed_over(**changed))
     pitplan.write_shells(path, writing=pitplan.Writing(verifies=False))
     wrong = {rule.name for rule in verify(path.parent / "plan") if rule.differences}
     assert "money" in wrong and (("shells" in wrong) == ("royalty" not in next(iter(changed))))

@@ -9,8 +9,9 @@ import pytest
 from conftest import PROJECT, rows
 
 import pitplan
-from pitplan import PlanError, money
+from pitplan import PlanError
 from pitplan.core import files
+from pitplan.economics import block_values
 from pitplan.verification import money as verified_money
 
 MILLION = 10**6
@@ -113,7 +114,7 @@ def test_cost_by_elevation_at_half_a_millionth(plan_folder, without_figures):
     for elevation in range(-3, 243, 3):
         at = elevation / 2 + 0.75
         money_rules = SimpleNamespace(mining_cost_by_elevation=pairs)
-        assert verified_money.between(pairs, Fraction(at)) == money.added_cost(money_rules, at)
+        assert verified_money.between(pairs, Fraction(at)) == block_values.added_cost(money_rules, at)
     text = "mining_cost = 2\nmining_cost_by_elevation = [[0, 0.37], [240, 0]]"
     table = rows(2, 2, 8, cu=lambda i, j, k: 4.0, tonnes=lambda i, j, k: 15_900).assign(z=lambda it: it["z"] * 1.5 - 6)
     changes = [("size = [10, 10, 10]", "size = [10, 10, 15]"), ("ore_per_year = 100", "ore_per_year = 100_000")]

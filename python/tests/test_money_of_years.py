@@ -13,20 +13,13 @@ from test_linear_programme import limits, small
 from test_sequencing import problem_of, random_benches
 
 import pitplan
-from pitplan import (
-    PlanError,
-    grade_bins,
-    integer_programme,
-    linear_programme,
-    milling_programme as mp,
-    write_schedule,
-    yearly_money,
-)
+from pitplan import PlanError, grade_bins, integer_programme, linear_programme, milling_programme as mp, write_schedule
 from pitplan.config.schedule import Effort
+from pitplan.economics import period_costs
+from pitplan.economics.period_costs import YearlyMoney
 from pitplan.phase_benches import PhaseBenches
 from pitplan.sequencing import Limits, Problem, by_rule
 from pitplan.verification import verify
-from pitplan.yearly_money import YearlyMoney
 
 MONEY = ("mining_cost = 2\n", "mining_cost = 2\nfixed_cost_per_year = 100\ncapital = [[3, 1000], [1, 300], [2, 50]]\n")
 PRICES = ("price = 8000", "price = 8000\nprices = [8000, 9000]")
@@ -253,8 +246,8 @@ def test_the_second_look_at_schedules_agrees(plan_folder, without_figures, way):
     ("name", "without", "rule"), [("fixed_cost", 0.0, "value"), ("capital", (), "value"), ("premiums", {}, "amounts")]
 )
 def test_money_that_is_passed_over_is_found(plan_folder, monkeypatch, without_figures, name, without, rule):
-    path, of_project = scheduled(plan_folder, ""), yearly_money.of_project
-    monkeypatch.setattr(yearly_money, "of_project", lambda project: replace(of_project(project), **{name: without}))
+    path, of_project = scheduled(plan_folder, ""), period_costs.of_project
+    monkeypatch.setattr(period_costs, "of_project", lambda project: replace(of_project(project), **{name: without}))
     write_schedule(path, writing=pitplan.Writing(verifies=False))
     wrong = {rule.name for rule in verify(path.parent / "plan" / "schedule") if rule.differences}
     assert {"years", f"schedule {rule}"} <= wrong

@@ -9,9 +9,10 @@ from conftest import PROJECT, rows
 from hypothesis import given, strategies as st
 
 import pitplan
-from pitplan import PlanError, analyse, money, processes, write_schedule
+from pitplan import PlanError, analyse, write_schedule
 from pitplan.core import files
-from pitplan.processes import Way, best_way, steps_of
+from pitplan.economics import block_values, process_routing
+from pitplan.economics.process_routing import Way, best_way, steps_of
 from pitplan.verification import verify
 
 LEACH_AND_MILL = """
@@ -256,7 +257,7 @@ def both(ways):
     number = np.concatenate([np.full(len(block), number) for block, number in parts])
     order = np.argsort(block, kind="stable")
     block, number = block[order], number[order]
-    return processes.Steps(
+    return process_routing.Steps(
         block, number, *(np.stack([getattr(way, name) for way in ways])[number, block] for name in ("revenue", "cost"))
     )
 
@@ -265,7 +266,7 @@ def both(ways):
 def test_other_processes_and_blocks_that_are_processed_twice_are_found(
     plan_folder, monkeypatch, without_figures, name, planted, rule
 ):
-    monkeypatch.setattr(money, name, planted)
+    monkeypatch.setattr(block_values, name, planted)
     assert rule in wrong(solved(plan_folder))
 
 

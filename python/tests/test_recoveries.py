@@ -10,10 +10,11 @@ from conftest import PROJECT, rows
 from hypothesis import given, strategies as st
 
 import pitplan
-from pitplan import PlanError, money, recoveries
+from pitplan import PlanError
 from pitplan.config.economics import Curve
 from pitplan.core.decimals import Exact
-from pitplan.recoveries import Head
+from pitplan.economics import block_values, recovery_curves
+from pitplan.economics.recovery_curves import Head
 from pitplan.verification import feed, verify
 from pitplan.verification.feed import at_grade
 
@@ -80,7 +81,7 @@ def test_a_recovery_is_kept_to_a_millionth(plan_folder):
 def test_the_middle_of_two_millionths_is_the_even_one(points, millionths):
     curve = Curve(tuple((Decimal(grade), Decimal(share)) for grade, share in points))
     head = Head(Exact.of(1, 1), Exact.of(1, 1))
-    assert recoveries.at_grades(curve, head).tolist() == [millionths]
+    assert recovery_curves.at_grades(curve, head).tolist() == [millionths]
     assert at_grade(curve, Fraction(1)) == Decimal(millionths).scaleb(-6)
 
 
@@ -96,7 +97,7 @@ def test_as_numpy_has_it_but_for_a_millionth(named, grades, dilution):
     curve = Curve(tuple(zip(sorted(named), sorted(named.values()))))
     head = Head(Exact.of_decimals(grades), Exact.of(1 + dilution, len(grades)))
     expected = np.interp([float(grade / (1 + dilution)) for grade in grades], *np.array(curve.points, dtype=float).T)
-    found = recoveries.at_grades(curve, head)
+    found = recovery_curves.at_grades(curve, head)
     assert found.astype(float) / 1e6 == pytest.approx(expected, abs=5.01e-7)
     exactly = [at_grade(curve, Fraction(grade) / Fraction(1 + dilution)) for grade in grades]
     assert [Decimal(int(parts)).scaleb(-6) for parts in found] == exactly
@@ -144,7 +145,7 @@ def down(whole, unit):
     return whole // unit
 
 
-of_rows = recoveries.of_rows
+of_rows = recovery_curves.of_rows
 
 
 @pytest.mark.parametrize(("name", "planted"), [("of_rows", at_own_grade), ("nearest", down)])
@@ -152,13 +153,13 @@ def test_a_recovery_at_another_grade_or_rounded_otherwise_is_found(
     plan_folder, monkeypatch, without_figures, name, planted
 ):
     path = plan_folder(deposit(), PROJECT, *TEXT)
-    monkeypatch.setattr(recoveries, name, planted)
+    monkeypatch.setattr(recovery_curves, name, planted)
     pitplan.write_shells(path, writing=pitplan.Writing(verifies=False))
     assert "money" in wrong(path)
 
 
 def test_a_tail_that_is_passed_over_is_found(plan_folder, monkeypatch, without_figures):
-    path, weigh = plan_folder(deposit(), PROJECT, *TEXT), money.values_of
+    path, weigh = plan_folder(deposit(), PROJECT, *TEXT), block_values.values_of
 
     def without(frame, grid, project, *more):
         return weigh(
@@ -168,7 +169,7 @@ def test_a_tail_that_is_passed_over_is_found(plan_folder, monkeypatch, without_f
             *more,
         )
 
-    monkeypatch.setattr(money, "values_of", without)
+    monkeypatch.setattr(block_values, "values_of", without)
     pitplan.write_shells(path, writing=pitplan.Writing(verifies=False))
     assert "money" in wrong(path)
 

@@ -11,12 +11,13 @@ from conftest import PROJECT, rows
 from hypothesis import HealthCheck, given, settings, strategies as st
 
 import pitplan
-from pitplan import PlanError, fixed, load, money, prepare, schedule, slopes, solve
+from pitplan import PlanError, fixed, load, prepare, schedule, slopes, solve
 from pitplan.blockmodel import missing_blocks, reader
 from pitplan.cli import main
 from pitplan.commands.answers import Answered, write_tables
 from pitplan.config.slopes import Wall
 from pitplan.core import files
+from pitplan.economics import block_values
 from pitplan.verification import answer as answers, demand, sums, verify
 from pitplan.verification.answer import read
 from pitplan.verification.money import sample
@@ -374,7 +375,7 @@ def test_cost_by_elevation_is_looked_at(plan_folder, monkeypatch):
     change = ("mining_cost_per_level = 0.25", "mining_cost_by_elevation = [[10, 0.7], [20, 0.3], [40, 0.1]]")
     path = plan_folder(deposit(), TEXT, change)
     assert [rule.differences for rule in looked_at(prepare(path))] == [()] * 10
-    monkeypatch.setattr(money, "added_cost", lambda *_: Decimal(0))
+    monkeypatch.setattr(block_values, "added_cost", lambda *_: Decimal(0))
     differences = {rule.name: rule.differences for rule in looked_at(prepare(path)) if rule.differences}
     # 99.7 t, of which each costs 0.7 more.
     assert differences["money"][0] == "block b0-0-0: mining_cost 199.4 for 269.19"
@@ -580,7 +581,7 @@ def test_ground_that_is_taken_as_air_is_found(plan_folder, monkeypatch):
 
 
 def test_a_cost_that_is_counted_from_the_tables_highest_block_is_found(plan_folder, monkeypatch):
-    monkeypatch.setattr(money, "first_level", lambda *_: 0)
+    monkeypatch.setattr(block_values, "first_level", lambda *_: 0)
     far = deposit().iloc[[0]].assign(name="far", x=205.0, z=125.0, tonnes=1, must=0, never=0)
     table = pd.concat([deposit(), far], ignore_index=True)
     said = refused(plan_folder, table, TEXT, ('file = "blocks.csv"', 'file = "blocks.csv"\nabsent = "air"'))

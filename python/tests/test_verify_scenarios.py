@@ -299,7 +299,7 @@ def test_a_cost_that_is_counted_from_another_level_is_found(plan_folder, monkeyp
     # 30 m is the top of the three blocks that ore needs, and 50 m that of the model.
     assert Verification(read(shared.folder, shared.folder)).reference == 30
     assert pd.read_csv(shared.folder / "scenarios.csv")["worth_at_factor"][1] == 4400 - 25 - 50
-    monkeypatch.setattr("pitplan.money.first_level", lambda *_: 0)
+    monkeypatch.setattr("pitplan.economics.block_values.first_level", lambda *_: 0)
     shared = prepared(path)
     solved_in_turn(shared)
     with pytest.raises(PlanError, match="worth: scenario 1, sim_1: factor 500: worth_at_factor "):

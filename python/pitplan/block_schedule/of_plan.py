@@ -10,6 +10,7 @@ from numpy.typing import NDArray
 import pitshell
 from pitplan.config.project import Project
 from pitplan.config.schedule import MOST_YEARS, ScheduleRules, Sum
+from pitplan.economics.period_costs import YearlyMoney, of_project
 
 from .. import trim
 from ..errors import PlanError
@@ -18,7 +19,6 @@ from ..phase_benches import CASH, ORE, ROCK
 from ..plan import MILLION, Plan
 from ..schedule import year_discounts
 from ..sequencing import Limits, limits_of
-from ..yearly_money import YearlyMoney, of_project
 from .problem import BlockProblem, Due, Limit, Needs
 from .topological import greatest_needed, ranks_of
 from .whole_values import upward

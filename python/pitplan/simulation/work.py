@@ -11,11 +11,12 @@ from pathlib import Path
 
 import numpy as np
 
-from pitplan import analyse, library, mine, money, run, solver
+from pitplan import analyse, library, mine, run, solver
 from pitplan.blockmodel import missing_blocks
 from pitplan.core import files, keyed_arrays
 from pitplan.core.files import staged_file
 from pitplan.core.optional_packages import load_library
+from pitplan.economics import block_values
 
 from ..errors import PlanError, ProgramError
 from ..plan import Plan
@@ -96,7 +97,7 @@ def plan_of(shared: Shared, scenario: Scenario) -> Plan:
     grades = shared.grades(scenario)
     columns = {metal.column: grades[:, number] for number, metal in enumerate(project.metals)}
     frame = shared.frame.assign(**columns)
-    values = money.values_of(frame, shared.grid, project, scenario.label)
+    values = block_values.values_of(frame, shared.grid, project, scenario.label)
     # The same nodes in every scenario, so that one file of needs serves: those without metal here are worth nothing.
     values = replace(values, shared=shared.ore)
     walls, used = Walls((), np.zeros(0), (), np.zeros(0)), np.zeros(0, bool)

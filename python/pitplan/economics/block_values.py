@@ -26,13 +26,13 @@ from pitplan.blockmodel.reader import HEADER_ROWS, at_row
 from pitplan.config.economics import GRADE_UNITS, ByCode, ByRegion, Curve, Metal, Money
 from pitplan.config.project import REFERENCE_FACTOR, Project
 from pitplan.core.decimals import Exact, Rounding, at_factor, product, total
+from pitplan.errors import PlanError
+from pitplan.fixed import Settled
 
-from . import recoveries
-from .errors import PlanError
-from .fixed import Settled
+from . import recovery_curves
 from .haulage import Hauled, Roads
-from .processes import Steps, Way, best_way, steps_of, worth
-from .recoveries import Head
+from .process_routing import Steps, Way, best_way, steps_of, worth
+from .recovery_curves import Head
 
 MILLIONTHS = 6
 # The files' decimals have twelve digits before the point, and a fixed cut-off adds two amounts.
@@ -233,7 +233,7 @@ class Rows:
     def recovered(self, metal: Metal, feed: Feed) -> Exact:
         """The quantity of a metal that is recovered: tonnes, or grams where the grade is in grams a tonne."""
         grade, nowhere = Exact.of_floats(self.frame[metal.column].to_numpy()), np.zeros(len(self.frame), dtype=bool)
-        share = recoveries.of_rows(metal.recovery, self.rock, Head(grade, feed.tonnes_of))
+        share = recovery_curves.of_rows(metal.recovery, self.rock, Head(grade, feed.tonnes_of))
         if metal.fixed_tail:
             tail = self.by_code(metal.fixed_tail, nowhere, "fixed_tail").times(feed.tonnes_of)
             left = grade.minus(tail)

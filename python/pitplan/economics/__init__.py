@@ -1,0 +1,1 @@
+"""Economic block values: prices, costs, recoveries, processes, haulage and period costs."""
