@@ -16,7 +16,7 @@ import pandas as pd  # noqa: E402
 from matplotlib.figure import Figure  # noqa: E402
 
 import pitplan  # noqa: E402
-from pitplan import trim  # noqa: E402
+from pitplan.slopes import closure
 
 COLUMNS, LEVELS, SIDE = 61, 12, 10.0
 WALLS = ((0, 60), (90, 30), (180, 60), (270, 60))
@@ -52,7 +52,7 @@ def dug() -> np.ndarray:
         plan = pitplan.prepare(path, table=table)
     ore = np.zeros(plan.grid.count, dtype=bool)
     ore[plan.grid.count - plan.grid.per_level + (COLUMNS // 2) * COLUMNS + COLUMNS // 2] = True
-    return plan.grid.cube(trim.used_blocks(plan.grid, plan.walls, ore))
+    return plan.grid.cube(closure.used_blocks(plan.grid, plan.walls, ore))
 
 
 def draw(path: pathlib.Path) -> None:

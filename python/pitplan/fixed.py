@@ -19,11 +19,11 @@ from pitplan.blockmodel.reader import called
 from pitplan.config.constraints import Area
 from pitplan.config.project import Project
 from pitplan.core import byte_lines
+from pitplan.slopes.closure import used_blocks, users_of
+from pitplan.slopes.domains import Walls
 from pitplan.survey import readers
 
 from .errors import PlanError
-from .trim import used_blocks, users_of
-from .walls import Walls
 
 
 @dataclass(frozen=True)

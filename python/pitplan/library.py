@@ -14,9 +14,9 @@ import pandas as pd
 
 from pitplan.core import files
 from pitplan.core.optional_packages import LIBRARY, is_of
+from pitplan.slopes.arc_rows import Rows
 
 from .errors import ProgramError
-from .rows import Rows
 from .run import Solution, ended
 
 # The program's own status of a refusal.

@@ -21,12 +21,12 @@ from pitplan.core.decimals import at_factor, greatest
 from pitplan.core.files import Needs, Pairs
 from pitplan.core.progress import Progress, silent
 from pitplan.economics.block_values import Values
+from pitplan.slopes.arc_rows import Rows, rows_of
 
 from . import fixed as fixing, library, run
 from .errors import PlanError
 from .fixed import Settled
 from .plan import Plan
-from .rows import Rows, rows_of
 from .run import Solution
 from .solver import LIBRARY, Solver, chosen
 

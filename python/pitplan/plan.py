@@ -29,13 +29,14 @@ from pitplan.core.files import MOST_PAIRS, Needs, Pairs
 from pitplan.core.progress import Progress, silent
 from pitplan.economics import block_values, haulage, period_costs
 from pitplan.economics.block_values import Values
+from pitplan.slopes import closure, crop, domains
+from pitplan.slopes.crop import Model
+from pitplan.slopes.domains import Walls
 
-from . import fixed as fixing, reach, trim, walls as laying
+from . import fixed as fixing
 from .conventions import IN_WORDS
 from .errors import PlanError
 from .fixed import NOTHING, FixedBlocks, Settled
-from .reach import Model
-from .walls import Walls
 
 MILLION = 1_000_000
 # The columns that blocks.csv has of its own; one of the planner's with such a name is called planner_NAME there.
@@ -286,14 +287,14 @@ def prepare(
     frame, mined = depletion.depleted(frame, grid, project)
     cut += mined
     with progress.step("laying the walls"):
-        region = laying.regions_of(frame, grid, project.table.region)
-        walls = laying.walls_of(region, grid, project.slopes)
+        region = domains.regions_of(frame, grid, project.table.region)
+        walls = domains.walls_of(region, grid, project.slopes)
     whole = model = Model(frame, grid, region, source, len(checked.frame))
     dropped: list[str] = []
-    if reach.is_too_large(model, project):
+    if crop.is_too_large(model, project):
         with progress.step("leaving out what no shell can reach"):
-            model, note = reach.left(whole, walls, project)
-            walls, dropped = laying.walls_of(model.region, model.grid, project.slopes), [note]
+            model, note = crop.left(whole, walls, project)
+            walls, dropped = domains.walls_of(model.region, model.grid, project.slopes), [note]
     with progress.step("weighing the blocks"):
         plan = plan_of(project, model.frame, model.grid, walls, model.source)
     plan.filled, plan.summary, plan.left_out, plan.read = checked.filled, summary, whole.known - model.known, read
@@ -303,9 +304,11 @@ def prepare(
 
 def plan_of(project: Project, frame: pd.DataFrame, grid: Grid, walls: Walls, source: str) -> Plan:
     """A plan of a checked table, without notes. Raises PlanError where its blocks cannot be weighed."""
-    values = block_values.values_of(frame, grid, project, source, lambda paying: trim.used_blocks(grid, walls, paying))
+    values = block_values.values_of(
+        frame, grid, project, source, lambda paying: closure.used_blocks(grid, walls, paying)
+    )
     fixed = fixing.of_table(frame, grid, project, source)
-    used = trim.used_blocks(grid, walls, wanted(values, project, fixed))
+    used = closure.used_blocks(grid, walls, wanted(values, project, fixed))
     plan = Plan(project, frame, grid, values, walls, used, source, fixed=fixed)
     if project.fixed is not None:
         plan.settled = fixing.settled(fixed, grid, walls)
@@ -318,7 +321,7 @@ def demand_no_clash(plan: Plan, settled: Settled) -> None:
     forced, barred = plan.fixed.forced, plan.fixed.barred
     clash = forced[settled.left[forced]]
     if len(clash):
-        needs = trim.used_blocks(plan.grid, plan.walls, fixing.marks(plan.grid, clash[:1]))
+        needs = closure.used_blocks(plan.grid, plan.walls, fixing.marks(plan.grid, clash[:1]))
         first, second = plan.called(clash[0]), plan.called(barred[needs[barred]][0])
         more = f", and so it is with {len(clash) - 1:,} blocks more" if len(clash) > 1 else ""
         raise PlanError(f"{plan.source}: {first} must be dug and needs {second}, which may not be dug{more}")

@@ -26,8 +26,8 @@ from scipy import ndimage
 from pitplan.blockmodel import missing_blocks
 from pitplan.blockmodel.grid import metres
 from pitplan.config.pushbacks import PhaseRules
+from pitplan.slopes import closure
 
-from . import trim
 from .errors import PlanError
 from .plan import Plan
 
@@ -70,7 +70,7 @@ class Ground:
 
 def ground_of(plan: Plan, rules: PhaseRules) -> Ground:
     grid, last = plan.grid, plan.project.schedule.factors[-1]
-    closed = trim.users_of(grid, plan.walls, unknown(plan))
+    closed = closure.users_of(grid, plan.walls, unknown(plan))
     if plan.settled is not None:
         closed |= plan.settled.left
     sides = (grid.size[1], grid.size[0])
@@ -166,7 +166,7 @@ def shrunk(inner: np.ndarray, outer: np.ndarray, ground: Ground) -> np.ndarray:
     """
     found, left, plan = inner.copy(), np.zeros_like(inner), ground.plan
     for level in range(len(found)):
-        pit = found[level] & ~trim.users_at(left, level, plan.grid, plan.walls)
+        pit = found[level] & ~closure.users_at(left, level, plan.grid, plan.walls)
         found[level] = shrunk_level(pit, outer[level], level, ground)
         left[level] = inner[level] & ~found[level]
     return found
@@ -202,7 +202,7 @@ def grown(pit: np.ndarray, ground: Ground) -> np.ndarray:
     for level in range(len(found) - 1, -1, -1):
         for shape in (ground.width, ground.bottom):
             grow(found[level], ground.may[level], shape, ground.free[level])
-        trim.mark_needs(found, level, plan.grid, plan.walls)
+        closure.mark_needs(found, level, plan.grid, plan.walls)
     return found
 
 
@@ -226,7 +226,7 @@ def grow(mask: np.ndarray, may: np.ndarray, shape: Optional[Rectangle], free: np
 
 def with_needs(pit: np.ndarray, ground: Ground) -> np.ndarray:
     """The pit and all that it needs."""
-    return ground.plan.grid.cube(trim.used_blocks(ground.plan.grid, ground.plan.walls, pit.ravel()))
+    return ground.plan.grid.cube(closure.used_blocks(ground.plan.grid, ground.plan.walls, pit.ravel()))
 
 
 def least_width(phase: np.ndarray, free: np.ndarray, sides: tuple[float, float]) -> float:

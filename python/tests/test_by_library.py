@@ -24,8 +24,8 @@ from pitplan.cli import main
 from pitplan.commands import answers
 from pitplan.core import files
 from pitplan.mine import counted_rows
-from pitplan.rows import Rows
 from pitplan.simulation import folder as folders, prepare, work
+from pitplan.slopes.arc_rows import Rows
 
 pitshell = pytest.importorskip("pitshell", reason="make library builds it")
 
@@ -206,7 +206,7 @@ def test_a_block_that_must_be_dug_and_may_not_be_is_refused_as_by_the_program():
 MEMORY = """
 import resource, numpy as np
 from pitplan import ProgramError, library
-from pitplan.rows import Rows
+from pitplan.slopes.arc_rows import Rows
 nodes = 4_000_000
 amounts = np.ones(nodes, dtype=np.int64)
 rows = Rows(np.arange(nodes + 1, dtype=np.uint32).clip(1) - 1, np.arange(nodes - 1, dtype=np.uint32))

@@ -10,9 +10,10 @@ from hypothesis import given, settings, strategies as st
 from test_pushbacks import UPRIGHT, blocks_of, with_phases, wrong
 
 import pitplan
-from pitplan import PlanError, load, phases, prepare, trim, widths
+from pitplan import PlanError, load, phases, prepare, widths
 from pitplan.config.pushbacks import PhaseRules
 from pitplan.core import files
+from pitplan.slopes import closure
 from pitplan.verification.phase_widths import blocks_across, cells_in
 
 pytestmark = pytest.mark.usefixtures("without_figures")
@@ -183,7 +184,7 @@ def random_plan(seed, plan_text):
     first = rng.integers(0, 4, plan.grid.count) * (plan.grid.spread(table["cu"].to_numpy()) > 0) * ~plan.settled.left
     phase = np.zeros(plan.grid.count, dtype=np.int16)
     for number in (3, 2, 1):
-        phase[trim.used_blocks(plan.grid, plan.walls, (0 < first) & (first <= number) | plan.settled.dug)] = number
+        phase[closure.used_blocks(plan.grid, plan.walls, (0 < first) & (first <= number) | plan.settled.dug)] = number
     return plan, phase
 
 

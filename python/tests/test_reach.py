@@ -8,9 +8,10 @@ import pytest
 from conftest import PROJECT, rows
 
 import pitplan
-from pitplan import PlanError, analyse, reach
+from pitplan import PlanError, analyse
 from pitplan.blockmodel.grid import Grid
-from pitplan.reach import Box
+from pitplan.slopes import crop
+from pitplan.slopes.crop import Box
 from pitplan.verification import verify
 
 ANGLES = ('pattern = "1:5"', "angle = 50")
@@ -99,7 +100,7 @@ def test_the_box_by_hand(absent, levels):
     filled = np.flatnonzero(~cells(*absent))
     grid = Grid((5, 4, 6), (0.0, 0.0, 0.0), (1.0, 1.0, 1.0), filled)
     used = cells((0, 0, 2), (1, 1, 3)).ravel()
-    assert reach.box_of(used, grid) == Box(slice(0, levels), slice(0, 3), slice(1, 5))
+    assert crop.box_of(used, grid) == Box(slice(0, levels), slice(0, 3), slice(1, 5))
 
 
 def test_what_must_be_dug_is_kept(plan_folder, few):
@@ -151,20 +152,20 @@ def narrower(used, grid):
     return Box(box.levels, box.rows, slice(box.columns.start + 3, box.columns.stop))
 
 
-box_of = reach.box_of
+box_of = crop.box_of
 
 
 def test_ground_that_shells_need_and_is_left_out_is_found(plan_folder, few, monkeypatch, without_figures):
     path = plan_folder(deposit(), PROJECT, ANGLES)
-    monkeypatch.setattr(reach, "box_of", narrower)
+    monkeypatch.setattr(crop, "box_of", narrower)
     pitplan.write_shells(path, writing=pitplan.Writing(verifies=False))
     assert "needs ground that was left out" in wrong(path)["reach"][0]
 
 
 def test_ore_that_is_left_out_is_found(plan_folder, few, monkeypatch, without_figures):
     path = plan_folder(deposit().assign(cu=lambda it: it["cu"].mask(it["name"] == "b20-15-7", 20.0)), PROJECT, ANGLES)
-    can_pay = reach.can_pay
-    monkeypatch.setattr(reach, "can_pay", lambda model, project: can_pay(model, project)[:2])
+    can_pay = crop.can_pay
+    monkeypatch.setattr(crop, "can_pay", lambda model, project: can_pay(model, project)[:2])
     pitplan.write_shells(path, writing=pitplan.Writing(verifies=False))
     assert wrong(path)["reach"] == ("block b20-15-7 was left out, and pays at factor 1500",)
 

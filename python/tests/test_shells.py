@@ -14,7 +14,7 @@ import pitplan
 from pitplan import analyse
 from pitplan.config.project import of_data, read_slopes
 from pitplan.config.toml_section import Section
-from pitplan.slopes import FIVE
+from pitplan.slopes.slope_patterns import FIVE
 
 SMALL = settings(max_examples=25, suppress_health_check=[HealthCheck.function_scoped_fixture])
 

@@ -11,9 +11,10 @@ from conftest import PROJECT, ROOT, rows
 from hypothesis import given, strategies as st
 
 import pitplan
-from pitplan import PlanError, cones, slopes
+from pitplan import PlanError
 from pitplan.config.slopes import Slopes, Wall
 from pitplan.core import files
+from pitplan.slopes import cone_templates, slope_patterns
 
 CUBE, FLAT = (10.0, 10.0, 10.0), (20.0, 20.0, 15.0)
 
@@ -66,7 +67,7 @@ def reached(offsets, levels):
 
 
 def least_list(angle, size, levels):
-    return slopes.offsets_of(slopes.cone(((0.0, float(angle)),), size, levels))
+    return slope_patterns.offsets_of(slope_patterns.cone(((0.0, float(angle)),), size, levels))
 
 
 @given(st.integers(20, 80), st.integers(1, 5), st.sampled_from([CUBE, FLAT, (5.0, 10.0, 4.0)]))
@@ -103,28 +104,28 @@ def least_in_the_open(cone):
 
 @given(st.tuples(*[st.integers(35, 55)] * 4), st.integers(2, 8), st.sampled_from([CUBE, FLAT, (5.0, 10.0, 4.0)]))
 def test_the_list_is_at_most_a_fifth_longer_than_the_least(angles, levels, size):
-    cone = slopes.cone(tuple(zip((0.0, 90.0, 180.0, 270.0), map(float, angles))), size, levels)
-    assert set(least_in_the_open(cone)) <= set(slopes.offsets_of(cone))
-    assert len(slopes.offsets_of(cone)) <= 1.2 * len(least_in_the_open(cone))
+    cone = slope_patterns.cone(tuple(zip((0.0, 90.0, 180.0, 270.0), map(float, angles))), size, levels)
+    assert set(least_in_the_open(cone)) <= set(slope_patterns.offsets_of(cone))
+    assert len(slope_patterns.offsets_of(cone)) <= 1.2 * len(least_in_the_open(cone))
 
 
 def test_walls_of_1_to_5_and_1_to_9_by_geometry():
-    five, nine = (slopes.wall_angles(offsets, CUBE) for offsets in (slopes.FIVE, slopes.NINE))
+    five, nine = (slope_patterns.wall_angles(offsets, CUBE) for offsets in (slope_patterns.FIVE, slope_patterns.NINE))
     diagonal = math.degrees(math.atan(math.sqrt(2)))
     assert five.min() == pytest.approx(45) and five.max() == pytest.approx(diagonal)
     assert five[0] == pytest.approx(45) and five[45] == pytest.approx(diagonal)
     assert nine.max() == pytest.approx(45) and nine.min() == pytest.approx(math.degrees(math.atan(1 / math.sqrt(2))))
-    flat = slopes.wall_angles(slopes.FIVE, FLAT)
+    flat = slope_patterns.wall_angles(slope_patterns.FIVE, FLAT)
     assert flat.min() == pytest.approx(math.degrees(math.atan(15 / 20)))
     assert flat.max() == pytest.approx(math.degrees(math.atan(15 / (20 / math.sqrt(2)))))
 
 
 def test_walls_that_stand_upright_and_lists_without_width():
-    assert slopes.wall_angles(((0, 0, 1),), CUBE) == pytest.approx(np.full(360, 90.0))
-    line = slopes.wall_angles(((0, 0, 1), (1, 0, 1)), CUBE)
+    assert slope_patterns.wall_angles(((0, 0, 1),), CUBE) == pytest.approx(np.full(360, 90.0))
+    line = slope_patterns.wall_angles(((0, 0, 1), (1, 0, 1)), CUBE)
     assert line[90] == pytest.approx(45) and line[270] == pytest.approx(90) and line[0] == pytest.approx(90)
     # A block and the one above it in the north-east: a step up for each root of two.
-    askew = slopes.wall_angles(((0, 0, 1), (1, 1, 1)), CUBE)
+    askew = slope_patterns.wall_angles(((0, 0, 1), (1, 1, 1)), CUBE)
     assert askew[45] == pytest.approx(math.degrees(math.atan(1 / math.sqrt(2)))) and np.delete(
         askew, 45
     ) == pytest.approx(np.full(359, 90.0))
@@ -135,7 +136,7 @@ def test_walls_that_stand_upright_and_lists_without_width():
 def test_errors_are_those_of_a_high_wall(angle, levels):
     """The wall of 60 levels that the list makes, step by step, is less than a list's height of steps off the computed one."""
     offsets = least_list(angle, CUBE, levels)
-    computed = slopes.wall_angles(offsets, CUBE)
+    computed = slope_patterns.wall_angles(offsets, CUBE)
     for azimuth, axis in ((0, 1), (90, 0)):
         steps = [(step[axis], step[2]) for step in offsets if step[1 - axis] == 0]
         best = [0] * 61
@@ -147,7 +148,7 @@ def test_errors_are_those_of_a_high_wall(angle, levels):
 
 def test_angles_between_azimuths_go_by_the_cotangent():
     angles = ((0.0, 45.0), (90.0, 30.0), (270.0, 60.0))
-    at = dict(zip((0, 45, 90, 180, 315), slopes.cotangents(angles, np.array([0, 45, 90, 180, 315]))))
+    at = dict(zip((0, 45, 90, 180, 315), slope_patterns.cotangents(angles, np.array([0, 45, 90, 180, 315]))))
     root = math.sqrt(3)
     assert at[0] == pytest.approx(1) and at[90] == pytest.approx(root)
     assert at[45] == pytest.approx((1 + root) / 2)
@@ -157,8 +158,8 @@ def test_angles_between_azimuths_go_by_the_cotangent():
 
 def test_never_steeper_than_asked():
     wall = Wall(None, None, ((0.0, 48.0), (90.0, 42.0), (180.0, 48.0), (270.0, 45.0)))
-    free = slopes.pattern_of(wall, FLAT, Slopes(6, False, (wall,)))
-    bound = slopes.pattern_of(wall, FLAT, Slopes(6, True, (wall,)))
+    free = slope_patterns.pattern_of(wall, FLAT, Slopes(6, False, (wall,)))
+    bound = slope_patterns.pattern_of(wall, FLAT, Slopes(6, True, (wall,)))
     assert free.errors.max() > 0.5 and free.widened == 1
     assert bound.errors.max() <= 1e-6 and bound.widened > 1
     inside = reached(free.offsets, 6)
@@ -173,8 +174,10 @@ WALL = st.one_of(
 
 @given(WALL, st.sampled_from([CUBE, FLAT, (5.0, 10.0, 4.0)]))
 def test_levels_left_out_are_the_fewest_that_hold_the_walls_to_half_a_degree(wall, size):
-    chosen = slopes.pattern_of(wall, size, Slopes(None, False, (wall,)))
-    given_ = [slopes.pattern_of(wall, size, Slopes(levels, False, (wall,))) for levels in range(1, chosen.levels + 1)]
+    chosen = slope_patterns.pattern_of(wall, size, Slopes(None, False, (wall,)))
+    given_ = [
+        slope_patterns.pattern_of(wall, size, Slopes(levels, False, (wall,))) for levels in range(1, chosen.levels + 1)
+    ]
     assert chosen.offsets == given_[-1].offsets
     assert chosen.errors.max() <= 0.5 or chosen.levels == 40
     assert all(fewer.errors.max() > 0.5 for fewer in given_[:-1])
@@ -187,16 +190,16 @@ def test_levels_left_out_by_hand():
     steep; with (2/23, 1/23) between them the lines lie 0.0958 and 0.0941 from it, 84.5 and 84.6 degrees.
     """
     wall = Wall(None, None, ((0.0, math.degrees(math.atan(10))),))
-    pattern = slopes.pattern_of(wall, CUBE, Slopes(None, False, (wall,)))
+    pattern = slope_patterns.pattern_of(wall, CUBE, Slopes(None, False, (wall,)))
     assert pattern.levels == 23 and pattern.errors.max() == pytest.approx(0.34, abs=0.005)
-    few = slopes.pattern_of(wall, CUBE, Slopes(22, False, (wall,)))
+    few = slope_patterns.pattern_of(wall, CUBE, Slopes(22, False, (wall,)))
     assert few.errors.max() == pytest.approx(0.60, abs=0.005)
 
 
 def test_forty_levels_are_the_end_and_the_walls_say_what_came_out():
     """Blocks of 100 x 100 x 1 m: 45 degrees lead out by 0.4 blocks in 40 levels, so nothing but the column is dug."""
     wall = Wall(None, None, ((0.0, 45.0),))
-    pattern = slopes.pattern_of(wall, (100.0, 100.0, 1.0), Slopes(None, False, (wall,)))
+    pattern = slope_patterns.pattern_of(wall, (100.0, 100.0, 1.0), Slopes(None, False, (wall,)))
     assert pattern.levels == 40 and pattern.offsets == ((0, 0, 1),)
     words = "1 needs a block over 40 levels make walls of 90.0 to 90.0 degrees, +45.0 to +45.0 degrees off the asked"
     assert words in pattern.sentence()
@@ -204,7 +207,7 @@ def test_forty_levels_are_the_end_and_the_walls_say_what_came_out():
 
 def test_never_steeper_widens_the_cone_of_the_levels_that_are_chosen():
     wall = Wall(None, None, ((0.0, 45.0),))
-    free, bound = (slopes.pattern_of(wall, FLAT, Slopes(None, never, (wall,))) for never in (False, True))
+    free, bound = (slope_patterns.pattern_of(wall, FLAT, Slopes(None, never, (wall,))) for never in (False, True))
     assert bound.levels == free.levels and bound.errors.max() <= 1e-6 < free.errors.max()
 
 
@@ -276,7 +279,7 @@ def test_walls_for_regions_alone_need_a_region_column(plan_folder):
 def test_a_list_that_cannot_hold_a_flat_wall_is_refused():
     wall = Wall(None, None, ((0.0, 1.0),))
     with pytest.raises(PlanError, match="1 levels of these blocks hold no wall flat enough: give more levels"):
-        slopes.pattern_of(wall, (10.0, 10.0, 0.001), Slopes(1, True, (wall,)))
+        slope_patterns.pattern_of(wall, (10.0, 10.0, 0.001), Slopes(1, True, (wall,)))
 
 
 def test_needs_that_leave_the_grid_at_its_sides_are_counted(plan_folder, tmp_path):
@@ -290,10 +293,12 @@ def test_needs_that_leave_the_grid_at_its_sides_are_counted(plan_folder, tmp_pat
 
 def test_steps_to_a_cell_of_a_cone_and_beside_it():
     """The block above and those beside it: at the cone's very sides, over them, above the highest level, and the block itself."""
-    cone = cones.of_steps(slopes.FIVE)
+    cone = cone_templates.of_steps(slope_patterns.FIVE)
     inside = [(0, 0, 1), (-1, 0, 1), (1, 0, 1), (0, -1, 1), (0, 1, 1)]
     outside = [(1, 1, 1), (-2, 0, 1), (2, 0, 1), (0, -2, 1), (0, 2, 1), (0, 0, 2), (1, 0, 2), (0, 0, 0), (0, 0, -1)]
-    assert cones.holds(cone, np.array(inside + outside)).tolist() == [True] * len(inside) + [False] * len(outside)
+    assert cone_templates.holds(cone, np.array(inside + outside)).tolist() == [True] * len(inside) + [False] * len(
+        outside
+    )
 
 
 @pytest.mark.parametrize(
@@ -317,15 +322,15 @@ def test_no_more_than_forty_levels_are_chosen(plan_folder):
 def test_the_rim_of_a_level_is_the_first_and_the_last_cell_of_each_row():
     """Two levels of 5 m up, blocks of 10 m by 20 m: a block east is a metre for each metre up, a block north two."""
     cells = np.array([[0, 0, 1, 0, 0], [0, 1, 1, 1, 1], [0, 0, 0, 0, 0]], dtype=bool)
-    assert slopes.rim_of(cells, 2, (10.0, 20.0, 5.0)) == {(0, -2), (-1, 0), (2, 0)}
+    assert slope_patterns.rim_of(cells, 2, (10.0, 20.0, 5.0)) == {(0, -2), (-1, 0), (2, 0)}
 
 
 def test_what_all_cones_have_are_the_steps_that_each_has():
     """Of other widths, breadths and numbers of levels."""
     lists = [
-        slopes.NINE,
+        slope_patterns.NINE,
         ((0, 0, 1), (1, 0, 1), (1, 1, 1), (3, 0, 2), (0, -1, 1)),
         ((0, 0, 1), (1, 1, 1), (0, -1, 1), (0, 4, 1), (0, 1, 3), (-2, 0, 1)),
     ]
-    met = cones.meet([cones.of_steps(steps) for steps in lists])
-    assert {tuple(step) for step in cones.steps_of(met).tolist()} == {(0, 0, 1), (1, 1, 1), (0, -1, 1)}
+    met = cone_templates.meet([cone_templates.of_steps(steps) for steps in lists])
+    assert {tuple(step) for step in cone_templates.steps_of(met).tolist()} == {(0, 0, 1), (1, 1, 1), (0, -1, 1)}

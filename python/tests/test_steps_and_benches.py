@@ -9,8 +9,9 @@ import pytest
 from conftest import PROJECT, rows
 
 import pitplan
-from pitplan import PlanError, analyse, slopes
+from pitplan import PlanError, analyse
 from pitplan.config.slopes import Bench
+from pitplan.slopes import slope_patterns
 from pitplan.verification import verify
 
 WALL = '[[slopes.walls]]\npattern = "1:5"'
@@ -124,10 +125,10 @@ def test_the_second_look_agrees(plan_folder, without_figures, text):
 def test_a_step_that_is_passed_over_is_found(plan_folder, monkeypatch, without_figures):
     path, pattern_of = (
         plan_folder(deposit(), PROJECT, walls(f"steps = {[list(step) for step in LEANING]}")),
-        slopes.pattern_of,
+        slope_patterns.pattern_of,
     )
     monkeypatch.setattr(
-        "pitplan.walls.pattern_of", lambda wall, *more: pattern_of(replace(wall, steps=wall.steps[1:]), *more)
+        "pitplan.slopes.domains.pattern_of", lambda wall, *more: pattern_of(replace(wall, steps=wall.steps[1:]), *more)
     )
     pitplan.write_shells(path, writing=pitplan.Writing(verifies=False))
     assert "walls" in wrong(path)

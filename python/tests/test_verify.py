@@ -11,13 +11,14 @@ from conftest import PROJECT, rows
 from hypothesis import HealthCheck, given, settings, strategies as st
 
 import pitplan
-from pitplan import PlanError, fixed, load, prepare, schedule, slopes, solve
+from pitplan import PlanError, fixed, load, prepare, schedule, solve
 from pitplan.blockmodel import missing_blocks, reader
 from pitplan.cli import main
 from pitplan.commands.answers import Answered, write_tables
 from pitplan.config.slopes import Wall
 from pitplan.core import files
 from pitplan.economics import block_values
+from pitplan.slopes import slope_patterns
 from pitplan.verification import answer as answers, demand, sums, verify
 from pitplan.verification.answer import read
 from pitplan.verification.money import sample
@@ -447,7 +448,7 @@ def test_walls_between_azimuths_by_hand():
         flat + (steep - flat) * 89 / 180,
     ]
     assert flatness(wall, np.array([0.0, 90, 180, 315, 359])) == pytest.approx(expected)
-    assert slopes.cotangents(wall.angles, np.array([0.0, 90, 180, 315, 359])) == pytest.approx(expected)
+    assert slope_patterns.cotangents(wall.angles, np.array([0.0, 90, 180, 315, 359])) == pytest.approx(expected)
 
 
 def test_high_walls_by_geometry():
@@ -461,14 +462,14 @@ def test_high_walls_by_geometry():
 
 
 def test_needs_that_steeper_walls_on_the_way_do_not_lead_to_are_found(plan_folder, monkeypatch):
-    monkeypatch.setattr("pitplan.walls.not_led", lambda steps, code, grid: np.zeros(len(code), dtype=bool))
+    monkeypatch.setattr("pitplan.slopes.domains.not_led", lambda steps, code, grid: np.zeros(len(code), dtype=bool))
     assert "walls: block b7-7-0, dug at 500, needs a block that is not" in refused(
         plan_folder, two_regions(), PROJECT, LEVELS, *MIXED
     )
 
 
 def test_too_few_levels_are_found(plan_folder, monkeypatch):
-    monkeypatch.setattr("pitplan.slopes.levels_of", lambda *_: 3)
+    monkeypatch.setattr("pitplan.slopes.slope_patterns.levels_of", lambda *_: 3)
     said = refused(plan_folder, two_regions(), PROJECT, ("levels = 3\n", ""), *MIXED)
     assert "levels: wall entry 1: over 3 levels it comes out" in said and "degrees steeper than asked" in said
 

@@ -11,10 +11,10 @@ import pitshell
 from pitplan.config.project import Project
 from pitplan.config.schedule import MOST_YEARS, ScheduleRules, Sum
 from pitplan.economics.period_costs import YearlyMoney, of_project
+from pitplan.slopes import closure
+from pitplan.slopes.arcs import ABSENT, slices
 
-from .. import trim
 from ..errors import PlanError
-from ..needs import ABSENT, slices
 from ..phase_benches import CASH, ORE, ROCK
 from ..plan import MILLION, Plan
 from ..schedule import year_discounts
@@ -129,7 +129,7 @@ def cells_of(plan: Plan, wanted: NDArray[np.bool_]) -> NDArray[np.int64]:
     left = np.zeros(plan.grid.count, dtype=bool) if plan.settled is None else plan.settled.left
     wanted = wanted & ~left
     wanted[plan.fixed.forced] = True
-    return np.flatnonzero(trim.used_blocks(plan.grid, plan.walls, wanted))
+    return np.flatnonzero(closure.used_blocks(plan.grid, plan.walls, wanted))
 
 
 def owing(plan: Plan, flows: Flows, limits: Limits) -> NDArray[np.bool_]:

@@ -16,8 +16,8 @@ import pandas as pd
 from pitplan.blockmodel.grid import Grid
 from pitplan.errors import PlanError
 from pitplan.fixed import Settled
-from pitplan.needs import ABSENT, slices
-from pitplan.walls import Walls
+from pitplan.slopes.arcs import ABSENT, slices
+from pitplan.slopes.domains import Walls
 
 from . import byte_lines, json_records, staging
 

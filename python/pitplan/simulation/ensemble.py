@@ -11,17 +11,17 @@ from typing import Iterator
 import numpy as np
 import pandas as pd
 
-from pitplan import walls as laying
 from pitplan.blockmodel import grid as grids, missing_blocks, reader
 from pitplan.blockmodel.grid import Grid
 from pitplan.blockmodel.reader import HEADER_ROWS, Table, at_row
 from pitplan.blockmodel.text_format import demand_text, format_of
 from pitplan.config.economics import Metal
 from pitplan.config.project import Project, Scenarios
+from pitplan.slopes import domains
+from pitplan.slopes.domains import Walls
 
 from ..errors import PlanError
 from ..plan import Plan, notes_of, plan_of
-from ..walls import Walls
 
 
 @dataclass(frozen=True)
@@ -72,8 +72,8 @@ def read_base(project: Project) -> Base:
     frame, grid = missing_blocks.with_rows(
         checked.frame, grids.of_table(checked.frame, project, checked.source), project
     )
-    region = laying.regions_of(frame, grid, project.table.region)
-    walls = laying.walls_of(region, grid, project.slopes)
+    region = domains.regions_of(frame, grid, project.table.region)
+    walls = domains.walls_of(region, grid, project.slopes)
     return Base(project, frame, grid, walls, lists, checked)
 
 

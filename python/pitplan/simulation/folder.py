@@ -33,10 +33,10 @@ from pitplan.config.project import Project, load
 from pitplan.config.schedule import ScheduleRules
 from pitplan.core import files
 from pitplan.core.files import staged_file
+from pitplan.slopes.arc_rows import Rows
 
 from ..errors import PlanError
 from ..fixed import Settled
-from ..rows import Rows
 from ..solver import Solver
 
 RECORD, PROJECT, BASE = "scenarios.json", "project.toml", "base.npz"

@@ -17,11 +17,11 @@ from pitplan.core import files, keyed_arrays
 from pitplan.core.files import staged_file
 from pitplan.core.optional_packages import load_library
 from pitplan.economics import block_values
+from pitplan.slopes.domains import Walls
 
 from ..errors import PlanError, ProgramError
 from ..plan import Plan
 from ..run import Solution
-from ..walls import Walls
 from . import folder as folders
 from .ensemble import priced
 from .folder import Scenario, Shared

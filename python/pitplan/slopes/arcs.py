@@ -9,7 +9,7 @@ import numpy as np
 
 from pitplan.blockmodel.grid import Grid
 
-from .walls import StepList, Walls
+from .domains import StepList, Walls
 
 ABSENT = -1
 # Fields of a slice: enough for numpy to be fast, few enough to stay within tens of megabytes.

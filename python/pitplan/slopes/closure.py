@@ -13,7 +13,7 @@ import numpy as np
 
 from pitplan.blockmodel.grid import Grid
 
-from .walls import Walls
+from .domains import Walls
 
 
 def used_blocks(grid: Grid, walls: Walls, paying: np.ndarray) -> np.ndarray:

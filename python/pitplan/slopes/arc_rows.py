@@ -8,7 +8,7 @@ import numpy as np
 
 from pitplan.core.files import Needs, Pairs
 
-from .needs import ABSENT, slices
+from .arcs import ABSENT, slices
 
 
 @dataclass(frozen=True)

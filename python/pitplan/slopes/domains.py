@@ -14,10 +14,10 @@ import pandas as pd
 
 from pitplan.blockmodel.grid import Grid
 from pitplan.config.slopes import Slopes
+from pitplan.errors import PlanError
 
-from . import cones
-from .errors import PlanError
-from .slopes import Pattern, pattern_of
+from . import cone_templates
+from .slope_patterns import Pattern, pattern_of
 
 
 @dataclass(frozen=True)
@@ -83,7 +83,7 @@ def pattern_codes(region: np.ndarray, slopes: Slopes) -> np.ndarray:
 def laid(patterns: tuple[Pattern, ...], code: np.ndarray, grid: Grid) -> Walls:
     """The lists of each pattern beside the others that the grid has, and for each cell which one it takes."""
     present = np.unique(code)
-    shared = cones.least(cones.meet([patterns[number].cone for number in present]))
+    shared = cone_templates.least(cone_templates.meet([patterns[number].cone for number in present]))
     lists: list[StepList] = []
     list_of = 2 * code
     for number, pattern in enumerate(patterns):
@@ -106,10 +106,10 @@ def where_regions_meet(pattern: Pattern, patterns: tuple[Pattern, ...], shared: 
     """
     kept = np.array(pattern.offsets)
     first = always_written(kept, len(patterns))
-    open_steps = cones.steps_of(pattern.cone & ~cones.led_to(pattern.cone, shared))
-    number = cones.ways(pattern.cone, open_steps, kept)
+    open_steps = cone_templates.steps_of(pattern.cone & ~cone_templates.led_to(pattern.cone, shared))
+    number = cone_templates.ways(pattern.cone, open_steps, kept)
     more, via = open_steps[number >= 0], kept[number[number >= 0]]
-    led = np.stack([cones.holds(other.cone, more - via) for other in patterns], axis=1)
+    led = np.stack([cone_templates.holds(other.cone, more - via) for other in patterns], axis=1)
     both = [np.concatenate(pair) for pair in ((first.steps, more), (first.via, via), (first.led, led))]
     return in_order(StepList(*both))
 

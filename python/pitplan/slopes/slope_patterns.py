@@ -14,9 +14,9 @@ import numpy as np
 from scipy.spatial import ConvexHull, QhullError
 
 from pitplan.config.slopes import MOST_LEVELS, Slopes, Wall
+from pitplan.errors import PlanError
 
-from . import cones
-from .errors import PlanError
+from . import cone_templates
 
 Offset = tuple[int, int, int]
 # Pairs of azimuth and angle in degrees.
@@ -114,7 +114,9 @@ def offsets_of(cone: np.ndarray) -> tuple[Offset, ...]:
     Of a convex cone they are the least list, and lead to no cell outside it. (Where the asked walls make a cone that is
     not convex, steps together lead outside it, as they do in the ground.)
     """
-    return tuple((int(east), int(north), int(up)) for east, north, up in cones.steps_of(cones.least(cone)))
+    return tuple(
+        (int(east), int(north), int(up)) for east, north, up in cone_templates.steps_of(cone_templates.least(cone))
+    )
 
 
 def wall_angles(offsets: tuple[Offset, ...], size: tuple[float, float, float]) -> np.ndarray:
@@ -178,9 +180,9 @@ def pattern_of(asked_wall: Wall, size: tuple[float, float, float], slopes: Slope
     if wall.pattern:
         offsets = PATTERN_OFFSETS[wall.pattern]
         angles = wall_angles(offsets, size)
-        return Pattern(f"{where}, {wall.pattern}", cones.of_steps(offsets), offsets, angles, np.zeros(0))
+        return Pattern(f"{where}, {wall.pattern}", cone_templates.of_steps(offsets), offsets, angles, np.zeros(0))
     if wall.steps:
-        cells = cones.of_steps(wall.steps)
+        cells = cone_templates.of_steps(wall.steps)
         return Pattern(
             f"{where}, {len(wall.steps)} steps of the project",
             cells,

@@ -13,14 +13,15 @@ from dataclasses import dataclass, replace
 import numpy as np
 import pandas as pd
 
+from pitplan import fixed as fixing
 from pitplan.blockmodel import grid as grids
 from pitplan.blockmodel.grid import Grid
 from pitplan.config.project import Project
 from pitplan.economics import block_values
+from pitplan.errors import PlanError
 
-from . import fixed as fixing, trim
-from .errors import PlanError
-from .walls import Walls
+from . import closure
+from .domains import Walls
 
 
 @dataclass(frozen=True)
@@ -73,7 +74,7 @@ def left(model: Model, walls: Walls, project: Project) -> tuple[Model, str]:
         raise PlanError(
             f"{model.source}: the grid has {grid.count:,} cells, and {most}: none pays for its processing, so all could be left out"
         )
-    box = box_of(trim.used_blocks(grid, walls, wanted), grid)
+    box = box_of(closure.used_blocks(grid, walls, wanted), grid)
     inside = grid.cube(np.arange(grid.count))[box.parts]
     if inside.size > grids.MOST_BLOCKS:
         raise PlanError(

@@ -1,0 +1,1 @@
+"""Slope precedences: wall angles by geotechnical domain as arcs between blocks."""
